@@ -1,0 +1,5 @@
+pub mod Faultless
+pub mod Levels
+pub mod Lists
+pub mod Made
+pub mod Texts

@@ -1,0 +1,19 @@
+use Rattle.std.proofs.Common.{◌≡◌, ap, sym, ◌∙◌}
+use Rattle.wh_dag.specs.Shape.{has, children_of}
+use Rattle.wh_dag.proofs.Levels.{filter_range_in, filter_range_out}
+use Rattle.wh_dag.proofs.parents.parents_of_view.Goals as goal
+use Rattle.wh_dag.proofs.parents.parents_of_view.Goals.{then-is_over+in_ok-push, else-is_over}
+
+pub loop-parent-preserved : goal.loop-parent-preserved
+loop-parent-preserved c =
+    let test : has (children_of c.args.shape.now c.loop-parent.parent) c.args.view ≡ c.is_over.result =
+    ap (λ own. has own c.args.view) (sym c.of.ensures.children) ∙ sym c.is_over.ensures in
+    elim c.if-is_over.branch [
+      | then-is_over+in_ok-push w ↦
+          filter_range_in (λ parent. has (children_of c.args.shape.now parent) c.args.view) c.loop-parent.parent _ _
+          c.loop-parent.invariant (test ∙ w.if-is_over.true)
+          (ap (λ v. v.items) w.parents-is ∙ w.in_ok-push.ensures.items)
+      | else-is_over w ↦
+          filter_range_out (λ parent. has (children_of c.args.shape.now parent) c.args.view) c.loop-parent.parent _ _
+          c.loop-parent.invariant (test ∙ w.if-is_over.false) (ap (λ v. v.items) w.parents-is)
+    ]

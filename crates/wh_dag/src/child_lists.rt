@@ -1,0 +1,81 @@
+// Which views each view is over.
+ghost use Rattle.std.specs.Prelude.{◌≡◌, ◌<◌, ◌↔◌, ◌==◌, List, ℕ, length, IfOk, IsTrue};
+ghost use Rattle.wh_dag.specs.Shape.{IsShape, children_of};
+ghost use Rattle.wh_dag.specs.Lists.{lists_of};
+
+use std::alloc::{AllocError, Global};
+use std::marker::Model;
+
+/// The child lists of a shape: for each view, by its number, the views that it is over, in the
+/// order written. A base view has none.
+#[derive(Debug, Drop)]
+pub struct ChildLists {
+    lists: Vec<Vec<usize>>,
+}
+
+impl Model for ChildLists {
+    ghost Value = { List (List ℕ) };
+
+    ghost view = { λ s. lists_of s.lists.items };
+
+    ghost invariant = { λ s. IsShape (lists_of s.lists.items) };
+}
+
+impl ChildLists {
+    pub(crate) fn from_lists(lists: Vec<Vec<usize>>) -> ChildLists
+        requires { IsShape (lists_of lists.items) }
+        ensures { result ≡ lists_of lists.items }
+    {
+        ChildLists { lists }
+    }
+
+    /// How many views the shape has.
+    pub fn len(&self) -> usize
+        ensures len { result ≡ length self.now }
+        ensures shape { IsShape self.now }
+    {
+        self.lists.len()
+    }
+
+    /// Whether the shape has no view.
+    pub fn is_empty(&self) -> bool
+        ensures { result ≡ (length self.now == 0) }
+    {
+        self.lists.is_empty()
+    }
+
+    /// The views that this one is over, in the order written.
+    #[tactic(auto, unfolding(crate::specs::Shape::children_of))]
+    pub fn of(&self, view: usize) -> &[usize]
+        requires { view < length self.now }
+        ensures children { result.now ≡ children_of self.now view }
+        ensures shape { IsShape self.now }
+    {
+        &self.lists[view]
+    }
+
+    /// A copy of the lists.
+    pub fn copy(&self, alloc: Global) -> Result<ChildLists, AllocError>
+        ensures { IfOk result (λ copy. copy ≡ self.now) }
+    {
+        let lists = copied(alloc, &self.lists)?;
+        Ok(ChildLists { lists })
+    }
+
+    /// Whether these are the lists of the same shape: each view over the same views in the same order.
+    pub fn is_same(&self, other: &ChildLists) -> bool
+        ensures { IsTrue result ↔ (self.now ≡ other.now) }
+    {
+        self.lists == other.lists
+    }
+}
+
+fn copied(alloc: Global, lists: &[Vec<usize>]) -> Result<Vec<Vec<usize>>, AllocError>
+    ensures { IfOk result (λ copy. lists_of copy.items ≡ lists_of lists.now) }
+{
+    let mut copy = Vec::new(alloc);
+    for own in lists {
+        copy.push(own.as_slice().to_vec(alloc)?)?;
+    }
+    Ok(copy)
+}

@@ -1,0 +1,32 @@
+// The views over a view.
+ghost use Rattle.std.specs.Prelude.{◌≡◌, IfOk};
+ghost use Rattle.wh_dag.specs.Shape.{has};
+ghost use Rattle.wh_dag.specs.Parents.{parents_of};
+
+use crate::child_lists::ChildLists;
+use std::alloc::{AllocError, Global};
+
+#[tactic(auto, unfolding(crate::specs::Shape::has))]
+fn is_over(own: &[usize], view: usize) -> bool
+    ensures { result ≡ has own.now view }
+{
+    own.iter().any(|child| *child == view)
+}
+
+/// The views over this one, rising.
+#[tactic(auto, unfolding(crate::specs::Parents::parents_of))]
+pub(crate) fn parents_of_view(
+    alloc: Global,
+    shape: &ChildLists,
+    view: usize,
+) -> Result<Vec<usize>, AllocError>
+    ensures { IfOk result (λ parents. parents.items ≡ parents_of shape.now view) }
+{
+    let mut parents = Vec::new(alloc);
+    for parent in 0..shape.len() {
+        if is_over(shape.of(parent), view) {
+            parents.push(parent)?;
+        }
+    }
+    Ok(parents)
+}

@@ -1,0 +1,123 @@
+// A shape: the names of the views, and which views each is over.
+ghost use Rattle.std.specs.Prelude.{◌≡◌, ◌<◌, ◌⊎◌, ◌==◌, length, map, IfOk, IfErr, OnOk, Some, None, vec_len};
+ghost use Rattle.wh_dag.specs.Shape.{IsShape, children_of};
+ghost use Rattle.wh_dag.specs.Level.{level_of, level_over};
+ghost use Rattle.wh_dag.specs.Parents.{parents_of};
+ghost use Rattle.wh_dag.specs.Written.{texts, written, name_of, children_written};
+ghost use Rattle.wh_dag.specs.Fault.{first_fault};
+ghost use Rattle.wh_dag.specs.WellFormed.{IsWellFormed};
+
+use crate::child_lists::ChildLists;
+use crate::fault::ShapeFault;
+use crate::{level, parents, written};
+use std::alloc::{AllocError, Global};
+use std::marker::Model;
+
+/// The views of a warehouse by name, each with the views that it is over. A view is its number,
+/// counted from 0, and each is over views of lower numbers.
+#[derive(Debug, Drop)]
+pub struct Shape {
+    names: Vec<String>,
+    children: ChildLists,
+    levels: Vec<usize>,
+}
+
+impl Model for Shape {
+    ghost use Rattle.wh_dag.specs.Shape.{Views};
+    ghost use Rattle.wh_dag.specs.Kept.{IsKept};
+    ghost use Rattle.wh_dag.specs.Written.{texts};
+
+    ghost Value = { Views };
+
+    ghost view = { λ s. record { names = texts s.names.items; children = s.children } };
+
+    ghost invariant = { λ s. IsKept (texts s.names.items) s.children s.levels.items };
+}
+
+impl Shape {
+    /// The shape of these views, where `over` has for each view None (a base view) or the names of
+    /// its children. The fault is the first one, view by view: TooMany (the 65th view), Duplicate,
+    /// EmptyOver, TooMany (more than 6 children), then child by child Unknown, Forward, Repeated. A
+    /// name that two views have means the first of them.
+    pub fn new(
+        alloc: Global,
+        names: Vec<String>,
+        over: Vec<Option<Vec<String>>>,
+    ) -> Result<Shape, ShapeFault>
+        requires { vec_len names ≡ vec_len over }
+        ensures names { IfOk result (λ s. s.names ≡ texts names.items) }
+        ensures children { IfOk result (λ s.
+            s.children ≡ map (children_written (texts names.items)) (written over.items)) }
+        ensures faultless { OnOk result (first_fault (texts names.items) (written over.items) ≡ None) }
+        ensures well_formed { OnOk result (IsWellFormed (texts names.items) (written over.items)) }
+        ensures err { IfErr result (λ fault. (fault ≡ ShapeFault.Memory)
+            ⊎ (first_fault (texts names.items) (written over.items) ≡ Some fault)) }
+    {
+        let lists = written::child_lists(alloc, &names, &over)?;
+        let children = ChildLists::from_lists(lists);
+        let levels = level::levels(alloc, &children)?;
+        Ok(Shape {
+            names,
+            children,
+            levels,
+        })
+    }
+
+    /// How many views the shape has.
+    pub fn len(&self) -> usize
+        ensures len { result ≡ length self.now.children }
+        ensures named { length self.now.names ≡ length self.now.children }
+        ensures shape { IsShape self.now.children }
+    {
+        self.children.len()
+    }
+
+    /// Whether the shape has no view.
+    pub fn is_empty(&self) -> bool
+        ensures { result ≡ (length self.now.children == 0) }
+    {
+        self.children.is_empty()
+    }
+
+    /// The name of the view.
+    pub fn name(&self, view: usize) -> &str
+        requires { view < length self.now.children }
+        ensures { result.now ≡ name_of self.now.names view }
+    {
+        self.names[view].as_str()
+    }
+
+    /// The views that this one is over, in the order written: none for a base view.
+    pub fn children(&self, view: usize) -> &[usize]
+        requires { view < length self.now.children }
+        ensures children { result.now ≡ children_of self.now.children view }
+        ensures shape { IsShape self.now.children }
+    {
+        self.children.of(view)
+    }
+
+    /// The child lists of all views.
+    pub fn child_lists(&self) -> &ChildLists
+        ensures lists { result.now ≡ self.now.children }
+        ensures shape { IsShape self.now.children }
+    {
+        &self.children
+    }
+
+    /// The views over this one, rising.
+    pub fn parents(&self, alloc: Global, view: usize) -> Result<Vec<usize>, AllocError>
+        ensures { IfOk result (λ parents. parents.items ≡ parents_of self.now.children view) }
+    {
+        parents::parents_of_view(alloc, &self.children, view)
+    }
+
+    /// The level of the view: 0 for a base, else one more than its highest child's.
+    pub fn level(&self, view: usize) -> usize
+        requires { view < length self.now.children }
+        ensures value { result ≡ level_of self.now.children view }
+        ensures rule { level_of self.now.children view
+            ≡ level_over (map (level_of self.now.children) (children_of self.now.children view)) }
+    {
+        self.levels[view]
+    }
+}

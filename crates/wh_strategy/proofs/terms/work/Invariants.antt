@@ -1,0 +1,11 @@
+use Rattle.std.proofs.Common.{◌≡◌, ◌≤◌, ◌*◌, ◌^◌}
+use Rattle.wh_strategy.specs.Sizes.{sizes_of}
+use Rattle.wh_strategy.specs.Sums.{sum_below}
+use Rattle.wh_strategy.specs.Work.{cost_at}
+use Rattle.wh_strategy.proofs.terms.work.Given as goal
+
+abbrev pub invariant-loop-place : goal.invariant-loop-place
+invariant-loop-place l = record {
+  sum : l.total ≡ sum_below (cost_at l.children (sizes_of l.sizes) l.costs.comp l.costs.inst l.list) l.place;
+  small : l.total ≤ l.place * 2 ^ 69;
+}

@@ -1,0 +1,63 @@
+-- Worked examples over the definitions alone.
+use Rattle.std.specs.Prelude.{◌≡◌, ℕ, List, [], ◌∷◌, Some, None, refl}
+use Rattle.std.proofs.Common.{arith}
+use Rattle.wh_dag.specs.Shape.{has, children_of}
+use Rattle.wh_strategy.specs.declared.expression.Expression.{Expression}
+use Rattle.wh_strategy.specs.declared.expression.Expression.TheVariants.{Comp, Inst}
+use Rattle.wh_strategy.specs.declared.rule.Rule.{Rule}
+use Rattle.wh_strategy.specs.declared.rule.Rule.TheVariants.{S1, S2, S3, S4, S5, S6}
+use Rattle.wh_strategy.specs.declared.sizes.SizeRow.{SizeRow}
+use Rattle.wh_strategy.specs.Expression.{is_new}
+use Rattle.wh_strategy.specs.Rules.{Breaks}
+use Rattle.wh_strategy.specs.Sizes.{sizes_of}
+use Rattle.wh_strategy.specs.Sums.{sum_below, parts}
+use Rattle.wh_strategy.specs.Tests.{is_doubled, lacks_comp, lacks_inst, place_from, Passes}
+use Rattle.wh_strategy.specs.Work.{work_of}
+
+-- V, which is 2, over A and B, which are 0 and 1
+abbrev v_over_a_b : List (List ℕ)
+v_over_a_b = [] ∷ [] ∷ (0 ∷ 1 ∷ []) ∷ []
+
+abbrev row : ℕ → ℕ → ℕ → SizeRow
+row pre post change = record { pre = pre; post = post; change = change }
+
+abbrev three_sizes : List SizeRow
+three_sizes = row 10 12 4 ∷ row 100 70 30 ∷ row 50 44 6 ∷ []
+
+abbrev one_way_check : List Expression
+one_way_check = Comp 2 (1 ∷ []) ∷ Inst 1 ∷ Comp 2 (0 ∷ []) ∷ Inst 0 ∷ Inst 2 ∷ []
+
+abbrev two_comps_before_inst : List Expression
+two_comps_before_inst = Comp 2 (1 ∷ []) ∷ Comp 2 (0 ∷ []) ∷ Inst 1 ∷ Inst 0 ∷ Inst 2 ∷ []
+
+abbrev both_children_at_once : List Expression
+both_children_at_once = Comp 2 (0 ∷ 1 ∷ []) ∷ Inst 0 ∷ Inst 1 ∷ Inst 2 ∷ []
+
+-- 40 + 30 + 74 + 4 + 6
+pub one_way_check_costs : work_of v_over_a_b (sizes_of three_sizes) 1 1 one_way_check ≡ 154
+unfolding sum_below has parts children_of is_new sizes_of
+one_way_check_costs = refl
+
+-- 104 + 40 + 34 + 40
+pub both_children_at_once_costs : work_of v_over_a_b (sizes_of three_sizes) 1 1 both_children_at_once ≡ 218
+unfolding sum_below has parts children_of is_new sizes_of
+both_children_at_once_costs = refl
+
+pub one_way_check_passes : (rule : Rule) → Passes v_over_a_b one_way_check rule
+unfolding place_from has children_of is_doubled lacks_comp lacks_inst
+one_way_check_passes S1 = refl
+one_way_check_passes S2 = refl
+one_way_check_passes S3 = refl
+one_way_check_passes S4 = refl
+one_way_check_passes S5 = refl
+one_way_check_passes S6 = refl
+
+-- the second expression is a Comp of V, and the view of the first is still old there
+pub two_comps_before_inst_breaks : place_from S4 v_over_a_b [] two_comps_before_inst ≡ Some 2
+unfolding place_from has children_of is_doubled lacks_comp lacks_inst
+two_comps_before_inst_breaks = refl
+
+-- V over six views of 10 rows of which one changes: 63 terms
+pub six_children_costs : work_of ([] ∷ [] ∷ [] ∷ [] ∷ [] ∷ [] ∷ (0 ∷ 1 ∷ 2 ∷ 3 ∷ 4 ∷ 5 ∷ []) ∷ []) (sizes_of (row 10 10 1 ∷ row 10 10 1 ∷ row 10 10 1 ∷ row 10 10 1 ∷ row 10 10 1 ∷ row 10 10 1 ∷ row 5 5 1 ∷ [])) 1 1 (Comp 6 (0 ∷ 1 ∷ 2 ∷ 3 ∷ 4 ∷ 5 ∷ []) ∷ Inst 0 ∷ Inst 1 ∷ Inst 2 ∷ Inst 3 ∷ Inst 4 ∷ Inst 5 ∷ Inst 6 ∷ []) ≡ 2059
+unfolding sum_below has parts children_of is_new sizes_of
+six_children_costs = refl
