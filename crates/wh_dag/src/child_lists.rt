@@ -66,7 +66,7 @@ impl ChildLists {
     pub fn is_same(&self, other: &ChildLists) -> bool
         ensures { IsTrue result ↔ (self.now ≡ other.now) }
     {
-        self.lists == other.lists
+        are_same(&self.lists, &other.lists)
     }
 }
 
@@ -78,4 +78,10 @@ fn copied(alloc: Global, lists: &[Vec<usize>]) -> Result<Vec<Vec<usize>>, AllocE
         copy.push(own.as_slice().to_vec(alloc)?)?;
     }
     Ok(copy)
+}
+
+fn are_same(lists: &[Vec<usize>], others: &[Vec<usize>]) -> bool
+    ensures { IsTrue result ↔ (lists_of lists.now ≡ lists_of others.now) }
+{
+    lists == others
 }

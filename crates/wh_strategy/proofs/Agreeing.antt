@@ -7,7 +7,7 @@ use Rattle.wh_dag.specs.Shape.{IsShape}
 use Rattle.wh_strategy.specs.declared.expression.Expression.{Expression}
 use Rattle.wh_strategy.specs.declared.rule.Rule.{Rule}
 use Rattle.wh_strategy.specs.Expression.{At}
-use Rattle.wh_strategy.specs.Rules.{IsCorrect, Breaks, Keeps, IsFirstBroken, number_of}
+use Rattle.wh_strategy.specs.Rules.{IsCorrect, Breaks, Keeps, IsFirstPlace, IsFirstBroken, number_of}
 use Rattle.wh_strategy.specs.Tests.{lacks, place_from, Passes, PassEach, IsFirstFailed}
 use Rattle.wh_strategy.proofs.Passing.{by_tests, each_kept, none_lacks}
 use Rattle.wh_strategy.proofs.CorrectLists.{passes_all}
@@ -53,10 +53,18 @@ correct_keeps shape list sh co rule = passes_keeps rule shape list (passes_all s
 pub keeps_correct : (shape : List (List ℕ)) (list : List Expression) → IsShape shape → ((rule : Rule) → Keeps rule shape list) → IsCorrect shape list
 keeps_correct shape list sh keeps = by_tests shape list sh (λ rule. keeps_passes rule shape list (keeps rule))
 
+pub first_place : (rule : Rule) (shape : List (List ℕ)) (list : List Expression) (n : ℕ) → place_from rule shape [] list ≡ Some n → IsFirstPlace rule shape list n
+first_place rule shape list n found =
+    let r = first_breaks rule shape list n found in
+    record { index = r.0; counted = r.1; broken = r.2; first = r.3 }
+
+-- what is refused is not correct
+pub refused : (rule : Rule) (shape : List (List ℕ)) (list : List Expression) (n : ℕ) → IsShape shape → IsFirstBroken shape list rule n → IsCorrect shape list → ⊥
+refused rule shape list n sh f co = correct_keeps shape list sh co rule f.there.index f.there.broken
+
 pub first_broken : (rule : Rule) (shape : List (List ℕ)) (list : List Expression) (n : ℕ) → place_from rule shape [] list ≡ Some n → ((earlier : Rule) → number_of earlier < number_of rule → Passes shape list earlier) → IsFirstBroken shape list rule n
 first_broken rule shape list n found before =
-    let r = first_breaks rule shape list n found in
-    record { index = r.0; counted = r.1; broken = r.2; first = r.3; kept = λ earlier l. passes_keeps earlier shape list (before earlier l) }
+    record { there = first_place rule shape list n found; kept = λ earlier l. passes_keeps earlier shape list (before earlier l) }
 
 -- what the tests of all rules, in their order, say of the list
 pub judged : (shape : List (List ℕ)) (list : List Expression) (o : Option (Rule × ℕ)) → IsShape shape → IfNone o (PassEach in_order shape list) → IfSome o (λ f. IsFirstFailed in_order shape list f.0 f.1) → MatchOption o (IsCorrect shape list) (λ f. IsFirstBroken shape list f.0 f.1)

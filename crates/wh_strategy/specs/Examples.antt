@@ -1,5 +1,5 @@
 -- Worked examples over the definitions alone.
-use Rattle.std.specs.Prelude.{◌≡◌, ℕ, List, [], ◌∷◌, Some, None, refl}
+use Rattle.std.specs.Prelude.{◌≡◌, ◌<◌, ◌≤◌, ℕ, zero, suc, List, [], ◌∷◌, Option, Some, refl}
 use Rattle.std.proofs.Common.{arith}
 use Rattle.wh_dag.specs.Shape.{has, children_of}
 use Rattle.wh_strategy.specs.declared.expression.Expression.{Expression}
@@ -7,8 +7,8 @@ use Rattle.wh_strategy.specs.declared.expression.Expression.TheVariants.{Comp, I
 use Rattle.wh_strategy.specs.declared.rule.Rule.{Rule}
 use Rattle.wh_strategy.specs.declared.rule.Rule.TheVariants.{S1, S2, S3, S4, S5, S6}
 use Rattle.wh_strategy.specs.declared.sizes.SizeRow.{SizeRow}
-use Rattle.wh_strategy.specs.Expression.{is_new}
-use Rattle.wh_strategy.specs.Rules.{Breaks}
+use Rattle.wh_strategy.specs.Expression.{At, is_new}
+use Rattle.wh_strategy.specs.Rules.{BreaksS4, IsFirstPlace}
 use Rattle.wh_strategy.specs.Sizes.{sizes_of}
 use Rattle.wh_strategy.specs.Sums.{sum_below, parts}
 use Rattle.wh_strategy.specs.Tests.{is_doubled, lacks_comp, lacks_inst, place_from, Passes}
@@ -56,6 +56,27 @@ one_way_check_passes S6 = refl
 pub two_comps_before_inst_breaks : place_from S4 v_over_a_b [] two_comps_before_inst ≡ Some 2
 unfolding place_from has children_of is_doubled lacks_comp lacks_inst
 two_comps_before_inst_breaks = refl
+
+-- so it is refused, by places: S4 is the first rule that it breaks, at its second place
+pub two_comps_before_inst_is_refused : IsFirstPlace S4 v_over_a_b two_comps_before_inst 2
+unfolding has
+two_comps_before_inst_is_refused =
+    record {
+      index = 1;
+      counted = refl;
+      broken = record { target = 2; sources = 0 ∷ []; comp = refl; earlier = 0; before = omega arith; from = 1 ∷ []; first = refl; source = 1; among = refl; still_old = later };
+      first = none;
+    }
+  where
+    later : (q : ℕ) → At two_comps_before_inst q (Inst 1) → 1 ≤ q
+    later zero at = absurd (differ at)
+      where
+        differ : ◌≡◌ {A = Option Expression} (Some (Comp 2 (1 ∷ []))) (Some (Inst 1)) → ⊥
+        differ e = cc
+    later (suc q) at = omega arith
+
+    none : (p : ℕ) → p < 1 → BreaksS4 two_comps_before_inst p → ⊥
+    none p l b = let k : b.earlier < p = b.before in omega arith
 
 -- V over six views of 10 rows of which one changes: 63 terms
 pub six_children_costs : work_of ([] ∷ [] ∷ [] ∷ [] ∷ [] ∷ [] ∷ (0 ∷ 1 ∷ 2 ∷ 3 ∷ 4 ∷ 5 ∷ []) ∷ []) (sizes_of (row 10 10 1 ∷ row 10 10 1 ∷ row 10 10 1 ∷ row 10 10 1 ∷ row 10 10 1 ∷ row 10 10 1 ∷ row 5 5 1 ∷ [])) 1 1 (Comp 6 (0 ∷ 1 ∷ 2 ∷ 3 ∷ 4 ∷ 5 ∷ []) ∷ Inst 0 ∷ Inst 1 ∷ Inst 2 ∷ Inst 3 ∷ Inst 4 ∷ Inst 5 ∷ Inst 6 ∷ []) ≡ 2059

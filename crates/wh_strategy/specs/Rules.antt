@@ -1,5 +1,5 @@
 -- The rules of a strategy over a shape, said by places in the list. Places count from 0 here; a fault counts them from 1.
-use Rattle.std.specs.Prelude.{◌≡◌, ◌≢◌, ℕ, ◌+◌, ◌<◌, ◌≤◌, List, [], ◌∷◌, length, Bool, true, false}
+use Rattle.std.specs.Prelude.{◌≡◌, ℕ, ◌+◌, ◌<◌, ◌≤◌, List, [], length, true, false}
 use Rattle.wh_dag.specs.Shape.{has, Distinct, children_of}
 use Rattle.wh_strategy.specs.declared.expression.Expression.{Expression}
 use Rattle.wh_strategy.specs.declared.expression.Expression.TheVariants.{Comp, Inst}
@@ -14,7 +14,8 @@ pub record Judged : Type 0 where
   pub children : List (List ℕ)
   pub list : List Expression
 
--- What the rules say.
+-- What the rules say. Over a shape this is that no rule is broken at any place; where a view could be its own child, a Comp
+-- from its own target would break no rule and yet not stand before itself.
 pub record IsCorrect (shape : List (List ℕ)) (list : List Expression) : Type 0 where
   -- S1: a Comp is of a view, from one child of it or more, none twice
   pub allowed : (p v : ℕ) (ys : List ℕ) → At list p (Comp v ys) → (v < length shape) × (1 ≤ length ys) × Distinct ys × ((u : ℕ) → has ys u ≡ true → has (children_of shape v) u ≡ true)
@@ -127,15 +128,19 @@ number_of S6 = 6
 abbrev pub Keeps : Rule → List (List ℕ) → List Expression → Type 0
 Keeps rule shape list = (p : ℕ) → Breaks rule shape list p → ⊥
 
--- it is the first rule that is broken, and this is its first place, counted from 1
-pub record IsFirstBroken (shape : List (List ℕ)) (list : List Expression) (rule : Rule) (place : ℕ) : Type 0 where
+-- this is the first place at which the rule is broken, counted from 1
+pub record IsFirstPlace (rule : Rule) (shape : List (List ℕ)) (list : List Expression) (place : ℕ) : Type 0 where
   pub index : ℕ
   pub counted : place ≡ index + 1
   pub broken : Breaks rule shape list index
   pub first : (p : ℕ) → p < index → Breaks rule shape list p → ⊥
+
+-- it is the first rule that is broken, and this is its first place
+pub record IsFirstBroken (shape : List (List ℕ)) (list : List Expression) (rule : Rule) (place : ℕ) : Type 0 where
+  pub there : IsFirstPlace rule shape list place
   pub kept : (earlier : Rule) → number_of earlier < number_of rule → Keeps earlier shape list
 
--- why a list was refused: the first broken rule, or want of memory
+-- why a list was refused: the first broken rule, or, of a correct list alone, want of memory
 abbrev pub IsReason : List (List ℕ) → List Expression → CheckFault → Type 0
 IsReason shape list (Broken rule place) = IsFirstBroken shape list rule place
-IsReason shape list Memory = Unit {0}
+IsReason shape list Memory = IsCorrect shape list

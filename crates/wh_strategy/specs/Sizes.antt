@@ -1,5 +1,5 @@
 -- The rows of a view before and after a night, and how many change.
-use Rattle.std.specs.Prelude.{◌≡◌, ℕ, ◌+◌, ◌^◌, ◌<◌, ◌≤◌, List, length, slice_get, slice_index_or, Some}
+use Rattle.std.specs.Prelude.{◌≡◌, ℕ, ◌+◌, ◌^◌, ◌<◌, ◌≤◌, List, slice_get, slice_index_or, Some}
 use Rattle.wh_strategy.specs.declared.sizes.SizeRow.{SizeRow}
 
 -- each at most 2^40, and post within a change of pre

@@ -1,4 +1,5 @@
--- The work of a strategy: what each expression reads and writes, summed over the list.
+-- The work of a strategy: what each expression reads and writes, summed over the list. It is meant for correct lists: of a Comp
+-- with a source twice, or with one that is no child, the sums say nothing of use.
 use Rattle.std.specs.Prelude.{ℕ, ◌+◌, ◌*◌, List, length, slice_get, Option, Some, None, if◌then◌else◌}
 use Rattle.std.specs.List.{sum_by}
 use Rattle.wh_dag.specs.Shape.{has, children_of}

@@ -1,9 +1,9 @@
 //! The check, and what it makes.
 
-ghost use Rattle.std.specs.Prelude.{◌≡◌, ◌↔◌, ℕ, List, IfOk, IfErr, IsTrue, IfNone, IfSome, MatchOption};
+ghost use Rattle.std.specs.Prelude.{◌≡◌, ◌↔◌, ℕ, List, [], Some, IfOk, IfErr, IsTrue, IfNone, IfSome, MatchOption};
 ghost use Rattle.wh_dag.specs.Shape.{IsShape};
-ghost use Rattle.wh_strategy.specs.Rules.{IsCorrect, IsOneWay, IsFirstBroken, IsReason, Keeps};
-ghost use Rattle.wh_strategy.specs.Tests.{PassEach, IsFirstFailed, Passes};
+ghost use Rattle.wh_strategy.specs.Rules.{IsCorrect, IsOneWay, IsFirstBroken, IsFirstPlace, IsReason, Keeps};
+ghost use Rattle.wh_strategy.specs.Tests.{PassEach, IsFirstFailed, Passes, place_from};
 ghost use Rattle.wh_strategy.specs.declared.expression.Expression.{Expression};
 ghost use Rattle.wh_strategy.specs.declared.rule.Rule.{Rule};
 
@@ -20,7 +20,7 @@ pub enum CheckFault {
     /// The first rule that is broken, in the order S1 to S6, at its first place, counted from 1. Where
     /// an expression is missing, the place is the length of the list plus 1.
     Broken { rule: Rule, place: usize },
-    /// Memory for the copy of the child lists was refused.
+    /// The list is correct, and memory for the copy of the child lists was refused.
     Memory,
 }
 
@@ -116,9 +116,11 @@ pub fn check(alloc: Global, shape: &Shape, strategy: Strategy) -> Result<Correct
     }
 }
 
-/// A law: a list is correct exactly where it breaks no rule at any place, and it keeps a rule exactly where the
-/// tests along the list pass.
+/// A law: a list is correct exactly where it breaks no rule at any place, so one that is refused is not; it keeps a
+/// rule exactly where the tests along the list pass, and the first test that fails is at the first place that breaks it.
 pub fn rules_agree()
     ensures places { (shape : List (List ℕ)) (list : List Expression) → IsShape shape → (IsCorrect shape list ↔ ((rule : Rule) → Keeps rule shape list)) }
     ensures tests { (rule : Rule) (shape : List (List ℕ)) (list : List Expression) → (Keeps rule shape list ↔ Passes shape list rule) }
+    ensures first { (rule : Rule) (shape : List (List ℕ)) (list : List Expression) (place : ℕ) → place_from rule shape [] list ≡ Some place → IsFirstPlace rule shape list place }
+    ensures refused { (rule : Rule) (shape : List (List ℕ)) (list : List Expression) (place : ℕ) → IsShape shape → IsFirstBroken shape list rule place → IsCorrect shape list → ⊥ }
 {}

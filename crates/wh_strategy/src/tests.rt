@@ -226,3 +226,57 @@ fn costs_scale_the_two_parts_of_the_work(rt: HostRuntime) -> Result<(), Fail> {
     assert_eq!(rt; work(&shape, &sizes, costs, &correct), 4_000_027);
     Ok(())
 }
+
+/// 64 views, each over the six before it, or over all before it where they are fewer.
+fn widest(rt: &impl Abort, alloc: Global) -> Result<Shape, ShapeFault> {
+    let mut names = Vec::new(alloc);
+    let mut over = Vec::new(alloc);
+    for view in 0..64_usize {
+        let mut children = Vec::new(alloc);
+        for child in view.saturating_sub(6)..view {
+            children.push(format!(in alloc; "v{child}")?)?;
+        }
+        names.push(format!(in alloc; "v{view}")?)?;
+        over.push(if view == 0 { None } else { Some(children) })?;
+    }
+    assert_eq!(rt; names.len(), over.len());
+    Shape::new(alloc, names, over)
+}
+
+/// View by view, the Comps of all its parents from it, and then its Inst.
+fn one_by_one(alloc: Global) -> Result<Strategy, AllocError> {
+    let mut list = Vec::new(alloc);
+    for view in 0..64_usize {
+        for parent in view + 1..(view + 7).min(64) {
+            let source = vec![in alloc; view]?;
+            list.push(Expression::Comp(parent, Sources::new(source)))?;
+        }
+        list.push(Expression::Inst(view))?;
+    }
+    Ok(Strategy::new(list))
+}
+
+// A view with k children has k Comps, each of 1 row changed and 10 of each other child: k * (10 * k - 9) rows. That is
+// 1 + 22 + 63 + 124 + 205 for the views over one to five, 306 for each of the other 58, and 64 for the Insts.
+#[test]
+fn the_widest_shape_is_judged(rt: HostRuntime) -> Result<(), Fail> {
+    let alloc = rt.alloc();
+    let shape = widest(&rt, alloc)?;
+    assert_eq!(rt; shape.len(), 64);
+    assert_eq!(rt; shape.level(63), 63);
+    assert_eq!(rt;
+        shape.parents(alloc, 0)?.as_slice(),
+        [1, 2, 3, 4, 5, 6].as_slice()
+    );
+    let mut rows = Vec::new(alloc);
+    for _ in 0..64 {
+        rows.push((10, 10, 1))?;
+    }
+    let sizes = sized(alloc, &rows)?.expect(&rt, "sizes");
+    let correct = check(alloc, &shape, one_by_one(alloc)?)?;
+    let costs = Costs::new(1, 1).expect(&rt, "costs of 1");
+    assert!(rt; correct.is_one_way());
+    assert_eq!(rt; sizes.len(), shape.len());
+    assert_eq!(rt; work(&shape, &sizes, costs, &correct), 18_227);
+    Ok(())
+}

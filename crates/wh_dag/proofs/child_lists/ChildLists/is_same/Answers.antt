@@ -1,9 +1,0 @@
-use Rattle.std.proofs.Common.{◌∙◌}
-use Rattle.std.proofs.lemmas.Slice.Eq.{slice_eq-Decides, bytes_eq-Decides}
-use Rattle.wh_dag.proofs.Lists.{pointwise-lists_of}
-use Rattle.wh_dag.proofs.child_lists.ChildLists.is_same.Goals as goal
-
-pub returns : goal.returns
-returns c =
-    rw (← c.self.view_is, ← c.other.view_is)
-    (slice_eq-Decides bytes_eq-Decides _ _ c.eq.result (c.eq.ensures ∙ pointwise-lists_of c.self.inside.lists.items c.other.inside.lists.items))

@@ -1,0 +1,3 @@
+//! What no clause says: that calls succeed with ample memory, and that a stored closure is the one that answers.
+mod formulas;
+mod stored;

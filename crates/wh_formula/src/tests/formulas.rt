@@ -1,0 +1,150 @@
+//! Formulas at rows, each call with ample memory.
+ghost use Rattle.std.specs.Prelude.{◌≡◌, IfOk, All};
+ghost use Rattle.wh_formula.specs.Expr.{depth};
+ghost use Rattle.wh_formula.specs.Pred as pred;
+
+use crate::{Comparison, Expr, MAX_DEPTH, Pred};
+use std::alloc::{AllocError, Global};
+use std::process::Abort;
+use std::test::Fail;
+
+// The square is the last one within i64 at the first of these rows, and past it at the second.
+const LAST: [i64; 1] = [3037000499];
+
+const NEXT: [i64; 1] = [3037000500];
+
+fn has_value(rt: &impl Abort, expr: &Expr, row: &[i64], value: Option<i64>) {
+    assert!(rt; expr.fits(row.len()));
+    assert_eq!(rt; expr.value(row), value);
+}
+
+fn answers(rt: &impl Abort, test: &Pred, row: &[i64], answer: bool) {
+    assert!(rt; test.fits(row.len()));
+    assert_eq!(rt; test.holds(row), answer);
+}
+
+fn square(alloc: Global) -> Result<Expr, AllocError>
+    ensures { IfOk result (λ e. depth e ≡ 2) }
+{
+    Expr::mul(alloc, Expr::column(0), Expr::column(0))
+}
+
+#[test]
+fn square_without_value(rt: HostRuntime) -> Result<(), Fail> {
+    let square = square(rt.alloc())?;
+    let same = square.copy(rt.alloc())?;
+    has_value(&rt, &square, &LAST, Some(9223372030926249001));
+    has_value(&rt, &same, &LAST, Some(9223372030926249001));
+    has_value(&rt, &square, &NEXT, None);
+    has_value(&rt, &same, &NEXT, None);
+    Ok(())
+}
+
+#[test]
+fn square_without_value_is_not_positive(rt: HostRuntime) -> Result<(), Fail> {
+    let positive = Pred::compare(Comparison::Greater, square(rt.alloc())?, Expr::number(0));
+    let same = positive.copy(rt.alloc())?;
+    answers(&rt, &positive, &LAST, true);
+    answers(&rt, &same, &LAST, true);
+    answers(&rt, &positive, &NEXT, false);
+    answers(&rt, &same, &NEXT, false);
+    Ok(())
+}
+
+#[test]
+fn not_positive_holds_where_the_square_has_no_value(rt: HostRuntime) -> Result<(), Fail> {
+    let positive = Pred::compare(Comparison::Greater, square(rt.alloc())?, Expr::number(0));
+    let negated = Pred::not(rt.alloc(), positive)?;
+    let same = negated.copy(rt.alloc())?;
+    answers(&rt, &negated, &LAST, false);
+    answers(&rt, &same, &LAST, false);
+    answers(&rt, &negated, &NEXT, true);
+    answers(&rt, &same, &NEXT, true);
+    Ok(())
+}
+
+#[test]
+fn a_sum_ends_at_the_end_of_i64(rt: HostRuntime) -> Result<(), Fail> {
+    let sum = Expr::add(rt.alloc(), Expr::column(0), Expr::column(1))?;
+    has_value(&rt, &sum, &[i64::MAX, -1], Some(9223372036854775806));
+    has_value(&rt, &sum, &[i64::MAX, 1], None);
+    Ok(())
+}
+
+#[test]
+fn a_difference_ends_at_the_end_of_i64(rt: HostRuntime) -> Result<(), Fail> {
+    let difference = Expr::sub(rt.alloc(), Expr::column(0), Expr::number(5))?;
+    has_value(&rt, &difference, &[3], Some(-2));
+    has_value(&rt, &difference, &[i64::MIN], None);
+    Ok(())
+}
+
+#[test]
+fn each_comparison_tells_less_equal_and_greater_apart(rt: HostRuntime) {
+    let cases = [
+        (Comparison::Equal, [false, true, false]),
+        (Comparison::NotEqual, [true, false, true]),
+        (Comparison::Less, [true, false, false]),
+        (Comparison::LessOrEqual, [true, true, false]),
+        (Comparison::Greater, [false, false, true]),
+        (Comparison::GreaterOrEqual, [false, true, true]),
+    ];
+    for (op, [less, equal, greater]) in cases {
+        let test = Pred::compare(op, Expr::column(0), Expr::number(5));
+        answers(&rt, &test, &[-6], less);
+        answers(&rt, &test, &[5], equal);
+        answers(&rt, &test, &[6], greater);
+    }
+}
+
+#[test]
+fn all_of_none_holds_and_any_of_none_does_not(rt: HostRuntime) {
+    answers(&rt, &Pred::all(Vec::new(rt.alloc())), &[], true);
+    answers(&rt, &Pred::any(Vec::new(rt.alloc())), &[], false);
+}
+
+fn between(alloc: Global) -> Result<Vec<Pred>, AllocError>
+    ensures { IfOk result (λ parts. All (λ p. pred.depth p ≡ 2) parts.items) }
+{
+    let mut parts = Vec::new(alloc);
+    parts.push(Pred::compare(Comparison::Greater, Expr::column(0), Expr::number(0)))?;
+    parts.push(Pred::compare(Comparison::Less, Expr::column(0), Expr::number(9)))?;
+    Ok(parts)
+}
+
+#[test]
+fn all_asks_for_each_part_and_any_for_one(rt: HostRuntime) -> Result<(), Fail> {
+    let all = Pred::all(between(rt.alloc())?).copy(rt.alloc())?;
+    answers(&rt, &all, &[4], true);
+    answers(&rt, &all, &[9], false);
+    let any = Pred::any(between(rt.alloc())?).copy(rt.alloc())?;
+    answers(&rt, &any, &[9], true);
+    Ok(())
+}
+
+#[test]
+fn a_test_grows_to_64_levels_and_no_further(rt: HostRuntime) -> Result<(), Fail> {
+    let mut tower = Pred::always();
+    for _ in 0..100 {
+        if tower.depth() < MAX_DEPTH {
+            tower = Pred::not(rt.alloc(), tower)?;
+        }
+    }
+    assert_eq!(rt; tower.depth(), 64);
+    // Under 63 times not.
+    answers(&rt, &tower.copy(rt.alloc())?, &[], false);
+    Ok(())
+}
+
+#[test]
+fn an_expression_grows_to_64_levels_and_no_further(rt: HostRuntime) -> Result<(), Fail> {
+    let mut sum = Expr::column(0);
+    for _ in 0..100 {
+        if sum.depth() < MAX_DEPTH {
+            sum = Expr::add(rt.alloc(), sum, Expr::number(2))?;
+        }
+    }
+    assert_eq!(rt; sum.depth(), 64);
+    has_value(&rt, &sum.copy(rt.alloc())?, &[1], Some(127));
+    Ok(())
+}

@@ -1,0 +1,111 @@
+//! What no clause says: the worked examples, and that ample memory is enough.
+
+use crate::{Bag, BagFault, Records, RecordsFault};
+use std::alloc::Global;
+use std::process::Abort;
+use std::test::Fail;
+
+/// A bag of these rows, added one after another.
+fn bag_of(alloc: Global, rows: &[(&[i64], i64)]) -> Result<Bag, BagFault> {
+    let mut bag = Bag::new(alloc);
+    for (row, count) in rows {
+        bag.add(row, *count)?;
+    }
+    Ok(bag)
+}
+
+/// Asserts that the bag lists these rows, with these counts, in this order.
+fn assert_lists(rt: &impl Abort, bag: &Bag, wanted: &[(&[i64], i64)]) {
+    let mut rows = bag.rows();
+    for (row, count) in wanted {
+        let next = rows.next();
+        assert!(rt; next.is_some());
+        if let Some((found, times)) = next {
+            assert_eq!(rt; found, *row);
+            assert_eq!(rt; times, *count);
+        }
+    }
+    assert!(rt; rows.next().is_none());
+}
+
+#[test]
+fn rows_whose_counts_cancel_leave_the_bag(rt: HostRuntime) -> Result<(), Fail> {
+    let bag = bag_of(rt.alloc(), &[(&[1], 2), (&[1], -2)])?;
+    assert_eq!(rt; bag.total(), 0);
+    assert_lists(&rt, &bag, &[]);
+    Ok(())
+}
+
+#[test]
+fn a_count_that_would_leave_i64_is_refused(rt: HostRuntime) -> Result<(), Fail> {
+    let mut bag = bag_of(rt.alloc(), &[(&[1], 9223372036854775807)])?;
+    let refused = bag.add(&[1], 1);
+    assert_eq!(rt; refused, Err(BagFault::Large));
+    assert_eq!(rt; BagFault::Large.number(), 2);
+    assert_lists(&rt, &bag, &[(&[1], 9223372036854775807)]);
+    assert_lists(&rt, &bag.copy(rt.alloc())?, &[(&[1], 9223372036854775807)]);
+    Ok(())
+}
+
+#[test]
+fn rows_rise_cell_by_cell(rt: HostRuntime) -> Result<(), Fail> {
+    let rows: [(&[i64], i64); 5] = [(&[2], 1), (&[1, 5], -1), (&[], 4), (&[-3, 9], 2), (&[1], 7)];
+    let bag = bag_of(rt.alloc(), &rows)?;
+    assert_lists(
+        &rt,
+        &bag,
+        &[(&[], 4), (&[-3, 9], 2), (&[1], 7), (&[1, 5], -1), (&[2], 1)],
+    );
+    assert_eq!(rt; bag.total(), 15);
+    assert!(rt; !bag.is_table());
+    assert!(rt; !bag.is_width(1));
+    Ok(())
+}
+
+#[test]
+fn bags_that_cancel_merge_to_an_empty_bag(rt: HostRuntime) -> Result<(), Fail> {
+    let mut bag = bag_of(rt.alloc(), &[(&[1, 1], 3), (&[2, 2], -4)])?;
+    let opposite = bag_of(rt.alloc(), &[(&[1, 1], -3), (&[2, 2], 4)])?;
+    bag.merge(&opposite)?;
+    assert_lists(&rt, &bag, &[]);
+    Ok(())
+}
+
+#[test]
+fn a_merge_that_would_leave_i64_changes_nothing(rt: HostRuntime) -> Result<(), Fail> {
+    let mut bag = bag_of(rt.alloc(), &[(&[1], 5), (&[2], -9223372036854775808)])?;
+    let more = bag_of(rt.alloc(), &[(&[1], 1), (&[2], -1)])?;
+    let refused = bag.merge(&more);
+    assert_eq!(rt; refused, Err(BagFault::Large));
+    assert_lists(&rt, &bag, &[(&[1], 5), (&[2], -9223372036854775808)]);
+    Ok(())
+}
+
+#[test]
+fn records_in_any_order_add_up(rt: HostRuntime) -> Result<(), Fail> {
+    let mut records = Records::new(rt.alloc());
+    for (row, count) in [(&[3], 1), (&[1], 2), (&[3], -1), (&[2], 5), (&[1], 4)] {
+        records.push(row, count)?;
+    }
+    let bag = Bag::from_records(rt.alloc(), &records)?;
+    assert_lists(&rt, &bag, &[(&[1], 6), (&[2], 5)]);
+    assert!(rt; bag.is_table());
+    assert!(rt; bag.is_width(1));
+    Ok(())
+}
+
+// The total, 9223372036854775803, fits: the running sum at the second record does not.
+#[test]
+fn records_are_refused_where_a_running_sum_leaves_i64(rt: HostRuntime) -> Result<(), Fail> {
+    let mut records = Records::new(rt.alloc());
+    for count in [9223372036854775807, 1, -5] {
+        records.push(&[1], count)?;
+    }
+    let refused = Bag::from_records(rt.alloc(), &records);
+    assert!(rt; refused.is_err());
+    if let Err(fault) = refused {
+        assert_eq!(rt; fault, RecordsFault::Large(1));
+        assert_eq!(rt; fault.number(), 2);
+    }
+    Ok(())
+}
