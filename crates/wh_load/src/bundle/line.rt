@@ -1,0 +1,129 @@
+//! Bytes as lines, which are cut after each LF.
+ghost use Rattle.std.specs.Prelude.{◌≡◌, ◌==◌, ◌||◌, ◌+◌, ◌-◌, ◌<◌, ◌≤◌, ◌∷◌, ◌++◌, IsTrue, length, take, drop, slice_index};
+ghost use Rattle.std.specs.List.{list_all};
+ghost use Rattle.wh_load.specs.Line.{whole_lines, has_cr, without_end, without_lf, is_blank, is_blank_line, is_blank_text, is_escaped, is_plain, opens_part};
+
+use memchr::memchr;
+
+// The length of the first line, with its LF.
+fn line_len(text: &[u8]) -> usize
+    requires { 0 < length text.now }
+    ensures some { 0 < result }
+    ensures within { result ≤ length text.now }
+    ensures lines { whole_lines text.now ≡ take result text.now ∷ whole_lines (drop result text.now) }
+{
+    match memchr(b'\n', text) {
+        Some(place) => place + 1,
+        None => text.len(),
+    }
+}
+
+// The first line with its LF, and what stands below it.
+pub fn first_line(text: &[u8]) -> (&[u8], &[u8])
+    requires { 0 < length text.now }
+    ensures some { 0 < length result.0.now }
+    ensures shorter { length result.0.now + length result.1.now ≡ length text.now }
+    ensures line { result.0.now ≡ take (length result.0.now) text.now }
+    ensures below { result.1.now ≡ drop (length result.0.now) text.now }
+    ensures lines { whole_lines text.now ≡ result.0.now ∷ whole_lines result.1.now }
+{
+    text.split_at(line_len(text))
+}
+
+// The line without the LF that ends it.
+pub fn without_lf(line: &[u8]) -> &[u8]
+    ensures { result.now ≡ without_lf line.now }
+{
+    if line.ends_with(b"\n") {
+        &line[..line.len() - 1]
+    } else {
+        line
+    }
+}
+
+// Whether the line ends in CR LF.
+pub fn has_cr(line: &[u8]) -> bool
+    ensures bound { IsTrue result → 2 ≤ length line.now }
+    ensures value { result ≡ has_cr line.now }
+{
+    line.ends_with(b"\r\n")
+}
+
+// The line without its end: the LF, and a CR directly before it.
+pub fn without_end(line: &[u8]) -> &[u8]
+    ensures { result.now ≡ without_end line.now }
+{
+    if has_cr(line) {
+        &line[..line.len() - 2]
+    } else {
+        without_lf(line)
+    }
+}
+
+// Whether the byte is a blank.
+pub fn is_blank(byte: u8) -> bool
+    ensures { result ≡ is_blank byte }
+{
+    byte == b' ' || byte == b'\t'
+}
+
+fn is_blank_line(line: &[u8]) -> bool
+    ensures { result ≡ is_blank_line line.now }
+{
+    let content = without_end(line);
+    content.iter().all(|byte| is_blank(*byte))
+}
+
+// Whether each line has blanks alone.
+pub fn is_blank_text(text: &[u8]) -> bool
+    ensures { result ≡ is_blank_text text.now }
+{
+    let mut rest = text;
+    while !rest.is_empty() {
+        let (line, below) = first_line(rest);
+        if !is_blank_line(line) {
+            return false;
+        }
+        rest = below;
+    }
+    true
+}
+
+// Whether the line begins with `@@`.
+pub fn is_escaped(line: &[u8]) -> bool
+    ensures { result ≡ is_escaped line.now }
+{
+    line.starts_with(b"@@")
+}
+
+// Whether the line begins with one `@`.
+pub fn opens_part(line: &[u8]) -> bool
+    ensures { result ≡ opens_part line.now }
+{
+    line.starts_with(b"@") && !is_escaped(line)
+}
+
+// Whether a line begins at the place.
+fn begins_line(text: &[u8], place: usize) -> bool
+    requires { place ≤ length text.now }
+    ensures { result ≡ (place == 0 || slice_index text.now (place - 1) == 10) }
+{
+    place == 0 || text[place - 1] == b'\n'
+}
+
+// The length of the lines above the first that begins with an `@`. Most bytes have none, so it is they that are looked for.
+pub fn plain_len(text: &[u8]) -> usize
+    ensures within { result ≤ length text.now }
+    ensures lines { whole_lines text.now ≡ whole_lines (take result text.now) ++ whole_lines (drop result text.now) }
+    ensures plain { IsTrue (list_all is_plain (whole_lines (take result text.now))) }
+{
+    let mut at = 0;
+    while let Some(gap) = memchr(b'@', &text[at..]) {
+        let place = at + gap;
+        if begins_line(text, place) {
+            return place;
+        }
+        at = place + 1;
+    }
+    text.len()
+}

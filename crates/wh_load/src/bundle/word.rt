@@ -1,0 +1,51 @@
+//! A word of the input.
+ghost use Rattle.std.specs.Prelude.{◌≡◌, IfOk};
+
+use std::alloc::{AllocError, Global};
+use std::marker::Model;
+
+/// A word of the input, whose bytes need not be UTF-8.
+#[derive(Debug, Drop)]
+pub struct Word {
+    bytes: Vec<u8>,
+}
+
+impl Model for Word {
+    ghost use Rattle.std.specs.Prelude.{List, ℕ};
+
+    ghost Value = { List ℕ };
+
+    ghost view = { λ w. w.bytes.items };
+}
+
+impl Word {
+    /// A copy of these bytes.
+    pub fn new(alloc: Global, bytes: &[u8]) -> Result<Word, AllocError>
+        ensures { IfOk result (λ word. word ≡ bytes.now) }
+    {
+        let bytes = Vec::from_slice(alloc, bytes)?;
+        Ok(Word { bytes })
+    }
+
+    /// The word that has these bytes.
+    pub fn from_vec(bytes: Vec<u8>) -> Word
+        ensures { result ≡ bytes.items }
+    {
+        Word { bytes }
+    }
+
+    /// The bytes.
+    pub fn as_slice(&self) -> &[u8]
+        ensures { result.now ≡ self.now }
+    {
+        self.bytes.as_slice()
+    }
+
+    /// The bytes, given back.
+    pub fn into_vec(self) -> Vec<u8>
+        ensures { result.items ≡ self }
+    {
+        let Word { bytes } = self;
+        bytes
+    }
+}

@@ -1,0 +1,34 @@
+//! All input texts of the program, and its output texts: text to value or first fault, and value to text.
+//!
+//! [`read_all`] reads the bytes of an input, and [`parts`] cuts them into the parts of a bundle, which lends them. Each
+//! part has a reader: [`read_shape`], [`read_strategy`], [`read_sizes`]. A reader answers the value that its text says, or
+//! the text's first fault as a [`LoadFault`], whose number and printed line are exact.
+#![tactic(auto)]
+
+mod bundle;
+mod catalogue;
+mod expression;
+mod fault;
+mod name_form;
+mod names;
+mod read;
+mod records;
+mod sizes;
+mod strategy;
+#[cfg(test)]
+mod tests;
+mod words;
+
+pub use bundle::fault::{Nights, PartFault};
+pub use bundle::heading::{Heading, Scope};
+pub use bundle::part::Part;
+pub use bundle::piece::Piece;
+pub use bundle::word::Word;
+pub use bundle::{Bundle, parts};
+pub use catalogue::read_shape;
+pub use expression::write_expression;
+pub use fault::{Key, LoadFault};
+pub use names::Names;
+pub use read::{ReadFault, read_all};
+pub use sizes::read_sizes;
+pub use strategy::{read_strategy, reads_back_law, write_strategy};

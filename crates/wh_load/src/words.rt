@@ -1,0 +1,40 @@
+//! The lines of a text, and the words of a line.
+ghost use Rattle.std.specs.Prelude.{◌≡◌, ◌==◌, ◌<◌, ◌∷◌, length, map, position, IfOk, IfSome};
+ghost use Rattle.wh_load.specs.Words.{is_word, lines_of, words_of};
+
+use crate::bundle::line::is_blank;
+use std::alloc::{AllocError, Global};
+
+fn find_line_feed(text: &[u8]) -> Option<usize>
+    ensures place { result ≡ position (λ b. b == 10) text.now }
+    ensures within { IfSome result (λ i. i < length text.now) }
+{
+    text.iter().position(|byte| *byte == b'\n')
+}
+
+/// The first line without its LF, and the text below it.
+pub(crate) fn first_line(text: &[u8]) -> (&[u8], &[u8])
+    requires { 0 < length text.now }
+    ensures lines { lines_of text.now ≡ result.0.now ∷ lines_of result.1.now }
+    ensures shorter { length result.1.now < length text.now }
+{
+    match find_line_feed(text) {
+        Some(end) => (&text[..end], &text[end + 1..]),
+        None => (text, &text[text.len()..]),
+    }
+}
+
+fn is_word(piece: &[u8]) -> bool
+    ensures { result ≡ is_word piece.now }
+{
+    !piece.is_empty()
+}
+
+/// The words of a line, which spaces and tabs part. No other byte parts words, so a CR belongs to one.
+pub(crate) fn words_of(alloc: Global, line: &[u8]) -> Result<Vec<&[u8]>, AllocError>
+    ensures { IfOk result (λ words. map (λ word. word.now) words.items ≡ words_of line.now) }
+{
+    line.split(|byte| is_blank(*byte))
+        .filter(|piece| is_word(*piece))
+        .collect(alloc)
+}

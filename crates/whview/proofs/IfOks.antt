@@ -1,0 +1,14 @@
+-- A fact of an Ok from others of it.
+use Rattle.std.specs.Prelude.{Result, Ok, Err, IfOk}
+
+pub if_ok : {T E : Type 0} (r : Result T E) (P Q : T → Type 0) → IfOk r P → ((x : T) → P x → Q x) → IfOk r Q
+if_ok (Ok x) P Q p f = f x p
+if_ok (Err e) P Q p f = tt
+
+pub if_ok_both : {T E : Type 0} (r : Result T E) (P P' Q : T → Type 0) → IfOk r P → IfOk r P' → ((x : T) → P x → P' x → Q x) → IfOk r Q
+if_ok_both (Ok x) P P' Q p p' f = f x p p'
+if_ok_both (Err e) P P' Q p p' f = tt
+
+pub if_ok_any : {T E : Type 0} (r : Result T E) (Q : T → Type 0) → ((x : T) → Q x) → IfOk r Q
+if_ok_any (Ok x) Q f = f x
+if_ok_any (Err e) Q f = tt

@@ -1,0 +1,10 @@
+pub mod Commands
+pub mod CostTexts
+pub mod Entered
+pub mod Faults
+pub mod FirstPlaces
+pub mod IfOks
+pub mod LeafRows
+pub mod Outputs
+pub mod Texts
+pub mod Verdicts

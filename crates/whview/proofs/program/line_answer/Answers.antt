@@ -1,0 +1,49 @@
+use Rattle.std.proofs.Common.{◌≡◌, true, false, sym, ap, ◌∙◌, subst}
+use Rattle.std.specs.Prelude.{map}
+use Rattle.std.specs.Str.{is_utf8, IsUtf8}
+use Rattle.std.proofs.lemmas.Str.{IsUtf8-from_is_utf8, is_utf8-from_IsUtf8}
+use Rattle.std.proofs.lemmas.Bool.{false_from_ne_true}
+use Rattle.clap.specs.Words.{fault_of, subcommand_of}
+use Rattle.whview.proofs.IfOks.{if_ok, if_ok_both}
+use Rattle.whview.specs.FirstLine.{first_line_of, words_in}
+use Rattle.whview.specs.CommandFault.{FailsAs}
+use Rattle.whview.specs.CommandLine.{IsAsked, whview_app}
+use Rattle.whview.specs.Output.{IsCommandOutput, line_not_text}
+use Rattle.whview.proofs.Outputs.{refused_as, names_file, answers_line, refuses_line}
+use Rattle.whview.proofs.program.line_answer.Goals as goal
+
+pub returns-in_default : goal.returns-in_default
+returns-in_default c =
+    let bad : is_utf8 (first_line_of c.args.input.now) ≡ false = false_from_ne_true _ (λ y. c.in_default.ensures.cases.0 (subst IsUtf8 (sym c.first_line.ensures.line) (IsUtf8-from_is_utf8 _ y))) in
+    if_ok_both c.of.result _ _ _ c.of.ensures.text c.of.ensures.status (λ a text status. line_not_text c.requires bad text status)
+
+pub returns-then-refuses_input : goal.returns-then-refuses_input
+returns-then-refuses_input c =
+    let at = c.in-Ok.ensures.cases.0 ∙ c.first_line.ensures.line in
+    let utf8 = is_utf8-from_IsUtf8 _ (subst IsUtf8 c.first_line.ensures.line c.in-Ok.ensures.cases.1) in
+    let same = ap (map (λ w. w.now)) c.deref.ensures.value ∙ c.in_ok-words.ensures ∙ ap words_in at in
+    let named = sym c.refuses_input.ensures ∙ c.if-refuses_input.true in
+    if_ok c.of-then-refuses_input.result _ _ c.of-then-refuses_input.ensures.status (λ a ended. names_file c.args.input.now c.deref.result.now a.text.items a.status c.requires utf8 same named ended)
+
+pub returns-in-Ok-parse : goal.returns-in-Ok-parse
+returns-in-Ok-parse c =
+    let at = c.in-Ok.ensures.cases.0 ∙ c.first_line.ensures.line in
+    let utf8 = is_utf8-from_IsUtf8 _ (subst IsUtf8 c.first_line.ensures.line c.in-Ok.ensures.cases.1) in
+    let same = ap (map (λ w. w.now)) c.deref.ensures.value ∙ c.in_ok-words.ensures ∙ ap words_in at in
+    let named = sym c.refuses_input.ensures ∙ c.if-refuses_input.false in
+    let twice = c.deref-2.ensures.value ∙ sym c.deref.ensures.value in
+    let asked = subst (λ ws. IsAsked (subcommand_of whview_app (map (λ w. w.now) ws)) c.in-Ok-parse.asked) twice c.in-Ok-parse.ensures.asked in
+    if_ok c.command_answer.result _ _ c.command_answer.ensures
+    (λ a output. answers_line c.args.input.now c.deref.result.now a.text.items a.status c.in-Ok-parse.asked c.requires utf8 same named asked
+    (subst (λ bytes. IsCommandOutput c.in-Ok-parse.asked bytes a.text.items a.status) c.first_line.ensures.rest output))
+
+pub returns : goal.returns
+returns c =
+    let at = c.in-Ok.ensures.cases.0 ∙ c.first_line.ensures.line in
+    let utf8 = is_utf8-from_IsUtf8 _ (subst IsUtf8 c.first_line.ensures.line c.in-Ok.ensures.cases.1) in
+    let same = ap (map (λ w. w.now)) c.deref.ensures.value ∙ c.in_ok-words.ensures ∙ ap words_in at in
+    let named = sym c.refuses_input.ensures ∙ c.if-refuses_input.false in
+    let twice = c.deref-2.ensures.value ∙ sym c.deref.ensures.value in
+    let fails = subst (λ ws. FailsAs (fault_of whview_app (map (λ w. w.now) ws)) c.in-Err.fault) twice c.in-Err.ensures.fails in
+    if_ok_both c.refusal.result _ _ _ c.refusal.ensures.status c.refusal.ensures.told
+    (λ a ended told. refuses_line c.args.input.now c.deref.result.now a.text.items a.status c.requires utf8 same named (refused_as (map (λ w. w.now) c.deref.result.now) c.in-Err.fault a.status fails told ended))

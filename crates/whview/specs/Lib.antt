@@ -1,0 +1,6 @@
+pub mod CheckOutput
+pub mod CommandFault
+pub mod CommandLine
+pub mod FirstLine
+pub mod Output
+pub mod Shown

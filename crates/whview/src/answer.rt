@@ -1,0 +1,64 @@
+//! What the program writes, and the status that it ends with.
+
+ghost use Rattle.std.specs.Prelude.{◌≡◌, IfOk, decimal, string_bytes};
+ghost use Rattle.wh_load.specs.FaultText.{fault_text};
+ghost use Rattle.whview.specs.CheckOutput.{IsFaultShown, correct_text, broken_text, line};
+
+use std::alloc::{AllocError, Global};
+use wh_load::LoadFault;
+use wh_strategy::Rule;
+
+/// A text, built whole, and the status to end with.
+#[derive(Debug, Drop)]
+pub struct Answer {
+    /// The bytes to write: lines, each with its LF.
+    pub text: Vec<u8>,
+    /// The status of the program.
+    pub status: u8,
+}
+
+impl Answer {
+    /// The answer for a correct strategy of this work.
+    pub fn correct(alloc: Global, work: u128) -> Result<Answer, AllocError>
+        ensures text { IfOk result (λ a. a.text.items ≡ correct_text work) }
+        ensures status { IfOk result (λ a. a.status ≡ 0) }
+    {
+        let text = format!(in alloc; "correct\nwork {work}\n")?;
+        Ok(Answer {
+            text: text.into_bytes(),
+            status: 0,
+        })
+    }
+
+    /// The answer for a strategy that breaks this rule at this place.
+    pub fn broken(alloc: Global, rule: Rule, place: usize) -> Result<Answer, AllocError>
+        ensures text { IfOk result (λ a. a.text.items ≡ broken_text rule place) }
+        ensures status { IfOk result (λ a. a.status ≡ 1) }
+    {
+        let number = rule.number();
+        let text = format!(in alloc; "broken S{number} at {place}\n")?;
+        Ok(Answer {
+            text: text.into_bytes(),
+            status: 1,
+        })
+    }
+
+    /// The answer for a fault of the input.
+    pub fn fault(alloc: Global, fault: &LoadFault) -> Result<Answer, AllocError>
+        ensures { IfOk result (λ a. IsFaultShown fault.now a.text.items a.status) }
+    {
+        let mut text = Vec::new(alloc);
+        fault.append_text(alloc, &mut text)?;
+        text.push(b'\n')?;
+        Ok(Answer { text, status: 3 })
+    }
+
+    /// An answer of this text.
+    pub fn of(alloc: Global, text: &str, status: u8) -> Result<Answer, AllocError>
+        ensures text { IfOk result (λ a. a.text.items ≡ text.now) }
+        ensures status { IfOk result (λ a. a.status ≡ status) }
+    {
+        let text = text.as_bytes().to_vec(alloc)?;
+        Ok(Answer { text, status })
+    }
+}

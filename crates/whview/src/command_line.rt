@@ -1,0 +1,95 @@
+//! What a command line asks for.
+
+ghost use Rattle.std.specs.Prelude.{◌≡◌, ◌≤◌, [], true, codes, IfErr, IfOk, MatchResult};
+ghost use Rattle.clap.specs.Walk.{texts};
+ghost use Rattle.clap.specs.Words.{fault_of, found_of, rows_of, subcommand_of, subcommand_rows_of, takes};
+ghost use Rattle.whview.specs.CommandFault.{FailsAs};
+ghost use Rattle.whview.specs.CommandLine.{IsAsked, NamesCommand, TakesCost, cost_of, whview_app};
+
+mod builder;
+mod fault;
+
+use builder::whview_command;
+use clap::ArgMatches;
+pub use fault::CommandFault;
+use std::alloc::Global;
+use wh_strategy::Costs;
+
+/// What a row costs where its option is not given.
+const DEFAULT_COST: u64 = 1;
+
+/// A command with its options, as the words of a command line ask for it.
+#[derive(Debug, Clone, Copy, PartialEq, Eq)]
+pub enum Asked<'a> {
+    /// Judge the strategy and give its work.
+    Check {
+        /// What a row costs.
+        costs: Costs,
+        /// The file of the input; None for standard input.
+        input: Option<&'a str>,
+    },
+}
+
+/// Reads the words that follow the program's name.
+///
+/// An Err is also a request for help, which leaves nothing to do but to show a text.
+pub fn parse<'a>(alloc: Global, words: &'a [&'a str]) -> Result<Asked<'a>, CommandFault>
+    ensures asked { IfOk result (IsAsked (subcommand_of whview_app (texts words.now))) }
+
+    // `fault_of` has what `clap` finds at the first word that it does not take, help included:
+    // an Ok comes where that is nothing, and the status of an Err is that of one of its kinds.
+    ensures fails { MatchResult result (λ _. fault_of whview_app (texts words.now) ≡ [])
+        (FailsAs (fault_of whview_app (texts words.now))) }
+
+    ensures taken { takes whview_app (texts words.now) ≡ true
+        → IfErr result (λ f. f ≡ CommandFault.Memory) }
+{
+    let command = whview_command(alloc)?;
+    match command.try_get_matches_from(words) {
+        Ok(matches) => Ok(asked_of(&matches)),
+        Err(error) => Err(CommandFault::of(alloc, &error)),
+    }
+}
+
+/// What the matches of words without a fault ask for.
+fn asked_of<'a>(matches: &ArgMatches<'a>) -> Asked<'a>
+    requires { NamesCommand (subcommand_rows_of matches.now) }
+    ensures { IsAsked (subcommand_rows_of matches.now) result }
+{
+    match matches.subcommand() {
+        Some(("check", options)) => Asked::Check {
+            costs: costs_of(options),
+            input: options.get_str("input"),
+        },
+        _ => unreachable!(),
+    }
+}
+
+/// The costs of a command that has an option for each.
+fn costs_of(options: &ArgMatches<'_>) -> Costs
+    requires comp { TakesCost (codes "comp-cost") (rows_of (found_of options.now)) }
+    requires inst { TakesCost (codes "inst-cost") (rows_of (found_of options.now)) }
+    ensures comp { result.comp ≡ cost_of (codes "comp-cost") (rows_of (found_of options.now)) }
+    ensures inst { result.inst ≡ cost_of (codes "inst-cost") (rows_of (found_of options.now)) }
+{
+    Costs {
+        comp: cost(options, "comp-cost"),
+        inst: cost(options, "inst-cost"),
+    }
+}
+
+/// The number of an option that `clap` has taken, or the default.
+fn cost(options: &ArgMatches<'_>, name: &str) -> u64
+    requires { TakesCost name.now (rows_of (found_of options.now)) }
+    ensures value { result ≡ cost_of name.now (rows_of (found_of options.now)) }
+    ensures least { 1 ≤ result }
+    ensures most { result ≤ 1000000 }
+{
+    match options.get_str(name) {
+        Some(text) => match text.parse() {
+            Ok(cost) => cost,
+            Err(_) => unreachable!(),
+        },
+        None => DEFAULT_COST,
+    }
+}

@@ -1,0 +1,68 @@
+//! Why a command line asks for nothing that can be done.
+
+ghost use Rattle.std.specs.Prelude.{◌≡◌, ◌⊎◌, option_map};
+ghost use Rattle.clap.specs.Words.{kind_of};
+ghost use Rattle.whview.specs.CommandFault.{status_of, status_of_kind, text_of};
+ghost use Rattle.whview.specs.declared.command_line.fault.CommandFault.{CommandFault};
+
+use clap::Error;
+use clap::error::ErrorKind;
+use std::alloc::{AllocError, Global};
+
+/// Why a command line asks for nothing that can be done, with the text for the user.
+#[derive(Debug, Drop)]
+pub enum CommandFault {
+    /// Help is asked for; its text.
+    Help(String),
+    /// The words are no command line of this program; the text that says why.
+    Refused(String),
+    /// Memory ran out.
+    Memory,
+}
+
+impl CommandFault {
+    /// The text to show, with its line ends; None where memory ran out.
+    pub fn text(&self) -> Option<&str>
+        ensures { option_map (λ t. t.now) result ≡ text_of self.now }
+    {
+        match self {
+            CommandFault::Help(text) | CommandFault::Refused(text) => Some(text.as_str()),
+            CommandFault::Memory => None,
+        }
+    }
+
+    /// What the program ends with: 0 for help, 2 for refused words, 4 where memory ran out.
+    pub fn status(&self) -> u8
+        ensures { result ≡ status_of self.now }
+    {
+        match self {
+            CommandFault::Help(_) => 0,
+            CommandFault::Refused(_) => 2,
+            CommandFault::Memory => 4,
+        }
+    }
+
+    /// The fault of an error of `clap`, or Memory where its text cannot be had.
+    pub(crate) fn of(alloc: Global, error: &Error) -> CommandFault
+        ensures { (result ≡ CommandFault.Memory)
+            ⊎ (status_of result ≡ status_of_kind (kind_of error.now)) }
+    {
+        let Ok(text) = format!(in alloc; "{error}") else {
+            return CommandFault::Memory;
+        };
+        // By the kind, since `clap` has one exit code for mistakes and for want of memory.
+        match error.kind() {
+            ErrorKind::OutOfMemory => CommandFault::Memory,
+            ErrorKind::DisplayHelp => CommandFault::Help(text),
+            _ => CommandFault::Refused(text),
+        }
+    }
+}
+
+impl From<AllocError> for CommandFault {
+    ghost from_gives = { λ _ f. f ≡ CommandFault.Memory };
+
+    fn from(_error: AllocError) -> CommandFault {
+        CommandFault::Memory
+    }
+}

@@ -1,0 +1,181 @@
+//! The whole program over a reader and a writer.
+
+ghost use Rattle.std.specs.Prelude.{◌≡◌, ◌≢◌, ◌≤◌, ◌⊎◌, ℕ, List, [], Some, None, codes, length, map, option_map, IfOk, IfErr, IfSome};
+ghost use Rattle.std.specs.Io.KnownBytes.{Appends};
+ghost use Rattle.clap.specs.Walk.{texts};
+ghost use Rattle.whview.specs.CheckOutput.{line};
+ghost use Rattle.whview.specs.CommandFault.{status_of};
+ghost use Rattle.whview.specs.Output.{IsCommandOutput, IsHandedOutput, IsInputOutput, IsRead, ReadsInput, file_of};
+
+use crate::answer::Answer;
+use crate::command_line::{Asked, CommandFault, parse};
+use crate::verdict::judge;
+use crate::words::{first_line, refuses_input, words_of_line};
+use std::alloc::{AllocError, Global};
+use std::fs::{self, Files};
+use std::io::{Read, Write};
+use std::str;
+use wh_load::{LoadFault, ReadFault, read_all};
+
+/// The most bytes that an input may have.
+const LIMIT: usize = 67_108_864;
+
+/// The status where memory was refused, and where the writer fails.
+const MEMORY: u8 = 4;
+
+const OUTPUT: u8 = 5;
+
+/// What a command answers for the bytes of a bundle.
+fn command_answer(alloc: Global, asked: &Asked<'_>, bytes: &[u8]) -> Result<Answer, AllocError>
+    ensures { IfOk result (λ a. IsCommandOutput asked.now bytes.now a.text.items a.status) }
+{
+    match asked {
+        Asked::Check { costs, .. } => judge(alloc, *costs, bytes),
+    }
+}
+
+/// The file that a command reads in place of the program's reader.
+fn file_of<'a>(asked: &Asked<'a>) -> Option<&'a str>
+    ensures { option_map (λ path. path.now) result ≡ file_of asked.now }
+{
+    match asked {
+        Asked::Check { input, .. } => *input,
+    }
+}
+
+/// What a command answers for all that a reader has.
+fn read_answer<R: Read>(
+    alloc: Global,
+    asked: &Asked<'_>,
+    input: &mut R,
+) -> Result<Answer, AllocError>
+    ensures { IfOk result (λ a. ((a.text.items ≡ line (codes "fault read")) × (a.status ≡ 3))
+        ⊎ IfSome (R.remaining input.old) (λ bytes. IsRead asked.now bytes a.text.items a.status)) }
+{
+    match read_all(input, alloc, LIMIT) {
+        Ok(bytes) => command_answer(alloc, asked, &bytes),
+        Err(ReadFault::Read) => Answer::fault(alloc, &LoadFault::Read),
+        Err(ReadFault::TooLong) => Answer::fault(alloc, &LoadFault::TooLong),
+        Err(ReadFault::Memory) => Err(AllocError),
+    }
+}
+
+/// What a command answers for a file. What it holds no contract can say.
+fn file_answer<F: Files>(
+    files: &F,
+    alloc: Global,
+    asked: &Asked<'_>,
+    path: &str,
+) -> Result<Answer, AllocError> {
+    match fs::open(files, path) {
+        Ok(mut file) => read_answer(alloc, asked, &mut file),
+        Err(_) => Answer::fault(alloc, &LoadFault::Read),
+    }
+}
+
+/// The text and the status of words that are no command line, or that ask for help.
+fn refusal(alloc: Global, fault: &CommandFault) -> Result<Answer, AllocError>
+    ensures status { IfOk result (λ a. a.status ≡ status_of fault.now) }
+    ensures told { IfOk result (λ a. fault.now ≢ CommandFault.Memory) }
+{
+    match fault.text() {
+        Some(text) => Answer::of(alloc, text, fault.status()),
+        None => Err(AllocError),
+    }
+}
+
+/// What the program answers for words that were handed in.
+fn words_answer<'a, F: Files, R: Read>(
+    files: &F,
+    alloc: Global,
+    words: &'a [&'a str],
+    input: &mut R,
+) -> Result<Answer, AllocError>
+    ensures { IfOk result (λ a. IsHandedOutput (texts words.now) (R.remaining input.old) a.text.items a.status) }
+{
+    match parse(alloc, words) {
+        Ok(asked) => match file_of(&asked) {
+            Some(path) => file_answer(files, alloc, &asked, path),
+            None => read_answer(alloc, &asked, input),
+        },
+        Err(fault) => refusal(alloc, &fault),
+    }
+}
+
+/// What the program answers for an input whose first line gives the words.
+fn line_answer(alloc: Global, input: &[u8]) -> Result<Answer, AllocError>
+    requires { length input.now ≤ 67108864 }
+    ensures { IfOk result (λ a. IsInputOutput input.now a.text.items a.status) }
+{
+    let (line, bundle) = first_line(input);
+    let Ok(line) = str::from_utf8(line) else {
+        return Answer::of(alloc, "fault words\n", 2);
+    };
+    let words = words_of_line(alloc, line)?;
+    if refuses_input(&words) {
+        return Answer::of(
+            alloc,
+            "error: `--input` cannot stand in the words of an input\n",
+            2,
+        );
+    }
+    match parse(alloc, &words) {
+        Ok(asked) => command_answer(alloc, &asked, bundle),
+        Err(fault) => refusal(alloc, &fault),
+    }
+}
+
+/// What the program answers where it is handed no words.
+fn input_answer<R: Read>(alloc: Global, input: &mut R) -> Result<Answer, AllocError>
+    ensures { IfOk result (λ a. ((a.text.items ≡ line (codes "fault read")) × (a.status ≡ 3))
+        ⊎ IfSome (R.remaining input.old) (λ bytes. IsInputOutput bytes a.text.items a.status)) }
+{
+    match read_all(input, alloc, LIMIT) {
+        Ok(bytes) => line_answer(alloc, &bytes),
+        Err(ReadFault::Read) => Answer::fault(alloc, &LoadFault::Read),
+        Err(ReadFault::TooLong) => Answer::fault(alloc, &LoadFault::TooLong),
+        Err(ReadFault::Memory) => Err(AllocError),
+    }
+}
+
+/// Writes a text whole: the status, or 5 where the writer fails. Then nothing is said of how much went out.
+fn give<W: Write>(out: &mut W, text: &[u8], status: u8) -> u8
+    ensures { result ≢ 5 → (result ≡ status) × Appends (W.contents out.old) (W.contents out.new) text.now }
+{
+    if out.write_all(text).is_err() {
+        return OUTPUT;
+    }
+    if out.flush().is_err() {
+        return OUTPUT;
+    }
+    status
+}
+
+/// The program: reads the input, or the file that the words name, and writes its whole text. The words are those of the
+/// command line, without the program's name; where there are none, the first line of the input gives them.
+///
+/// Answers the status: 0 done, 1 a negative verdict, 2 the command line, 3 a fault of the input, 4 memory, 5 the output.
+pub fn run<'a, F: Files, R: Read, W: Write>(
+    files: &F,
+    alloc: Global,
+    words: &'a [&'a str],
+    input: &mut R,
+    out: &mut W,
+) -> u8
+    // Where memory was refused or the writer fails nothing is promised of the text.
+    ensures handed { words.now ≢ [] → result ≢ 4 → result ≢ 5 → (text : List ℕ) × Appends (W.contents out.old) (W.contents out.new) text
+        × IsHandedOutput (texts words.now) (R.remaining input.old) text result }
+
+    ensures in_line { words.now ≡ [] → result ≢ 4 → result ≢ 5 → (text : List ℕ) × Appends (W.contents out.old) (W.contents out.new) text
+        × (((text ≡ line (codes "fault read")) × (result ≡ 3)) ⊎ IfSome (R.remaining input.old) (λ bytes. IsInputOutput bytes text result)) }
+{
+    let answer = if words.is_empty() {
+        input_answer(alloc, input)
+    } else {
+        words_answer(files, alloc, words, input)
+    };
+    match answer {
+        Ok(answer) => give(out, &answer.text, answer.status),
+        Err(AllocError) => give(out, b"memory\n", MEMORY),
+    }
+}

@@ -1,0 +1,4 @@
+//! What no clause says: the texts that `clap` shows, and that calls succeed.
+
+mod command_line;
+mod words;

@@ -1,0 +1,225 @@
+//! Which words are taken and which are not, and the texts that `clap` shows.
+
+use crate::command_line::{Asked, CommandFault, parse};
+use crate::words::words_of_line;
+use std::alloc::Global;
+use std::process::Abort;
+
+/// The line is a check at these costs on this file.
+fn checks(rt: &impl Abort, alloc: Global, line: &str, comp: u64, inst: u64, file: Option<&str>) {
+    let words = words_of_line(alloc, line).expect(rt, "words");
+    match parse(alloc, words.as_slice()) {
+        Ok(Asked::Check { costs, input }) => {
+            assert_eq!(rt; costs.comp, comp, "{line}");
+            assert_eq!(rt; costs.inst, inst, "{line}");
+            assert!(rt; input == file, "{line}");
+        }
+        Err(fault) => panic!(rt; "{line}: {fault:?}"),
+    }
+}
+
+/// The line ends with this status and this text.
+fn shows(rt: &impl Abort, alloc: Global, line: &str, status: u8, text: &str) {
+    let words = words_of_line(alloc, line).expect(rt, "words");
+    match parse(alloc, words.as_slice()) {
+        Ok(asked) => panic!(rt; "{line}: {asked:?}"),
+        Err(fault) => {
+            assert_eq!(rt; fault.status(), status, "{line}: {fault:?}");
+            assert_eq!(rt; fault.text().unwrap_or(""), text, "{line}");
+        }
+    }
+}
+
+/// The line ends with this status.
+fn ends(rt: &impl Abort, alloc: Global, line: &str, status: u8) {
+    let words = words_of_line(alloc, line).expect(rt, "words");
+    match parse(alloc, words.as_slice()) {
+        Ok(asked) => panic!(rt; "{line}: {asked:?}"),
+        Err(fault) => {
+            assert_eq!(rt; fault.status(), status, "{line}: {fault:?}");
+            assert!(rt; fault.text().is_some(), "{line}");
+        }
+    }
+}
+
+#[test]
+fn a_check_has_its_costs_and_its_file(rt: HostRuntime) {
+    checks(&rt, rt.alloc(), "check", 1, 1, None);
+    checks(&rt, rt.alloc(), "check --comp-cost 2", 2, 1, None);
+    checks(&rt, rt.alloc(), "check --inst-cost 3", 1, 3, None);
+    checks(
+        &rt,
+        rt.alloc(),
+        "check --inst-cost=3 --comp-cost=2",
+        2,
+        3,
+        None,
+    );
+    checks(
+        &rt,
+        rt.alloc(),
+        "check --comp-cost 1 --inst-cost 1000000",
+        1,
+        1_000_000,
+        None,
+    );
+    checks(
+        &rt,
+        rt.alloc(),
+        "check --comp-cost +2 --inst-cost 002",
+        2,
+        2,
+        None,
+    );
+    checks(
+        &rt,
+        rt.alloc(),
+        "check --input night.txt",
+        1,
+        1,
+        Some("night.txt"),
+    );
+    checks(
+        &rt,
+        rt.alloc(),
+        "check --input=night.txt --comp-cost 7",
+        7,
+        1,
+        Some("night.txt"),
+    );
+    checks(&rt, rt.alloc(), "check --comp-cost 7 --", 7, 1, None);
+}
+
+#[test]
+fn a_cost_is_a_number_from_1_to_a_million(rt: HostRuntime) {
+    for cost in [
+        "0",
+        "1000001",
+        "-1",
+        "+",
+        "1.0",
+        "1e3",
+        "0x1",
+        "1_000",
+        "one",
+        "99999999999999999999",
+    ] {
+        let comp = format!(in rt.alloc(); "check --comp-cost={cost}").expect(&rt, "a line");
+        ends(&rt, rt.alloc(), comp.as_str(), 2);
+        let inst = format!(in rt.alloc(); "check --inst-cost {cost}").expect(&rt, "a line");
+        ends(&rt, rt.alloc(), inst.as_str(), 2);
+    }
+}
+
+#[test]
+fn other_words_are_refused(rt: HostRuntime) {
+    for line in [
+        "",
+        "plan",
+        "chec",
+        "Check",
+        "check\t",
+        "\u{feff}check",
+        "check check",
+        "check x",
+        "check -- x",
+        "--input f check",
+        "check --input",
+        "check --input f --input f",
+        "check --input f --input=g",
+        "check --comp-cost",
+        "check --comp-cost 2 --comp-cost 2",
+        "check --comp 2",
+        "check --budget 2",
+        "check -c",
+        "-V",
+        "--version",
+        "check -V",
+        "check --version",
+        "help plan",
+    ] {
+        ends(&rt, rt.alloc(), line, 2);
+    }
+}
+
+#[test]
+fn an_empty_word_is_refused(rt: HostRuntime) {
+    for words in [["check", ""], ["", "check"]] {
+        match parse(rt.alloc(), words.as_slice()) {
+            Ok(asked) => panic!(&rt; "{asked:?}"),
+            Err(fault) => assert_eq!(&rt; fault.status(), 2),
+        }
+    }
+}
+
+#[test]
+fn help_that_is_asked_for_ends_with_0(rt: HostRuntime) {
+    for line in [
+        "-h",
+        "--help",
+        "help",
+        "help check",
+        "help help",
+        "check -h",
+        "check --help",
+    ] {
+        ends(&rt, rt.alloc(), line, 0);
+    }
+}
+
+const PROGRAM_HELP: &str = "Judges strategies that update the views of a warehouse.
+
+Usage: whview <COMMAND>
+
+Commands:
+  check  Judges a strategy and gives its work. Reads the catalogue, the strategy and the sizes.
+  help   Print this message or the help of the given subcommand(s)
+
+Options:
+  -h, --help  Print help
+";
+
+const CHECK_HELP: &str =
+    "Judges a strategy and gives its work. Reads the catalogue, the strategy and the sizes.
+
+Usage: whview check [OPTIONS]
+
+Options:
+      --comp-cost <N>  The cost of a row that a Comp reads, 1 to 1,000,000 [default: 1]
+      --inst-cost <N>  The cost of a row that an Inst writes, 1 to 1,000,000 [default: 1]
+      --input <FILE>   The file to read [default: standard input]
+  -h, --help           Print help
+";
+
+#[test]
+fn help_names_each_command_and_option(rt: HostRuntime) {
+    shows(&rt, rt.alloc(), "--help", 0, PROGRAM_HELP);
+    shows(&rt, rt.alloc(), "help", 0, PROGRAM_HELP);
+    shows(&rt, rt.alloc(), "check --help", 0, CHECK_HELP);
+    shows(&rt, rt.alloc(), "help check", 0, CHECK_HELP);
+}
+
+const NO_COMMAND: &str = "error: 'whview' requires a subcommand but one was not provided
+  [subcommands: check, help]
+
+Usage: whview <COMMAND>
+
+For more information, try '--help'.
+";
+
+const COST_OF_0: &str = "error: invalid value '0' for '--comp-cost <N>': 0 is not in 1..=1000000
+
+For more information, try '--help'.
+";
+
+#[test]
+fn a_fault_says_what_is_wrong(rt: HostRuntime) {
+    shows(&rt, rt.alloc(), "", 2, NO_COMMAND);
+    shows(&rt, rt.alloc(), "check --comp-cost 0", 2, COST_OF_0);
+}
+
+#[test]
+fn want_of_memory_has_no_text(rt: HostRuntime) {
+    assert!(&rt; CommandFault::Memory.text().is_none());
+    assert_eq!(&rt; CommandFault::Memory.status(), 4);
+}

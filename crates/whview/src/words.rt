@@ -1,0 +1,62 @@
+//! The words of the input's first line, where the program is given none.
+
+ghost use Rattle.std.specs.Prelude.{◌≡◌, map, position, IfOk};
+ghost use Rattle.std.specs.List.{list_any};
+ghost use Rattle.std.specs.Str.Lines.{strip_carriage_return};
+ghost use Rattle.whview.specs.FirstLine.{after_first_line, first_line_of, is_lf, names_input, words_in};
+
+use std::alloc::{AllocError, Global};
+
+const LF: u8 = b'\n';
+
+const CR: u8 = b'\r';
+
+/// The words of a line: what stands between its spaces. A tab belongs to a word.
+pub fn words_of_line<'a>(alloc: Global, line: &'a str) -> Result<Vec<&'a str>, AllocError>
+    ensures { IfOk result (λ v. map (λ w. w.now) v.items ≡ words_in line.now) }
+{
+    line.split(' ')
+        .filter(|word| !word.is_empty())
+        .collect(alloc)
+}
+
+/// The first line of an input, without its LF and one CR before that LF, and what follows that LF.
+///
+/// An input without an LF is all line, and a CR at its end stays.
+pub fn first_line(input: &[u8]) -> (&[u8], &[u8])
+    ensures line { result.0.now ≡ first_line_of input.now }
+    ensures rest { result.1.now ≡ after_first_line input.now }
+{
+    match first_lf(input) {
+        Some(end) => (without_cr(&input[..end]), &input[end + 1..]),
+        None => (input, &[]),
+    }
+}
+
+fn first_lf(input: &[u8]) -> Option<usize>
+    ensures { result ≡ position is_lf input.now }
+{
+    input.iter().position(|b| *b == LF)
+}
+
+fn without_cr(line: &[u8]) -> &[u8]
+    ensures { result.now ≡ strip_carriage_return line.now }
+{
+    match line {
+        [front @ .., CR] => front,
+        _ => line,
+    }
+}
+
+/// Whether one of the words is the option `--input`, which words from the input may not give.
+pub fn refuses_input(words: &[&str]) -> bool
+    ensures { result ≡ list_any (λ w. names_input w.now) words.now }
+{
+    words.iter().any(|word| is_input_option(word))
+}
+
+fn is_input_option(word: &str) -> bool
+    ensures { result ≡ names_input word.now }
+{
+    word == "--input" || word.starts_with("--input=")
+}
