@@ -14,6 +14,7 @@ pub mod ReadingBack
 pub mod RecordLists
 pub mod RecordReads
 pub mod SeenHeadings
+pub mod ShapesRead
 pub mod SizeLimits
 pub mod SizeRows
 pub mod Spelled

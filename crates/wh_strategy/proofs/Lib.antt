@@ -4,6 +4,7 @@ pub mod CorrectLists
 pub mod Failing
 pub mod Found
 pub mod Lacking
+pub mod Marks
 pub mod Members
 pub mod Passing
 pub mod PlaceCosts

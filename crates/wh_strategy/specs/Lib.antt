@@ -1,4 +1,5 @@
 pub mod Examples
+pub mod Earlier
 pub mod Expression
 pub mod Rules
 pub mod Sizes

@@ -8,6 +8,7 @@
 
 mod correct;
 mod costs;
+mod earlier;
 mod expression;
 mod prefix;
 mod rule;

@@ -3,18 +3,13 @@
 ghost use Rattle.std.specs.Prelude.{◌≡◌, [], not};
 ghost use Rattle.std.specs.List.{list_any};
 ghost use Rattle.wh_dag.specs.Shape.{has, children_of};
+ghost use Rattle.wh_strategy.specs.Earlier.{Tells, TellsInstalled, TellsTaken};
 ghost use Rattle.wh_strategy.specs.Tests.{is_doubled, is_installed, is_taken, leaves_open, reads, is_stray, is_broken, lacks_comp, lacks_inst, lacks, place_from};
 
+use crate::earlier::{Installed, Tables, Taken, has_view};
 use crate::expression::Expression;
 use crate::rule::Rule;
 use wh_dag::ChildLists;
-
-#[tactic(auto, unfolding(wh_dag::specs::Shape::has))]
-pub fn has_view(views: &[usize], u: usize) -> bool
-    ensures { result ≡ has views.now u }
-{
-    views.iter().any(|w| *w == u)
-}
 
 #[tactic(auto, unfolding(crate::specs::Tests::is_doubled))]
 fn doubled(views: &[usize]) -> bool
@@ -28,34 +23,19 @@ fn doubled(views: &[usize]) -> bool
     false
 }
 
-pub fn installed(before: &[Expression], u: usize) -> bool
-    ensures { result ≡ is_installed before.now u }
-{
-    before
-        .iter()
-        .any(|e| matches!(e, Expression::Inst(v) if *v == u))
-}
-
-fn taken(before: &[Expression], v: usize, u: usize) -> bool
-    ensures { result ≡ is_taken before.now v u }
-{
-    before.iter().any(|e| match e {
-        Expression::Comp(w, ys) => *w == v && has_view(ys.as_slice(), u),
-        Expression::Inst(_) => false,
-    })
-}
-
-fn any_not_installed(before: &[Expression], views: &[usize]) -> bool
+fn any_not_installed(installed: &Installed, before: &[Expression], views: &[usize]) -> bool
+    requires { TellsInstalled installed.now.flags before.now }
     ensures { result ≡ list_any (λ u. not (is_installed before.now u)) views.now }
 {
-    views.iter().any(|u| !installed(before, *u))
+    views.iter().any(|u| !installed.has(before, *u))
 }
 
-fn left_open(before: &[Expression], v: usize) -> bool
+fn left_open(installed: &Installed, before: &[Expression], v: usize) -> bool
+    requires { TellsInstalled installed.now.flags before.now }
     ensures { result ≡ list_any (leaves_open before.now v) before.now }
 {
     before.iter().any(|e| match e {
-        Expression::Comp(w, ys) => *w == v && any_not_installed(before, ys.as_slice()),
+        Expression::Comp(w, ys) => *w == v && any_not_installed(installed, before, ys.as_slice()),
         Expression::Inst(_) => false,
     })
 }
@@ -75,66 +55,86 @@ fn any_not_in(own: &[usize], views: &[usize]) -> bool
     views.iter().any(|u| !has_view(own, *u))
 }
 
-fn any_taken(before: &[Expression], v: usize, views: &[usize]) -> bool
+fn any_taken(taken: &Taken, before: &[Expression], v: usize, views: &[usize]) -> bool
+    requires { TellsTaken taken.now.rows before.now }
     ensures { result ≡ list_any (is_taken before.now v) views.now }
 {
-    views.iter().any(|u| taken(before, v, *u))
+    views.iter().any(|u| taken.has(before, v, *u))
 }
 
-fn any_not_taken(all: &[Expression], v: usize, own: &[usize]) -> bool
+fn any_not_taken(taken: &Taken, all: &[Expression], v: usize, own: &[usize]) -> bool
+    requires { TellsTaken taken.now.rows all.now }
     ensures { result ≡ list_any (λ u. not (is_taken all.now v u)) own.now }
 {
-    own.iter().any(|u| !taken(all, v, *u))
+    own.iter().any(|u| !taken.has(all, v, *u))
 }
 
-fn any_installed(before: &[Expression], views: &[usize]) -> bool
+fn any_installed(installed: &Installed, before: &[Expression], views: &[usize]) -> bool
+    requires { TellsInstalled installed.now.flags before.now }
     ensures { result ≡ list_any (is_installed before.now) views.now }
 {
-    views.iter().any(|u| installed(before, *u))
+    views.iter().any(|u| installed.has(before, *u))
 }
 
-fn stray(before: &[Expression], own: &[usize], v: usize, ys: &[usize]) -> bool
+fn stray(taken: &Taken, before: &[Expression], own: &[usize], v: usize, ys: &[usize]) -> bool
+    requires { TellsTaken taken.now.rows before.now }
     ensures { result ≡ is_stray before.now own.now v ys.now }
 {
-    ys.is_empty() || any_not_in(own, ys) || doubled(ys) || any_taken(before, v, ys)
+    ys.is_empty() || any_not_in(own, ys) || doubled(ys) || any_taken(taken, before, v, ys)
 }
 
 #[tactic(auto, using(crate::proofs::Lacking::children_past))]
-fn stray_in(children: &ChildLists, before: &[Expression], v: usize, ys: &[usize]) -> bool
+fn stray_in(
+    children: &ChildLists,
+    taken: &Taken,
+    before: &[Expression],
+    v: usize,
+    ys: &[usize],
+) -> bool
+    requires { TellsTaken taken.now.rows before.now }
     ensures { result ≡ is_stray before.now (children_of children.now v) v ys.now }
 {
     if v < children.len() {
-        stray(before, children.of(v), v, ys)
+        stray(taken, before, children.of(v), v, ys)
     } else {
-        stray(before, &[], v, ys)
+        stray(taken, before, &[], v, ys)
     }
 }
 
-fn broken(rule: Rule, children: &ChildLists, before: &[Expression], e: &Expression) -> bool
+fn broken(
+    rule: Rule,
+    children: &ChildLists,
+    tables: &Tables,
+    before: &[Expression],
+    e: &Expression,
+) -> bool
+    requires { Tells tables.now before.now }
     ensures { result ≡ is_broken rule children.now before.now e.now }
 {
+    let Tables { installed, taken } = tables;
     match e {
         Expression::Comp(v, ys) => match rule {
-            Rule::S1 => stray_in(children, before, *v, ys.as_slice()),
+            Rule::S1 => stray_in(children, taken, before, *v, ys.as_slice()),
             Rule::S2 => false,
-            Rule::S3 => any_installed(before, ys.as_slice()),
-            Rule::S4 => left_open(before, *v),
-            Rule::S5 => installed(before, *v),
+            Rule::S3 => any_installed(installed, before, ys.as_slice()),
+            Rule::S4 => left_open(installed, before, *v),
+            Rule::S5 => installed.has(before, *v),
             Rule::S6 => read(before, *v),
         },
         Expression::Inst(v) => match rule {
-            Rule::S2 => children.len() <= *v || installed(before, *v),
+            Rule::S2 => children.len() <= *v || installed.has(before, *v),
             _ => false,
         },
     }
 }
 
 #[tactic(auto, using(crate::proofs::Lacking::lacks_comp_drop), unfolding(crate::specs::Tests::lacks_comp))]
-fn no_comp(all: &[Expression], children: &ChildLists) -> bool
+fn no_comp(taken: &Taken, all: &[Expression], children: &ChildLists) -> bool
+    requires { TellsTaken taken.now.rows all.now }
     ensures { result ≡ lacks_comp all.now 0 children.now }
 {
     for v in 0..children.len() {
-        if any_not_taken(all, v, children.of(v)) {
+        if any_not_taken(taken, all, v, children.of(v)) {
             return true;
         }
     }
@@ -142,23 +142,25 @@ fn no_comp(all: &[Expression], children: &ChildLists) -> bool
 }
 
 #[tactic(auto, using(crate::proofs::Lacking::lacks_inst_drop), unfolding(crate::specs::Tests::lacks_inst))]
-fn no_inst(all: &[Expression], children: &ChildLists) -> bool
+fn no_inst(installed: &Installed, all: &[Expression], children: &ChildLists) -> bool
+    requires { TellsInstalled installed.now.flags all.now }
     ensures { result ≡ lacks_inst all.now 0 children.now }
 {
     for v in 0..children.len() {
-        if !installed(all, v) {
+        if !installed.has(all, v) {
             return true;
         }
     }
     false
 }
 
-fn lacking(rule: Rule, children: &ChildLists, list: &[Expression]) -> bool
+fn lacking(rule: Rule, children: &ChildLists, tables: &Tables, list: &[Expression]) -> bool
+    requires { Tells tables.now list.now }
     ensures { result ≡ lacks rule children.now list.now }
 {
     match rule {
-        Rule::S1 => no_comp(list, children),
-        Rule::S2 => no_inst(list, children),
+        Rule::S1 => no_comp(&tables.taken, list, children),
+        Rule::S2 => no_inst(&tables.installed, list, children),
         _ => false,
     }
 }
@@ -168,12 +170,14 @@ fn lacking(rule: Rule, children: &ChildLists, list: &[Expression]) -> bool
 pub fn first_place(rule: Rule, children: &ChildLists, list: &[Expression]) -> Option<usize>
     ensures { result ≡ place_from rule children.now [] list.now }
 {
+    let mut tables = Tables::new();
     for (i, e) in list.iter().enumerate() {
-        if broken(rule, children, &list[..i], e) {
+        if broken(rule, children, &tables, &list[..i], e) {
             return Some(i + 1);
         }
+        tables.note(e);
     }
-    if lacking(rule, children, list) {
+    if lacking(rule, children, &tables, list) {
         Some(list.len() + 1)
     } else {
         None

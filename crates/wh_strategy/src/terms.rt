@@ -1,8 +1,9 @@
 //! The work of a strategy: the terms of each Comp in closed form, and the rows of each Inst.
 
-ghost use Rattle.std.specs.Prelude.{◌≡◌, ◌+◌, ◌*◌, ◌^◌, ◌<◌, ◌≤◌, ℕ, length, Some, true, slice_get};
+ghost use Rattle.std.specs.Prelude.{◌≡◌, ◌+◌, ◌*◌, ◌^◌, ◌<◌, ◌≤◌, ℕ, length, take, Some, true, slice_get};
 ghost use Rattle.std.specs.List.{sum_by, All};
 ghost use Rattle.wh_dag.specs.Shape.{has, Distinct, IsShape, children_of};
+ghost use Rattle.wh_strategy.specs.Earlier.{TellsInstalled};
 ghost use Rattle.wh_strategy.specs.Rules.{IsCorrect};
 ghost use Rattle.wh_strategy.specs.Sizes.{sizes_of};
 ghost use Rattle.wh_strategy.specs.Sums.{parts};
@@ -10,20 +11,27 @@ ghost use Rattle.wh_strategy.specs.Work.{state, term, read_of, cost_at, work_of}
 
 use crate::correct::Correct;
 use crate::costs::Costs;
+use crate::earlier::{Installed, has_view};
 use crate::expression::Expression;
-use crate::prefix::{has_view, installed};
 use crate::sizes::Sizes;
 use wh_dag::{ChildLists, Shape};
 
 #[tactic(auto, unfolding(crate::specs::Sizes::sizes_of, crate::specs::Expression::is_new))]
-fn state_rows(sizes: &Sizes, list: &[Expression], place: usize, view: usize) -> u64
+fn state_rows(
+    sizes: &Sizes,
+    installed: &Installed,
+    list: &[Expression],
+    place: usize,
+    view: usize,
+) -> u64
     requires within { view < length sizes.now }
     requires there { place ≤ length list.now }
+    requires told { TellsInstalled installed.now.flags (take place list.now) }
     ensures value { result ≡ state (sizes_of sizes.now) list.now place view }
     ensures small { result ≤ 2 ^ 40 }
 {
     let row = sizes.row(view);
-    if installed(&list[..place], view) {
+    if installed.has(&list[..place], view) {
         row.post
     } else {
         row.pre
@@ -78,12 +86,14 @@ fn child_rows(change: u64, state: u64, sources: &[usize], child: usize) -> u128
 /// What a Comp of a view over `children` from `sources` reads at this place, over all its terms.
 fn term_rows(
     sizes: &Sizes,
+    installed: &Installed,
     list: &[Expression],
     place: usize,
     children: &[usize],
     sources: &[usize],
 ) -> u128
     requires there { place ≤ length list.now }
+    requires told { TellsInstalled installed.now.flags (take place list.now) }
     requires views { (k : ℕ) (u : ℕ) → slice_get children.now k ≡ Some u → u < length sizes.now }
     requires few_children { length children.now ≤ 6 }
     requires once { Distinct sources.now }
@@ -95,7 +105,7 @@ fn term_rows(
     let mut total = 0;
     for child in children {
         let change = change_rows(sizes, *child);
-        let state = state_rows(sizes, list, place, *child);
+        let state = state_rows(sizes, installed, list, place, *child);
         total += child_rows(change, state, sources, *child);
     }
     total
@@ -106,18 +116,27 @@ fn place_cost(
     children: &ChildLists,
     sizes: &Sizes,
     costs: Costs,
+    installed: &Installed,
     list: &[Expression],
     place: usize,
 ) -> u128
     requires rules { IsCorrect children.now list.now }
     requires same { length sizes.now ≡ length children.now }
     requires there { place < length list.now }
+    requires told { TellsInstalled installed.now.flags (take place list.now) }
     ensures value { result ≡ cost_at children.now (sizes_of sizes.now) costs.comp costs.inst list.now place }
     ensures small { result ≤ 2 ^ 69 }
 {
     match &list[place] {
         Expression::Comp(view, sources) => {
-            let rows = term_rows(sizes, list, place, children.of(*view), sources.as_slice());
+            let rows = term_rows(
+                sizes,
+                installed,
+                list,
+                place,
+                children.of(*view),
+                sources.as_slice(),
+            );
             costs.comp as u128 * rows
         }
         Expression::Inst(view) => costs.inst as u128 * change_rows(sizes, *view) as u128,
@@ -133,9 +152,11 @@ pub fn work(shape: &Shape, sizes: &Sizes, costs: Costs, correct: &Correct) -> u1
 {
     let children = shape.child_lists();
     let list = correct.strategy().as_slice();
+    let mut installed = Installed::new();
     let mut total = 0;
-    for place in 0..list.len() {
-        total += place_cost(children, sizes, costs, list, place);
+    for (place, e) in list.iter().enumerate() {
+        total += place_cost(children, sizes, costs, &installed, list, place);
+        installed.note(e);
     }
     total
 }

@@ -6,5 +6,6 @@ pub mod FirstPlaces
 pub mod IfOks
 pub mod LeafRows
 pub mod Outputs
+pub mod SingleAnswers
 pub mod Texts
 pub mod Verdicts

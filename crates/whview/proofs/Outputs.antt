@@ -10,7 +10,7 @@ use Rattle.whview.specs.CheckOutput.{line}
 use Rattle.whview.specs.CommandFault.{FailsAs, status_of}
 use Rattle.whview.specs.CommandLine.{IsAsked, whview_app}
 use Rattle.whview.specs.FirstLine.{first_line_of, after_first_line, words_in, names_input}
-use Rattle.whview.specs.Output.{IsCommandOutput, IsHandedOutput, IsRead, IsRefused, IsInputOutput, file_of, a_file, words_answered, read_fails, words_refused, line_answered, line_names_a_file, line_refused}
+use Rattle.whview.specs.Output.{IsCommandOutput, IsHandedOutput, IsRead, IsRefused, IsInputOutput, file_of, a_file, words_answered, read_fails, line_answered, line_names_a_file, line_refused}
 use Rattle.whview.specs.declared.command_line.Asked.{Asked}
 use Rattle.whview.specs.declared.command_line.fault.CommandFault.{CommandFault}
 use Rattle.whview.specs.declared.command_line.fault.CommandFault.TheVariants.{Memory}
@@ -22,15 +22,15 @@ refused_as words f status fails told ended =
     (λ k. record { kind = k.0; found = k.1; ended = ended ∙ k.2 })
     fails
 
-pub from_file : (words : List (List ℕ)) (bytes : Option (List ℕ)) (text : List ℕ) (status : ℕ) (command : Asked) (path : List ℕ) → IsAsked (subcommand_of whview_app words) command → Some path ≡ file_of command → IsHandedOutput words bytes text status
-from_file words bytes text status command path asked is =
-    a_file command asked (λ none. none-some path (sym none ∙ sym is))
+pub from_file : (words : List (List ℕ)) (bytes : Option (List ℕ)) (text : List ℕ) (status : ℕ) (command : Asked) (path : List ℕ) → fault_of whview_app words ≡ [] → IsAsked (subcommand_of whview_app words) command → Some path ≡ file_of command → IsHandedOutput words bytes text status
+from_file words bytes text status command path taken asked is =
+    a_file command taken asked (λ none. none-some path (sym none ∙ sym is))
 
-pub from_reader : (words : List (List ℕ)) (bytes : Option (List ℕ)) (text : List ℕ) (status : ℕ) (command : Asked) → IsAsked (subcommand_of whview_app words) command → None ≡ file_of command → ((text ≡ line (codes "fault read")) × (status ≡ 3)) ⊎ IfSome bytes (λ input. IsRead command input text status) → IsHandedOutput words bytes text status
-from_reader words bytes text status command asked is read =
+pub from_reader : (words : List (List ℕ)) (bytes : Option (List ℕ)) (text : List ℕ) (status : ℕ) (command : Asked) → fault_of whview_app words ≡ [] → IsAsked (subcommand_of whview_app words) command → None ≡ file_of command → ((text ≡ line (codes "fault read")) × (status ≡ 3)) ⊎ IfSome bytes (λ input. IsRead command input text status) → IsHandedOutput words bytes text status
+from_reader words bytes text status command taken asked is read =
     ⊎_elim
     (λ fails. read_fails fails.0 fails.1)
-    (λ answer. words_answered command asked (sym is) answer)
+    (λ answer. words_answered command taken asked (sym is) answer)
     read
 
 pub list_any-map : {X Y : Type 0} (p : Y → Bool) (f : X → Y) (xs : List X) → list_any p (map f xs) ≡ list_any (λ x. p (f x)) xs
@@ -38,13 +38,13 @@ list_any-map p f [] = refl
 list_any-map p f (x ∷ xs) = ap (λ b. p (f x) || b) (list_any-map p f xs)
 
 -- the line of an input names a file, by the words that the code has
-pub names_file : (input : List ℕ) (words : List (Bor (List ℕ))) (text : List ℕ) (status : ℕ) → length input ≤ 67108864 → is_utf8 (first_line_of input) ≡ true → map (λ w. w.now) words ≡ words_in (first_line_of input) → list_any (λ w. names_input w.now) words ≡ true → status ≡ 2 → IsInputOutput input text status
-names_file input words text status fits utf8 same named ended =
-    line_names_a_file fits utf8 (ap (list_any names_input) (sym same) ∙ list_any-map names_input (λ w. w.now) words ∙ named) ended
+pub names_file : (input : List ℕ) (words : List (Bor (List ℕ))) (text : List ℕ) (status : ℕ) → length input ≤ 67108864 → is_utf8 (first_line_of input) ≡ true → map (λ w. w.now) words ≡ words_in (first_line_of input) → list_any (λ w. names_input w.now) words ≡ true → text ≡ line (codes "error: `--input` cannot stand in the words of an input") → status ≡ 2 → IsInputOutput input text status
+names_file input words text status fits utf8 same named printed ended =
+    line_names_a_file fits utf8 (ap (list_any names_input) (sym same) ∙ list_any-map names_input (λ w. w.now) words ∙ named) printed ended
 
-pub answers_line : (input : List ℕ) (words : List (Bor (List ℕ))) (text : List ℕ) (status : ℕ) (command : Asked) → length input ≤ 67108864 → is_utf8 (first_line_of input) ≡ true → map (λ w. w.now) words ≡ words_in (first_line_of input) → list_any (λ w. names_input w.now) words ≡ false → IsAsked (subcommand_of whview_app (map (λ w. w.now) words)) command → IsCommandOutput command (after_first_line input) text status → IsInputOutput input text status
-answers_line input words text status command fits utf8 same named asked output =
-    line_answered command fits utf8 (ap (list_any names_input) (sym same) ∙ list_any-map names_input (λ w. w.now) words ∙ named) (subst (λ ws. IsAsked (subcommand_of whview_app ws) command) same asked) output
+pub answers_line : (input : List ℕ) (words : List (Bor (List ℕ))) (text : List ℕ) (status : ℕ) (command : Asked) → length input ≤ 67108864 → is_utf8 (first_line_of input) ≡ true → map (λ w. w.now) words ≡ words_in (first_line_of input) → list_any (λ w. names_input w.now) words ≡ false → fault_of whview_app (map (λ w. w.now) words) ≡ [] → IsAsked (subcommand_of whview_app (map (λ w. w.now) words)) command → IsCommandOutput command (after_first_line input) text status → IsInputOutput input text status
+answers_line input words text status command fits utf8 same named taken asked output =
+    line_answered command fits utf8 (ap (list_any names_input) (sym same) ∙ list_any-map names_input (λ w. w.now) words ∙ named) (subst (λ ws. fault_of whview_app ws ≡ []) same taken) (subst (λ ws. IsAsked (subcommand_of whview_app ws) command) same asked) output
 
 pub refuses_line : (input : List ℕ) (words : List (Bor (List ℕ))) (text : List ℕ) (status : ℕ) → length input ≤ 67108864 → is_utf8 (first_line_of input) ≡ true → map (λ w. w.now) words ≡ words_in (first_line_of input) → list_any (λ w. names_input w.now) words ≡ false → IsRefused (map (λ w. w.now) words) status → IsInputOutput input text status
 refuses_line input words text status fits utf8 same named refusal =

@@ -1,6 +1,5 @@
 -- What the program prints for words and the bytes of its input, and the status that it ends with.
-use Rattle.std.specs.Prelude.{◌≡◌, ◌≢◌, ◌<◌, ◌≤◌, ℕ, List, [], length, Option, Some, None, IfSome, codes, option_map, true, false}
-use Rattle.std.specs.Borrow.{Bor}
+use Rattle.std.specs.Prelude.{◌≡◌, ◌<◌, ◌≤◌, ℕ, List, [], length, Option, None, IfSome, codes, option_map, true, false}
 use Rattle.std.specs.List.{list_any}
 use Rattle.std.specs.Str.{is_utf8}
 use Rattle.clap.specs.Words.{IsAmong, fault_of, subcommand_of}
@@ -25,7 +24,7 @@ file_of (asked.Check costs input) = option_map (λ path. path.now) input
 abbrev pub ReadsInput : Asked → Type 0
 ReadsInput command = file_of command ≡ None
 
--- these words are no command line, or ask for help: the text is not promised, and the status is that of what `clap` finds in them
+-- these words are no command line, or ask for help: `clap` takes exactly those where it finds nothing. The text is not promised, and the status is that of what `clap` finds in them
 pub record IsRefused (words : List (List ℕ)) (status : ℕ) : Type 0 where
   pub kind : ErrorKind
   pub found : IsAmong kind (fault_of whview_app words)
@@ -40,13 +39,13 @@ pub data IsRead (command : Asked) (bytes text : List ℕ) (status : ℕ) : Type 
 pub data IsHandedOutput (words : List (List ℕ)) (bytes : Option (List ℕ)) (text : List ℕ) (status : ℕ) : Type 0 where
   words_refused : IsRefused words status → IsHandedOutput words bytes text status
   read_fails : text ≡ line (codes "fault read") → status ≡ 3 → IsHandedOutput words bytes text status
-  a_file : (command : Asked) → IsAsked (subcommand_of whview_app words) command → (ReadsInput command → ⊥) → IsHandedOutput words bytes text status
-  words_answered : (command : Asked) → IsAsked (subcommand_of whview_app words) command → ReadsInput command → IfSome bytes (λ input. IsRead command input text status) → IsHandedOutput words bytes text status
+  a_file : (command : Asked) → fault_of whview_app words ≡ [] → IsAsked (subcommand_of whview_app words) command → (ReadsInput command → ⊥) → IsHandedOutput words bytes text status
+  words_answered : (command : Asked) → fault_of whview_app words ≡ [] → IsAsked (subcommand_of whview_app words) command → ReadsInput command → IfSome bytes (λ input. IsRead command input text status) → IsHandedOutput words bytes text status
 
 -- what it prints for an input whose first line gives the words, and the status
 pub data IsInputOutput (input text : List ℕ) (status : ℕ) : Type 0 where
   input_too_long : 67108864 < length input → IsFaultShown fault.TooLong text status → IsInputOutput input text status
   line_not_text : length input ≤ 67108864 → is_utf8 (first_line_of input) ≡ false → text ≡ line (codes "fault words") → status ≡ 2 → IsInputOutput input text status
-  line_names_a_file : length input ≤ 67108864 → is_utf8 (first_line_of input) ≡ true → list_any names_input (words_in (first_line_of input)) ≡ true → status ≡ 2 → IsInputOutput input text status
+  line_names_a_file : length input ≤ 67108864 → is_utf8 (first_line_of input) ≡ true → list_any names_input (words_in (first_line_of input)) ≡ true → text ≡ line (codes "error: `--input` cannot stand in the words of an input") → status ≡ 2 → IsInputOutput input text status
   line_refused : length input ≤ 67108864 → is_utf8 (first_line_of input) ≡ true → list_any names_input (words_in (first_line_of input)) ≡ false → IsRefused (words_in (first_line_of input)) status → IsInputOutput input text status
-  line_answered : (command : Asked) → length input ≤ 67108864 → is_utf8 (first_line_of input) ≡ true → list_any names_input (words_in (first_line_of input)) ≡ false → IsAsked (subcommand_of whview_app (words_in (first_line_of input))) command → IsCommandOutput command (after_first_line input) text status → IsInputOutput input text status
+  line_answered : (command : Asked) → length input ≤ 67108864 → is_utf8 (first_line_of input) ≡ true → list_any names_input (words_in (first_line_of input)) ≡ false → fault_of whview_app (words_in (first_line_of input)) ≡ [] → IsAsked (subcommand_of whview_app (words_in (first_line_of input))) command → IsCommandOutput command (after_first_line input) text status → IsInputOutput input text status

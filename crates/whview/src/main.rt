@@ -6,36 +6,40 @@
 
 mod answer;
 mod command_line;
+mod laws;
 mod program;
 #[cfg(test)]
 mod tests;
 mod verdict;
 mod words;
 
-use program::run;
+use program::{run, want_of_memory};
 use std::alloc::AllocError;
-use std::env;
 use std::process::ExitCode;
+use std::rt::Env;
+use std::{env, io};
 
-/// The words of the command line after the program's name.
+/// The words of the command line after the program's name. It fails only where memory is refused.
+fn handed_words<E: Env + AllocGlobal>(rt: &E) -> io::Result<Vec<String>> {
+    let mut words = Vec::new(rt.alloc());
+    for word in env::args(rt)?.skip(1) {
+        words.push(word)?;
+    }
+    Ok(words)
+}
+
 fn main(rt: HostRuntime) -> ExitCode {
-    let alloc = rt.alloc();
     let mut input = rt.stdin();
     let mut out = rt.stdout();
-    let mut words: Vec<String> = Vec::new(alloc);
-    let Ok(args) = env::args(&rt) else {
-        return ExitCode::from(4);
+    let Ok(words) = handed_words(&rt) else {
+        return ExitCode::from(want_of_memory(&mut out));
     };
-    for word in args.skip(1) {
-        if words.push(word).is_err() {
-            return ExitCode::from(4);
-        }
+    let lent: Result<Vec<&str>, AllocError> = words
+        .iter()
+        .map(|word| word.as_str())
+        .collect(rt.alloc());
+    match lent {
+        Ok(lent) => ExitCode::from(run(&rt, rt.alloc(), &lent, &mut input, &mut out)),
+        Err(AllocError) => ExitCode::from(want_of_memory(&mut out)),
     }
-    let mut lent = Vec::new(alloc);
-    for word in &words {
-        if lent.push(word.as_str()).is_err() {
-            return ExitCode::from(4);
-        }
-    }
-    ExitCode::from(run(&rt, alloc, &lent, &mut input, &mut out))
 }

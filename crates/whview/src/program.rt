@@ -151,6 +151,13 @@ fn give<W: Write>(out: &mut W, text: &[u8], status: u8) -> u8
     status
 }
 
+/// What the program answers where memory was refused: `memory` and 4, or 5 where the writer fails.
+pub fn want_of_memory<W: Write>(out: &mut W) -> u8
+    ensures { result ≢ 5 → (result ≡ 4) × Appends (W.contents out.old) (W.contents out.new) (line (codes "memory")) }
+{
+    give(out, b"memory\n", MEMORY)
+}
+
 /// The program: reads the input, or the file that the words name, and writes its whole text. The words are those of the
 /// command line, without the program's name; where there are none, the first line of the input gives them.
 ///
@@ -176,6 +183,6 @@ pub fn run<'a, F: Files, R: Read, W: Write>(
     };
     match answer {
         Ok(answer) => give(out, &answer.text, answer.status),
-        Err(AllocError) => give(out, b"memory\n", MEMORY),
+        Err(AllocError) => want_of_memory(out),
     }
 }

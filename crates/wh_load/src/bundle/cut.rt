@@ -5,16 +5,16 @@ ghost use Rattle.wh_load.specs.RawPart.{shown};
 
 use super::line::{first_line, opens_part, plain_len};
 
-// A part as it stands.
+/// A part as it stands.
 #[derive(Clone, Copy)]
 pub struct LentPart<'a> {
-    // The line that opens it.
+    /// The line that opens it.
     pub opening: &'a [u8],
-    // The bytes below that line.
+    /// The bytes below that line.
     pub body: &'a [u8],
 }
 
-// The length of the bytes above the first part.
+/// The length of the bytes above the first part.
 pub fn preface_len(text: &[u8]) -> usize
     ensures within { result ≤ length text.now }
     ensures preface { (cut text.now).preface ≡ take result text.now }
@@ -31,7 +31,7 @@ pub fn preface_len(text: &[u8]) -> usize
     at
 }
 
-// The first part of a text that begins with one, and what stands below it.
+/// The first part of a text that begins with one, and what stands below it.
 pub fn first_part(text: &[u8]) -> (LentPart<'_>, &[u8])
     requires some { 0 < length text.now }
     requires begins { (cut text.now).preface ≡ [] }

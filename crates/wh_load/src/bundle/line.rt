@@ -18,7 +18,7 @@ fn line_len(text: &[u8]) -> usize
     }
 }
 
-// The first line with its LF, and what stands below it.
+/// The first line with its LF, and what stands below it.
 pub fn first_line(text: &[u8]) -> (&[u8], &[u8])
     requires { 0 < length text.now }
     ensures some { 0 < length result.0.now }
@@ -30,7 +30,7 @@ pub fn first_line(text: &[u8]) -> (&[u8], &[u8])
     text.split_at(line_len(text))
 }
 
-// The line without the LF that ends it.
+/// The line without the LF that ends it.
 pub fn without_lf(line: &[u8]) -> &[u8]
     ensures { result.now ≡ without_lf line.now }
 {
@@ -41,7 +41,7 @@ pub fn without_lf(line: &[u8]) -> &[u8]
     }
 }
 
-// Whether the line ends in CR LF.
+/// Whether the line ends in CR LF.
 pub fn has_cr(line: &[u8]) -> bool
     ensures bound { IsTrue result → 2 ≤ length line.now }
     ensures value { result ≡ has_cr line.now }
@@ -49,7 +49,7 @@ pub fn has_cr(line: &[u8]) -> bool
     line.ends_with(b"\r\n")
 }
 
-// The line without its end: the LF, and a CR directly before it.
+/// The line without its end: the LF, and a CR directly before it.
 pub fn without_end(line: &[u8]) -> &[u8]
     ensures { result.now ≡ without_end line.now }
 {
@@ -60,7 +60,7 @@ pub fn without_end(line: &[u8]) -> &[u8]
     }
 }
 
-// Whether the byte is a blank.
+/// Whether the byte is a blank.
 pub fn is_blank(byte: u8) -> bool
     ensures { result ≡ is_blank byte }
 {
@@ -74,7 +74,7 @@ fn is_blank_line(line: &[u8]) -> bool
     content.iter().all(|byte| is_blank(*byte))
 }
 
-// Whether each line has blanks alone.
+/// Whether each line has blanks alone.
 pub fn is_blank_text(text: &[u8]) -> bool
     ensures { result ≡ is_blank_text text.now }
 {
@@ -89,14 +89,14 @@ pub fn is_blank_text(text: &[u8]) -> bool
     true
 }
 
-// Whether the line begins with `@@`.
+/// Whether the line begins with `@@`.
 pub fn is_escaped(line: &[u8]) -> bool
     ensures { result ≡ is_escaped line.now }
 {
     line.starts_with(b"@@")
 }
 
-// Whether the line begins with one `@`.
+/// Whether the line begins with one `@`.
 pub fn opens_part(line: &[u8]) -> bool
     ensures { result ≡ opens_part line.now }
 {
@@ -111,7 +111,7 @@ fn begins_line(text: &[u8], place: usize) -> bool
     place == 0 || text[place - 1] == b'\n'
 }
 
-// The length of the lines above the first that begins with an `@`. Most bytes have none, so it is they that are looked for.
+/// The length of the lines above the first that begins with an `@`. Most bytes have none, so it is they that are looked for.
 pub fn plain_len(text: &[u8]) -> usize
     ensures within { result ≤ length text.now }
     ensures lines { whole_lines text.now ≡ whole_lines (take result text.now) ++ whole_lines (drop result text.now) }

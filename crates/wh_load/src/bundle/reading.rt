@@ -65,7 +65,7 @@ fn fault_at(alloc: Global, opening: &[u8]) -> PartFault
     }
 }
 
-// The parts of a text that begins with one, or the first that is at fault.
+/// The parts of a text that begins with one, or the first that is at fault.
 pub fn read_parts<'a>(
     alloc: Global,
     text: &'a [u8],

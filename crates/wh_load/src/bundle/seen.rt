@@ -3,12 +3,12 @@ use super::heading::{Heading, Scope};
 use std::alloc::{AllocError, Global};
 use std::collections::BTreeSet;
 
-// The headings above a place, in sets, so that a repeated one is found without going over all of them.
+/// The headings above a place, in sets, so that a repeated one is found without going over all of them.
 #[derive(Drop)]
 pub struct Seen<'a> {
-    // The texts of those that may stand once in the bundle.
+    /// The texts of those that may stand once in the bundle.
     pub bundle: BTreeSet<&'a [u8]>,
-    // The texts of those in the open night that may stand once in it.
+    /// The texts of those in the open night that may stand once in it.
     pub night: BTreeSet<&'a [u8]>,
 }
 
@@ -19,7 +19,7 @@ impl<'a> Seen<'a> {
     ghost use Rattle.wh_load.specs.Bundle.{is_repeated, text_of_heading};
     ghost use Rattle.wh_load.specs.Seen.{Recalls};
 
-    // Nothing stands above.
+    /// Nothing stands above.
     pub fn new(alloc: Global) -> Self
         ensures { Recalls result [] }
     {
@@ -29,7 +29,7 @@ impl<'a> Seen<'a> {
         }
     }
 
-    // Notes the heading of a part, and answers whether it is no repeat of one above.
+    /// Notes the heading of a part, and answers whether it is no repeat of one above.
     pub fn note(&mut self, heading: &Heading<'a>, text: &'a [u8]) -> Result<bool, AllocError>
         requires { heading_of text.now ≡ Some heading.now }
         ensures fresh { (above : List RawPart) → Recalls self.old above

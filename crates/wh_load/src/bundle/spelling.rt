@@ -7,7 +7,7 @@ ghost use Rattle.wh_load.specs.Heading.{heading_text, first_word, fault_word, na
 use super::heading::Heading;
 use super::line::{is_blank, without_end};
 
-// The heading that is a single word, where the text is one.
+/// The heading that is a single word, where the text is one.
 pub fn single_heading<'a>(text: &[u8]) -> Option<Heading<'a>>
     ensures { result ≡ single_heading text.now }
 {
@@ -28,7 +28,7 @@ pub fn single_heading<'a>(text: &[u8]) -> Option<Heading<'a>>
     }
 }
 
-// What stands after a front, where there is anything.
+/// What stands after a front, where there is anything.
 pub fn name_after<'a>(front: &[u8], text: &'a [u8]) -> Option<&'a [u8]>
     ensures { option_copied result ≡ name_after front.now text.now }
 {
@@ -49,7 +49,7 @@ fn without_blank_end(text: &[u8]) -> &[u8]
     &text[..end]
 }
 
-// The text of the heading in the line that opens a part.
+/// The text of the heading in the line that opens a part.
 pub fn heading_text(opening: &[u8]) -> &[u8]
     ensures { result.now ≡ heading_text opening.now }
 {
@@ -93,7 +93,7 @@ fn first_word(text: &[u8]) -> &[u8]
     &rest[..word_len(rest)]
 }
 
-// How a fault names the heading of this text.
+/// How a fault names the heading of this text.
 pub fn fault_word(text: &[u8]) -> &[u8]
     ensures { result.now ≡ fault_word text.now }
 {

@@ -71,7 +71,7 @@ fn written(alloc: Global, body: &[u8], kept: usize, csv: bool) -> Result<Vec<u8>
     Ok(text)
 }
 
-// The text of a body, lent where it is the body itself.
+/// The text of a body, lent where it is the body itself.
 pub fn body_text<'a>(
     alloc: Global,
     body: &'a [u8],

@@ -1,4 +1,5 @@
-use Rattle.std.proofs.Common.{◌≡◌, ◌≤◌, ◌*◌, ◌^◌}
+use Rattle.std.proofs.Common.{◌≡◌, ◌≤◌, ◌*◌, ◌^◌, take}
+use Rattle.wh_strategy.specs.Earlier.{TellsInstalled}
 use Rattle.wh_strategy.specs.Sizes.{sizes_of}
 use Rattle.wh_strategy.specs.Sums.{sum_below}
 use Rattle.wh_strategy.specs.Work.{cost_at}
@@ -8,4 +9,5 @@ abbrev pub invariant-loop-place : goal.invariant-loop-place
 invariant-loop-place l = record {
   sum : l.total ≡ sum_below (cost_at l.children (sizes_of l.sizes) l.costs.comp l.costs.inst l.list) l.place;
   small : l.total ≤ l.place * 2 ^ 69;
+  told : TellsInstalled l.installed.flags (take l.place l.list);
 }

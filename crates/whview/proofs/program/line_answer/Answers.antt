@@ -1,4 +1,4 @@
-use Rattle.std.proofs.Common.{◌≡◌, true, false, sym, ap, ◌∙◌, subst}
+use Rattle.std.proofs.Common.{◌≡◌, true, false, [], sym, ap, ◌∙◌, subst}
 use Rattle.std.specs.Prelude.{map}
 use Rattle.std.specs.Str.{is_utf8, IsUtf8}
 use Rattle.std.proofs.lemmas.Str.{IsUtf8-from_is_utf8, is_utf8-from_IsUtf8}
@@ -23,7 +23,8 @@ returns-then-refuses_input c =
     let utf8 = is_utf8-from_IsUtf8 _ (subst IsUtf8 c.first_line.ensures.line c.in-Ok.ensures.cases.1) in
     let same = ap (map (λ w. w.now)) c.deref.ensures.value ∙ c.in_ok-words.ensures ∙ ap words_in at in
     let named = sym c.refuses_input.ensures ∙ c.if-refuses_input.true in
-    if_ok c.of-then-refuses_input.result _ _ c.of-then-refuses_input.ensures.status (λ a ended. names_file c.args.input.now c.deref.result.now a.text.items a.status c.requires utf8 same named ended)
+    if_ok_both c.of-then-refuses_input.result _ _ _ c.of-then-refuses_input.ensures.text c.of-then-refuses_input.ensures.status
+    (λ a printed ended. names_file c.args.input.now c.deref.result.now a.text.items a.status c.requires utf8 same named printed ended)
 
 pub returns-in-Ok-parse : goal.returns-in-Ok-parse
 returns-in-Ok-parse c =
@@ -33,8 +34,9 @@ returns-in-Ok-parse c =
     let named = sym c.refuses_input.ensures ∙ c.if-refuses_input.false in
     let twice = c.deref-2.ensures.value ∙ sym c.deref.ensures.value in
     let asked = subst (λ ws. IsAsked (subcommand_of whview_app (map (λ w. w.now) ws)) c.in-Ok-parse.asked) twice c.in-Ok-parse.ensures.asked in
+    let taken = subst (λ ws. fault_of whview_app (map (λ w. w.now) ws) ≡ []) twice c.in-Ok-parse.ensures.fails in
     if_ok c.command_answer.result _ _ c.command_answer.ensures
-    (λ a output. answers_line c.args.input.now c.deref.result.now a.text.items a.status c.in-Ok-parse.asked c.requires utf8 same named asked
+    (λ a output. answers_line c.args.input.now c.deref.result.now a.text.items a.status c.in-Ok-parse.asked c.requires utf8 same named taken asked
     (subst (λ bytes. IsCommandOutput c.in-Ok-parse.asked bytes a.text.items a.status) c.first_line.ensures.rest output))
 
 pub returns : goal.returns

@@ -7,11 +7,11 @@ use Rattle.whview.proofs.program.words_answer.Goals as goal
 
 pub returns-in-Some : goal.returns-in-Some
 returns-in-Some g c =
-    if_ok_any c.file_answer.result _ (λ a. from_file (texts c.args.words.now) _ a.text.items a.status c.in-Ok.asked c.in-Some.path.now c.in-Ok.ensures.asked c.in-Some.ensures)
+    if_ok_any c.file_answer.result _ (λ a. from_file (texts c.args.words.now) _ a.text.items a.status c.in-Ok.asked c.in-Some.path.now c.in-Ok.ensures.fails c.in-Ok.ensures.asked c.in-Some.ensures)
 
 pub returns-in-None : goal.returns-in-None
 returns-in-None g c =
-    if_ok c.read_answer.result _ _ c.read_answer.ensures (λ a read. from_reader (texts c.args.words.now) _ a.text.items a.status c.in-Ok.asked c.in-Ok.ensures.asked c.in-None.ensures read)
+    if_ok c.read_answer.result _ _ c.read_answer.ensures (λ a read. from_reader (texts c.args.words.now) _ a.text.items a.status c.in-Ok.asked c.in-Ok.ensures.fails c.in-Ok.ensures.asked c.in-None.ensures read)
 
 pub returns-in-Err : goal.returns-in-Err
 returns-in-Err g c =

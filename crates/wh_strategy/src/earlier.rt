@@ -1,0 +1,159 @@
+//! What stands earlier than a place, in tables, so that a list is gone over once and not again at each of its places.
+
+ghost use Rattle.std.specs.Prelude.{◌≡◌, ◌||◌, ◌<◌, ℕ, List, [], ◌∷◌, ◌++◌, false, length, slice_index_or};
+ghost use Rattle.wh_dag.specs.Shape.{has};
+ghost use Rattle.wh_strategy.specs.Earlier.{Tells, TellsInstalled, TellsTaken};
+ghost use Rattle.wh_strategy.specs.Tests.{is_installed, is_taken};
+ghost use Rattle.wh_strategy.specs.declared.expression.Expression.{Expression};
+
+use crate::expression::Expression;
+
+/// More views no shape has.
+const VIEWS: usize = 64;
+
+/// The views that are installed earlier.
+#[derive(Drop)]
+pub struct Installed {
+    flags: [bool; VIEWS],
+}
+
+impl Installed {
+    /// None is installed before the first place.
+    pub fn new() -> Installed
+        ensures { TellsInstalled result.flags [] }
+    {
+        Installed {
+            flags: [false; VIEWS],
+        }
+    }
+
+    /// Notes the expression that follows.
+    pub fn note(&mut self, e: &Expression)
+        ensures { (before : List Expression) → TellsInstalled self.old.flags before → TellsInstalled self.new.flags (before ++ e.now ∷ []) }
+    {
+        if let Expression::Inst(u) = e {
+            if *u < VIEWS {
+                self.flags[*u] = true;
+            }
+        }
+    }
+
+    /// Whether one of these, which were noted, installs u.
+    pub fn has(&self, before: &[Expression], u: usize) -> bool
+        requires { TellsInstalled self.now.flags before.now }
+        ensures { result ≡ is_installed before.now u }
+    {
+        if u < VIEWS {
+            self.flags[u]
+        } else {
+            installs(before, u)
+        }
+    }
+}
+
+/// Whether one of these installs u.
+fn installs(before: &[Expression], u: usize) -> bool
+    ensures { result ≡ is_installed before.now u }
+{
+    before
+        .iter()
+        .any(|e| matches!(e, Expression::Inst(v) if *v == u))
+}
+
+/// The sources that earlier Comps of each view took.
+#[derive(Drop)]
+pub struct Taken {
+    rows: [[bool; VIEWS]; VIEWS],
+}
+
+impl Taken {
+    /// None is taken before the first place.
+    pub fn new() -> Taken
+        ensures { TellsTaken result.rows [] }
+    {
+        Taken {
+            rows: [[false; VIEWS]; VIEWS],
+        }
+    }
+
+    /// Notes the expression that follows.
+    pub fn note(&mut self, e: &Expression)
+        ensures { (before : List Expression) → TellsTaken self.old.rows before → TellsTaken self.new.rows (before ++ e.now ∷ []) }
+    {
+        if let Expression::Comp(v, ys) = e {
+            if *v < VIEWS {
+                mark(&mut self.rows[*v], ys.as_slice());
+            }
+        }
+    }
+
+    /// Whether one of these, which were noted, is a Comp of v from u and perhaps others.
+    pub fn has(&self, before: &[Expression], v: usize, u: usize) -> bool
+        requires { TellsTaken self.now.rows before.now }
+        ensures { result ≡ is_taken before.now v u }
+    {
+        if v < VIEWS && u < VIEWS {
+            self.rows[v][u]
+        } else {
+            takes(before, v, u)
+        }
+    }
+}
+
+fn mark(row: &mut [bool; VIEWS], views: &[usize])
+    ensures many { length row.new ≡ length row.old }
+    ensures marked { (u : ℕ) → u < 64 → slice_index_or row.new u false ≡ (slice_index_or row.old u false || has views.now u) }
+{
+    for u in views {
+        if *u < VIEWS {
+            row[*u] = true;
+        }
+    }
+}
+
+/// Whether one of these is a Comp of v from u and perhaps others.
+fn takes(before: &[Expression], v: usize, u: usize) -> bool
+    ensures { result ≡ is_taken before.now v u }
+{
+    before.iter().any(|e| match e {
+        Expression::Comp(w, ys) => *w == v && has_view(ys.as_slice(), u),
+        Expression::Inst(_) => false,
+    })
+}
+
+/// Both tables.
+#[derive(Drop)]
+pub struct Tables {
+    /// The views that are installed earlier.
+    pub installed: Installed,
+    /// The sources that earlier Comps took.
+    pub taken: Taken,
+}
+
+impl Tables {
+    /// Nothing stands before the first place.
+    pub fn new() -> Tables
+        ensures { Tells result [] }
+    {
+        Tables {
+            installed: Installed::new(),
+            taken: Taken::new(),
+        }
+    }
+
+    /// Notes the expression that follows.
+    pub fn note(&mut self, e: &Expression)
+        ensures { (before : List Expression) → Tells self.old before → Tells self.new (before ++ e.now ∷ []) }
+    {
+        self.installed.note(e);
+        self.taken.note(e);
+    }
+}
+
+/// Whether the view is one of these.
+#[tactic(auto, unfolding(wh_dag::specs::Shape::has))]
+pub fn has_view(views: &[usize], u: usize) -> bool
+    ensures { result ≡ has views.now u }
+{
+    views.iter().any(|w| *w == u)
+}

@@ -1,0 +1,193 @@
+-- The same words and bytes have one answer at most.
+use Rattle.std.proofs.Common.{◌≡◌, ◌⊎◌, ◌+◌, ℕ, List, [], ◌∷◌, Option, Some, None, Result, Ok, Err, true, false, refl, sym, ap, subst, ◌∙◌, ⊎_elim, inl, inr, arith}
+use Rattle.std.specs.Prelude.{MatchResult}
+use Rattle.std.proofs.lemmas.Bool.{cases_order}
+use Rattle.clap.specs.Words.{IsAmong, Kinds, Row, Text, fault_of, subcommand_of}
+use Rattle.clap.specs.declared.error.kind.ErrorKind.{ErrorKind}
+use Rattle.wh_dag.specs.Shape.{IsShape}
+use Rattle.wh_load.specs.Catalogue.{shape_of}
+use Rattle.wh_load.specs.SizesText.{sizes_of_text}
+use Rattle.wh_load.specs.StrategyText.{strategy_of}
+use Rattle.wh_load.specs.declared.fault.LoadFault.{LoadFault}
+use Rattle.wh_strategy.specs.declared.costs.Costs.{Costs}
+use Rattle.wh_strategy.specs.declared.expression.Expression.{Expression}
+use Rattle.wh_strategy.specs.declared.rule.Rule.{Rule}
+use Rattle.wh_strategy.specs.declared.rule.Rule.TheVariants.{S1, S2, S3, S4, S5, S6}
+use Rattle.wh_strategy.specs.Rules.{IsFirstBroken, IsFirstPlace, number_of}
+use Rattle.wh_strategy.specs.Sizes.{sizes_of}
+use Rattle.wh_strategy.specs.Work.{work_of}
+use Rattle.wh_strategy.proofs.Agreeing.{refused}
+use Rattle.whview.specs.CheckOutput.{Inputs, IsCheckOutput, IsFaultShown, IsVerdict, broken, broken_text, correct, correct_text, inputs_in, inputs_of, texts_of}
+use Rattle.whview.specs.CommandLine.{IsAsked, whview_app}
+use Rattle.whview.specs.OneAnswer.{AreSame, IsReadFailure, OneCheckOutput, OneHandedOutput, OneInputOutput}
+use Rattle.whview.specs.Output.{IsCommandOutput, IsHandedOutput, IsRead, IsRefused, ReadsInput, a_file, input_too_long, line_answered, line_names_a_file, line_not_text, line_refused, read_fails, read_too_long, read_within, words_answered, words_refused}
+use Rattle.whview.specs.declared.command_line.Asked.{Asked}
+use Rattle.whview.specs.declared.command_line.Asked.TheVariants as asked
+use Rattle.wh_load.proofs.ShapesRead.{from_step, is_shape, same_Ok}
+
+-- ---- one verdict
+
+one_index : (rule : Rule) (shape : List (List ℕ)) (list : List Expression) (place other : ℕ) → IsFirstPlace rule shape list place → IsFirstPlace rule shape list other → place ≡ other
+one_index rule shape list place other f g =
+    ⊎_elim
+    (λ same. f.counted ∙ ap (λ i. i + 1) same ∙ sym g.counted)
+    (λ apart. ⊎_elim (λ less. absurd (g.first f.index less f.broken)) (λ more. absurd (f.first g.index more g.broken)) apart)
+    (cases_order f.index g.index)
+
+one_rule : (rule other : Rule) → number_of rule ≡ number_of other → rule ≡ other
+one_rule S1 S1 e = refl
+one_rule S2 S2 e = refl
+one_rule S3 S3 e = refl
+one_rule S4 S4 e = refl
+one_rule S5 S5 e = refl
+one_rule S6 S6 e = refl
+one_rule _ _ e = cc
+
+one_number : (shape : List (List ℕ)) (list : List Expression) (rule other : Rule) (place ended : ℕ) → IsFirstBroken shape list rule place → IsFirstBroken shape list other ended → number_of rule ≡ number_of other
+one_number shape list rule other place ended f g =
+    ⊎_elim
+    (λ same. same)
+    (λ apart. ⊎_elim
+    (λ less. absurd (g.kept rule less f.there.index f.there.broken))
+    (λ more. absurd (f.kept other more g.there.index g.there.broken))
+    apart)
+    (cases_order (number_of rule) (number_of other))
+
+one_broken : (shape : List (List ℕ)) (list : List Expression) (rule other : Rule) (place ended : ℕ) → IsFirstBroken shape list rule place → IsFirstBroken shape list other ended → rule ≡ other → broken_text rule place ≡ broken_text other ended
+one_broken shape list rule other place ended f g same =
+    let there = subst (λ r. IsFirstPlace r shape list ended) (sym same) g.there in
+    ap (λ r. broken_text r place) same ∙ ap (broken_text other) (one_index rule shape list place ended f.there there)
+
+one_verdict : (costs : Costs) (inputs : Inputs) (text other : List ℕ) (status ended : ℕ) → IsShape inputs.shape.children
+    → IsVerdict costs inputs text status → IsVerdict costs inputs other ended → AreSame text status other ended
+one_verdict costs inputs text other status ended sh (correct is t s) (correct is' u e) = record { texts = t ∙ sym u; statuses = s ∙ sym e }
+one_verdict costs inputs text other status ended sh (correct is t s) (broken rule place f u e) = absurd (refused rule _ _ place sh f is)
+one_verdict costs inputs text other status ended sh (broken rule place f t s) (correct is u e) = absurd (refused rule _ _ place sh f is)
+one_verdict costs inputs text other status ended sh (broken rule place f t s) (broken rule' place' g u e) =
+    record { texts = t ∙ one_broken _ _ rule rule' place place' f g (one_rule rule rule' (one_number _ _ rule rule' place place' f g)) ∙ sym u; statuses = s ∙ sym e }
+
+-- ---- one output of a check
+
+-- what is read of a bundle has a shape
+shape_read : (bytes : List ℕ) (inputs : Inputs) → inputs_of bytes ≡ Ok inputs → IsShape inputs.shape.children
+shape_read bytes inputs e =
+    let texts = from_step (texts_of bytes) inputs_in inputs e in
+    let shape = from_step (shape_of texts.0.catalogue) _ inputs texts.2 in
+    let list = from_step (strategy_of shape.0.names texts.0.strategy) _ inputs shape.2 in
+    let sizes = from_step (sizes_of_text shape.0.names texts.0.sizes) _ inputs list.2 in
+    let same = same_Ok _ _ _ refl sizes.2 in
+    subst (λ i. IsShape i.shape.children) same (is_shape texts.0.catalogue shape.0 shape.1)
+
+one_shown : (fault : LoadFault) (text other : List ℕ) (status ended : ℕ) → IsFaultShown fault text status → IsFaultShown fault other ended → AreSame text status other ended
+one_shown fault text other status ended f g = record { texts = f.printed ∙ sym g.printed; statuses = f.ended ∙ sym g.ended }
+
+pub one_check : OneCheckOutput
+one_check costs bytes text other status ended = go (inputs_of bytes) (shape_read bytes)
+  where
+    go : (r : Result Inputs LoadFault) → ((inputs : Inputs) → r ≡ Ok inputs → IsShape inputs.shape.children)
+        → MatchResult r (λ inputs. IsVerdict costs inputs text status) (λ fault. IsFaultShown fault text status)
+        → MatchResult r (λ inputs. IsVerdict costs inputs other ended) (λ fault. IsFaultShown fault other ended)
+        → AreSame text status other ended
+    go (Ok inputs) sh f g = one_verdict costs inputs text other status ended (sh inputs refl) f g
+    go (Err fault) sh f g = one_shown fault text other status ended f g
+
+-- ---- one command
+
+-- a verdict asks of the costs their numbers alone
+as_costs : (costs other : Costs) (inputs : Inputs) (text : List ℕ) (status : ℕ) → other.comp ≡ costs.comp → other.inst ≡ costs.inst
+    → IsVerdict other inputs text status → IsVerdict costs inputs text status
+as_costs costs other inputs text status e f (correct is t s) =
+    correct is (t ∙ ap (λ c. correct_text (work_of inputs.shape.children (sizes_of inputs.sizes) c other.inst inputs.list)) e ∙ ap (λ i. correct_text (work_of inputs.shape.children (sizes_of inputs.sizes) costs.comp i inputs.list)) f) s
+as_costs costs other inputs text status e f (broken rule place is t s) = broken rule place is t s
+
+as_check : (costs other : Costs) (bytes text : List ℕ) (status : ℕ) → other.comp ≡ costs.comp → other.inst ≡ costs.inst
+    → IsCheckOutput other bytes text status → IsCheckOutput costs bytes text status
+as_check costs other bytes text status e f = go (inputs_of bytes)
+  where
+    go : (r : Result Inputs LoadFault) → MatchResult r (λ inputs. IsVerdict other inputs text status) (λ fault. IsFaultShown fault text status)
+        → MatchResult r (λ inputs. IsVerdict costs inputs text status) (λ fault. IsFaultShown fault text status)
+    go (Ok inputs) is = as_costs costs other inputs text status e f is
+    go (Err fault) is = is
+
+-- two commands that the same words ask for print the same
+one_asked : (found : Option (Text × List Row)) (command other : Asked) → IsAsked found command → IsAsked found other
+    → (bytes text : List ℕ) (status : ℕ) → IsCommandOutput other bytes text status → IsCommandOutput command bytes text status
+one_asked None command other f g bytes text status is = absurd f
+one_asked (Some found) (asked.Check costs input) (asked.Check costs' input') f g bytes text status is =
+    as_check costs costs' bytes text status (g.1.comp_cost ∙ sym f.1.comp_cost) (g.1.inst_cost ∙ sym f.1.inst_cost) is
+
+one_output : (command : Asked) (bytes text other : List ℕ) (status ended : ℕ) → IsCommandOutput command bytes text status → IsCommandOutput command bytes other ended → AreSame text status other ended
+one_output (asked.Check costs input) bytes text other status ended f g = one_check costs bytes text other status ended f g
+
+-- two commands that the same words ask for read the same
+one_file : (found : Option (Text × List Row)) (command other : Asked) → IsAsked found command → IsAsked found other → ReadsInput command → ReadsInput other
+one_file None command other f g reads = absurd f
+one_file (Some found) (asked.Check costs input) (asked.Check costs' input') f g reads = g.1.file ∙ sym f.1.file ∙ reads
+
+one_read : (command : Asked) (bytes text other : List ℕ) (status ended : ℕ) → IsRead command bytes text status → IsRead command bytes other ended → AreSame text status other ended
+one_read command bytes text other status ended (read_too_long l f) (read_too_long m g) = one_shown _ text other status ended f g
+one_read command bytes text other status ended (read_too_long l f) (read_within m g) = let bad : ⊥ = omega arith in absurd bad
+one_read command bytes text other status ended (read_within l f) (read_too_long m g) = let bad : ⊥ = omega arith in absurd bad
+one_read command bytes text other status ended (read_within l f) (read_within m g) = one_output command bytes text other status ended f g
+
+as_read : (found : Option (Text × List Row)) (command other : Asked) → IsAsked found command → IsAsked found other
+    → (bytes text : List ℕ) (status : ℕ) → IsRead other bytes text status → IsRead command bytes text status
+as_read found command other f g bytes text status (read_too_long l is) = read_too_long l is
+as_read found command other f g bytes text status (read_within l is) = read_within l (one_asked found command other f g bytes text status is)
+
+-- ---- words that were handed in
+
+none_refused : (kinds : Kinds) (k : ErrorKind) → kinds ≡ [] → IsAmong k kinds → ⊥
+none_refused [] k e among = among
+none_refused (x ∷ xs) k e among = cc
+
+not_refused : (words : List (List ℕ)) (status : ℕ) → fault_of whview_app words ≡ [] → IsRefused words status → ⊥
+not_refused words status taken is = none_refused _ is.kind taken is.found
+
+-- the reader failed, or the answer is the command's
+handed : (words : List (List ℕ)) (command : Asked) (bytes text : List ℕ) (status : ℕ) → fault_of whview_app words ≡ [] → IsAsked (subcommand_of whview_app words) command → ReadsInput command
+    → IsHandedOutput words (Some bytes) text status → IsReadFailure text status ⊎ IsRead command bytes text status
+handed words command bytes text status taken is reads (words_refused refusal) = absurd (not_refused words status taken refusal)
+handed words command bytes text status taken is reads (read_fails printed ended) = inl (record { printed = printed; ended = ended })
+handed words command bytes text status taken is reads (a_file other t is' file) = absurd (file (one_file _ command other is is' reads))
+handed words command bytes text status taken is reads (words_answered other t is' r read) = inr (as_read _ command other is is' bytes text status read)
+
+pub one_handed : OneHandedOutput
+one_handed words command bytes text other status ended taken is reads f g =
+    ⊎_elim
+    (λ failed. inr (inl failed))
+    (λ read. ⊎_elim
+    (λ failed. inr (inr failed))
+    (λ again. inl (one_read command bytes text other status ended read again))
+    (handed words command bytes other ended taken is reads g))
+    (handed words command bytes text status taken is reads f)
+
+-- ---- an input whose first line gives the words
+
+pub one_line : OneInputOutput
+one_line input text other status ended (input_too_long l f) (input_too_long m g) = inl (one_shown _ text other status ended f g)
+one_line input text other status ended (input_too_long l f) (line_not_text m u g e) = let bad : ⊥ = omega arith in absurd bad
+one_line input text other status ended (input_too_long l f) (line_names_a_file m u n g e) = let bad : ⊥ = omega arith in absurd bad
+one_line input text other status ended (input_too_long l f) (line_refused m u n g) = let bad : ⊥ = omega arith in absurd bad
+one_line input text other status ended (input_too_long l f) (line_answered c m u n t a g) = let bad : ⊥ = omega arith in absurd bad
+one_line input text other status ended (line_not_text m u f s) (input_too_long l g) = let bad : ⊥ = omega arith in absurd bad
+one_line input text other status ended (line_not_text m u f s) (line_not_text m' u' g e) = inl (record { texts = f ∙ sym g; statuses = s ∙ sym e })
+one_line input text other status ended (line_not_text m u f s) (line_names_a_file m' u' n g e) = let bad : false ≡ true = sym u ∙ u' in cc
+one_line input text other status ended (line_not_text m u f s) (line_refused m' u' n g) = let bad : false ≡ true = sym u ∙ u' in cc
+one_line input text other status ended (line_not_text m u f s) (line_answered c m' u' n t a g) = let bad : false ≡ true = sym u ∙ u' in cc
+one_line input text other status ended (line_names_a_file m u n f s) (input_too_long l g) = let bad : ⊥ = omega arith in absurd bad
+one_line input text other status ended (line_names_a_file m u n f s) (line_not_text m' u' g e) = let bad : false ≡ true = sym u' ∙ u in cc
+one_line input text other status ended (line_names_a_file m u n f s) (line_names_a_file m' u' n' g e) = inl (record { texts = f ∙ sym g; statuses = s ∙ sym e })
+one_line input text other status ended (line_names_a_file m u n f s) (line_refused m' u' n' g) = let bad : true ≡ false = sym n ∙ n' in cc
+one_line input text other status ended (line_names_a_file m u n f s) (line_answered c m' u' n' t a g) = let bad : true ≡ false = sym n ∙ n' in cc
+one_line input text other status ended (line_refused m u n f) (input_too_long l g) = let bad : ⊥ = omega arith in absurd bad
+one_line input text other status ended (line_refused m u n f) (line_not_text m' u' g e) = let bad : false ≡ true = sym u' ∙ u in cc
+one_line input text other status ended (line_refused m u n f) (line_names_a_file m' u' n' g e) = let bad : true ≡ false = sym n' ∙ n in cc
+one_line input text other status ended (line_refused m u n f) (line_refused m' u' n' g) = inr (f, g)
+one_line input text other status ended (line_refused m u n f) (line_answered c m' u' n' t a g) = absurd (not_refused _ status t f)
+one_line input text other status ended (line_answered c m u n t a f) (input_too_long l g) = let bad : ⊥ = omega arith in absurd bad
+one_line input text other status ended (line_answered c m u n t a f) (line_not_text m' u' g e) = let bad : false ≡ true = sym u' ∙ u in cc
+one_line input text other status ended (line_answered c m u n t a f) (line_names_a_file m' u' n' g e) = let bad : true ≡ false = sym n' ∙ n in cc
+one_line input text other status ended (line_answered c m u n t a f) (line_refused m' u' n' g) = absurd (not_refused _ ended t g)
+one_line input text other status ended (line_answered c m u n t a f) (line_answered c' m' u' n' t' a' g) =
+    inl (one_output c _ text other status ended f (one_asked _ c c' a a' _ other ended g))
