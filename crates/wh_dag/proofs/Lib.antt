@@ -1,5 +1,12 @@
+pub mod CommonParents
+pub mod Dealing
 pub mod Faultless
+pub mod FitRest
 pub mod Levels
 pub mod Lists
 pub mod Made
+pub mod Remaining
+pub mod Shown
+pub mod SiblingLists
 pub mod Texts
+pub mod Within

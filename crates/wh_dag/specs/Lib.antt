@@ -1,8 +1,14 @@
+pub mod Catalog
+pub mod CatalogCode
+pub mod CatalogParts
 pub mod Fault
 pub mod Kept
 pub mod Level
 pub mod Lists
+pub mod Output
 pub mod Parents
+pub mod Parts
 pub mod Shape
+pub mod Siblings
 pub mod WellFormed
 pub mod Written

@@ -1,6 +1,7 @@
 // Which views each view is over.
 ghost use Rattle.std.specs.Prelude.{◌≡◌, ◌<◌, ◌↔◌, ◌==◌, List, ℕ, length, IfOk, IsTrue};
-ghost use Rattle.wh_dag.specs.Shape.{IsShape, children_of};
+ghost use Rattle.wh_dag.specs.Shape.{IsShape, has, children_of};
+ghost use Rattle.wh_dag.specs.Siblings.{have_parent};
 ghost use Rattle.wh_dag.specs.Lists.{lists_of};
 
 use std::alloc::{AllocError, Global};
@@ -54,6 +55,21 @@ impl ChildLists {
         &self.lists[view]
     }
 
+    /// Whether this view is over that one.
+    pub fn is_over(&self, view: usize, child: usize) -> bool
+        requires { view < length self.now }
+        ensures { result ≡ has (children_of self.now view) child }
+    {
+        is_over(self.of(view), child)
+    }
+
+    /// Whether a view is over both of these.
+    pub fn have_parent(&self, first: usize, second: usize) -> bool
+        ensures { result ≡ have_parent self.now first second }
+    {
+        any_over_both(&self.lists, first, second)
+    }
+
     /// A copy of the lists.
     pub fn copy(&self, alloc: Global) -> Result<ChildLists, AllocError>
         ensures { IfOk result (λ copy. copy ≡ self.now) }
@@ -68,6 +84,23 @@ impl ChildLists {
     {
         are_same(&self.lists, &other.lists)
     }
+}
+
+/// Whether this view is among the children.
+#[tactic(auto, unfolding(crate::specs::Shape::has))]
+pub(crate) fn is_over(own: &[usize], view: usize) -> bool
+    ensures { result ≡ has own.now view }
+{
+    own.iter().any(|child| *child == view)
+}
+
+#[tactic(auto, unfolding(crate::specs::Siblings::have_parent))]
+fn any_over_both(lists: &[Vec<usize>], first: usize, second: usize) -> bool
+    ensures { result ≡ have_parent (lists_of lists.now) first second }
+{
+    lists
+        .iter()
+        .any(|own| is_over(own, first) && is_over(own, second))
 }
 
 fn copied(alloc: Global, lists: &[Vec<usize>]) -> Result<Vec<Vec<usize>>, AllocError>

@@ -1,17 +1,9 @@
 // The views over a view.
 ghost use Rattle.std.specs.Prelude.{◌≡◌, IfOk};
-ghost use Rattle.wh_dag.specs.Shape.{has};
 ghost use Rattle.wh_dag.specs.Parents.{parents_of};
 
-use crate::child_lists::ChildLists;
+use crate::child_lists::{ChildLists, is_over};
 use std::alloc::{AllocError, Global};
-
-#[tactic(auto, unfolding(crate::specs::Shape::has))]
-fn is_over(own: &[usize], view: usize) -> bool
-    ensures { result ≡ has own.now view }
-{
-    own.iter().any(|child| *child == view)
-}
 
 /// The views over this one, rising.
 #[tactic(auto, unfolding(crate::specs::Parents::parents_of))]

@@ -3,13 +3,15 @@ ghost use Rattle.std.specs.Prelude.{◌≡◌, ◌<◌, ◌⊎◌, ◌==◌, len
 ghost use Rattle.wh_dag.specs.Shape.{IsShape, children_of};
 ghost use Rattle.wh_dag.specs.Level.{level_of, level_over};
 ghost use Rattle.wh_dag.specs.Parents.{parents_of};
+ghost use Rattle.wh_dag.specs.Siblings.{couples_of, sibling_pairs_of};
 ghost use Rattle.wh_dag.specs.Written.{texts, written, name_of, children_written};
 ghost use Rattle.wh_dag.specs.Fault.{first_fault};
 ghost use Rattle.wh_dag.specs.WellFormed.{IsWellFormed};
 
 use crate::child_lists::ChildLists;
 use crate::fault::ShapeFault;
-use crate::{level, parents, written};
+use crate::siblings::{Couple, SiblingPair};
+use crate::{level, parents, siblings, written};
 use std::alloc::{AllocError, Global};
 use std::marker::Model;
 
@@ -25,6 +27,7 @@ pub struct Shape {
 impl Model for Shape {
     ghost use Rattle.wh_dag.specs.Shape.{Views};
     ghost use Rattle.wh_dag.specs.Kept.{IsKept};
+    ghost use Rattle.wh_dag.specs.Siblings.{couples_of, sibling_pairs_of};
     ghost use Rattle.wh_dag.specs.Written.{texts};
 
     ghost Value = { Views };
@@ -109,6 +112,20 @@ impl Shape {
         ensures { IfOk result (λ parents. parents.items ≡ parents_of self.now.children view) }
     {
         parents::parents_of_view(alloc, &self.children, view)
+    }
+
+    /// The sibling pairs (parent, lower, higher), rising: for each view all two views that it is over.
+    pub fn sibling_pairs(&self, alloc: Global) -> Result<Vec<SiblingPair>, AllocError>
+        ensures { IfOk result (λ pairs. pairs.items ≡ sibling_pairs_of self.now.children) }
+    {
+        siblings::sibling_pairs(alloc, &self.children)
+    }
+
+    /// The couples (lower, higher), rising: all two views that have a common parent, each couple once.
+    pub fn couples(&self, alloc: Global) -> Result<Vec<Couple>, AllocError>
+        ensures { IfOk result (λ couples. couples.items ≡ couples_of self.now.children) }
+    {
+        siblings::couples(alloc, &self.children)
     }
 
     /// The level of the view: 0 for a base, else one more than its highest child's.

@@ -1,5 +1,7 @@
 // What no clause says: written shapes from outside, and the view and the text that each fault names.
-use crate::{Name, Shape, ShapeFault};
+mod catalog;
+
+use crate::{Couple, Name, Shape, ShapeFault, SiblingPair};
 use std::alloc::{AllocError, Global};
 use std::process::Abort;
 use std::test::Fail;
@@ -218,4 +220,39 @@ fn a_name_gives_its_text_back(rt: HostRuntime) -> Result<(), Fail> {
 #[test]
 fn want_of_memory_is_the_seventh_refusal(rt: HostRuntime) {
     assert_eq!(rt; ShapeFault::Memory.number(), 7);
+}
+
+static PAIRS: [SiblingPair; 2] = [
+    SiblingPair {
+        parent: 2,
+        lower: 0,
+        higher: 1,
+    },
+    SiblingPair {
+        parent: 3,
+        lower: 0,
+        higher: 2,
+    },
+];
+
+static COUPLES: [Couple; 2] = [
+    Couple {
+        lower: 0,
+        higher: 1,
+    },
+    Couple {
+        lower: 0,
+        higher: 2,
+    },
+];
+
+// w is over v and b, in this order: its pair has the lower number first all the same.
+#[test]
+fn siblings_and_couples_rise(rt: HostRuntime) -> Result<(), Fail> {
+    let alloc = rt.alloc();
+    let rows = [("b", "-"), ("c", "-"), ("v", "b c"), ("w", "v b")];
+    let shape = read(&rt, alloc, &rows)?;
+    assert_eq!(rt; shape.sibling_pairs(alloc)?.as_slice(), PAIRS.as_slice());
+    assert_eq!(rt; shape.couples(alloc)?.as_slice(), COUPLES.as_slice());
+    Ok(())
 }

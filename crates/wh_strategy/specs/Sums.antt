@@ -1,12 +1,8 @@
 -- Sums over the numbers below a bound, and the parts of a list.
-use Rattle.std.specs.Prelude.{ℕ, zero, suc, ◌+◌, List, [], ◌∷◌, ◌++◌, map}
+use Rattle.std.specs.Prelude.{ℕ, zero, suc, ◌+◌}
+unfoldable pub use Rattle.wh_dag.specs.Parts.{parts}
 
 -- f 0 + .. + f (n - 1)
 unfoldable pub sum_below : (ℕ → ℕ) → ℕ → ℕ
 sum_below f zero = 0
 sum_below f (suc n) = sum_below f n + f n
-
--- the non-empty parts of a list: those without its first member, and those with it, alone or beside others
-unfoldable pub parts : List ℕ → List (List ℕ)
-parts [] = []
-parts (y ∷ ys) = (y ∷ []) ∷ (parts ys ++ map (λ part. y ∷ part) (parts ys))

@@ -67,7 +67,8 @@ impl Sizes {
 
     /// How many views have sizes here.
     pub fn len(&self) -> usize
-        ensures { result ≡ length self.now }
+        ensures len { result ≡ length self.now }
+        ensures within { AreSizes self.now }
     {
         self.rows.len()
     }

@@ -1,0 +1,16 @@
+use Rattle.std.proofs.Common.{◌≡◌, sym, ◌∙◌}
+use Rattle.wh_dag.specs.Siblings.{is_couple}
+use Rattle.wh_dag.proofs.SiblingLists.{added_one, skipped_one}
+use Rattle.wh_dag.proofs.siblings.add_couples_with.Goals as goal
+use Rattle.wh_dag.proofs.siblings.add_couples_with.Goals.{then-is_of+in_ok-push, else-is_of}
+
+pub loop-higher-preserved : goal.loop-higher-preserved
+loop-higher-preserved c =
+    elim c.if-is_of.branch [
+      | then-is_of+in_ok-push w ↦
+          rw (w.couples-is, w.in_ok-push.ensures.items)
+          (record { added = added_one (is_couple c.args.shape.now) (λ higher. record { lower = c.args.lower; higher = higher }) c.loop-higher.higher c.args.couples.now.items c.loop-higher.couples.items c.loop-higher.invariant.added (sym c.is_of.ensures ∙ w.if-is_of.true) })
+      | else-is_of w ↦
+          rw w.couples-is
+          (record { added = skipped_one (is_couple c.args.shape.now) (λ higher. record { lower = c.args.lower; higher = higher }) c.loop-higher.higher c.args.couples.now.items c.loop-higher.couples.items c.loop-higher.invariant.added (sym c.is_of.ensures ∙ w.if-is_of.false) })
+    ]

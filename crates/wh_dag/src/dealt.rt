@@ -1,0 +1,50 @@
+// The parts of a catalogue, dealt out to the views in rising order.
+ghost use Rattle.std.specs.Prelude.{◌≡◌, IfOk};
+ghost use Rattle.wh_dag.specs.CatalogParts.{dealt_definitions, dealt_widths};
+
+use crate::child_lists::ChildLists;
+use crate::definition::Definition;
+use std::alloc::{AllocError, Global};
+use wh_formula::{RowTest, RowValue};
+
+/// For each view its definition: each derived view has the next of those given.
+pub(crate) fn definitions<F: RowTest + Drop, G: RowValue + Drop>(
+    alloc: Global,
+    shape: &ChildLists,
+    given: Vec<Definition<F, G>>,
+) -> Result<Vec<Option<Definition<F, G>>>, AllocError>
+    ensures { IfOk result (λ dealt. dealt.items ≡ dealt_definitions shape.now given.items) }
+{
+    let mut given = given.into_iter();
+    let mut dealt = Vec::new(alloc);
+    for view in 0..shape.len() {
+        let own = if shape.of(view).is_empty() {
+            None
+        } else {
+            given.next()
+        };
+        dealt.push(own)?;
+    }
+    Ok(dealt)
+}
+
+/// For each view its number of columns: what its definition says, and where it has none the next
+/// of those given.
+pub(crate) fn widths<F: RowTest, G: RowValue>(
+    alloc: Global,
+    definitions: &[Option<Definition<F, G>>],
+    given: Vec<usize>,
+) -> Result<Vec<usize>, AllocError>
+    ensures { IfOk result (λ dealt. dealt.items ≡ dealt_widths definitions.now given.items) }
+{
+    let mut given = given.into_iter();
+    let mut dealt = Vec::new(alloc);
+    for definition in definitions {
+        let width = match definition {
+            Some(definition) => definition.columns(),
+            None => given.next().unwrap_or(0),
+        };
+        dealt.push(width)?;
+    }
+    Ok(dealt)
+}
