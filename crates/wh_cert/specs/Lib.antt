@@ -1,0 +1,6 @@
+pub mod Bound
+pub mod Certificate
+pub mod Examples
+pub mod Followed
+pub mod Graph
+pub mod Order
