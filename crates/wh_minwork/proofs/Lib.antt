@@ -1,0 +1,14 @@
+pub mod Counting
+pub mod Decisions
+pub mod Edges
+pub mod Exact
+pub mod Inserted
+pub mod Listed
+pub mod OneWay
+pub mod Ordering
+pub mod Placing
+pub mod SiblingViews
+pub mod Sorting
+pub mod Tables
+pub mod Waiting
+pub mod Walking

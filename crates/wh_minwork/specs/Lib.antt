@@ -1,0 +1,7 @@
+pub mod Decided
+pub mod Desired
+pub mod Drawn
+pub mod Nodes
+pub mod Plan
+pub mod Relations
+pub mod Sorted

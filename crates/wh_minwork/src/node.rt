@@ -1,0 +1,40 @@
+//! The nodes of a graph.
+
+ghost use Rattle.std.specs.Prelude.{◌≡◌, IfOk, map};
+ghost use Rattle.wh_minwork.specs.Nodes.{expression_of};
+
+use std::alloc::{AllocError, Global};
+use wh_strategy::{Expression, Sources};
+
+/// A one-way expression: a Comp of a view from one child, or an Inst of a view.
+#[derive(Debug, Clone, Copy, PartialEq, Eq)]
+pub(crate) enum Node {
+    Comp(usize, usize),
+    Inst(usize),
+}
+
+impl Node {
+    fn expression(self, alloc: Global) -> Result<Expression, AllocError>
+        ensures { IfOk result (λ e. e ≡ expression_of self) }
+    {
+        match self {
+            Node::Comp(v, u) => {
+                let mut sources = Vec::new(alloc);
+                sources.push(u)?;
+                Ok(Expression::Comp(v, Sources::new(sources)))
+            }
+            Node::Inst(v) => Ok(Expression::Inst(v)),
+        }
+    }
+}
+
+/// The expressions of these nodes, in their order.
+pub(crate) fn expressions(alloc: Global, nodes: &[Node]) -> Result<Vec<Expression>, AllocError>
+    ensures { IfOk result (λ list. list.items ≡ map expression_of nodes.now) }
+{
+    let mut list = Vec::new(alloc);
+    for node in nodes {
+        list.push(node.expression(alloc)?)?;
+    }
+    Ok(list)
+}

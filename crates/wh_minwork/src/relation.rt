@@ -1,0 +1,102 @@
+//! Relations between views.
+
+ghost use Rattle.std.specs.Prelude.{◌≡◌, ◌<◌, ◌==◌, ◌&&◌, ◌||◌, ℕ, false, All};
+ghost use Rattle.wh_dag.specs.Shape.{has, children_of};
+ghost use Rattle.wh_dag.specs.Siblings.{have_parent};
+ghost use Rattle.wh_minwork.specs.Relations.{related};
+ghost use Rattle.wh_cert.specs.Graph.{decides};
+
+use wh_dag::ChildLists;
+
+/// How many views a relation is between: as many as a shape can have.
+const VIEWS: usize = 64;
+
+/// A row of [`VIEWS`] for each view.
+const CELLS: usize = 4096;
+
+/// A relation between views, as a table: looking two views up takes one step.
+#[derive(Drop)]
+pub(crate) struct Relation {
+    cells: [bool; CELLS],
+}
+
+impl Relation {
+    /// No two views are related.
+    fn new() -> Relation
+        ensures { (u w : ℕ) → related result.cells u w ≡ false }
+    {
+        Relation {
+            cells: [false; CELLS],
+        }
+    }
+
+    /// Which view is over which.
+    pub(crate) fn of_children(children: &ChildLists) -> Relation
+        ensures { (v u : ℕ) → related result.cells v u ≡ has (children_of children.now v) u }
+    {
+        let mut over = Relation::new();
+        for view in 0..children.len() {
+            over.insert_row(view, children.of(view));
+        }
+        over
+    }
+
+    /// Which views have a common parent, a child of a view being related to itself too.
+    pub(crate) fn of_siblings(children: &ChildLists) -> Relation
+        ensures { (u w : ℕ) → related result.cells u w ≡ have_parent children.now u w }
+    {
+        let mut siblings = Relation::new();
+        for view in 0..children.len() {
+            siblings.insert_all(children.of(view));
+        }
+        siblings
+    }
+
+    /// Which view stands before which in one of these couples. Numbers that no view has are left out.
+    pub(crate) fn of_couples(couples: &[(usize, usize)]) -> Relation
+        ensures { (u w : ℕ) → u < 64 → w < 64 → related result.cells u w ≡ decides couples.now u w }
+    {
+        let mut first = Relation::new();
+        for (u, w) in couples {
+            if *u < VIEWS && *w < VIEWS {
+                first.insert(*u, *w);
+            }
+        }
+        first
+    }
+
+    /// Whether the two are related, in this order.
+    #[tactic(auto, unfolding(crate::specs::Relations::related))]
+    pub(crate) fn has(&self, u: usize, w: usize) -> bool
+        ensures { result ≡ related self.now.cells u w }
+    {
+        u < VIEWS && w < VIEWS && self.cells[VIEWS * u + w]
+    }
+
+    fn insert(&mut self, u: usize, w: usize)
+        requires u { u < 64 }
+        requires w { w < 64 }
+        ensures { (a b : ℕ) → related self.new.cells a b ≡ (((u == a) && (w == b)) || related self.old.cells a b) }
+    {
+        self.cells[VIEWS * u + w] = true;
+    }
+
+    fn insert_row(&mut self, u: usize, row: &[usize])
+        requires u { u < 64 }
+        requires row { All (λ w. w < 64) row.now }
+        ensures { (a b : ℕ) → related self.new.cells a b ≡ (((u == a) && has row.now b) || related self.old.cells a b) }
+    {
+        for w in row {
+            self.insert(u, *w);
+        }
+    }
+
+    fn insert_all(&mut self, row: &[usize])
+        requires { All (λ w. w < 64) row.now }
+        ensures { (a b : ℕ) → related self.new.cells a b ≡ ((has row.now a && has row.now b) || related self.old.cells a b) }
+    {
+        for u in row {
+            self.insert_row(*u, row);
+        }
+    }
+}
