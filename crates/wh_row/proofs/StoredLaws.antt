@@ -1,6 +1,6 @@
 -- What a map's entries count.
 use Rattle.std.proofs.Common.{◌≡◌, refl, sym, ap, subst, ◌∙◌, zero, suc, ℤ, pos, negsuc, Bool, true, false, cond, List, [], ◌∷◌, Option, Some, None, ◌≢◌, T, ◌&&◌, map, arith, FitsSigned}
-use mir.Syntax.{w64}
+use Rattle.std.specs.Int.{Width}
 use Rattle.std.specs.FinMap as fin
 use Rattle.std.specs.Global.{Vec}
 use Rattle.std.specs.Map.{lookup, remove_entry, set_value, keys_of}
@@ -19,7 +19,7 @@ use Rattle.std.proofs.lemmas.Int.{ints}
 use Rattle.wh_row.specs.Row.{Row, row_cmp, is_row}
 use Rattle.wh_row.specs.Bag.{Bag, number, count, set_count, NonZero, more, fewer, whole, written}
 use Rattle.wh_row.specs.Room.{held}
-use Rattle.wh_row.specs.Stored.{of_entries, AreStored, plain}
+use Rattle.wh_row.specs.Stored.{of_entries, AreStored, AreStoredIn, plain}
 use Rattle.wh_row.proofs.BagLaws.{count-set_count, rows_exact, rows_total, same_row, same_bag, and_first, is_less, entries-empty}
 
 or_zero-cond : (b : Bool) (z : ℤ) (o : Option ℤ) → unwrap_or (cond b (Some z) o) (pos 0) ≡ cond b z (unwrap_or o (pos 0))
@@ -93,21 +93,21 @@ of_entries-remove es r none = same_bag _ _ (λ q.
     ] refl
     ∙ sym (count-set_count (of_entries es) r (pos 0) q))
 
-pub AreStored-insert : (es : List (Vec ℤ × ℤ)) (k : Vec ℤ) (v : ℤ) → AreStored es → (v ≢ pos 0) × FitsSigned w64 v → AreStored (insert_entry vec_cmp es k v)
-AreStored-insert [] k v h n = (n, tt)
-AreStored-insert (e ∷ es) k v h n =
-    elim (vec_cmp k e.0) as (λ o. AreStored (match_ordering o ((k, v) ∷ e ∷ es) ((e.0, v) ∷ es) (e ∷ insert_entry vec_cmp es k v))) [
+pub AreStored-insert : (w : Width) (es : List (Vec ℤ × ℤ)) (k : Vec ℤ) (v : ℤ) → AreStoredIn w es → (v ≢ pos 0) × FitsSigned w v → AreStoredIn w (insert_entry vec_cmp es k v)
+AreStored-insert w [] k v h n = (n, tt)
+AreStored-insert w (e ∷ es) k v h n =
+    elim (vec_cmp k e.0) as (λ o. AreStoredIn w (match_ordering o ((k, v) ∷ e ∷ es) ((e.0, v) ∷ es) (e ∷ insert_entry vec_cmp es k v))) [
       | Less ↦ (n, h)
       | Equal ↦ (n, h.1)
-      | Greater ↦ (h.0, AreStored-insert es k v h.1 n)
+      | Greater ↦ (h.0, AreStored-insert w es k v h.1 n)
     ]
 
-pub AreStored-remove : (es : List (Vec ℤ × ℤ)) (test : Vec ℤ → Bool) → AreStored es → AreStored (remove_entry test es)
-AreStored-remove [] test h = tt
-AreStored-remove (e ∷ es) test h =
-    elim (test e.0) as (λ t. AreStored (cond t es (e ∷ remove_entry test es))) [
+pub AreStored-remove : (w : Width) (es : List (Vec ℤ × ℤ)) (test : Vec ℤ → Bool) → AreStoredIn w es → AreStoredIn w (remove_entry test es)
+AreStored-remove w [] test h = tt
+AreStored-remove w (e ∷ es) test h =
+    elim (test e.0) as (λ t. AreStoredIn w (cond t es (e ∷ remove_entry test es))) [
       | true ↦ h.1
-      | false ↦ (h.0, AreStored-remove es test h.1)
+      | false ↦ (h.0, AreStored-remove w es test h.1)
     ]
 
 -- ---- a map in order, written out
@@ -139,20 +139,20 @@ below_from k (e ∷ es) h =
     let P : Ordering → Type 0 = λ o. T (is_lt o && below_all row_cmp k.items (map (λ e. (e.0.items, nz e.1)) es)) in
     subst P (sym h.0) (below_from k es h.1)
 
-entries-of_entries : (es : List (Vec ℤ × ℤ)) → IsStrictlySortedBy vec_cmp (keys_of es) → AreStored es → fin.entries (of_entries es) ≡ map (λ e. (e.0.items, nz e.1)) es
+entries-of_entries : (w : Width) (es : List (Vec ℤ × ℤ)) → IsStrictlySortedBy vec_cmp (keys_of es) → AreStoredIn w es → fin.entries (of_entries es) ≡ map (λ e. (e.0.items, nz e.1)) es
 unfolding IsStrictlySortedBy
-entries-of_entries [] s h = entries-empty
-entries-of_entries (e ∷ es) s h =
+entries-of_entries w [] s h = entries-empty
+entries-of_entries w (e ∷ es) s h =
     entries-set_count (of_entries es) e.0.items e.1 h.0.0
-    ∙ ap (put row_cmp e.0.items (nz e.1)) (entries-of_entries es s.1 h.1)
+    ∙ ap (put row_cmp e.0.items (nz e.1)) (entries-of_entries w es s.1 h.1)
     ∙ put_first e.0.items (nz e.1) _ (below_from e.0 es s.0)
 
-shown : (es : List (Vec ℤ × ℤ)) → AreStored es → map {A = Row × NonZero} {B = Row × ℤ} (λ e. (e.0, whole e.1)) (map {A = Vec ℤ × ℤ} {B = Row × NonZero} (λ e. (e.0.items, nz e.1)) es) ≡ plain es
-shown [] h = refl
-shown (e ∷ es) h = λ i. (e.0.items, whole-nz e.1 h.0.0 i) ∷ shown es h.1 i
+shown : (w : Width) (es : List (Vec ℤ × ℤ)) → AreStoredIn w es → map {A = Row × NonZero} {B = Row × ℤ} (λ e. (e.0, whole e.1)) (map {A = Vec ℤ × ℤ} {B = Row × NonZero} (λ e. (e.0.items, nz e.1)) es) ≡ plain es
+shown w [] h = refl
+shown w (e ∷ es) h = λ i. (e.0.items, whole-nz e.1 h.0.0 i) ∷ shown w es h.1 i
 
-pub written-of_entries : (es : List (Vec ℤ × ℤ)) → IsStrictlySortedBy vec_cmp (keys_of es) → AreStored es → written (of_entries es) ≡ plain es
-written-of_entries es s h = ap (map {A = Row × NonZero} {B = Row × ℤ} (λ e. (e.0, whole e.1))) (entries-of_entries es s h) ∙ shown es h
+pub written-of_entries : (w : Width) (es : List (Vec ℤ × ℤ)) → IsStrictlySortedBy vec_cmp (keys_of es) → AreStoredIn w es → written (of_entries es) ≡ plain es
+written-of_entries w es s h = ap (map {A = Row × NonZero} {B = Row × ℤ} (λ e. (e.0, whole e.1))) (entries-of_entries w es s h) ∙ shown w es h
 
 -- ---- clones
 
@@ -189,19 +189,19 @@ of_entries-set es r v n found = same_bag _ _ (λ q.
     ∙ ap (cond (is_row q r) v) (sym (count-of_entries es q))
     ∙ sym (count-set_count (of_entries es) r v q))
 
-pub AreStored-set : (es : List (Vec ℤ × ℤ)) (test : Vec ℤ → Bool) (v : ℤ) → AreStored es → (v ≢ pos 0) × FitsSigned w64 v → AreStored (set_value test es v)
-AreStored-set [] test v h n = tt
-AreStored-set (e ∷ es) test v h n =
-    elim (test e.0) as (λ t. AreStored (cond t ((e.0, v) ∷ es) (e ∷ set_value test es v))) [
+pub AreStored-set : (w : Width) (es : List (Vec ℤ × ℤ)) (test : Vec ℤ → Bool) (v : ℤ) → AreStoredIn w es → (v ≢ pos 0) × FitsSigned w v → AreStoredIn w (set_value test es v)
+AreStored-set w [] test v h n = tt
+AreStored-set w (e ∷ es) test v h n =
+    elim (test e.0) as (λ t. AreStoredIn w (cond t ((e.0, v) ∷ es) (e ∷ set_value test es v))) [
       | true ↦ (n, h.1)
-      | false ↦ (h.0, AreStored-set es test v h.1 n)
+      | false ↦ (h.0, AreStored-set w es test v h.1 n)
     ]
 
--- ---- each count is an i64
+-- ---- each number fits
 
-pub fits-of_entries : (es : List (Vec ℤ × ℤ)) → AreStored es → (q : Row) → FitsSigned w64 (count (of_entries es) q)
-fits-of_entries es h q = subst (FitsSigned w64) (sym (count-of_entries es q)) (fits es h)
+pub fits-of_entries : (w : Width) → FitsSigned w (pos 0) → (es : List (Vec ℤ × ℤ)) → AreStoredIn w es → (q : Row) → FitsSigned w (count (of_entries es) q)
+fits-of_entries w none es h q = subst (FitsSigned w) (sym (count-of_entries es q)) (fits es h)
   where
-    fits : (es : List (Vec ℤ × ℤ)) → AreStored es → FitsSigned w64 (unwrap_or (held q es) (pos 0))
-    fits [] h = omega (arith, ints)
-    fits (e ∷ es) h = elim (is_row q e.0.items) as (λ t. FitsSigned w64 (unwrap_or (cond t (Some e.1) (held q es)) (pos 0))) [ true ↦ h.0.1 | false ↦ fits es h.1 ]
+    fits : (es : List (Vec ℤ × ℤ)) → AreStoredIn w es → FitsSigned w (unwrap_or (held q es) (pos 0))
+    fits [] h = none
+    fits (e ∷ es) h = elim (is_row q e.0.items) as (λ t. FitsSigned w (unwrap_or (cond t (Some e.1) (held q es)) (pos 0))) [ true ↦ h.0.1 | false ↦ fits es h.1 ]

@@ -12,6 +12,7 @@ mod laws;
 mod records;
 mod room;
 mod rows;
+mod sums;
 #[cfg(test)]
 mod tests;
 
@@ -23,6 +24,7 @@ pub use laws::{
 };
 pub use records::Records;
 pub use rows::Rows;
+pub use sums::Sums;
 
 /// A row: its cells, in the order of the columns.
 pub type Row = Vec<i64>;
