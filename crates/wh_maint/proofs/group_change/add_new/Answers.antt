@@ -1,0 +1,13 @@
+use Rattle.std.proofs.Common.{◌≡◌, ap, sym, ◌∙◌, pos, [], ◌∷◌}
+use Rattle.wh_row.specs.Row.{Row}
+use Rattle.wh_row.specs.Bag.{count}
+use Rattle.wh_maint.specs.Finishing.{made_row, row_after}
+use Rattle.wh_maint.proofs.MadeRows.{made_group, fits_one}
+use Rattle.wh_maint.proofs.group_change.add_new.Goals as goal
+
+pub add_times-requires : goal.add_times-requires
+add_times-requires c =
+    let r : Row = c.in-Ok-Some.row.items in
+    let made : (r, pos 1) ∷ [] ≡ row_after c.args.sums c.args.pending.now.columns c.args.old c.args.group.now = ap made_row (sym c.in-Ok-Some.field-0-is) ∙ c.in-Ok-Some.ensures.row in
+    let none : count c.args.change.now r ≡ pos 0 = c.requires.none r (made_group c.args.sums c.args.pending.now.columns c.args.old c.args.group.now r made) in
+    fits_one (count c.args.change.now c.as_slice.result.now) (ap (count c.args.change.now) c.as_slice.ensures.value ∙ none)

@@ -1,0 +1,5 @@
+use Rattle.wh_maint.proofs.FitTables.{changes_are_differences}
+use Rattle.wh_maint.proofs.laws.changes_are_differences.Goals as goal
+
+pub returns : goal.returns
+returns c = changes_are_differences

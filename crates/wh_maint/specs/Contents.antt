@@ -1,0 +1,67 @@
+-- The contents of a base: the value of each view, from scratch, in the order of their numbers.
+use Rattle.std.specs.Prelude.{◌≡◌, ◌↔◌, ℕ, zero, suc, List, [], ◌∷◌, map}
+use Rattle.wh_row.specs.Bag.{Bag, IsTable}
+use Rattle.wh_dag.specs.Catalog.{CatalogOf, IsCatalog}
+use Rattle.wh_maint.specs.View.{ViewGraph, IsViewGraph}
+use Rattle.wh_maint.specs.Definition.{graph_of}
+use Rattle.wh_maint.specs.Fit.{IsFitTable}
+use Rattle.wh_maint.specs.Value.{view_value, HasValue}
+
+-- of a view without children its own table, of any other the value
+abbrev pub if_base : List ℕ → Bag → Bag → Bag
+if_base [] table value = table
+if_base (u ∷ us) table value = value
+
+-- the table of a view, followed down this many steps
+unfoldable pub contents_within : ViewGraph → (ℕ → Bag) → ℕ → ℕ → Bag
+contents_within g base zero v = base v
+contents_within g base (suc steps) v = if_base (g.children v) (base v) (view_value (g.views v) (map (contents_within g base steps) (g.children v)))
+
+-- the table of a view over these base tables; as children have lower numbers, v + 1 steps go all the way down
+unfoldable pub contents : ViewGraph → (ℕ → Bag) → ℕ → Bag
+contents g base v = contents_within g base (suc v) v
+
+-- the tables of base views are tables
+abbrev pub AreBaseTables : ViewGraph → (ℕ → Bag) → Type 0
+AreBaseTables g tables = (b : ℕ) → g.children b ≡ [] → IsTable (tables b)
+
+-- each derived view's table is its value over its children's tables
+abbrev pub AreValues : ViewGraph → (ℕ → Bag) → Type 0
+AreValues g tables = (v : ℕ) → ¬ (g.children v ≡ []) → tables v ≡ view_value (g.views v) (map tables (g.children v))
+
+-- each derived view has a value over these tables of its children
+abbrev pub HaveValuesOver : ViewGraph → (ℕ → Bag) → Type 0
+HaveValuesOver g tables = (v : ℕ) → ¬ (g.children v ≡ []) → HasValue (g.views v) (map tables (g.children v))
+
+-- the contents have the base's own tables, and the values of the derived views over them
+pub record IsFromScratch (g : ViewGraph) (base : ℕ → Bag) : Type 0 where
+  pub bases : (b : ℕ) → g.children b ≡ [] → contents g base b ≡ base b
+  pub values : AreValues g (contents g base)
+
+-- so it is of every base
+abbrev pub ContentsAreValues : Type 0
+ContentsAreValues = (g : ViewGraph) (base : ℕ → Bag) → IsViewGraph g → IsFromScratch g base
+
+-- and no other tables have
+abbrev pub ContentsAreUnique : Type 0
+ContentsAreUnique =
+    (g : ViewGraph) (base tables : ℕ → Bag) → IsViewGraph g → ((b : ℕ) → g.children b ≡ [] → tables b ≡ base b) → AreValues g tables
+    → (v : ℕ) → tables v ≡ contents g base v
+
+-- these tables are the contents of their own base tables
+abbrev pub AreContents : ViewGraph → (ℕ → Bag) → Type 0
+AreContents g tables = (v : ℕ) → tables v ≡ contents g tables v
+
+-- which is to say that each derived view's table is its value over its children's
+abbrev pub ContentsAreToldByValues : Type 0
+ContentsAreToldByValues = (g : ViewGraph) (tables : ℕ → Bag) → IsViewGraph g → AreContents g tables ↔ AreValues g tables
+
+-- the values of all views over base tables are fit tables
+abbrev pub ContentsAreFit : Type 0
+ContentsAreFit =
+    (g : ViewGraph) (tables : ℕ → Bag) → IsViewGraph g → AreBaseTables g tables → AreValues g tables
+    → (v : ℕ) → IsFitTable (g.views v).kind (tables v)
+
+-- each catalogue's views are over views of lower numbers
+abbrev pub CatalogsAreGraphs : Type 0
+CatalogsAreGraphs = (catalog : CatalogOf) → IsCatalog catalog → IsViewGraph (graph_of catalog)

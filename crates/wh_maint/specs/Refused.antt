@@ -1,0 +1,40 @@
+-- Why changes are refused.
+use Rattle.std.specs.Prelude.{◌≡◌, ◌≢◌, ℕ, pos}
+use Rattle.std.specs.declared.cmp.Ordering.TheVariants.{Less}
+use Rattle.wh_row.specs.Row.{Row, row_cmp}
+use Rattle.wh_row.specs.Bag.{Bag, SumFits, count}
+use Rattle.wh_maint.specs.declared.fault.MaintFault.{MaintFault}
+use Rattle.wh_maint.specs.declared.fault.MaintFault.TheVariants.{Large, Range, Memory, Absent}
+use Rattle.wh_maint.specs.View.{Kind}
+use Rattle.wh_maint.specs.Value.{NewCountsFit, ChangeHasValue}
+use Rattle.wh_maint.specs.Fit.{IsAbsent, IsFirstAbsent}
+
+-- the change takes of no row more than the table has
+abbrev pub NoneAbsent : Bag → Bag → Type 0
+NoneAbsent table change = (row : Row) → ¬ (IsAbsent table change row)
+
+-- it takes too much of this row, and of no row below it that counts in the first of the two bags
+pub record IsFirstAbsentIn (bag other : Bag) (first : Row) : Type 0 where
+  pub absent : IsAbsent bag other first
+  pub others : (row : Row) → row_cmp row first ≡ Less → count bag row ≢ pos 0 → ¬ (IsAbsent bag other row)
+
+-- of a base change: the first row that it takes below zero comes first, then that some count leaves i64; memory is wanted for that row alone
+abbrev pub IsChangeFault : ℕ → Bag → Bag → MaintFault → Type 0
+IsChangeFault view table change (Large v) = (v ≡ view) × NoneAbsent table change × ¬ (SumFits table change)
+IsChangeFault view table change (Range v) = ⊥
+IsChangeFault view table change Memory = ¬ (NoneAbsent table change)
+IsChangeFault view table change (Absent v row) = (v ≡ view) × IsFirstAbsent table change row
+
+-- of a table that is to have its change: some count leaves i64, else memory is refused
+abbrev pub IsInstallFault : ℕ → Bag → Bag → MaintFault → Type 0
+IsInstallFault view table change (Large v) = (v ≡ view) × ¬ (SumFits table change)
+IsInstallFault view table change (Range v) = ⊥
+IsInstallFault view table change Memory = SumFits table change
+IsInstallFault view table change (Absent v row) = ⊥
+
+-- of a view that is to be finished: a touched group's new count leaves i64, else a new sum of one does; memory may be refused at any time
+abbrev pub IsFinishFault : ℕ → Kind → Bag → (ℕ → Bag) → MaintFault → Type 0
+IsFinishFault view kind table pending (Large v) = (v ≡ view) × ¬ (NewCountsFit kind table pending)
+IsFinishFault view kind table pending (Range v) = (v ≡ view) × NewCountsFit kind table pending × ¬ (ChangeHasValue kind table pending)
+IsFinishFault view kind table pending Memory = Unit {0}
+IsFinishFault view kind table pending (Absent v row) = ⊥

@@ -1,0 +1,68 @@
+//! Whether a table can take a change.
+
+ghost use Rattle.std.specs.Prelude.{◌≡◌, ◌≢◌, ◌↔◌, ℤ, pos, negsuc, ◌+ℤ◌, ◌≤ℤ◌, List, IsTrue, OnOk, IfErr, MatchOption};
+ghost use Rattle.wh_row.specs.Bag.{count as count_of, SumFits};
+ghost use Rattle.wh_maint.specs.Fit.{IsAbsent, IsFirstAbsent};
+ghost use Rattle.wh_maint.specs.Refused.{NoneAbsent, IsFirstAbsentIn, IsChangeFault};
+
+use crate::fault::{MaintFault, NamedRow};
+use std::alloc::Global;
+use std::cmp::Ordering;
+use wh_row::{Bag, Row};
+
+/// Tests a base view's change: whether it takes of no row more than the table has, and no count
+/// leaves i64. Absent names the first row, in rising order, whose count would fall below zero;
+/// where there is none, Large stands where a count leaves i64. Memory is wanted for that row alone.
+pub fn changed(alloc: Global, view: usize, table: &Bag, delta: &Bag) -> Result<(), MaintFault>
+    ensures none_absent { OnOk result (NoneAbsent table.now delta.now) }
+    ensures fits { OnOk result (SumFits table.now delta.now) }
+    ensures refused { IfErr result (IsChangeFault view table.now delta.now) }
+{
+    if let Some(row) = first_absent(table, delta) {
+        return Err(match Row::from_slice(alloc, row) {
+            Ok(row) => MaintFault::Absent(view, NamedRow::new(row)),
+            Err(_) => MaintFault::Memory,
+        });
+    }
+    if !table.sums_fit(delta) {
+        return Err(MaintFault::Large(view));
+    }
+    Ok(())
+}
+
+/// The first row, in rising order, that counts below zero in both bags together.
+fn first_absent<'a>(table: &'a Bag, delta: &'a Bag) -> Option<&'a [i64]>
+    ensures { MatchOption result (NoneAbsent table.now delta.now)
+        (λ first. IsFirstAbsent table.now delta.now first.now) }
+{
+    match (absent_in(table, delta), absent_in(delta, table)) {
+        (None, None) => None,
+        (Some(first), None) => Some(first),
+        (None, Some(second)) => Some(second),
+        (Some(first), Some(second)) => match second.cmp(first) {
+            Ordering::Less => Some(second),
+            _ => Some(first),
+        },
+    }
+}
+
+/// The first row of `bag` that counts below zero in both bags together.
+fn absent_in<'a>(bag: &'a Bag, other: &Bag) -> Option<&'a [i64]>
+    ensures { MatchOption result
+        ((row : List ℤ) → count_of bag.now row ≢ pos 0 → ¬ (IsAbsent bag.now other.now row))
+        (λ first. IsFirstAbsentIn bag.now other.now first.now) }
+{
+    for (row, count) in bag.rows() {
+        if is_absent(count, other.count(row)) {
+            return Some(row);
+        }
+    }
+    None
+}
+
+/// Whether counts are below zero together.
+fn is_absent(count: i64, other: i64) -> bool
+    ensures { IsTrue result ↔ ((count +ℤ other) ≤ℤ negsuc 0) }
+{
+    i128::from(count) + i128::from(other) < 0
+}

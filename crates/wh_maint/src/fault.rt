@@ -1,0 +1,106 @@
+//! Why a view's rows were not computed.
+
+ghost use Rattle.std.specs.Prelude.{◌≡◌};
+ghost use Rattle.wh_maint.specs.Fault.{fault_number, fault_of};
+
+use std::alloc::{AllocError, AllocFailed};
+use std::marker::Model;
+use wh_row::Row;
+
+/// A row that a fault names.
+#[derive(Drop)]
+pub struct NamedRow {
+    row: Row,
+}
+
+impl Model for NamedRow {
+    ghost use Rattle.std.specs.Prelude.{List, ℤ};
+
+    ghost Value = { List ℤ };
+
+    ghost view = { λ r. r.row.items };
+}
+
+impl NamedRow {
+    /// Names the row.
+    pub fn new(row: Row) -> NamedRow
+        ensures { result ≡ row.items }
+    {
+        NamedRow { row }
+    }
+
+    /// The row's cells.
+    pub fn cells(&self) -> &[i64]
+        ensures { result.now ≡ self.now }
+    {
+        self.row.as_slice()
+    }
+}
+
+/// Why a view's rows were not computed.
+#[derive(Drop)]
+pub enum MaintFault {
+    /// Of this view, a count would leave i64 or a sum i128, or there are too many combined rows.
+    Large(usize),
+    /// Of this view, a value or a sum leaves i64.
+    Range(usize),
+    /// Memory was refused.
+    Memory,
+    /// Of this view, a change takes more of the row than there is.
+    Absent(usize, NamedRow),
+}
+
+impl MaintFault {
+    /// The refusal's number, from 1.
+    pub fn number(&self) -> u8
+        ensures { result ≡ fault_number self.now }
+    {
+        match self {
+            MaintFault::Large(_) => 1,
+            MaintFault::Range(_) => 2,
+            MaintFault::Memory => 3,
+            MaintFault::Absent(_, _) => 4,
+        }
+    }
+}
+
+/// Why combined rows were not added up.
+#[derive(Clone, Copy, Debug, PartialEq, Eq)]
+pub(crate) enum RowFault {
+    /// Memory was refused.
+    Memory,
+    /// A combined row that passes has an expression without a value.
+    Range,
+}
+
+impl From<AllocError> for RowFault {
+    ghost use Rattle.wh_maint.specs.declared.fault.RowFault.TheVariants.{Memory};
+
+    ghost from_gives = { λ _ fault. fault ≡ Memory };
+
+    fn from(_error: AllocError) -> RowFault {
+        RowFault::Memory
+    }
+}
+
+impl<T: Drop> From<AllocFailed<T>> for RowFault {
+    ghost use Rattle.wh_maint.specs.declared.fault.RowFault.TheVariants.{Memory};
+
+    ghost from_gives = { λ _ fault. fault ≡ Memory };
+
+    fn from(_error: AllocFailed<T>) -> RowFault {
+        RowFault::Memory
+    }
+}
+
+impl RowFault {
+    /// The fault of the view.
+    pub(crate) fn of(self, view: usize) -> MaintFault
+        ensures { result ≡ fault_of view self }
+    {
+        match self {
+            RowFault::Memory => MaintFault::Memory,
+            RowFault::Range => MaintFault::Range(view),
+        }
+    }
+}

@@ -1,0 +1,257 @@
+//! What changes in one group of a summary.
+
+ghost use Rattle.std.specs.Prelude.{◌≡◌, ◌≢◌, ℕ, suc, ◌<◌, ℤ, pos, negsuc, ◌+ℤ◌, ◌++◌, map, List, length, IsTrue, ◌↔◌, FitsSigned, IfOk, OnOk, OnErr, MatchOption, ◌||◌, cond};
+ghost use Rattle.std.specs.List.{range_with_len};
+ghost use mir.Syntax.{w64};
+ghost use Rattle.wh_row.specs.Row.{is_row};
+ghost use Rattle.wh_row.specs.Bag.{count as count_of};
+ghost use Rattle.wh_row.specs.Weigh.{count_in, negated};
+ghost use Rattle.wh_maint.specs.Comp.{bag_at};
+ghost use Rattle.wh_maint.specs.Summary.{group_of, cell_of, is_nonzero, is_touched};
+ghost use Rattle.wh_maint.specs.Finishing.{cell_before, cell_after, IsWide, AfterFits, row_after, row_before, made_row};
+
+use crate::fault::RowFault;
+use crate::pending::Pending;
+use std::alloc::Global;
+use wh_row::{Bag, BagFault, Row};
+
+/// The group of a summary's row.
+pub(crate) fn group_in(row: &[i64], sums: usize) -> &[i64]
+    requires { sums < length row.now }
+    ensures { result.now ≡ group_of sums row.now }
+{
+    &row[..row.len() - (sums + 1)]
+}
+
+/// Whether the group stands in the pending accumulators.
+pub(crate) fn is_touched(pending: &Pending, sums: usize, group: &[i64]) -> bool
+    requires { length pending.now.columns ≡ suc sums }
+    ensures { result ≡ is_touched sums (bag_at pending.now.columns) group.now }
+{
+    if pending.count(group) != 0 {
+        return true;
+    }
+    for number in 0..sums {
+        if pending.sum(number, group) != 0 {
+            return true;
+        }
+    }
+    false
+}
+
+/// Whether the new count of a row's group fits i64, as its old count does.
+pub(crate) fn count_fits(pending: &Pending, sums: usize, row: &[i64]) -> bool
+    requires columns { length pending.now.columns ≡ suc sums }
+    requires wide { sums < length row.now }
+    ensures new { IsTrue result ↔ FitsSigned w64 (cell_of sums 0 row.now +ℤ count_of (bag_at pending.now.columns 0) (group_of sums row.now)) }
+    ensures old { FitsSigned w64 (cell_of sums 0 row.now) }
+{
+    let before = old_cell(sums, Some(row), 0);
+    before
+        .checked_add(pending.count(group_in(row, sums)))
+        .is_some()
+}
+
+/// Notes a group.
+pub(crate) fn note(seen: &mut Bag, group: &[i64]) -> Result<(), RowFault>
+    ensures noted { OnOk result ((g : List ℤ) → is_nonzero (count_of seen.new g) ≡ (is_row g group.now || is_nonzero (count_of seen.old g))) }
+    ensures memory { OnErr result (result ≡ Err RowFault.Memory) }
+{
+    if seen.count(group) != 0 {
+        return Ok(());
+    }
+    match add_times(seen, group, 1) {
+        Ok(()) => Ok(()),
+        Err(fault) => Err(fault),
+    }
+}
+
+/// Adds the group's new row, and takes its old row out.
+pub(crate) fn add_change(
+    alloc: Global,
+    pending: &Pending,
+    sums: usize,
+    old: Option<&[i64]>,
+    group: &[i64],
+    change: &mut Bag,
+) -> Result<(), RowFault>
+    requires columns { length pending.now.columns ≡ suc sums }
+    requires wide { IsWide sums old }
+    requires old { MatchOption old (Unit {0}) (λ row. group_of sums row.now ≡ group.now) }
+    requires count { FitsSigned w64 (cell_after sums pending.now.columns old group.now 0) }
+    requires none { (q : List ℤ) → group_of sums q ≡ group.now → count_of change.old q ≡ pos 0 }
+    ensures change { OnOk result ((q : List ℤ) → count_of change.new q
+        ≡ count_of change.old q +ℤ count_in (row_after sums pending.now.columns old.entry group.now ++ negated (row_before old.entry)) q) }
+    ensures sums { OnOk result (AfterFits sums pending.now.columns old.entry group.now) }
+    ensures range { result ≡ Err RowFault.Range → ¬ (AfterFits sums pending.now.columns old.entry group.now) }
+{
+    match add_new(alloc, pending, sums, old, group, change) {
+        Ok(()) => match take_old(old, change) {
+            Ok(()) => Ok(()),
+            Err(fault) => Err(fault),
+        },
+        Err(fault) => Err(fault),
+    }
+}
+
+/// Adds the group's new row.
+fn add_new(
+    alloc: Global,
+    pending: &Pending,
+    sums: usize,
+    old: Option<&[i64]>,
+    group: &[i64],
+    change: &mut Bag,
+) -> Result<(), RowFault>
+    requires columns { length pending.now.columns ≡ suc sums }
+    requires wide { IsWide sums old }
+    requires count { FitsSigned w64 (cell_after sums pending.now.columns old group.now 0) }
+    requires none { (q : List ℤ) → group_of sums q ≡ group.now → count_of change.old q ≡ pos 0 }
+    ensures change { OnOk result ((q : List ℤ) → count_of change.new q ≡ count_in (row_after sums pending.now.columns old.entry group.now) q +ℤ count_of change.old q) }
+    ensures sums { OnOk result (AfterFits sums pending.now.columns old.entry group.now) }
+    ensures range { result ≡ Err RowFault.Range → ¬ (AfterFits sums pending.now.columns old.entry group.now) }
+{
+    match new_row(alloc, pending, sums, old, group) {
+        Ok(Some(row)) => match add_times(change, row.as_slice(), 1) {
+            Ok(()) => Ok(()),
+            Err(fault) => Err(fault),
+        },
+        Ok(None) => Ok(()),
+        Err(fault) => Err(fault),
+    }
+}
+
+/// Takes the group's old row out, where it has one.
+fn take_old(old: Option<&[i64]>, change: &mut Bag) -> Result<(), RowFault>
+    requires { MatchOption old (Unit {0}) (λ row. FitsSigned w64 (count_of change.old row.now +ℤ negsuc 0)) }
+    ensures change { OnOk result ((q : List ℤ) → count_of change.new q ≡ count_in (negated (row_before old.entry)) q +ℤ count_of change.old q) }
+    ensures memory { OnErr result (result ≡ Err RowFault.Memory) }
+{
+    match old {
+        Some(row) => match add_times(change, row, -1) {
+            Ok(()) => Ok(()),
+            Err(fault) => Err(fault),
+        },
+        None => Ok(()),
+    }
+}
+
+/// Adds to the count of a row, which stays within i64.
+fn add_times(bag: &mut Bag, row: &[i64], times: i64) -> Result<(), RowFault>
+    requires { FitsSigned w64 (count_of bag.old row.now +ℤ times) }
+    ensures added { OnOk result ((q : List ℤ) → count_of bag.new q ≡ cond (is_row q row.now) times (pos 0) +ℤ count_of bag.old q) }
+    ensures memory { OnErr result (result ≡ Err RowFault.Memory) }
+{
+    match bag.add(row, times) {
+        Ok(()) => Ok(()),
+        Err(BagFault::Memory) => Err(RowFault::Memory),
+        Err(BagFault::Large) => unreachable!(),
+    }
+}
+
+/// The group's new row: its cells, its count and its sums; none where its count is not positive.
+fn new_row(
+    alloc: Global,
+    pending: &Pending,
+    sums: usize,
+    old: Option<&[i64]>,
+    group: &[i64],
+) -> Result<Option<Row>, RowFault>
+    requires columns { length pending.now.columns ≡ suc sums }
+    requires wide { IsWide sums old }
+    requires count { FitsSigned w64 (cell_after sums pending.now.columns old group.now 0) }
+    ensures row { IfOk result (λ row. made_row row ≡ row_after sums pending.now.columns old.entry group.now) }
+    ensures sums { OnOk result (AfterFits sums pending.now.columns old.entry group.now) }
+    ensures range { result ≡ Err RowFault.Range → ¬ (AfterFits sums pending.now.columns old.entry group.now) }
+{
+    let Some(count) = new_cell(pending, sums, old, group, 0) else {
+        unreachable!();
+    };
+    if count <= 0 {
+        return Ok(None);
+    }
+    match with_cells(alloc, pending, sums, old, group, count) {
+        Ok(row) => Ok(Some(row)),
+        Err(fault) => Err(fault),
+    }
+}
+
+/// The group, its new count and its new sums.
+fn with_cells(
+    alloc: Global,
+    pending: &Pending,
+    sums: usize,
+    old: Option<&[i64]>,
+    group: &[i64],
+    count: i64,
+) -> Result<Row, RowFault>
+    requires columns { length pending.now.columns ≡ suc sums }
+    requires wide { IsWide sums old }
+    requires count { count ≡ cell_after sums pending.now.columns old group.now 0 }
+    ensures row { IfOk result (λ row. row.items ≡ group.now ++ map (cell_after sums pending.now.columns old.entry group.now) (range_with_len 0 (suc sums))) }
+    ensures sums { OnOk result ((j : ℕ) → j < sums → FitsSigned w64 (cell_after sums pending.now.columns old.entry group.now (suc j))) }
+    ensures range { result ≡ Err RowFault.Range → ¬ ((j : ℕ) → j < sums → FitsSigned w64 (cell_after sums pending.now.columns old.entry group.now (suc j))) }
+{
+    let Ok(mut row) = Row::from_slice(alloc, group) else {
+        return Err(RowFault::Memory);
+    };
+    let Ok(()) = row.push(count) else {
+        return Err(RowFault::Memory);
+    };
+    for number in 0..sums {
+        let Some(sum) = new_cell(pending, sums, old, group, number + 1) else {
+            return Err(RowFault::Range);
+        };
+        let Ok(()) = row.push(sum) else {
+            return Err(RowFault::Memory);
+        };
+    }
+    Ok(row)
+}
+
+/// The group's new count, in column 0, or the new sum of a later column, where it fits i64.
+fn new_cell(
+    pending: &Pending,
+    sums: usize,
+    old: Option<&[i64]>,
+    group: &[i64],
+    column: usize,
+) -> Option<i64>
+    requires columns { length pending.now.columns ≡ suc sums }
+    requires wide { IsWide sums old }
+    requires column { column < suc sums }
+    ensures { MatchOption result (¬ (FitsSigned w64 (cell_after sums pending.now.columns old.entry group.now column)))
+        (λ cell. cell ≡ cell_after sums pending.now.columns old.entry group.now column) }
+{
+    let before = i128::from(old_cell(sums, old, column));
+    let Some(sum) = added(pending, column, group).checked_add(before) else {
+        return None;
+    };
+    match i64::try_from(sum) {
+        Ok(cell) => Some(cell),
+        Err(_) => None,
+    }
+}
+
+/// The cell of the group's old row, 0 where it has none.
+fn old_cell(sums: usize, old: Option<&[i64]>, column: usize) -> i64
+    requires wide { IsWide sums old }
+    requires column { column < suc sums }
+    ensures { result ≡ cell_before sums old.entry column }
+{
+    match old {
+        Some(row) => row[row.len() - (sums + 1) + column],
+        None => 0,
+    }
+}
+
+/// What is pending of a group in a column.
+fn added(pending: &Pending, column: usize, group: &[i64]) -> i128
+    requires { column < length pending.now.columns }
+    ensures { result ≡ count_of (bag_at pending.now.columns column) group.now }
+{
+    match column {
+        0 => i128::from(pending.count(group)),
+        _ => pending.sum(column - 1, group),
+    }
+}

@@ -1,0 +1,28 @@
+//! A table with its change.
+
+ghost use Rattle.std.specs.Prelude.{◌≡◌, OnOk, IfOk, IfErr};
+ghost use Rattle.wh_row.specs.Bag.{sum_of, SumFits};
+ghost use Rattle.wh_maint.specs.Refused.{IsInstallFault};
+
+use crate::fault::MaintFault;
+use std::alloc::Global;
+use wh_row::{Bag, BagFault};
+
+/// The table with the change added: the sum of the bags. Large where a count leaves i64.
+pub fn install(alloc: Global, view: usize, table: &Bag, delta: &Bag) -> Result<Bag, MaintFault>
+    ensures sum { IfOk result (λ new. new ≡ sum_of table.now delta.now) }
+    ensures fits { OnOk result (SumFits table.now delta.now) }
+    ensures refused { IfErr result (IsInstallFault view table.now delta.now) }
+{
+    if !table.sums_fit(delta) {
+        return Err(MaintFault::Large(view));
+    }
+    let Ok(mut new) = table.copy(alloc) else {
+        return Err(MaintFault::Memory);
+    };
+    match new.merge(delta) {
+        Ok(()) => Ok(new),
+        Err(BagFault::Memory) => Err(MaintFault::Memory),
+        Err(BagFault::Large) => unreachable!(),
+    }
+}

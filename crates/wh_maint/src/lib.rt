@@ -1,0 +1,37 @@
+//! Views of tables, and what changes of the tables change in them.
+//!
+//! A view's value is made of the combined rows of its children's tables; a Comp adds what changes of some children
+//! make different ([`comp`]), and a [`Pending`] keeps it. [`finish`] makes the view's change of that, and [`install`]
+//! adds it. What this rests on are laws: functions that do nothing, on whose contracts a proof calls.
+#![tactic(auto)]
+
+mod base_change;
+mod combined;
+mod comps;
+mod fault;
+mod finished;
+mod group_change;
+mod installed;
+mod laws;
+mod pending;
+mod size;
+mod term;
+#[cfg(test)]
+mod tests;
+
+pub use base_change::changed;
+pub use comps::comp;
+pub use fault::{MaintFault, NamedRow};
+pub use finished::finish;
+pub use installed::install;
+pub use laws::{
+    adding_stays_within, catalogs_are_graphs, changes_are_differences, changes_are_whole,
+    changes_go_by_groups, changes_have_width, columns_have_width, comps_are_differences,
+    comps_in_any_order, contents_are_fit, contents_are_told_by_values, contents_are_unique,
+    contents_are_values, fit_is_told_by_rows, folds_add_up, groups_stand_together, met_rows_count,
+    new_rows_have_values, new_sums_fit, products_are_linear, sizes_multiply,
+    summaries_show_accumulators, tables_have_width, terms_are_within, terms_give_values,
+    terms_meet_old_or_new_rows, values_are_fit,
+};
+pub use pending::Pending;
+pub use size::operand_rows;

@@ -1,0 +1,151 @@
+//! What the Comps of a view have added so far.
+
+ghost use Rattle.std.specs.Prelude.{◌≡◌, ℕ, suc, ◌<◌, ℤ, pos, ◌+ℤ◌, ◌*ℤ◌, FitsSigned, length, map, IfOk, OnOk, OnErr, slice_index_or};
+ghost use Rattle.std.specs.List.{range_with_len};
+ghost use mir.Syntax.{w64, w128};
+ghost use Rattle.wh_row.specs.Bag.{count as count_of, empty, plus};
+ghost use Rattle.wh_maint.specs.Comp.{bag_at};
+
+use crate::fault::RowFault;
+use std::alloc::{AllocError, Global};
+use std::marker::Model;
+use wh_row::{Bag, BagFault, Sums};
+
+/// What the Comps of a view have added so far: of a joined view its rows with their counts, of a
+/// summary for each group the count and the sums.
+#[derive(Drop)]
+pub struct Pending {
+    alloc: Global,
+    view: usize,
+    counts: Bag,
+    sums: Vec<Sums>,
+}
+
+impl Model for Pending {
+    ghost use Rattle.std.specs.Prelude.{◌∷◌};
+    ghost use Rattle.wh_maint.specs.Comp.{PendingOf, pending_code};
+
+    ghost Value = { PendingOf };
+
+    ghost coded = { pending_code };
+
+    ghost view = { λ p. record { view = p.view; columns = p.counts ∷ p.sums.items } };
+}
+
+impl Pending {
+    /// Nothing added, for a view with so many sums.
+    pub fn new(alloc: Global, view: usize, sums: usize) -> Result<Pending, AllocError>
+        ensures view { IfOk result (λ pending. pending.view ≡ view) }
+        ensures columns { IfOk result (λ pending. pending.columns ≡ map (λ _. empty) (range_with_len 0 (suc sums))) }
+    {
+        let sums = no_sums(alloc, sums)?;
+        Ok(Pending {
+            alloc,
+            view,
+            counts: Bag::new(alloc),
+            sums,
+        })
+    }
+
+    /// The view.
+    pub fn view(&self) -> usize
+        ensures { result ≡ self.now.view }
+    {
+        self.view
+    }
+
+    /// How many sums the view has.
+    pub fn sums(&self) -> usize
+        ensures { suc result ≡ length self.now.columns }
+    {
+        self.sums.len()
+    }
+
+    /// How often a row or a group counts.
+    pub fn count(&self, row: &[i64]) -> i64
+        ensures { result ≡ count_of (bag_at self.now.columns 0) row.now }
+    {
+        self.counts.count(row)
+    }
+
+    /// The sum with this number, from 0, of a group.
+    pub fn sum(&self, number: usize, group: &[i64]) -> i128
+        requires { suc number < length self.now.columns }
+        ensures { result ≡ count_of (bag_at self.now.columns (suc number)) group.now }
+    {
+        self.sums[number].sum(group)
+    }
+
+    /// Adds to a count.
+    pub(crate) fn add_count(&mut self, row: &[i64], count: i64) -> Result<(), RowFault>
+        requires { FitsSigned w64 (count_of (bag_at self.old.columns 0) row.now +ℤ count) }
+        ensures view { self.new.view ≡ self.old.view }
+        ensures columns { length self.new.columns ≡ length self.old.columns }
+        ensures count { OnOk result (bag_at self.new.columns 0 ≡ plus (bag_at self.old.columns 0) row.now count) }
+        ensures sums { (j : ℕ) → bag_at self.new.columns (suc j) ≡ bag_at self.old.columns (suc j) }
+        ensures memory { OnErr result (result ≡ Err RowFault.Memory) }
+    {
+        match self.counts.add(row, count) {
+            Ok(()) => Ok(()),
+            Err(BagFault::Memory) => Err(RowFault::Memory),
+            Err(BagFault::Large) => unreachable!(),
+        }
+    }
+
+    /// Adds `count` times each of these values to the group's sum with its number.
+    pub(crate) fn add_values(
+        &mut self,
+        group: &[i64],
+        count: i64,
+        values: &[i64],
+    ) -> Result<(), RowFault>
+        requires columns { suc (length values.now) ≡ length self.old.columns }
+        requires fits { (j : ℕ) → j < length values.now
+            → FitsSigned w128 (count_of (bag_at self.old.columns (suc j)) group.now +ℤ (count *ℤ slice_index_or values.now j (pos 0))) }
+        ensures view { self.new.view ≡ self.old.view }
+        ensures columns { length self.new.columns ≡ length self.old.columns }
+        ensures count { bag_at self.new.columns 0 ≡ bag_at self.old.columns 0 }
+        ensures sums { OnOk result ((j : ℕ) → j < length values.now → bag_at self.new.columns (suc j)
+            ≡ plus (bag_at self.old.columns (suc j)) group.now (count *ℤ slice_index_or values.now j (pos 0))) }
+        ensures memory { OnErr result (result ≡ Err RowFault.Memory) }
+    {
+        add_each(self.sums.as_mut_slice(), group, count, values)
+    }
+
+    /// The rows of a joined view, or the groups of a summary, with their counts.
+    pub fn counts(&self) -> &Bag
+        ensures { result.now ≡ bag_at self.now.columns 0 }
+    {
+        &self.counts
+    }
+}
+
+fn no_sums(alloc: Global, sums: usize) -> Result<Vec<Sums>, AllocError>
+    ensures { IfOk result (λ none. none.items ≡ map (λ _. empty) (range_with_len 0 sums)) }
+{
+    let mut none = Vec::new(alloc);
+    for _number in 0..sums {
+        none.push(Sums::new(alloc))?;
+    }
+    Ok(none)
+}
+
+/// Adds `count` times each of these values to the group's sum with its number.
+fn add_each(sums: &mut [Sums], group: &[i64], count: i64, values: &[i64]) -> Result<(), RowFault>
+    requires each { length values.now ≡ length sums.old }
+    requires fits { (j : ℕ) → j < length values.now
+        → FitsSigned w128 (count_of (slice_index_or sums.old j empty) group.now +ℤ (count *ℤ slice_index_or values.now j (pos 0))) }
+    ensures added { OnOk result ((j : ℕ) → j < length values.now → slice_index_or sums.new j empty
+        ≡ plus (slice_index_or sums.old j empty) group.now (count *ℤ slice_index_or values.now j (pos 0))) }
+    ensures memory { OnErr result (result ≡ Err RowFault.Memory) }
+{
+    for j in 0..values.len() {
+        let more = i128::from(count) * i128::from(values[j]);
+        match sums[j].add(group, more) {
+            Ok(()) => {}
+            Err(BagFault::Memory) => return Err(RowFault::Memory),
+            Err(BagFault::Large) => unreachable!(),
+        }
+    }
+    Ok(())
+}
