@@ -13,7 +13,7 @@ use Rattle.wh_load.specs.NameForm.{is_name}
 use Rattle.wh_load.specs.declared.fault.LoadFault.{LoadFault}
 
 -- a chain that ends well went on from a value
-gone_on : {A B : Type 0} (first : Result A LoadFault) (next : A → Result B LoadFault) (last : B) → (first >>= next) ≡ Ok last → (value : A) × (first ≡ Ok value) × (next value ≡ Ok last)
+pub gone_on : {A B : Type 0} (first : Result A LoadFault) (next : A → Result B LoadFault) (last : B) → (first >>= next) ≡ Ok last → (value : A) × (first ≡ Ok value) × (next value ≡ Ok last)
 gone_on (Ok value) next last same = (value, refl, same)
 gone_on (Err fault) next last same = cc
 

@@ -1,5 +1,5 @@
 -- The cells of a record, by their places.
-use Rattle.std.proofs.Common.{◌≡◌, ◌∙◌, ℕ, zero, suc, List, [], ◌∷◌, get_or, Option, Some, None, refl, sym, arith, length}
+use Rattle.std.proofs.Common.{◌≡◌, ◌∙◌, ℕ, zero, suc, List, [], ◌∷◌, get_or, Option, Some, None, refl, sym}
 use Rattle.std.specs.Prelude.{option_map, unwrap_or}
 use denote.Ref.{Bor}
 use Rattle.csv.specs.Records.{field_at}

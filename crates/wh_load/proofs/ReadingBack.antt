@@ -19,7 +19,7 @@ use Rattle.wh_load.specs.StrategyText.{said_by, said_in, strategy_text}
 use Rattle.wh_load.specs.ReadsBack.{is_plain, IsWithin, ReadsBack}
 use Rattle.wh_load.proofs.Lists.{after, said_together-after}
 
-abbrev is_kept : ℕ → Bool
+abbrev pub is_kept : ℕ → Bool
 is_kept b = not (is_blank b || b == 10)
 
 -- a byte of a word parts neither words nor lines
@@ -34,7 +34,7 @@ no_blank (b ∷ bs) h zero d l = (neither (is_blank b) (b == 10) (and_parts (is_
 no_blank (b ∷ bs) h (suc k) d l = no_blank bs (and_parts (is_kept b) (list_all is_kept bs) h).1 k d (omega arith)
 
 -- bytes without an LF
-abbrev is_inner : ℕ → Bool
+abbrev pub is_inner : ℕ → Bool
 is_inner b = not (b == 10)
 
 inner : (word : List ℕ) → list_all is_kept word ≡ true → list_all is_inner word ≡ true
@@ -43,7 +43,7 @@ inner (b ∷ bs) h =
     let parts = and_parts (is_kept b) (list_all is_kept bs) h in
     rw ((neither (is_blank b) (b == 10) parts.0).1, inner bs parts.1) refl
 
-inner_join : (words : List (List ℕ)) → list_all is_plain words ≡ true → list_all is_inner (join_with_byte 32 words) ≡ true
+pub inner_join : (words : List (List ℕ)) → list_all is_plain words ≡ true → list_all is_inner (join_with_byte 32 words) ≡ true
 inner_join [] h = refl
 inner_join (word ∷ []) h = inner word (and_parts (is_word word) (list_all is_kept word) (and_parts (is_plain word) true h).0).1
 inner_join (word ∷ next ∷ words) h =
@@ -52,7 +52,7 @@ inner_join (word ∷ next ∷ words) h =
     (inner_join (next ∷ words) parts.1)
 
 -- a line that ends at its LF, above other bytes
-lines_of-line : (line below : List ℕ) → list_all is_inner line ≡ true → lines_of (line ++ 10 ∷ below) ≡ line ∷ lines_of below
+pub lines_of-line : (line below : List ℕ) → list_all is_inner line ≡ true → lines_of (line ++ 10 ∷ below) ≡ line ∷ lines_of below
 lines_of-line [] below h = refl
 lines_of-line (b ∷ bs) below h =
     let parts = and_parts (is_inner b) (list_all is_inner bs) h in
@@ -63,7 +63,7 @@ lines_of-line (b ∷ bs) below h =
     not_10 false e = refl
 
 -- words with a space between each two
-words_of-join : (words : List (List ℕ)) → list_all is_plain words ≡ true → words_of (join_with_byte 32 words) ≡ words
+pub words_of-join : (words : List (List ℕ)) → list_all is_plain words ≡ true → words_of (join_with_byte 32 words) ≡ words
 words_of-join [] h = refl
 words_of-join (word ∷ []) h =
     let own = and_parts (is_word word) (list_all is_kept word) (and_parts (is_plain word) true h).0 in
@@ -75,7 +75,7 @@ words_of-join (word ∷ next ∷ words) h =
     (ap (λ ws. word ∷ ws) (words_of-join (next ∷ words) parts.1))
 
 -- a view of distinct names has the number that its name stands for
-number_of-name : (names : List (List ℕ)) (view : ℕ) → AllPairs (λ first second. first ≢ second) names → view < length names → number_of names (name_of names view) ≡ Some view
+pub number_of-name : (names : List (List ℕ)) (view : ℕ) → AllPairs (λ first second. first ≢ second) names → view < length names → number_of names (name_of names view) ≡ Some view
 number_of-name names view distinct within =
     let name = name_of names view in
     let place : position_or_len (λ n. bytes_eq n name) names ≡ view =
@@ -84,7 +84,7 @@ number_of-name names view distinct within =
     (λ _. (bytes_eq-Decides name name).1 refl) in
     rw (place, lt-ltb view (length names) within) refl
 
-views_of-names : (names : List (List ℕ)) (views : List ℕ) → AllPairs (λ first second. first ≢ second) names → All (λ view. view < length names) views → views_of names (map (name_of names) views) ≡ Some views
+pub views_of-names : (names : List (List ℕ)) (views : List ℕ) → AllPairs (λ first second. first ≢ second) names → All (λ view. view < length names) views → views_of names (map (name_of names) views) ≡ Some views
 views_of-names names [] distinct within = refl
 views_of-names names (view ∷ views) distinct within =
     rw (number_of-name names view distinct (within 0 0 (omega arith)), views_of-names names views distinct (λ k d l. within (suc k) d (omega arith))) refl
@@ -101,7 +101,7 @@ plain_names names [] plain within = refl
 plain_names names (view ∷ views) plain within =
     rw (plain view [] (within 0 0 (omega arith)), plain_names names views plain (λ k d l. within (suc k) d (omega arith))) refl
 
-plain_words : (names : List (List ℕ)) (expression : Expression) → All (λ name. is_plain name ≡ true) names → IsWithin (length names) expression → list_all is_plain (words_for names expression) ≡ true
+pub plain_words : (names : List (List ℕ)) (expression : Expression) → All (λ name. is_plain name ≡ true) names → IsWithin (length names) expression → list_all is_plain (words_for names expression) ≡ true
 plain_words names (Comp target sources) plain within = rw (plain target [] within.0, plain_names names sources plain within.2) refl
 plain_words names (Inst target) plain within = rw (plain target [] within) refl
 

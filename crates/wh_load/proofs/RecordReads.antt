@@ -1,8 +1,8 @@
 -- What a read by the `csv` crate does to the records that are left.
-use Rattle.std.proofs.Common.{◌≡◌, ◌<◌, ◌+◌, ℕ, true, false, List, [], ◌∷◌, length, Option, Some, None, ◌⊎◌, inl, inr, refl, sym, ap, ◌∙◌, arith, eq-eqb}
-use Rattle.std.specs.Prelude.{Bool, ◌==◌, IsSome, if◌then◌else◌}
+use Rattle.std.proofs.Common.{◌≡◌, ◌+◌, ℕ, true, false, List, [], ◌∷◌, length, Option, Some, None, ◌⊎◌, inl, inr, refl, sym, ap, ◌∙◌, arith, eq-eqb}
+use Rattle.std.specs.Prelude.{Bool, ◌==◌, IsSome}
 use denote.Ref.{Bor}
-use Rattle.csv.specs.Reading.{ExplainsRead, ReadRecord, TookRecord, default_config, pending_of, reader_state, source_of, took_first}
+use Rattle.csv.specs.Reading.{ExplainsRead, ReadRecord, TookRecord, default_config, pending_of, source_of, took_first}
 use Rattle.csv.specs.Records.{AllText}
 use Rattle.csv.specs.declared.error.ErrorKind.{ErrorKind}
 use Rattle.csv.specs.declared.error.ErrorKind.TheVariants as kind
@@ -10,8 +10,7 @@ use Rattle.csv.specs.declared.reader.Reader.{Reader}
 use Rattle.csv.proofs.ReadFacts.{rows-end}
 use Rattle.wh_load.specs.Records.{form_fault}
 use Rattle.wh_load.specs.Unread.{FailsNext, Gives, IsCounted, IsReading, Unread, left_of, read_fault, records_after}
-use Rattle.wh_load.specs.declared.fault.LoadFault.{LoadFault}
-use Rattle.wh_load.specs.declared.fault.LoadFault.TheVariants.{Csv, Memory}
+use Rattle.wh_load.specs.declared.fault.LoadFault.TheVariants.{Memory}
 use Rattle.wh_load.proofs.RecordLists.{all_utf8, not_all_utf8, read-first, records_after-end}
 
 abbrev bytes_of : Bor (List ℕ) → Option (List ℕ)

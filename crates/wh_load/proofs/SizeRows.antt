@@ -1,16 +1,15 @@
 -- What one more row gives the views, and what it adds to the faults.
-use Rattle.std.proofs.Common.{◌≡◌, ◌≢◌, ◌≤◌, ◌<◌, ◌+◌, ℕ, zero, suc, Bool, true, false, List, [], ◌∷◌, ◌++◌, length, map, Option, Some, None, get_or, set, take, ◌⊎◌, inl, inr, refl, sym, ap, ◌∙◌, arith, add-one, append_assoc, length-append, eq-eqb}
-use Rattle.std.specs.Prelude.{◌==◌, if◌then◌else◌, is_some, position, nat_lt}
+use Rattle.std.proofs.Common.{◌≡◌, ◌≢◌, ◌≤◌, ◌<◌, ◌+◌, ℕ, zero, suc, true, false, List, [], ◌∷◌, ◌++◌, length, map, Option, Some, None, set, take, ◌⊎◌, inl, inr, refl, sym, ap, ◌∙◌, arith, append_assoc, length-append, eq-eqb}
+use Rattle.std.specs.Prelude.{◌==◌, if◌then◌else◌}
 use Rattle.std.specs.List.{range_with_len}
-use Rattle.std.specs.Option.{option_map_or, option_or}
-use Rattle.std.specs.Str.{bytes_eq}
+use Rattle.std.specs.Option.{option_or}
 use Rattle.std.proofs.lemmas.Bool.{ne_eqb}
 use Rattle.std.proofs.lemmas.List.{append-nil, length-set, take-append-le, take_all}
 use Rattle.std.proofs.lemmas.List.FromFn.{get_or-map-range_with_len, length-map-range_with_len}
 use Rattle.wh_dag.specs.Written.{number_of}
 use Rattle.wh_strategy.specs.declared.sizes.SizeRow.{SizeRow}
 use Rattle.wh_load.specs.Records.{cell, form_fault}
-use Rattle.wh_load.specs.SizesText.{Places, cells_fault, given_by, is_of, row_fault, row_size, rows_fault, size_in, sizes_header}
+use Rattle.wh_load.specs.SizesText.{Places, cells_fault, given_by, is_of, row_size, rows_fault, size_in, sizes_header}
 use Rattle.wh_load.specs.Unread.{FailsNext, Unread}
 use Rattle.wh_load.specs.declared.fault.LoadFault.{LoadFault}
 use Rattle.wh_load.specs.declared.fault.LoadFault.TheVariants.{Memory}

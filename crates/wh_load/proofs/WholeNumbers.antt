@@ -1,5 +1,5 @@
 -- `parse` reads the whole numbers that cells write.
-use Rattle.std.proofs.Common.{◌≡◌, ◌<◌, ℕ, ℤ, pos, negsuc, Bool, true, false, List, [], ◌∷◌, length, Option, Some, None, Result, Ok, Err, ◌⊎◌, inl, inr, refl, sym, ap, FitsSigned, w64}
+use Rattle.std.proofs.Common.{◌≡◌, ℕ, ℤ, pos, negsuc, true, false, List, [], ◌∷◌, length, Option, Some, None, Result, Ok, Err, ◌⊎◌, inl, inr, refl, FitsSigned, w64}
 use Rattle.std.proofs.lemmas.Int.{to_z-of_z}
 use Rattle.std.specs.Prelude.{IfSome, ◌&&◌, ◌^◌, nat_lt, if◌then◌else◌}
 use Rattle.std.specs.Bool.{Decides}
@@ -15,10 +15,10 @@ all-decides : (text : List ℕ) → Decides (list_all (λ digit. nat_lt (digit_v
 all-decides [] = (λ _. tt, λ _. refl)
 all-decides (c ∷ cs) = Decides-and (nat_lt (digit_value c) 10) (list_all (λ digit. nat_lt (digit_value digit) 10) cs) (Decides-ltb (digit_value c) 10) (all-decides cs)
 
-are_digits-decides : (text : List ℕ) → Decides (are_digits text) (IsNumeral 10 text)
+pub are_digits-decides : (text : List ℕ) → Decides (are_digits text) (IsNumeral 10 text)
 are_digits-decides text = Decides-and (nat_lt 0 (length text)) (list_all (λ digit. nat_lt (digit_value digit) 10) text) (Decides-ltb 0 (length text)) (all-decides text)
 
-is_i64-decides : (z : ℤ) → Decides (is_i64 z) (FitsSigned w64 z)
+pub is_i64-decides : (z : ℤ) → Decides (is_i64 z) (FitsSigned w64 z)
 is_i64-decides (pos n) = Decides-like (nat_lt n (2 ^ 63)) (λ l. record { sfits = l }) (λ f. f.sfits) (Decides-ltb n (2 ^ 63))
 is_i64-decides (negsuc n) = Decides-like (nat_lt n (2 ^ 63)) (λ l. record { sfits = l }) (λ f. f.sfits) (Decides-ltb n (2 ^ 63))
 

@@ -1,5 +1,5 @@
 -- Bytes as lines, which are cut after each LF.
-use Rattle.std.specs.Prelude.{◌-◌, ◌==◌, ◌||◌, ◌&&◌, ℕ, Bool, not, List, [], ◌∷◌, ◌++◌, length, map, take, drop, if◌then◌else◌, nat_eq}
+use Rattle.std.specs.Prelude.{◌-◌, ◌==◌, ◌||◌, ◌&&◌, ℕ, Bool, not, List, [], ◌∷◌, ◌++◌, length, take, drop, if◌then◌else◌, nat_eq}
 use Rattle.std.specs.List.{onto_first, starts_with, ends_with, list_all}
 
 -- the lines of some bytes, each with the LF that ends it; what stands after the last LF is a line where it is not empty

@@ -9,7 +9,7 @@ use Rattle.wh_strategy.specs.declared.sizes.SizeRow.{SizeRow}
 use Rattle.wh_load.specs.Records.{cell, form_fault, records_of}
 use Rattle.wh_load.specs.WholeNumber.{whole_number}
 use Rattle.wh_load.specs.declared.fault.LoadFault.{LoadFault}
-use Rattle.wh_load.specs.declared.fault.LoadFault.TheVariants.{Csv, Header, Number, Sizes}
+use Rattle.wh_load.specs.declared.fault.LoadFault.TheVariants.{Header, Number, Sizes}
 use Rattle.wh_load.specs.declared.sizes.Counts.{Counts}
 
 -- What a row writes.

@@ -1,5 +1,5 @@
 -- The lines of a text, and the words of a line.
-use Rattle.std.specs.Prelude.{◌==◌, ◌||◌, ℕ, Bool, not, List, [], ◌∷◌, length, filter, if◌then◌else◌}
+use Rattle.std.specs.Prelude.{◌==◌, ℕ, Bool, not, List, [], ◌∷◌, length, filter, if◌then◌else◌}
 use Rattle.std.specs.List.{onto_first, slice_split}
 use Rattle.wh_load.specs.Line.{is_blank}
 

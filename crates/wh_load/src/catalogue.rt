@@ -37,8 +37,8 @@ pub(crate) fn document(alloc: Global, text: &[u8]) -> Result<Table, LoadFault>
     }
 }
 
-// What the document has at the key.
-fn member<'a>(table: &'a Table, key: &str) -> Option<&'a Value>
+/// What the document has at the key.
+pub(crate) fn member<'a>(table: &'a Table, key: &str) -> Option<&'a Value>
     ensures { option_map (λ value. view value.now) result ≡ get_member key.now (table_view table.now) }
 {
     table.get(key)

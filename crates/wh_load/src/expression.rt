@@ -82,8 +82,8 @@ pub(crate) fn expression_of(
     Ok(inst_of(names, words))
 }
 
-// Appends the name of the view; a number that is no view's has none.
-fn append_name(out: &mut Vec<u8>, names: &Names, view: usize) -> Result<(), AllocError>
+/// Appends the name of the view; a number that is no view's has none.
+pub(crate) fn append_name(out: &mut Vec<u8>, names: &Names, view: usize) -> Result<(), AllocError>
     ensures { OnOk result (out.new.items ≡ out.old.items ++ name_of names.now view) }
 {
     if view >= names.len() {

@@ -2,7 +2,7 @@ use Rattle.std.proofs.Common.{◌≡◌, ◌++◌, ◌∷◌, List, ℕ, OnOk, s
 use Rattle.std.specs.Prelude.{codes}
 use Rattle.wh_dag.specs.Written.{name_of}
 use Rattle.wh_load.specs.ExpressionText.{expression_text}
-use Rattle.wh_load.proofs.Written.{comp_text-pieces}
+use Rattle.wh_load.proofs.ExpressionPieces.{comp_text-pieces}
 use Rattle.wh_load.proofs.expression.write_expression.Goals as goal
 
 pub returns-in_ok-extend_from_slice-in-Comp-2 : goal.returns-in_ok-extend_from_slice-in-Comp-2

@@ -1,4 +1,4 @@
-use Rattle.std.proofs.Common.{◌≡◌, ◌∙◌, ap, refl}
+use Rattle.std.proofs.Common.{refl}
 use Rattle.csv.specs.Records.{fields_of}
 use Rattle.wh_load.proofs.Cells.{cell-get}
 use Rattle.wh_load.proofs.records.cell.Goals as goal

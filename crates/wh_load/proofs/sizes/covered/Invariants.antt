@@ -1,4 +1,4 @@
-use Rattle.std.proofs.Common.{◌≡◌, ◌++◌, ◌+◌, drop, vec_len, Bool, Option}
+use Rattle.std.proofs.Common.{◌≡◌, ◌++◌, drop, vec_len}
 use Rattle.std.specs.Prelude.{is_some, not, position}
 use Rattle.std.specs.List.{filter_map, position_from}
 use Rattle.wh_load.proofs.sizes.covered.Given as goal

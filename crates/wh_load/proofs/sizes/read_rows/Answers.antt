@@ -1,8 +1,7 @@
-use Rattle.std.proofs.Common.{◌≡◌, ◌∙◌, ◌++◌, ◌∷◌, [], ap, sym, subst, refl, arith, length, drop, Ok, Bool}
+use Rattle.std.proofs.Common.{◌∙◌, ◌++◌, ◌∷◌, [], ap, sym, refl, arith, length, drop, Ok, Bool}
 use Rattle.std.proofs.lemmas.Result.{err_from_is_err_and}
 use Rattle.csv.specs.Records.{fields_of}
-use Rattle.wh_load.specs.SizesText.{Places, cells_fault}
-use Rattle.wh_load.proofs.SizeRows.{IsRead, IsRead-cells, IsRead-end, IsRead-form, IsRead-length, IsRead-next, given_by-none, placed-whole}
+use Rattle.wh_load.proofs.SizeRows.{IsRead-cells, IsRead-end, IsRead-form, IsRead-length, IsRead-next, given_by-none, placed-whole}
 use Rattle.wh_load.proofs.sizes.read_rows.Goals as goal
 
 pub rows-init : goal.rows-init

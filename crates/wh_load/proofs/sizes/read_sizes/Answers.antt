@@ -1,4 +1,4 @@
-use Rattle.std.proofs.Common.{◌≡◌, ◌∙◌, ap, sym, subst, List}
+use Rattle.std.proofs.Common.{◌≡◌, ◌∙◌, ap, sym, subst}
 use Rattle.std.specs.List.{filter_map}
 use Rattle.wh_strategy.specs.Sizes.{AreSizes}
 use Rattle.wh_load.specs.SizesText.{given_by}

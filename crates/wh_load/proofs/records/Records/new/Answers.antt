@@ -1,7 +1,7 @@
-use Rattle.std.proofs.Common.{◌≡◌, ◌∙◌, ap, refl, inr, Some, arith, length}
-use Rattle.csv.specs.Reading.{source_of, strip_bom}
+use Rattle.std.proofs.Common.{◌∙◌, refl, inr, arith}
+use Rattle.csv.specs.Reading.{strip_bom}
 use Rattle.csv.specs.declared.parser.State.TheVariants as st
-use Rattle.wh_load.specs.Unread.{IsCounted, records_after}
+use Rattle.wh_load.specs.Unread.{records_after}
 use Rattle.wh_load.proofs.RecordLists.{length-records_after, length-strip_bom}
 use Rattle.wh_load.proofs.records.Records.new.Goals as goal
 

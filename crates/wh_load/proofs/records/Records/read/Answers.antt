@@ -1,10 +1,6 @@
-use Rattle.std.proofs.Common.{◌≡◌, ◌⊎◌, ◌∷◌, ◌+◌, ◌∙◌, ap, sym, subst, length, arith, refl, false}
+use Rattle.std.proofs.Common.{◌≡◌, ◌+◌, ◌∙◌, ap, sym, false}
 use Rattle.csv.specs.Records.{fields_of}
-use Rattle.wh_load.specs.Records.{form_fault}
-use Rattle.wh_load.specs.Unread.{FailsNext, IsReading, Unread, left_of, read_fault}
-use Rattle.wh_load.specs.declared.fault.LoadFault.{LoadFault}
-use Rattle.wh_load.specs.declared.fault.LoadFault.TheVariants.{Memory}
-use Rattle.wh_load.proofs.RecordLists.{all_utf8}
+use Rattle.wh_load.specs.Unread.{Unread, left_of}
 use Rattle.wh_load.proofs.RecordReads.{counted-next, formed-read, gives-next, left-read, left-end, left-error}
 use Rattle.wh_load.proofs.records.Records.read.Goals as goal
 

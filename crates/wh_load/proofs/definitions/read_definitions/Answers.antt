@@ -1,0 +1,10 @@
+use Rattle.std.proofs.Common.{length, map, ap, sym, ◌∙◌}
+use Rattle.std.proofs.lemmas.List.{length-map}
+use Rattle.toml.specs.View.{table_view, view}
+use Rattle.wh_load.proofs.CatalogueLengths.{shape_of-length}
+use Rattle.wh_load.proofs.definitions.read_definitions.Goals as goal
+
+pub views_after-requires : goal.views_after-requires
+views_after-requires c =
+    ap length c.deref.ensures.value ∙ sym (length-map c.in-Some.tables.now.items view)
+    ∙ shape_of-length c.args.text.now c.args.shape.now (table_view c.in_ok-document.document) (map view c.in-Some.tables.now.items) c.requires c.in_ok-document.ensures.ok (sym c.in-Some.ensures)

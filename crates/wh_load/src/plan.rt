@@ -1,0 +1,157 @@
+//! A plan as text: its scope, its work, the list of its strategy, and the lines of its certificate.
+ghost use Rattle.std.specs.Prelude.{◌≡◌, ◌⊎◌, ◌++◌, Ok, Err, IfOk, IfErr, OnOk};
+ghost use Rattle.std.specs.List.{join_with_byte};
+ghost use Rattle.wh_load.specs.PlanReadsBack.{PlanReadsBack, TextsDiffer};
+ghost use Rattle.wh_load.specs.PlanText.{certificate_text, scope_text, pair_words, plan_from, plan_of, plan_text, scope_in, work_in};
+
+mod line;
+mod natural;
+mod said;
+#[cfg(test)]
+mod tests;
+
+use crate::expression::append_name;
+use crate::fault::LoadFault;
+use crate::names::Names;
+use crate::strategy::write_strategy;
+use line::PlanLine;
+use said::said_lines;
+use std::alloc::{AllocError, Global};
+use wh_cert::{Certificate, PairMin, PairMins, Planned, Scope};
+use wh_strategy::Strategy;
+
+/// What the text of a plan says, none of it judged.
+#[derive(Drop)]
+pub struct Plan {
+    /// The strategies that its own is said to be least among.
+    pub scope: Scope,
+    /// The work that it is said to have, in cost times rows.
+    pub work: u128,
+    /// The list.
+    pub strategy: Strategy,
+    /// The reason that it is least.
+    pub certificate: Certificate,
+}
+
+fn scope_in(lines: &[PlanLine]) -> Scope
+    ensures { result ≡ scope_in lines.now }
+{
+    match lines {
+        [PlanLine::Scoped(scope), ..] => *scope,
+        _ => Scope::All,
+    }
+}
+
+fn work_in(lines: &[PlanLine]) -> u128
+    ensures { result ≡ work_in lines.now }
+{
+    match lines {
+        [_, PlanLine::Worked(work), ..] => *work,
+        _ => 0,
+    }
+}
+
+fn plan_from(alloc: Global, lines: Vec<PlanLine>) -> Result<Plan, AllocError>
+    ensures { IfOk result (λ plan. plan ≡ plan_from lines.items) }
+{
+    let scope = scope_in(&lines);
+    let work = work_in(&lines);
+    let mut list = Vec::new(alloc);
+    let mut pairs = Vec::new(alloc);
+    for line in lines {
+        match line {
+            PlanLine::Listed(expression) => list.push(expression)?,
+            PlanLine::Paired(pair) => pairs.push(pair)?,
+            PlanLine::Scoped(_) | PlanLine::Worked(_) => {}
+        }
+    }
+    Ok(Plan {
+        scope,
+        work,
+        strategy: Strategy::new(list),
+        certificate: Certificate::Pairs(PairMins::new(pairs)),
+    })
+}
+
+/// The plan that the text is, over these views: `scope all`, `work N`, the lines of a strategy, and a line `pair V U W N`
+/// for each pair of its certificate, where lines of spaces and tabs alone are skipped. The fault is `Plan` with the first
+/// line that may not stand where it does, counted from 1, blank ones included; where the text ends too early, that is the
+/// line after its last. Whether the plan is right is for `certify` to judge.
+pub fn read_plan(alloc: Global, names: &Names, text: &[u8]) -> Result<Plan, LoadFault>
+    ensures ok { IfOk result (λ plan. plan_of names.now text.now ≡ Ok plan) }
+    ensures err { IfErr result (λ f. (f ≡ LoadFault.Memory) ⊎ (plan_of names.now text.now ≡ Err f)) }
+{
+    let lines = said_lines(alloc, names, text)?;
+    let plan = plan_from(alloc, lines)?;
+    Ok(plan)
+}
+
+fn append_pair(
+    alloc: Global,
+    out: &mut Vec<u8>,
+    names: &Names,
+    pair: PairMin,
+) -> Result<(), AllocError>
+    ensures { OnOk result (out.new.items ≡ out.old.items ++ join_with_byte 32 (pair_words names.now pair)) }
+{
+    let least = pair.least;
+    let end = format!(in alloc; " {least}")?;
+    out.extend_from_slice(b"pair ")?;
+    append_name(out, names, pair.parent)?;
+    out.push(b' ')?;
+    append_name(out, names, pair.first)?;
+    out.push(b' ')?;
+    append_name(out, names, pair.second)?;
+    out.extend_from_slice(end.as_bytes())
+}
+
+fn append_certificate(
+    alloc: Global,
+    out: &mut Vec<u8>,
+    names: &Names,
+    certificate: &Certificate,
+) -> Result<(), AllocError>
+    ensures { OnOk result (out.new.items ≡ out.old.items ++ certificate_text names.now certificate.now) }
+{
+    let Certificate::Pairs(pairs) = certificate;
+    for pair in pairs.as_slice() {
+        append_pair(alloc, out, names, *pair)?;
+        out.push(b'\n')?;
+    }
+    Ok(())
+}
+
+fn scope_text(scope: Scope) -> &'static str
+    ensures { result.now ≡ scope_text scope }
+{
+    match scope {
+        Scope::All => "all",
+        Scope::OneWay => "one-way",
+    }
+}
+
+/// A law of the definitions: over plain and distinct names, a plan of scope All that was written is read back as it was, and
+/// so no two of them have one text.
+pub fn plan_reads_back_law()
+    ensures reads_back { PlanReadsBack }
+    ensures distinct { TextsDiffer }
+{}
+
+/// Appends the plan as it is written. A number that is no view's is written as an empty name. Where memory fails, a part
+/// of the text may have been appended.
+pub fn write_plan(
+    alloc: Global,
+    out: &mut Vec<u8>,
+    names: &Names,
+    planned: &Planned,
+) -> Result<(), AllocError>
+    ensures { OnOk result (out.new.items ≡ out.old.items
+        ++ plan_text names.now planned.now.scope planned.now.work planned.now.correct.list planned.now.certificate) }
+{
+    let scope = scope_text(planned.scope);
+    let work = planned.work;
+    let head = format!(in alloc; "scope {scope}\nwork {work}\n")?;
+    out.extend_from_slice(head.as_bytes())?;
+    write_strategy(out, names, planned.correct.strategy())?;
+    append_certificate(alloc, out, names, &planned.certificate)
+}
