@@ -1,5 +1,5 @@
 -- What a parse of the program's words without a fault leaves: one of its commands, with options that it takes.
-use Rattle.std.proofs.Common.{◌≡◌, ◌≢◌, ◌||◌, Bool, codes, true, false, refl, sym, subst, List, [], Option, Some, None}
+use Rattle.std.proofs.Common.{◌≡◌, ◌≢◌, ◌||◌, Bool, codes, true, false, refl, sym, subst, inl, inr, List, [], Option, Some, None}
 use Rattle.std.specs.Prelude.{IfSome}
 use Rattle.std.specs.Str.{bytes_eq}
 use Rattle.std.proofs.lemmas.Slice.Eq.{bytes_eq-Decides}
@@ -13,7 +13,7 @@ use Rattle.clap.specs.Walk.{action_of, answers_to, arg_by_id, nothing_held, rows
 use Rattle.clap.specs.declared.builder.action.ArgAction.TheVariants as action
 use Rattle.clap.specs.declared.builder.value_parser.ValueParser.{ValueParser}
 use Rattle.clap.proofs.ValueTestLemmas.{accepts-Accepts}
-use Rattle.whview.specs.CommandLine.{IsCommand, NamesCommand, TakesCost, check_app, cost_parser, whview_app, with_commands}
+use Rattle.whview.specs.CommandLine.{IsCommand, IsCommandName, NamesCommand, TakesCost, command_app, cost_parser, whview_app, with_commands}
 use Rattle.whview.proofs.Entered.{EachCommand, IsNotHelp, entered_command}
 use Rattle.whview.proofs.LeafRows.{AreOptionsOf, IsOptionOf, PassesIn, first_of_good}
 
@@ -30,15 +30,15 @@ not_help word answers named = go (bytes_eq (codes "help") word) (bytes_eq-Decide
         cc
     go false same e = cc
 
--- `check` as it is built
-abbrev check_shape : Shape
-check_shape = built_leaf (inherited (with_commands (new_app (codes "whview"))).top check_app.top)
+-- a command as it is built
+abbrev command_shape : Text → Shape
+command_shape name = built_leaf (inherited (with_commands (new_app (codes "whview"))).top (command_app name).top)
 
 option_known : (c : List Rule) (a : Rule) → arg_by_id c a.id ≡ Some a → action_of a ≢ action.Count → a.index ≡ None → a.defaults ≡ [] → IsOptionOf c a
 option_known c a own uncounted unplaced undefaulted = record { own = own; uncounted = uncounted; unplaced = unplaced; undefaulted = undefaulted }
 
-check_options : AreOptionsOf check_shape.rules check_shape.rules
-check_options = (
+command_options : (name : Text) → AreOptionsOf (command_shape name).rules (command_shape name).rules
+command_options name = (
   option_known _ _ refl (λ e. cc) refl refl,
   (
     option_known _ _ refl (λ e. cc) refl refl,
@@ -49,23 +49,31 @@ check_options = (
   ),
 )
 
--- an option of `check` with a cost has a cost
-check_cost : (name : Text) (a : Rule) → arg_by_id check_shape.rules name ≡ Some a → a.ignore_case ≡ false → a.parser ≡ Some cost_parser → (words : List Text)
-    → level_fault check_shape [] nothing_held words false [] ≡ [] → TakesCost name (rows_after check_shape.rules [] words)
-check_cost name a known cased parser words e =
-    IfSome-weaker (first_of name (rows_after check_shape.rules [] words)) (PassesIn check_shape.rules name) (Accepts false cost_parser)
+-- an option of a command with a cost has a cost
+command_cost : (command name : Text) (a : Rule) → arg_by_id (command_shape command).rules name ≡ Some a → a.ignore_case ≡ false → a.parser ≡ Some cost_parser → (words : List Text)
+    → level_fault (command_shape command) [] nothing_held words false [] ≡ [] → TakesCost name (rows_after (command_shape command).rules [] words)
+command_cost command name a known cased parser words e =
+    IfSome-weaker (first_of name (rows_after (command_shape command).rules [] words)) (PassesIn (command_shape command).rules name) (Accepts false cost_parser)
     (λ text passes. accepts-Accepts false cost_parser text (cost_passes text (passes a known)))
-    (first_of_good check_shape check_options [] words false [] e name)
+    (first_of_good (command_shape command) (command_options command) [] words false [] e name)
   where
     cost_passes : (text : Text) → value_passes a text ≡ true → accepts false cost_parser text ≡ true
     cost_passes text h =
         let as_cost = subst (λ (p : Option ValueParser). accepts a.ignore_case (parser_of_value p) text ≡ true) parser h in
         subst (λ (b : Bool). accepts b cost_parser text ≡ true) cased as_cost
 
+command_costs : (command : Text) → IsCommandName command → (words : List Text) → level_fault (command_shape command) [] nothing_held words false [] ≡ []
+    → IsCommand (command, rows_after (command_shape command).rules [] words)
+command_costs command named words e =
+    (named, command_cost command (codes "comp-cost") _ refl refl refl words e, command_cost command (codes "inst-cost") _ refl refl refl words e)
+
 each_command : EachCommand IsCommand (built whview_app).subs
 each_command = (
-  λ word words answers named e. (refl, check_cost (codes "comp-cost") _ refl refl refl words e, check_cost (codes "inst-cost") _ refl refl refl words e),
-  (λ word words answers named e. absurd (not_help word answers named), tt),
+  λ word words answers named e. command_costs (codes "check") (inl refl) words e,
+  (
+    λ word words answers named e. command_costs (codes "certify") (inr refl) words e,
+    (λ word words answers named e. absurd (not_help word answers named), tt),
+  ),
 )
 
 -- words without a fault name a command, and its costs are costs

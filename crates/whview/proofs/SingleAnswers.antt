@@ -1,6 +1,6 @@
 -- The same words and bytes have one answer at most.
 use Rattle.std.proofs.Common.{◌≡◌, ◌⊎◌, ◌+◌, ℕ, List, [], ◌∷◌, Option, Some, None, Result, Ok, Err, true, false, refl, sym, ap, subst, ◌∙◌, ⊎_elim, inl, inr, arith}
-use Rattle.std.specs.Prelude.{MatchResult}
+use Rattle.std.specs.Prelude.{MatchResult, codes}
 use Rattle.std.proofs.lemmas.Bool.{cases_order}
 use Rattle.clap.specs.Words.{IsAmong, Kinds, Row, Text, fault_of, subcommand_of}
 use Rattle.clap.specs.declared.error.kind.ErrorKind.{ErrorKind}
@@ -17,9 +17,16 @@ use Rattle.wh_strategy.specs.Rules.{IsFirstBroken, IsFirstPlace, number_of}
 use Rattle.wh_strategy.specs.Sizes.{sizes_of}
 use Rattle.wh_strategy.specs.Work.{work_of}
 use Rattle.wh_strategy.proofs.Agreeing.{refused}
+use Rattle.wh_cert.specs.Bound.{pair_bound_of}
+use Rattle.wh_cert.specs.Certificate.{IsJudged}
+use Rattle.wh_cert.specs.declared.certificate.Verdict.{Verdict}
+use Rattle.wh_cert.specs.declared.certificate.Verdict.TheVariants.{All, Rejected}
+use Rattle.wh_cert.proofs.OneVerdict.{verdicts_same}
+use Rattle.wh_load.specs.PlanText.{plan_of}
+use Rattle.whview.specs.CertifyOutput.{Claim, IsCertifyOutput, IsJudgement, bound_at, broken as broken_claim, certified, claim_in, claim_of, claim_texts_of, other_work, rejected, rejected_text, work_at}
 use Rattle.whview.specs.CheckOutput.{Inputs, IsCheckOutput, IsFaultShown, IsVerdict, broken, broken_text, correct, correct_text, inputs_in, inputs_of, texts_of}
 use Rattle.whview.specs.CommandLine.{IsAsked, whview_app}
-use Rattle.whview.specs.OneAnswer.{AreSame, IsReadFailure, OneCheckOutput, OneHandedOutput, OneInputOutput}
+use Rattle.whview.specs.OneAnswer.{AreSame, IsReadFailure, OneCertifyOutput, OneCheckOutput, OneHandedOutput, OneInputOutput}
 use Rattle.whview.specs.Output.{IsCommandOutput, IsHandedOutput, IsRead, IsRefused, ReadsInput, a_file, input_too_long, line_answered, line_names_a_file, line_not_text, line_refused, read_fails, read_too_long, read_within, words_answered, words_refused}
 use Rattle.whview.specs.declared.command_line.Asked.{Asked}
 use Rattle.whview.specs.declared.command_line.Asked.TheVariants as asked
@@ -91,7 +98,92 @@ one_check costs bytes text other status ended = go (inputs_of bytes) (shape_read
     go (Ok inputs) sh f g = one_verdict costs inputs text other status ended (sh inputs refl) f g
     go (Err fault) sh f g = one_shown fault text other status ended f g
 
+-- ---- one output of a certification
+
+one_judgement : (costs : Costs) (claim : Claim) (text other : List ℕ) (status ended : ℕ) → IsShape claim.shape.children
+    → IsJudgement costs claim text status → IsJudgement costs claim other ended → AreSame text status other ended
+one_judgement costs claim text other status ended sh (broken_claim rule place f t s) (broken_claim rule' place' g u e) =
+    record { texts = t ∙ one_broken _ _ rule rule' place place' f g (one_rule rule rule' (one_number _ _ rule rule' place place' f g)) ∙ sym u; statuses = s ∙ sym e }
+one_judgement costs claim text other status ended sh (broken_claim rule place f t s) (other_work is n u e) = absurd (refused rule _ _ place sh f is)
+one_judgement costs claim text other status ended sh (broken_claim rule place f t s) (certified is w j u e) = absurd (refused rule _ _ place sh f is)
+one_judgement costs claim text other status ended sh (broken_claim rule place f t s) (rejected place' is w j u e) = absurd (refused rule _ _ place sh f is)
+one_judgement costs claim text other status ended sh (other_work is n t s) (broken_claim rule place f u e) = absurd (refused rule _ _ place sh f is)
+one_judgement costs claim text other status ended sh (other_work is n t s) (other_work is' n' u e) = record { texts = t ∙ sym u; statuses = s ∙ sym e }
+one_judgement costs claim text other status ended sh (other_work is n t s) (certified is' w j u e) = absurd (n w)
+one_judgement costs claim text other status ended sh (other_work is n t s) (rejected place is' w j u e) = absurd (n w)
+one_judgement costs claim text other status ended sh (certified is w j t s) (broken_claim rule place f u e) = absurd (refused rule _ _ place sh f is)
+one_judgement costs claim text other status ended sh (certified is w j t s) (other_work is' n u e) = absurd (n w)
+one_judgement costs claim text other status ended sh (certified is w j t s) (certified is' w' j' u e) = record { texts = t ∙ sym u; statuses = s ∙ sym e }
+one_judgement costs claim text other status ended sh (certified is w j t s) (rejected place is' w' j' u e) =
+    let same : All ≡ Rejected place = verdicts_same _ _ _ _ claim.plan.certificate All (Rejected place) j j' in
+    let bad : ⊥ = cc in
+    absurd bad
+one_judgement costs claim text other status ended sh (rejected place is w j t s) (broken_claim rule place' f u e) = absurd (refused rule _ _ place' sh f is)
+one_judgement costs claim text other status ended sh (rejected place is w j t s) (other_work is' n u e) = absurd (n w)
+one_judgement costs claim text other status ended sh (rejected place is w j t s) (certified is' w' j' u e) =
+    let same : Rejected place ≡ All = verdicts_same _ _ _ _ claim.plan.certificate (Rejected place) All j j' in
+    let bad : ⊥ = cc in
+    absurd bad
+one_judgement costs claim text other status ended sh (rejected place is w j t s) (rejected place' is' w' j' u e) =
+    let verdicts : Rejected place ≡ Rejected place' = verdicts_same _ _ _ _ claim.plan.certificate (Rejected place) (Rejected place') j j' in
+    let same : place ≡ place' = cc in
+    record { texts = t ∙ ap rejected_text same ∙ sym u; statuses = s ∙ sym e }
+
+-- what is read of a claim has a shape
+claim_shape_read : (bytes : List ℕ) (claim : Claim) → claim_of bytes ≡ Ok claim → IsShape claim.shape.children
+claim_shape_read bytes claim e =
+    let texts = from_step (claim_texts_of bytes) claim_in claim e in
+    let shape = from_step (shape_of texts.0.catalogue) _ claim texts.2 in
+    let sizes = from_step (sizes_of_text shape.0.names texts.0.sizes) _ claim shape.2 in
+    let plan = from_step (plan_of shape.0.names texts.0.plan) _ claim sizes.2 in
+    let same = same_Ok _ _ _ refl plan.2 in
+    subst (λ c. IsShape c.shape.children) same (is_shape texts.0.catalogue shape.0 shape.1)
+
+pub one_certification : OneCertifyOutput
+one_certification costs bytes text other status ended = go (claim_of bytes) (claim_shape_read bytes)
+  where
+    go : (r : Result Claim LoadFault) → ((claim : Claim) → r ≡ Ok claim → IsShape claim.shape.children)
+        → MatchResult r (λ claim. IsJudgement costs claim text status) (λ fault. IsFaultShown fault text status)
+        → MatchResult r (λ claim. IsJudgement costs claim other ended) (λ fault. IsFaultShown fault other ended)
+        → AreSame text status other ended
+    go (Ok claim) sh f g = one_judgement costs claim text other status ended (sh claim refl) f g
+    go (Err fault) sh f g = one_shown fault text other status ended f g
+
 -- ---- one command
+
+-- the same work and bound at the same numbers
+same_work : (costs other : Costs) (claim : Claim) → other.comp ≡ costs.comp → other.inst ≡ costs.inst → work_at other claim ≡ work_at costs claim
+same_work costs other claim e f =
+    ap (λ c. work_of claim.shape.children (sizes_of claim.sizes) c other.inst claim.plan.strategy) e
+    ∙ ap (λ i. work_of claim.shape.children (sizes_of claim.sizes) costs.comp i claim.plan.strategy) f
+
+same_bound : (costs other : Costs) (claim : Claim) → other.comp ≡ costs.comp → other.inst ≡ costs.inst → bound_at other claim ≡ bound_at costs claim
+same_bound costs other claim e f =
+    ap (λ c. pair_bound_of claim.shape.children (sizes_of claim.sizes) c other.inst) e
+    ∙ ap (λ i. pair_bound_of claim.shape.children (sizes_of claim.sizes) costs.comp i) f
+
+judged_at : (costs other : Costs) (claim : Claim) (verdict : Verdict) → other.comp ≡ costs.comp → other.inst ≡ costs.inst
+    → IsJudged claim.shape.children (sizes_of claim.sizes) (work_at other claim) (bound_at other claim) claim.plan.certificate verdict
+    → IsJudged claim.shape.children (sizes_of claim.sizes) (work_at costs claim) (bound_at costs claim) claim.plan.certificate verdict
+judged_at costs other claim verdict e f j =
+    subst (λ w. IsJudged claim.shape.children (sizes_of claim.sizes) w (bound_at costs claim) claim.plan.certificate verdict) (same_work costs other claim e f)
+    (subst (λ b. IsJudged claim.shape.children (sizes_of claim.sizes) (work_at other claim) b claim.plan.certificate verdict) (same_bound costs other claim e f) j)
+
+judgement_at : (costs other : Costs) (claim : Claim) (text : List ℕ) (status : ℕ) → other.comp ≡ costs.comp → other.inst ≡ costs.inst
+    → IsJudgement other claim text status → IsJudgement costs claim text status
+judgement_at costs other claim text status e f (broken_claim rule place is t s) = broken_claim rule place is t s
+judgement_at costs other claim text status e f (other_work is n t s) = other_work is (λ w. n (same_work costs other claim e f ∙ w)) t s
+judgement_at costs other claim text status e f (certified is w j t s) = certified is (sym (same_work costs other claim e f) ∙ w) (judged_at costs other claim All e f j) t s
+judgement_at costs other claim text status e f (rejected place is w j t s) = rejected place is (sym (same_work costs other claim e f) ∙ w) (judged_at costs other claim (Rejected place) e f j) t s
+
+as_certification : (costs other : Costs) (bytes text : List ℕ) (status : ℕ) → other.comp ≡ costs.comp → other.inst ≡ costs.inst
+    → IsCertifyOutput other bytes text status → IsCertifyOutput costs bytes text status
+as_certification costs other bytes text status e f = go (claim_of bytes)
+  where
+    go : (r : Result Claim LoadFault) → MatchResult r (λ claim. IsJudgement other claim text status) (λ fault. IsFaultShown fault text status)
+        → MatchResult r (λ claim. IsJudgement costs claim text status) (λ fault. IsFaultShown fault text status)
+    go (Ok claim) is = judgement_at costs other claim text status e f is
+    go (Err fault) is = is
 
 -- a verdict asks of the costs their numbers alone
 as_costs : (costs other : Costs) (inputs : Inputs) (text : List ℕ) (status : ℕ) → other.comp ≡ costs.comp → other.inst ≡ costs.inst
@@ -115,14 +207,24 @@ one_asked : (found : Option (Text × List Row)) (command other : Asked) → IsAs
 one_asked None command other f g bytes text status is = absurd f
 one_asked (Some found) (asked.Check costs input) (asked.Check costs' input') f g bytes text status is =
     as_check costs costs' bytes text status (g.1.comp_cost ∙ sym f.1.comp_cost) (g.1.inst_cost ∙ sym f.1.inst_cost) is
+one_asked (Some found) (asked.Certify costs input) (asked.Certify costs' input') f g bytes text status is =
+    as_certification costs costs' bytes text status (g.1.comp_cost ∙ sym f.1.comp_cost) (g.1.inst_cost ∙ sym f.1.inst_cost) is
+one_asked (Some found) (asked.Check costs input) (asked.Certify costs' input') f g bytes text status is =
+    let bad : codes "check" ≡ codes "certify" = sym f.0 ∙ g.0 in cc
+one_asked (Some found) (asked.Certify costs input) (asked.Check costs' input') f g bytes text status is =
+    let bad : codes "certify" ≡ codes "check" = sym f.0 ∙ g.0 in cc
 
 one_output : (command : Asked) (bytes text other : List ℕ) (status ended : ℕ) → IsCommandOutput command bytes text status → IsCommandOutput command bytes other ended → AreSame text status other ended
 one_output (asked.Check costs input) bytes text other status ended f g = one_check costs bytes text other status ended f g
+one_output (asked.Certify costs input) bytes text other status ended f g = one_certification costs bytes text other status ended f g
 
 -- two commands that the same words ask for read the same
 one_file : (found : Option (Text × List Row)) (command other : Asked) → IsAsked found command → IsAsked found other → ReadsInput command → ReadsInput other
 one_file None command other f g reads = absurd f
 one_file (Some found) (asked.Check costs input) (asked.Check costs' input') f g reads = g.1.file ∙ sym f.1.file ∙ reads
+one_file (Some found) (asked.Certify costs input) (asked.Certify costs' input') f g reads = g.1.file ∙ sym f.1.file ∙ reads
+one_file (Some found) (asked.Check costs input) (asked.Certify costs' input') f g reads = let bad : codes "check" ≡ codes "certify" = sym f.0 ∙ g.0 in cc
+one_file (Some found) (asked.Certify costs input) (asked.Check costs' input') f g reads = let bad : codes "certify" ≡ codes "check" = sym f.0 ∙ g.0 in cc
 
 one_read : (command : Asked) (bytes text other : List ℕ) (status ended : ℕ) → IsRead command bytes text status → IsRead command bytes other ended → AreSame text status other ended
 one_read command bytes text other status ended (read_too_long l f) (read_too_long m g) = one_shown _ text other status ended f g

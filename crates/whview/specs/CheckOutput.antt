@@ -36,9 +36,9 @@ abbrev pub unless_part : {A : Type 0} → Option (List ℕ) → A → Result A L
 unless_part None value = Ok value
 unless_part (Some word) value = Err (fault.Part word)
 
--- the parts of a bundle of one night, or its first fault from the top
-abbrev pub parts_in : List ℕ → Result (List Part) LoadFault
-parts_in bytes = unless_part (fault_of nights.First bytes) (parts_of bytes)
+-- the parts of a bundle of which these nights are read, or its first fault from the top
+abbrev pub parts_in : Nights → List ℕ → Result (List Part) LoadFault
+parts_in read bytes = unless_part (fault_of read bytes) (parts_of bytes)
 
 -- the text of the part with this heading; one that is missing is named by this word
 abbrev pub text_in : List Part → Heading → List ℕ → Result (List ℕ) LoadFault
@@ -58,9 +58,9 @@ texts_in parts = do
   strategy ← text_in parts heading.Strategy (codes "strategy")
   Ok (record { catalogue = catalogue; sizes = sizes; strategy = strategy })
 
--- these texts in a bundle, or its first fault
+-- these texts in a bundle of one night, or its first fault
 abbrev pub texts_of : List ℕ → Result Texts LoadFault
-texts_of bytes = parts_in bytes >>= texts_in
+texts_of bytes = parts_in nights.First bytes >>= texts_in
 
 -- what these texts say, or their first fault: the catalogue's, the strategy's, the sizes'
 abbrev pub inputs_in : Texts → Result Inputs LoadFault

@@ -1,3 +1,4 @@
+pub mod CertifyOutput
 pub mod CheckOutput
 pub mod CommandFault
 pub mod CommandLine

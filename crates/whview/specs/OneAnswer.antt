@@ -2,6 +2,7 @@
 use Rattle.std.specs.Prelude.{◌≡◌, ◌⊎◌, ℕ, List, [], Some, codes}
 use Rattle.clap.specs.Words.{fault_of, subcommand_of}
 use Rattle.wh_strategy.specs.declared.costs.Costs.{Costs}
+use Rattle.whview.specs.CertifyOutput.{IsCertifyOutput}
 use Rattle.whview.specs.CheckOutput.{IsCheckOutput, line}
 use Rattle.whview.specs.CommandLine.{IsAsked, whview_app}
 use Rattle.whview.specs.FirstLine.{first_line_of, words_in}
@@ -23,6 +24,12 @@ abbrev pub OneCheckOutput : Type 0
 OneCheckOutput =
     (costs : Costs) (bytes text other : List ℕ) (status ended : ℕ) →
     IsCheckOutput costs bytes text status → IsCheckOutput costs bytes other ended → AreSame text status other ended
+
+-- all certifications of the same bytes at the same costs have one text and one status
+abbrev pub OneCertifyOutput : Type 0
+OneCertifyOutput =
+    (costs : Costs) (bytes text other : List ℕ) (status ended : ℕ) →
+    IsCertifyOutput costs bytes text status → IsCertifyOutput costs bytes other ended → AreSame text status other ended
 
 -- words that were handed in, that `clap` takes and that name no file have one text and one status for the same bytes,
 -- unless the reader fails

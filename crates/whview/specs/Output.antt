@@ -5,6 +5,7 @@ use Rattle.std.specs.Str.{is_utf8}
 use Rattle.clap.specs.Words.{IsAmong, fault_of, subcommand_of}
 use Rattle.clap.specs.declared.error.kind.ErrorKind.{ErrorKind}
 use Rattle.wh_load.specs.declared.fault.LoadFault.TheVariants as fault
+use Rattle.whview.specs.CertifyOutput.{IsCertifyOutput}
 use Rattle.whview.specs.CheckOutput.{IsCheckOutput, IsFaultShown, line}
 use Rattle.whview.specs.CommandFault.{status_of_kind}
 use Rattle.whview.specs.CommandLine.{IsAsked, whview_app}
@@ -15,10 +16,12 @@ use Rattle.whview.specs.declared.command_line.Asked.TheVariants as asked
 -- what a command prints for the bytes of a bundle, and the status
 abbrev pub IsCommandOutput : Asked → List ℕ → List ℕ → ℕ → Type 0
 IsCommandOutput (asked.Check costs input) bytes text status = IsCheckOutput costs bytes text status
+IsCommandOutput (asked.Certify costs input) bytes text status = IsCertifyOutput costs bytes text status
 
 -- the file that the command reads in place of the program's reader
 abbrev pub file_of : Asked → Option (List ℕ)
 file_of (asked.Check costs input) = option_map (λ path. path.now) input
+file_of (asked.Certify costs input) = option_map (λ path. path.now) input
 
 -- the command reads the program's reader
 abbrev pub ReadsInput : Asked → Type 0

@@ -2,6 +2,7 @@
 
 ghost use Rattle.std.specs.Prelude.{◌≡◌, IfOk, decimal, string_bytes};
 ghost use Rattle.wh_load.specs.FaultText.{fault_text};
+ghost use Rattle.whview.specs.CertifyOutput.{certified_text, rejected_text};
 ghost use Rattle.whview.specs.CheckOutput.{IsFaultShown, correct_text, broken_text, line};
 
 use std::alloc::{AllocError, Global};
@@ -37,6 +38,30 @@ impl Answer {
     {
         let number = rule.number();
         let text = format!(in alloc; "broken S{number} at {place}\n")?;
+        Ok(Answer {
+            text: text.into_bytes(),
+            status: 1,
+        })
+    }
+
+    /// The answer for a plan that is certified, of this work.
+    pub fn certified(alloc: Global, work: u128) -> Result<Answer, AllocError>
+        ensures text { IfOk result (λ a. a.text.items ≡ certified_text work) }
+        ensures status { IfOk result (λ a. a.status ≡ 0) }
+    {
+        let text = format!(in alloc; "certified all work {work}\n")?;
+        Ok(Answer {
+            text: text.into_bytes(),
+            status: 0,
+        })
+    }
+
+    /// The answer for a plan whose certificate is rejected at this place.
+    pub fn rejected(alloc: Global, place: usize) -> Result<Answer, AllocError>
+        ensures text { IfOk result (λ a. a.text.items ≡ rejected_text place) }
+        ensures status { IfOk result (λ a. a.status ≡ 1) }
+    {
+        let text = format!(in alloc; "rejected at {place}\n")?;
         Ok(Answer {
             text: text.into_bytes(),
             status: 1,

@@ -28,6 +28,13 @@ pub enum Asked<'a> {
         /// The file of the input; None for standard input.
         input: Option<&'a str>,
     },
+    /// Judge a plan: the strategy, its work, and the certificate that it is least.
+    Certify {
+        /// What a row costs.
+        costs: Costs,
+        /// The file of the input; None for standard input.
+        input: Option<&'a str>,
+    },
 }
 
 /// Reads the words that follow the program's name.
@@ -58,6 +65,10 @@ fn asked_of<'a>(matches: &ArgMatches<'a>) -> Asked<'a>
 {
     match matches.subcommand() {
         Some(("check", options)) => Asked::Check {
+            costs: costs_of(options),
+            input: options.get_str("input"),
+        },
+        Some(("certify", options)) => Asked::Certify {
             costs: costs_of(options),
             input: options.get_str("input"),
         },

@@ -1,13 +1,15 @@
-//! The program `whview`: judges strategies of a warehouse's night.
+//! The program `whview`: judges strategies of a warehouse's night, and the certificates of plans.
 //!
 //! [`run`] is the whole program over a reader and a writer. Its words ask for a command, the reader has a bundle, and what
 //! is written is the command's answer, built whole.
 #![tactic(auto)]
 
 mod answer;
+mod certification;
 mod command_line;
 mod laws;
 mod program;
+mod reading;
 #[cfg(test)]
 mod tests;
 mod verdict;

@@ -8,6 +8,7 @@ ghost use Rattle.whview.specs.CommandFault.{status_of};
 ghost use Rattle.whview.specs.Output.{IsCommandOutput, IsHandedOutput, IsInputOutput, IsRead, ReadsInput, file_of};
 
 use crate::answer::Answer;
+use crate::certification::certification;
 use crate::command_line::{Asked, CommandFault, parse};
 use crate::verdict::judge;
 use crate::words::{first_line, refuses_input, words_of_line};
@@ -31,6 +32,7 @@ fn command_answer(alloc: Global, asked: &Asked<'_>, bytes: &[u8]) -> Result<Answ
 {
     match asked {
         Asked::Check { costs, .. } => judge(alloc, *costs, bytes),
+        Asked::Certify { costs, .. } => certification(alloc, *costs, bytes),
     }
 }
 
@@ -39,7 +41,7 @@ fn file_of<'a>(asked: &Asked<'a>) -> Option<&'a str>
     ensures { option_map (λ path. path.now) result ≡ file_of asked.now }
 {
     match asked {
-        Asked::Check { input, .. } => *input,
+        Asked::Check { input, .. } | Asked::Certify { input, .. } => *input,
     }
 }
 

@@ -1,19 +1,16 @@
 //! The command `check`: from the bytes of a bundle to the verdict.
 
 ghost use Rattle.std.specs.Prelude.{◌≡◌, ◌⊎◌, length, Ok, Err, IfOk, IfErr, MatchResult};
-ghost use Rattle.std.specs.Cow.{cow_slice_items};
-ghost use Rattle.whview.specs.CheckOutput.{IsRefusalShown, IsVerdict, IsCheckOutput, inputs_in, inputs_of, parts_in, text_in, texts_in, texts_of};
+ghost use Rattle.whview.specs.CheckOutput.{IsRefusalShown, IsVerdict, IsCheckOutput, inputs_in, inputs_of, texts_in, texts_of};
 ghost use Rattle.whview.specs.Shown.{shown};
 ghost use Rattle.wh_load.specs.StrategyText.{strategy_of};
 
 use crate::answer::Answer;
+use crate::reading::{bundle_of, text_of};
 use std::alloc::{AllocError, Global};
 use std::borrow::CowSlice;
 use wh_dag::Shape;
-use wh_load::{
-    Bundle, Heading, LoadFault, Names, Nights, PartFault, Word, parts, read_shape, read_sizes,
-    read_strategy,
-};
+use wh_load::{Bundle, Heading, LoadFault, Names, Nights, read_shape, read_sizes, read_strategy};
 use wh_strategy::{CheckFault, Costs, Sizes, Strategy, check, work};
 
 /// What a check is made of, as it was read.
@@ -23,33 +20,6 @@ struct Inputs {
     strategy: Strategy,
     sizes: Sizes,
     ghost sized: { length sizes ≡ length shape.children },
-}
-
-fn parts_of_one_night<'a>(alloc: Global, bytes: &'a [u8]) -> Result<Bundle<'a>, LoadFault>
-    ensures ok { IfOk result (λ bundle. parts_in bytes.now ≡ Ok bundle) }
-    ensures err { IfErr result (λ f. (f ≡ LoadFault.Memory) ⊎ (parts_in bytes.now ≡ Err f)) }
-{
-    match parts(alloc, bytes, Nights::First) {
-        Ok(bundle) => Ok(bundle),
-        Err(PartFault::Part(word)) => Err(LoadFault::Part(word)),
-        Err(PartFault::Memory) => Err(LoadFault::Memory),
-    }
-}
-
-/// The text of the part with this heading, which is missing under this word.
-fn text_of<'a>(
-    alloc: Global,
-    bundle: &Bundle<'a>,
-    heading: &Heading<'_>,
-    word: &[u8],
-) -> Result<CowSlice<'a, u8>, LoadFault>
-    ensures ok { IfOk result (λ text. text_in bundle.now heading.now word.now ≡ Ok (cow_slice_items text)) }
-    ensures err { IfErr result (λ f. (f ≡ LoadFault.Memory) ⊎ (text_in bundle.now heading.now word.now ≡ Err f)) }
-{
-    match bundle.find(heading, 0) {
-        Some(part) => Ok(part.text(alloc)?),
-        None => Err(LoadFault::Part(Word::new(alloc, word)?)),
-    }
 }
 
 /// The texts of the parts that a check reads.
@@ -80,7 +50,7 @@ fn read_texts<'a>(alloc: Global, bytes: &'a [u8]) -> Result<PartTexts<'a>, LoadF
     ensures ok { IfOk result (λ t. texts_of bytes.now ≡ Ok (shown t)) }
     ensures err { IfErr result (λ f. (f ≡ LoadFault.Memory) ⊎ (texts_of bytes.now ≡ Err f)) }
 {
-    let bundle = parts_of_one_night(alloc, bytes)?;
+    let bundle = bundle_of(alloc, bytes, Nights::First)?;
     texts_in(alloc, &bundle)
 }
 
@@ -115,7 +85,7 @@ fn read_inputs(alloc: Global, bytes: &[u8]) -> Result<Inputs, LoadFault>
 }
 
 /// The answer for a strategy that was refused.
-fn refusal(alloc: Global, fault: CheckFault) -> Result<Answer, AllocError>
+pub(crate) fn refusal(alloc: Global, fault: CheckFault) -> Result<Answer, AllocError>
     ensures { IfOk result (λ a. IsRefusalShown fault a.text.items a.status) }
 {
     match fault {

@@ -1,9 +1,9 @@
 //! The command line, as `clap` is to read it.
 
-ghost use Rattle.std.specs.Prelude.{◌≡◌, false, IfOk};
-ghost use Rattle.clap.specs.Words.{app_of, rule_of};
+ghost use Rattle.std.specs.Prelude.{◌≡◌, codes, false, IfOk};
+ghost use Rattle.clap.specs.Words.{app_of, new_app, rule_of, with_subcommand};
 ghost use Rattle.clap.specs.declared.builder.command.Command.TheViews.{out-Command};
-ghost use Rattle.whview.specs.CommandLine.{check_app, cost_rule, input_rule, whview_app};
+ghost use Rattle.whview.specs.CommandLine.{command_app, cost_rule, input_rule, whview_app, with_commands};
 
 use clap::builder::ValueParser;
 use clap::{Arg, Command};
@@ -13,19 +13,53 @@ use std::alloc::{AllocError, Global};
 pub fn whview_command<'a>(alloc: Global) -> Result<Command<'a>, AllocError>
     ensures { IfOk result (λ c. app_of c ≡ whview_app) }
 {
+    let whview = bare_command(alloc)?;
+    let with_check = with_command(
+        alloc,
+        whview,
+        "check",
+        "Judges a strategy and gives its work. Reads the catalogue, the strategy and the sizes.",
+    )?;
+    let with_certify = with_command(
+        alloc,
+        with_check,
+        "certify",
+        "Judges a plan by its certificate. Reads the catalogue, the sizes and the plan.",
+    )?;
+    Ok(with_certify)
+}
+
+/// The program before it has its commands.
+fn bare_command<'a>(alloc: Global) -> Result<Command<'a>, AllocError>
+    ensures { IfOk result (λ c. app_of c ≡ with_commands (new_app (codes "whview"))) }
+{
     // The words come without the program's name, and usage texts show it.
     let bare = Command::new(alloc, "whview").no_binary_name(true);
     let named = bare.bin_name("whview")?;
-    let whview = named
-        .about("Judges strategies that update the views of a warehouse.")
-        .subcommand_required(true);
-    let check = check_command(alloc)?;
-    let with_check = whview.subcommand(check)?;
-    Ok(with_check)
+    Ok(
+        named
+            .about("Judges strategies that update the views of a warehouse.")
+            .subcommand_required(true),
+    )
 }
 
-fn check_command<'a>(alloc: Global) -> Result<Command<'a>, AllocError>
-    ensures shape { IfOk result (λ c. app_of c ≡ check_app) }
+/// The program with one command more.
+fn with_command<'a>(
+    alloc: Global,
+    whview: Command<'a>,
+    name: &'a str,
+    about: &'a str,
+) -> Result<Command<'a>, AllocError>
+    ensures { IfOk result (λ c. app_of c ≡ with_subcommand (app_of whview.entry) (command_app name.entry.now).top) }
+{
+    let command = command(alloc, name, about)?;
+    let with_command = whview.subcommand(command)?;
+    Ok(with_command)
+}
+
+/// A command of this name, with an option for each cost and for the file of the input.
+fn command<'a>(alloc: Global, name: &'a str, about: &'a str) -> Result<Command<'a>, AllocError>
+    ensures shape { IfOk result (λ c. app_of c ≡ command_app name.entry.now) }
     ensures local { IfOk result (λ c. (out-Command c).has_globals ≡ false) }
 {
     let comp_cost = cost_option(
@@ -38,10 +72,8 @@ fn check_command<'a>(alloc: Global) -> Result<Command<'a>, AllocError>
         "inst-cost",
         "The cost of a row that an Inst writes, 1 to 1,000,000 [default: 1]",
     );
-    let check = Command::new(alloc, "check").about(
-        "Judges a strategy and gives its work. Reads the catalogue, the strategy and the sizes.",
-    );
-    let with_comp = check.arg(comp_cost)?;
+    let named = Command::new(alloc, name).about(about);
+    let with_comp = named.arg(comp_cost)?;
     let with_inst = with_comp.arg(inst_cost)?;
     let with_input = with_inst.arg(input_option(alloc))?;
     Ok(with_input)

@@ -14,6 +14,7 @@ fn checks(rt: &impl Abort, alloc: Global, line: &str, comp: u64, inst: u64, file
             assert_eq!(rt; costs.inst, inst, "{line}");
             assert!(rt; input == file, "{line}");
         }
+        Ok(asked) => panic!(rt; "{line}: {asked:?}"),
         Err(fault) => panic!(rt; "{line}: {fault:?}"),
     }
 }
@@ -91,6 +92,26 @@ fn a_check_has_its_costs_and_its_file(rt: HostRuntime) {
 }
 
 #[test]
+fn a_certification_has_its_costs_and_its_file(rt: HostRuntime) {
+    let words = [
+        "certify",
+        "--inst-cost=3",
+        "--input",
+        "f",
+        "--comp-cost",
+        "2",
+    ];
+    match parse(rt.alloc(), words.as_slice()) {
+        Ok(Asked::Certify { costs, input }) => {
+            assert_eq!(&rt; (costs.comp, costs.inst), (2, 3));
+            assert!(&rt; input == Some("f"));
+        }
+        Ok(asked) => panic!(&rt; "{asked:?}"),
+        Err(fault) => panic!(&rt; "{fault:?}"),
+    }
+}
+
+#[test]
 fn a_cost_is_a_number_from_1_to_a_million(rt: HostRuntime) {
     for cost in [
         "0",
@@ -116,6 +137,7 @@ fn other_words_are_refused(rt: HostRuntime) {
     for line in [
         "",
         "plan",
+        "certif",
         "chec",
         "Check",
         "check\t",
@@ -172,8 +194,9 @@ const PROGRAM_HELP: &str = "Judges strategies that update the views of a warehou
 Usage: whview <COMMAND>
 
 Commands:
-  check  Judges a strategy and gives its work. Reads the catalogue, the strategy and the sizes.
-  help   Print this message or the help of the given subcommand(s)
+  check    Judges a strategy and gives its work. Reads the catalogue, the strategy and the sizes.
+  certify  Judges a plan by its certificate. Reads the catalogue, the sizes and the plan.
+  help     Print this message or the help of the given subcommand(s)
 
 Options:
   -h, --help  Print help
@@ -200,7 +223,7 @@ fn help_names_each_command_and_option(rt: HostRuntime) {
 }
 
 const NO_COMMAND: &str = "error: 'whview' requires a subcommand but one was not provided
-  [subcommands: check, help]
+  [subcommands: check, certify, help]
 
 Usage: whview <COMMAND>
 

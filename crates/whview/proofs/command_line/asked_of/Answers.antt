@@ -1,26 +1,54 @@
-use Rattle.std.proofs.Common.{◌≡◌, ◌∙◌, codes, subst, List, Option, Some, None}
+use Rattle.std.proofs.Common.{◌≡◌, ◌∙◌, ap, codes, refl, subst, sym, List, Option, Some, None}
 use Rattle.std.specs.Prelude.{option_map}
-use Rattle.std.specs.Borrow.{Bor}
-use Rattle.clap.specs.Words.{Row, Text, found_of, rows_of, subcommand_rows_of}
+use Rattle.clap.specs.Words.{Row, Text, found_of, rows_of, subcommand_name_of, subcommand_rows_of}
+use Rattle.clap.specs.declared.parser.matches.ArgMatches.{ArgMatches}
+use Rattle.clap.specs.declared.parser.matches.ArgMatches.TheViews.{out-ArgMatches}
 use Rattle.clap.proofs.WalkLemmas.{first_value-rows}
-use Rattle.wh_strategy.specs.declared.costs.Costs.{Costs}
-use Rattle.whview.specs.CommandLine.{IsAsked, IsCheck, NamesCommand}
-use Rattle.whview.specs.declared.command_line.Asked.TheVariants.{Check}
+use Rattle.whview.specs.CommandLine.{AsksBy, IsAsked}
+use Rattle.whview.specs.declared.command_line.Asked.{Asked}
+use Rattle.whview.specs.declared.command_line.Asked.TheVariants.{Certify, Check}
 use Rattle.whview.proofs.command_line.asked_of.Goals as goal
 
-check_asked : (found : Option (Text × List Row)) (rows : List Row) (costs : Costs) (input : Option (Bor Text)) → NamesCommand found
-    → Some rows ≡ option_map (λ p. p.1) found → IsCheck rows costs input → IsAsked found (Check costs input)
-check_asked None rows costs input names same is = absurd names
-check_asked (Some p) rows costs input names same is =
-    let these : rows ≡ p.1 = cc in
-    (names.0, subst (λ (options : List Row). IsCheck options costs input) these is)
+fused : {X Y Z : Type 0} (f : Y → Z) (g : X → Y) (o : Option X) → option_map (λ x. f (g x)) o ≡ option_map f (option_map g o)
+fused f g None = refl
+fused f g (Some x) = refl
 
-pub returns : goal.returns
-returns c =
+named : (m : ArgMatches) → subcommand_name_of m ≡ option_map (λ p. p.0) (subcommand_rows_of m)
+named m = fused (λ (p : Text × List Row). p.0) _ (out-ArgMatches m).subcommand
+
+-- the command that was found is asked for, where it is by this name and these options
+asked_by : (found : Option (Text × List Row)) (name : Text) (rows : List Row) (a : Asked) → Some name ≡ option_map (λ p. p.0) found → Some rows ≡ option_map (λ p. p.1) found
+    → AsksBy name rows a → IsAsked found a
+asked_by None name rows a same_name same_rows asks = cc
+asked_by (Some p) name rows a same_name same_rows asks =
+    let this : name ≡ p.0 = cc in
+    let these : rows ≡ p.1 = cc in
+    subst (λ (n : Text). AsksBy n p.1 a) this (subst (λ (rs : List Row). AsksBy name rs a) these asks)
+
+pub returns-in-Some-check-default : goal.returns-in-Some-check-default
+returns-in-Some-check-default c =
     let options = c.in-Some-check-default.options.now in
-    check_asked (subcommand_rows_of c.args.matches.now) (rows_of (found_of options)) c.costs_of.result c.get_str.result c.requires c.in-Some-check-default.ensures.rows
-    (record {
-      comp_cost = c.costs_of.ensures.comp;
-      inst_cost = c.costs_of.ensures.inst;
-      file = c.get_str.ensures ∙ first_value-rows (found_of options) (codes "input");
-    })
+    asked_by (subcommand_rows_of c.args.matches.now) (codes "check") (rows_of (found_of options)) (Check c.costs_of.result c.get_str.result)
+    (ap Some (sym c.in-Some-check-default.is-check) ∙ c.in-Some-check-default.ensures.name ∙ named c.args.matches.now) c.in-Some-check-default.ensures.rows (
+      refl,
+      record {
+        comp_cost = c.costs_of.ensures.comp;
+        inst_cost = c.costs_of.ensures.inst;
+        file = c.get_str.ensures ∙ first_value-rows (found_of options) (codes "input");
+      },
+    )
+
+pub returns-in-Some-certify-default : goal.returns-in-Some-certify-default
+returns-in-Some-certify-default c =
+    let options = c.in-Some-certify-default.options.now in
+    let costs = c.costs_of-in-Some-certify-default in
+    let file = c.get_str-in-Some-certify-default in
+    asked_by (subcommand_rows_of c.args.matches.now) (codes "certify") (rows_of (found_of options)) (Certify costs.result file.result)
+    (ap Some (sym c.in-Some-certify-default.is-certify) ∙ c.in-Some-certify-default.ensures.name ∙ named c.args.matches.now) c.in-Some-certify-default.ensures.rows (
+      refl,
+      record {
+        comp_cost = costs.ensures.comp;
+        inst_cost = costs.ensures.inst;
+        file = file.ensures ∙ first_value-rows (found_of options) (codes "input");
+      },
+    )

@@ -1,0 +1,15 @@
+use Rattle.std.proofs.Common.{◌∙◌, sym}
+use Rattle.whview.proofs.IfOks.{if_ok, if_ok_both}
+use Rattle.whview.proofs.Verdicts.{refusal_is_judgement, rejection_is_judgement}
+use Rattle.whview.proofs.certification.judgement.Goals as goal
+
+pub returns-in-Err : goal.returns-in-Err
+returns-in-Err c =
+    if_ok c.refusal.result _ _ c.refusal.ensures
+    (λ a shown. refusal_is_judgement c.args.costs (record { shape = c.args.claim.shape; sizes = c.args.claim.sizes; plan = c.args.claim.plan }) c.in-Err.fault a.text.items a.status c.in-Err.ensures.err shown)
+
+pub returns : goal.returns
+returns c =
+    if_ok_both c.rejected.result _ _ _ c.rejected.ensures.text c.rejected.ensures.status
+    (λ a printed ended. rejection_is_judgement c.args.costs (record { shape = c.args.claim.shape; sizes = c.args.claim.sizes; plan = c.args.claim.plan }) c.in-Ok.correct.list c.in-Rejected.place a.text.items a.status
+    c.in-Ok.ensures.ok.1 c.in-Ok.ensures.ok.2 (sym c.work.ensures ∙ c.if-work-claimed.false) c.in-Rejected.ensures.judged printed ended)

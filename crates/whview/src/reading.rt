@@ -1,0 +1,41 @@
+//! The parts of a bundle, and their texts.
+
+ghost use Rattle.std.specs.Prelude.{◌≡◌, ◌⊎◌, Ok, Err, IfOk, IfErr};
+ghost use Rattle.std.specs.Cow.{cow_slice_items};
+ghost use Rattle.whview.specs.CheckOutput.{parts_in, text_in};
+
+use std::alloc::Global;
+use std::borrow::CowSlice;
+use wh_load::{Bundle, Heading, LoadFault, Nights, PartFault, Word, parts};
+
+/// The parts of a bundle of which these nights are read.
+pub(crate) fn bundle_of<'a>(
+    alloc: Global,
+    bytes: &'a [u8],
+    nights: Nights,
+) -> Result<Bundle<'a>, LoadFault>
+    ensures ok { IfOk result (λ bundle. parts_in nights bytes.now ≡ Ok bundle) }
+    ensures err { IfErr result (λ f. (f ≡ LoadFault.Memory) ⊎ (parts_in nights bytes.now ≡ Err f)) }
+{
+    match parts(alloc, bytes, nights) {
+        Ok(bundle) => Ok(bundle),
+        Err(PartFault::Part(word)) => Err(LoadFault::Part(word)),
+        Err(PartFault::Memory) => Err(LoadFault::Memory),
+    }
+}
+
+/// The text of the part with this heading, which is missing under this word.
+pub(crate) fn text_of<'a>(
+    alloc: Global,
+    bundle: &Bundle<'a>,
+    heading: &Heading<'_>,
+    word: &[u8],
+) -> Result<CowSlice<'a, u8>, LoadFault>
+    ensures ok { IfOk result (λ text. text_in bundle.now heading.now word.now ≡ Ok (cow_slice_items text)) }
+    ensures err { IfErr result (λ f. (f ≡ LoadFault.Memory) ⊎ (text_in bundle.now heading.now word.now ≡ Err f)) }
+{
+    match bundle.find(heading, 0) {
+        Some(part) => Ok(part.text(alloc)?),
+        None => Err(LoadFault::Part(Word::new(alloc, word)?)),
+    }
+}
