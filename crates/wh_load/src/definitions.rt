@@ -70,6 +70,3 @@ pub fn read_definitions(
     let views = views_after(alloc, shape, texts, tables)?;
     Ok(Written { views })
 }
-
-#[cfg(test)]
-mod tests;

@@ -184,6 +184,3 @@ pub fn read_changes(
 {
     read_part(alloc, Content::Changes, columns, text, dict)
 }
-
-#[cfg(test)]
-mod tests;
