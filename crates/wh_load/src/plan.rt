@@ -7,8 +7,6 @@ ghost use Rattle.wh_load.specs.PlanText.{certificate_text, scope_text, pair_word
 mod line;
 mod natural;
 mod said;
-#[cfg(test)]
-mod tests;
 
 use crate::expression::append_name;
 use crate::fault::LoadFault;
