@@ -1,0 +1,5 @@
+//! Tests that cross crates, and the worked examples by public calls: a catalogue is read from its text, carried out on
+//! tables and written again.
+//!
+//! They stand here and not in the crates below, since a crate that has tests is proved a second time with them.
+#![tactic(auto)]
