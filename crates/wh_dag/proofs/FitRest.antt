@@ -1,12 +1,12 @@
 -- Parts fit together exactly where, view by view, they are what the views need.
-use Rattle.std.proofs.Common.{◌≡◌, ℕ, zero, suc, ◌+◌, ◌-◌, ◌<◌, ◌≤◌, ◌↔◌, Bool, true, false, not, List, [], ◌∷◌, ◌++◌, length, drop, take, All, get_or, refl, ap, sym, ◌∙◌, subst, arith, append_assoc, inl, inr, Option, Some, None}
+use Rattle.std.proofs.Common.{◌≡◌, ℕ, zero, suc, ◌+◌, ◌-◌, ◌<◌, ◌≤◌, true, false, not, List, [], ◌∷◌, ◌++◌, length, drop, take, All, get_or, refl, ap, sym, ◌∙◌, subst, arith, append_assoc, inl, inr, Option, Some, None}
 use Rattle.std.specs.Prelude.{is_some, slice_index}
 use Rattle.std.proofs.lemmas.List.{get_or_append_left, length-append, length-drop, length-take-le, take-append-drop}
 use Rattle.std.proofs.lemmas.Bool.{cases_lt}
 use Rattle.std.proofs.lemmas.Option.{same_Some}
 use Rattle.std.proofs.Math.Seq.{get_or-append_seam}
 use Rattle.wh_dag.specs.Shape.{Views, IsShape, children_of, has}
-use Rattle.wh_dag.specs.Catalog.{DefinitionOf, IsDefinition, columns, CatalogOf, width_of, definition_of, total_width, combined_width, is_base, is_empty, IsCatalog}
+use Rattle.wh_dag.specs.Catalog.{DefinitionOf, IsDefinition, columns, CatalogOf, width_of, definition_of, total_width, combined_width, is_empty, IsCatalog}
 use Rattle.wh_dag.specs.CatalogParts.{bases_among, derived_among, dealt_definitions, dealt_widths, catalog_of, FitTogether}
 use Rattle.wh_dag.proofs.Levels.{has_head, has_tail, All-from_has}
 use Rattle.wh_dag.proofs.Shown.{empty}

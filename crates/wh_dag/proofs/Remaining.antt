@@ -1,14 +1,10 @@
 -- Parts that fit together, view by view: what is left of them has to fit the views that are left.
-use Rattle.std.proofs.Common.{◌≡◌, ◌≢◌, ℕ, zero, suc, ◌+◌, ◌<◌, ◌≤◌, ◌==◌, ◌↔◌, Bool, true, false, not, List, [], ◌∷◌, ◌++◌, length, drop, take, set, get_or, inl, inr, ◌⊎◌, refl, ap, sym, ◌∙◌, subst, arith, append_assoc, Option, Some, None}
-use Rattle.std.specs.Prelude.{is_some, slice_index}
+use Rattle.std.proofs.Common.{◌≡◌, ℕ, suc, ◌+◌, ◌<◌, ◌≤◌, ◌==◌, ◌↔◌, true, false, List, [], ◌∷◌, ◌++◌, length, drop, take, set, inl, inr, ◌⊎◌, refl, ap, sym, ◌∙◌, subst, arith}
 use Rattle.std.proofs.lemmas.List.{drop_more, drop_all, take_more_set}
 use Rattle.std.proofs.lemmas.Bool.{both_ways}
 use Rattle.std.proofs.lemmas.Bool.Decides.{Decides-eqb}
-use Rattle.std.proofs.Math.Seq.{get_or-append_seam}
-use Rattle.wh_dag.specs.Shape.{Views, IsShape, children_of, has}
-use Rattle.wh_dag.specs.Catalog.{DefinitionOf, IsDefinition, columns, CatalogOf, width_of, definition_of, total_width, combined_width, is_base, is_empty, IsCatalog}
-use Rattle.wh_dag.specs.CatalogParts.{bases_among, derived_among, dealt_definitions, dealt_widths, catalog_of, FitTogether}
-use Rattle.wh_dag.proofs.Levels.{has_head, has_tail}
+use Rattle.wh_dag.specs.Shape.{children_of}
+use Rattle.wh_dag.specs.Catalog.{DefinitionOf, IsDefinition, columns, total_width}
 
 -- a definition over rows of these views, after views of these widths, with 1 to 64 columns
 pub record IsNext (seen own : List ℕ) (definition : DefinitionOf) : Type 0 where

@@ -1,5 +1,5 @@
 -- A catalogue made of parts shows them.
-use Rattle.std.proofs.Common.{◌≡◌, ℕ, zero, suc, ◌+◌, ◌<◌, Bool, true, false, not, List, [], ◌∷◌, length, get_or, refl, ap, sym, ◌∙◌, arith, Option, Some, None}
+use Rattle.std.proofs.Common.{◌≡◌, ℕ, suc, ◌<◌, true, false, not, List, [], ◌∷◌, length, get_or, refl, ap, sym, ◌∙◌, arith, Option, Some, None}
 use Rattle.std.specs.Prelude.{is_some, slice_index}
 use Rattle.wh_dag.specs.Shape.{Views, children_of}
 use Rattle.wh_dag.specs.Catalog.{DefinitionOf, columns, CatalogOf, IsCatalog, is_empty}

@@ -1,5 +1,5 @@
 -- The lists of sibling pairs and couples, one number more at a time.
-use Rattle.std.proofs.Common.{◌≡◌, ℕ, zero, suc, ◌+◌, List, [], ◌∷◌, ◌++◌, Bool, true, false, cond, length, map, filter, refl, sym, ap, ◌∙◌, ◌&&◌, nat_lt, arith}
+use Rattle.std.proofs.Common.{◌≡◌, ℕ, zero, suc, ◌+◌, List, [], ◌∷◌, ◌++◌, Bool, true, false, map, filter, refl, sym, ap, ◌∙◌, ◌&&◌, nat_lt, arith}
 use Rattle.std.specs.List.{range_with_len, flat_map}
 use Rattle.std.proofs.lemmas.List.Elements.{filter-append}
 use Rattle.std.proofs.lemmas.List.FromFn.{filter_of_map_range_with_len_more}
@@ -7,9 +7,7 @@ use Rattle.std.proofs.lemmas.Grind.{flat_map-append}
 use Rattle.std.proofs.lemmas.List.{append-nil, append_assoc}
 use Rattle.std.proofs.lemmas.Bool.{cond-true, cond-false, false≢true}
 use Rattle.wh_dag.specs.Shape.{has, children_of}
-use Rattle.wh_dag.specs.Siblings.{is_sibling_pair, is_couple, each_below, triples_with, triples_of, pairs_with}
-use Rattle.wh_dag.specs.declared.siblings.Couple.{Couple}
-use Rattle.wh_dag.specs.declared.siblings.SiblingPair.{SiblingPair}
+use Rattle.wh_dag.specs.Siblings.{is_sibling_pair, each_below, triples_with}
 
 range_last : (a n j : ℕ) → a + n ≡ j → range_with_len a (suc n) ≡ range_with_len a n ++ j ∷ []
 range_last a zero j e = let same : a ≡ j = omega arith in ap (λ k. k ∷ []) same

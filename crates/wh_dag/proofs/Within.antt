@@ -5,11 +5,11 @@ use Rattle.std.specs.declared.alloc.Global.{Global}
 use Rattle.std.proofs.lemmas.List.Elements.{All-cons, All-tail, All-map}
 use Rattle.std.proofs.lemmas.Bool.{lt-ltb, ltb-true, le-leb, leb-true, both_ways}
 use Rattle.std.proofs.lemmas.Bool.Decides.{Decides-eqb}
-use Rattle.wh_formula.specs.Expr.{ExprTree, fits}
+use Rattle.wh_formula.specs.Expr.{fits}
 use Rattle.wh_formula.specs.Filter.{FilterOf}
 use Rattle.wh_formula.specs.Pred as pred
 use Rattle.wh_formula.specs.Combiner.{CombinerOf}
-use Rattle.wh_dag.specs.Output.{exprs_of, output_of, IsOver, OfOneWidth}
+use Rattle.wh_dag.specs.Output.{exprs_of, IsOver, OfOneWidth}
 use Rattle.wh_dag.specs.declared.output.Output.{Output}
 use Rattle.wh_dag.specs.declared.output.Output.TheVariants.{Keep, Sums}
 

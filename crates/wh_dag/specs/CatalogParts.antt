@@ -1,5 +1,5 @@
 -- The parts that a catalogue is made of: a width for each base view and a definition for each derived view, both rising.
-use Rattle.std.specs.Prelude.{◌≡◌, ◌↔◌, ℕ, zero, suc, List, [], ◌∷◌, length, Option, None, Some}
+use Rattle.std.specs.Prelude.{◌≡◌, ◌↔◌, ℕ, suc, List, [], ◌∷◌, length, Option, None, Some}
 use Rattle.wh_dag.specs.Shape.{Views}
 use Rattle.wh_dag.specs.Catalog.{DefinitionOf, columns, CatalogOf, IsCatalog}
 

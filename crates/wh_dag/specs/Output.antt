@@ -1,6 +1,5 @@
 -- What outputs and definitions are made of, and what they are seen as.
-use Rattle.std.specs.Prelude.{◌≡◌, ℕ, List, [], map, All, Vec}
-use Rattle.std.specs.declared.alloc.Global.{Global}
+use Rattle.std.specs.Prelude.{◌≡◌, ℕ, List, map, All}
 use Rattle.wh_formula.specs.Expr.{ExprTree}
 use Rattle.wh_formula.specs.Filter.{FilterOf}
 use Rattle.wh_formula.specs.Combiner.{CombinerOf}

@@ -31,6 +31,3 @@ pub use output::Output;
 pub use shape::Shape;
 pub use siblings::{Couple, SiblingPair};
 pub use well_formed::well_formed_law;
-
-#[cfg(test)]
-mod tests;

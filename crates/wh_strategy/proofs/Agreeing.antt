@@ -1,14 +1,13 @@
 -- The rules by places and the tests along the list agree.
-use Rattle.std.proofs.Common.{◌≡◌, ℕ, ◌+◌, ◌<◌, ◌≤◌, List, [], Bool, true, false, refl, sym, ap, ◌∙◌, length, Option, Some, None, ⊎_elim, arith}
+use Rattle.std.proofs.Common.{◌≡◌, ℕ, ◌+◌, ◌<◌, ◌≤◌, List, [], refl, length, Option, Some, None, ⊎_elim, arith}
 use Rattle.std.proofs.lemmas.Option.{slice_get_within}
 use Rattle.std.specs.Prelude.{IfNone, IfSome, MatchOption}
 use Rattle.std.proofs.lemmas.Bool.{both_ways}
 use Rattle.wh_dag.specs.Shape.{IsShape}
 use Rattle.wh_strategy.specs.declared.expression.Expression.{Expression}
 use Rattle.wh_strategy.specs.declared.rule.Rule.{Rule}
-use Rattle.wh_strategy.specs.Expression.{At}
 use Rattle.wh_strategy.specs.Rules.{IsCorrect, Breaks, Keeps, IsFirstPlace, IsFirstBroken, number_of}
-use Rattle.wh_strategy.specs.Tests.{lacks, place_from, Passes, PassEach, IsFirstFailed}
+use Rattle.wh_strategy.specs.Tests.{place_from, Passes, PassEach, IsFirstFailed}
 use Rattle.wh_strategy.proofs.Passing.{by_tests, each_kept, none_lacks}
 use Rattle.wh_strategy.proofs.CorrectLists.{passes_all}
 use Rattle.wh_strategy.proofs.RuleOrder.{in_order, place_of, rule_at}

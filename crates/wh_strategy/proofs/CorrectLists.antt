@@ -9,7 +9,7 @@ use Rattle.wh_strategy.specs.declared.expression.Expression.{Expression}
 use Rattle.wh_strategy.specs.declared.expression.Expression.TheVariants.{Comp, Inst}
 use Rattle.wh_strategy.specs.declared.rule.Rule.{Rule}
 use Rattle.wh_strategy.specs.declared.rule.Rule.TheVariants.{S1, S2, S3, S4, S5, S6}
-use Rattle.wh_strategy.specs.Expression.{At, is_inst, is_new}
+use Rattle.wh_strategy.specs.Expression.{At, is_inst}
 use Rattle.wh_strategy.specs.Rules.{IsCorrect}
 use Rattle.wh_strategy.specs.Tests.{is_doubled, is_installed, takes, is_taken, leaves_open, reads, is_stray, is_broken, lacks_comp, lacks_inst, lacks, place_from, Passes}
 use Rattle.wh_strategy.proofs.Found.{has-head, has-tail, any_before, found_before, is_that_inst}

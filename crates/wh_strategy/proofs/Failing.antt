@@ -1,18 +1,18 @@
 -- Where a rule's test fails, the rule is broken, and the other way round.
-use Rattle.std.proofs.Common.{◌≡◌, ℕ, zero, suc, ◌+◌, ◌<◌, ◌≤◌, List, [], ◌∷◌, ◌++◌, ◌⊎◌, inl, inr, Bool, true, false, cond, eqb, not, refl, sym, ap, ◌∙◌, subst, length, take, Option, Some, None, ◌||◌, ◌&&◌, ⊎_elim, arith, append_assoc}
+use Rattle.std.proofs.Common.{◌≡◌, ℕ, zero, suc, ◌+◌, ◌<◌, ◌≤◌, List, [], ◌∷◌, ◌++◌, ◌⊎◌, inl, inr, Bool, true, false, cond, eqb, not, refl, sym, ap, ◌∙◌, subst, length, take, Option, Some, None, ⊎_elim, arith, append_assoc}
 use Rattle.std.specs.Prelude.{slice_get}
 use Rattle.std.specs.List.{list_any}
-use Rattle.std.proofs.lemmas.Option.{none-some, same_Some, slice_get_within}
-use Rattle.std.proofs.lemmas.Bool.{cases_Bool, cases_order, cases_lt, eqb-true, eq-eqb, leb-true, le-leb, false≢true, or_left, or_right, or_cases, or_parts, and_parts, and_from, both_ways, not-false, not_from_true, false_from_ne_true}
+use Rattle.std.proofs.lemmas.Option.{none-some, same_Some}
+use Rattle.std.proofs.lemmas.Bool.{cases_Bool, cases_order, cases_lt, eqb-true, eq-eqb, leb-true, le-leb, false≢true, or_left, or_right, or_cases, and_parts, and_from, both_ways, false_from_ne_true}
 use Rattle.wh_dag.specs.Shape.{has, Distinct, children_of}
 use Rattle.wh_strategy.specs.declared.expression.Expression.{Expression}
 use Rattle.wh_strategy.specs.declared.expression.Expression.TheVariants.{Comp, Inst}
 use Rattle.wh_strategy.specs.declared.rule.Rule.{Rule}
 use Rattle.wh_strategy.specs.declared.rule.Rule.TheVariants.{S1, S2, S3, S4, S5, S6}
 use Rattle.wh_strategy.specs.Expression.{At, is_inst}
-use Rattle.wh_strategy.specs.Rules.{IsStray, BreaksS1, BreaksS2, BreaksS3, BreaksS4, BreaksS5, BreaksS6, Breaks, base_view, no_source, no_child, twice, again, stray_comp, missing_comp, no_view, second_inst, missing_inst}
+use Rattle.wh_strategy.specs.Rules.{IsStray, BreaksS4, Breaks, base_view, no_source, no_child, twice, again, stray_comp, missing_comp, no_view, second_inst, missing_inst}
 use Rattle.wh_strategy.specs.Tests.{is_doubled, is_installed, takes, is_taken, leaves_open, reads, is_stray, is_broken, lacks_comp, lacks_inst, lacks, place_from}
-use Rattle.wh_strategy.proofs.Found.{has-head, has-tail, has_within, any_before, found_before, is_that_inst}
+use Rattle.wh_strategy.proofs.Found.{has-head, has-tail, any_before, found_before, is_that_inst}
 use Rattle.wh_strategy.proofs.Passing.{take_front, get_front, length_one_more, not_doubled, taken_at}
 use Rattle.wh_strategy.proofs.CorrectLists.{once_each, comp_of, reader_of, any_at}
 

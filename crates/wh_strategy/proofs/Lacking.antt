@@ -1,5 +1,5 @@
 -- What is missing, view by view.
-use Rattle.std.proofs.Common.{◌≡◌, ℕ, zero, suc, ◌+◌, ◌<◌, ◌≤◌, List, [], ◌∷◌, Bool, not, refl, sym, ap, ◌∙◌, length, drop, get_or, ◌||◌, arith, drop-cons}
+use Rattle.std.proofs.Common.{◌≡◌, ℕ, zero, suc, ◌+◌, ◌<◌, ◌≤◌, List, [], ◌∷◌, not, refl, ap, ◌∙◌, length, drop, ◌||◌, arith}
 use Rattle.std.specs.List.{list_any}
 use Rattle.std.proofs.lemmas.List.{get_or_past}
 use Rattle.wh_dag.specs.Shape.{children_of}

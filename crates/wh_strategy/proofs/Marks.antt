@@ -1,12 +1,12 @@
 -- What the tables of earlier expressions tell once one more is noted.
-use Rattle.std.proofs.Common.{◌≡◌, ◌≢◌, ◌||◌, ℕ, ◌+◌, ◌<◌, ◌≤◌, List, [], ◌∷◌, ◌++◌, Bool, true, false, eqb, refl, sym, ap, ◌∙◌, length, get_or, replicate, set, take, drop, Some, ⊎_elim, arith}
+use Rattle.std.proofs.Common.{◌≡◌, ◌||◌, ℕ, ◌+◌, ◌<◌, ◌≤◌, List, [], ◌∷◌, ◌++◌, Bool, true, false, eqb, refl, sym, ap, ◌∙◌, length, get_or, replicate, set, take, drop, Some, ⊎_elim, arith}
 use Rattle.std.specs.List.{list_any}
 use Rattle.std.proofs.lemmas.Bool.{cases_Bool, eqb-true, cond-false, ne_eqb, eq-eqb, false≢true}
 use Rattle.std.proofs.lemmas.List.{get_or-replicate, get_or-set_other, get_or-set_same, length-replicate, length-set, drop_more, take_more}
 use Rattle.std.proofs.Math.Bool.{or_assoc}
 use Rattle.std.proofs.lemmas.List.Folds.{list_any-append}
 use Rattle.wh_dag.specs.Shape.{has}
-use Rattle.wh_strategy.specs.Earlier.{TellsInstalled, TellsTaken}
+use Rattle.wh_strategy.specs.Earlier.{TellsInstalled, TellsTaken, TellsRead}
 use Rattle.wh_strategy.specs.Tests.{is_broken, place_from}
 use Rattle.wh_strategy.specs.declared.expression.Expression.{Expression}
 use Rattle.wh_strategy.specs.declared.rule.Rule.{Rule}
@@ -30,6 +30,9 @@ taken_none = record {
   wide = λ v l. ap length (get_or-replicate 64 v (replicate 64 false) [] l) ∙ length-replicate 64 false;
   told = λ v u l m. ap (λ r. get_or r u false) (get_or-replicate 64 v (replicate 64 false) [] l) ∙ get_or-replicate 64 u false false m;
 }
+
+pub read_none : TellsRead (replicate 64 false) []
+read_none = record { many = length-replicate 64 false; told = λ v l. get_or-replicate 64 v false false l }
 
 -- ---- marking views in a row
 

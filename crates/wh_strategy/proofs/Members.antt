@@ -1,5 +1,5 @@
 -- Distinct members of a list are no more than the list has.
-use Rattle.std.proofs.Common.{◌≡◌, ℕ, suc, ◌≤◌, List, [], ◌∷◌, Bool, true, false, cond, eqb, refl, sym, ap, ◌∙◌, subst, length, ◌||◌, ⊎_elim, arith}
+use Rattle.std.proofs.Common.{◌≡◌, ℕ, suc, ◌≤◌, List, [], ◌∷◌, true, false, cond, eqb, sym, ap, ◌∙◌, subst, length, ◌||◌, ⊎_elim, arith}
 use Rattle.std.proofs.lemmas.Bool.{cases_Bool, eqb-true, ne_eqb, false≢true, or_left, or_right, or_cases, both_ways, cond-true, cond-false}
 use Rattle.wh_dag.specs.Shape.{has, Distinct}
 use Rattle.wh_strategy.proofs.Found.{has-head, has-tail}

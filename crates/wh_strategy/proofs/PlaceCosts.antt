@@ -3,8 +3,7 @@ use Rattle.std.proofs.Common.{◌≡◌, ℕ, zero, suc, ◌+◌, ◌*◌, ◌<�
 use Rattle.std.specs.Prelude.{slice_get}
 use Rattle.std.specs.List.{sum_by}
 use Rattle.std.proofs.lemmas.Option.{none-some, same_Some, slice_get_read}
-use Rattle.std.proofs.lemmas.Bool.{or_left, or_right, eq-eqb}
-use Rattle.wh_dag.specs.Shape.{has, Distinct, IsShape, children_of}
+use Rattle.wh_dag.specs.Shape.{has, IsShape, children_of}
 use Rattle.wh_strategy.specs.declared.expression.Expression.{Expression}
 use Rattle.wh_strategy.specs.declared.expression.Expression.TheVariants.{Comp, Inst}
 use Rattle.wh_strategy.specs.Expression.{At}

@@ -2,8 +2,9 @@
 
 ghost use Rattle.std.specs.Prelude.{◌≡◌, ◌||◌, ◌<◌, ℕ, List, [], ◌∷◌, ◌++◌, false, length, slice_index_or};
 ghost use Rattle.wh_dag.specs.Shape.{has};
-ghost use Rattle.wh_strategy.specs.Earlier.{Tells, TellsInstalled, TellsTaken};
-ghost use Rattle.wh_strategy.specs.Tests.{is_installed, is_taken};
+ghost use Rattle.std.specs.List.{list_any};
+ghost use Rattle.wh_strategy.specs.Earlier.{Tells, TellsInstalled, TellsTaken, TellsRead};
+ghost use Rattle.wh_strategy.specs.Tests.{is_installed, is_taken, reads};
 ghost use Rattle.wh_strategy.specs.declared.expression.Expression.{Expression};
 
 use crate::expression::Expression;
@@ -121,13 +122,63 @@ fn takes(before: &[Expression], v: usize, u: usize) -> bool
     })
 }
 
-/// Both tables.
+/// The views whose changes earlier Comps read.
+#[derive(Drop)]
+pub struct Read {
+    flags: [bool; VIEWS],
+}
+
+impl Read {
+    /// None is read before the first place.
+    pub fn new() -> Read
+        ensures { TellsRead result.flags [] }
+    {
+        Read {
+            flags: [false; VIEWS],
+        }
+    }
+
+    /// Notes the expression that follows.
+    pub fn note(&mut self, e: &Expression)
+        ensures { (before : List Expression) → TellsRead self.old.flags before → TellsRead self.new.flags (before ++ e.now ∷ []) }
+    {
+        if let Expression::Comp(_, ys) = e {
+            mark(&mut self.flags, ys.as_slice());
+        }
+    }
+
+    /// Whether one of these, which were noted, reads v's changes.
+    pub fn has(&self, before: &[Expression], v: usize) -> bool
+        requires { TellsRead self.now.flags before.now }
+        ensures { result ≡ list_any (reads v) before.now }
+    {
+        if v < VIEWS {
+            self.flags[v]
+        } else {
+            reads_view(before, v)
+        }
+    }
+}
+
+/// Whether one of these reads v's changes.
+fn reads_view(before: &[Expression], v: usize) -> bool
+    ensures { result ≡ list_any (reads v) before.now }
+{
+    before.iter().any(|e| match e {
+        Expression::Comp(_, ys) => has_view(ys.as_slice(), v),
+        Expression::Inst(_) => false,
+    })
+}
+
+/// All tables.
 #[derive(Drop)]
 pub struct Tables {
     /// The views that are installed earlier.
     pub installed: Installed,
     /// The sources that earlier Comps took.
     pub taken: Taken,
+    /// The views that earlier Comps read.
+    pub read: Read,
 }
 
 impl Tables {
@@ -138,6 +189,7 @@ impl Tables {
         Tables {
             installed: Installed::new(),
             taken: Taken::new(),
+            read: Read::new(),
         }
     }
 
@@ -147,6 +199,7 @@ impl Tables {
     {
         self.installed.note(e);
         self.taken.note(e);
+        self.read.note(e);
     }
 }
 

@@ -14,8 +14,6 @@ mod prefix;
 mod rule;
 mod sizes;
 mod terms;
-#[cfg(test)]
-mod tests;
 
 pub use correct::{CheckFault, Correct, check, rules_agree};
 pub use costs::Costs;

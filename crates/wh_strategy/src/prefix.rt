@@ -4,7 +4,7 @@ ghost use Rattle.std.specs.Prelude.{◌≡◌, [], not};
 ghost use Rattle.std.specs.List.{list_any};
 ghost use Rattle.wh_dag.specs.Shape.{has, children_of};
 ghost use Rattle.wh_strategy.specs.Earlier.{Tells, TellsInstalled, TellsTaken};
-ghost use Rattle.wh_strategy.specs.Tests.{is_doubled, is_installed, is_taken, leaves_open, reads, is_stray, is_broken, lacks_comp, lacks_inst, lacks, place_from};
+ghost use Rattle.wh_strategy.specs.Tests.{is_doubled, is_installed, is_taken, leaves_open, is_stray, is_broken, lacks_comp, lacks_inst, lacks, place_from};
 
 use crate::earlier::{Installed, Tables, Taken, has_view};
 use crate::expression::Expression;
@@ -36,15 +36,6 @@ fn left_open(installed: &Installed, before: &[Expression], v: usize) -> bool
 {
     before.iter().any(|e| match e {
         Expression::Comp(w, ys) => *w == v && any_not_installed(installed, before, ys.as_slice()),
-        Expression::Inst(_) => false,
-    })
-}
-
-fn read(before: &[Expression], v: usize) -> bool
-    ensures { result ≡ list_any (reads v) before.now }
-{
-    before.iter().any(|e| match e {
-        Expression::Comp(_, ys) => has_view(ys.as_slice(), v),
         Expression::Inst(_) => false,
     })
 }
@@ -111,7 +102,11 @@ fn broken(
     requires { Tells tables.now before.now }
     ensures { result ≡ is_broken rule children.now before.now e.now }
 {
-    let Tables { installed, taken } = tables;
+    let Tables {
+        installed,
+        taken,
+        read,
+    } = tables;
     match e {
         Expression::Comp(v, ys) => match rule {
             Rule::S1 => stray_in(children, taken, before, *v, ys.as_slice()),
@@ -119,7 +114,7 @@ fn broken(
             Rule::S3 => any_installed(installed, before, ys.as_slice()),
             Rule::S4 => left_open(installed, before, *v),
             Rule::S5 => installed.has(before, *v),
-            Rule::S6 => read(before, *v),
+            Rule::S6 => read.has(before, *v),
         },
         Expression::Inst(v) => match rule {
             Rule::S2 => children.len() <= *v || installed.has(before, *v),

@@ -1,4 +1,4 @@
-use Rattle.std.proofs.Common.{◌≡◌, ◌<◌, ◌==◌, ◌++◌, length, drop, true, false, ◌∙◌, ap, sym, arith}
+use Rattle.std.proofs.Common.{◌<◌, length, ◌∙◌, sym}
 use Rattle.wh_dag.proofs.Dealing.{one_more, no_more, left_after, dealt_base, dealt_derived}
 use Rattle.wh_dag.proofs.dealt.definitions.Goals as goal
 use Rattle.wh_dag.proofs.dealt.definitions.Goals.{then-is_empty, else-is_empty}

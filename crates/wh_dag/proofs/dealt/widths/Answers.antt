@@ -1,4 +1,3 @@
-use Rattle.std.proofs.Common.{◌≡◌, ◌<◌, ◌==◌, ◌++◌, length, drop, true, false, ◌∙◌, ap, sym, arith}
 use Rattle.wh_dag.proofs.Dealing.{one_more, no_more, left_after, from_item, width_defined, width_given}
 use Rattle.wh_dag.proofs.dealt.widths.Goals as goal
 use Rattle.wh_dag.proofs.dealt.widths.Goals.{in-Some, in-None}

@@ -1,4 +1,4 @@
-use Rattle.std.proofs.Common.{◌≡◌, ◌≤◌, ◌↔◌, All, drop, take, length, []}
+use Rattle.std.proofs.Common.{◌≡◌, ◌≤◌, ◌↔◌, All, drop, take, length}
 use Rattle.std.specs.Slice.Iter.{iter_rest}
 use Rattle.wh_dag.specs.CatalogParts.{FitTogether}
 use Rattle.wh_dag.proofs.Remaining.{Rest}

@@ -1,4 +1,4 @@
-use Rattle.std.proofs.Common.{◌≡◌, sym, ◌∙◌}
+use Rattle.std.proofs.Common.{sym, ◌∙◌}
 use Rattle.wh_dag.specs.Siblings.{is_couple}
 use Rattle.wh_dag.proofs.SiblingLists.{added_one, skipped_one}
 use Rattle.wh_dag.proofs.siblings.add_couples_with.Goals as goal

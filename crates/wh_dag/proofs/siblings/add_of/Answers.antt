@@ -1,4 +1,4 @@
-use Rattle.std.proofs.Common.{◌≡◌, ◌++◌, length, sym, ap, ◌∙◌}
+use Rattle.std.proofs.Common.{◌++◌, length, sym, ap, ◌∙◌}
 use Rattle.std.proofs.lemmas.List.{append-nil}
 use Rattle.wh_dag.specs.Siblings.{is_sibling_pair, triples_with}
 use Rattle.wh_dag.proofs.SiblingLists.{kept_none, added_each, skipped_each, no_pair_with}

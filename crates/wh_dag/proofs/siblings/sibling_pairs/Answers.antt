@@ -1,4 +1,4 @@
-use Rattle.std.proofs.Common.{◌≡◌, ◌<◌, ℕ, filter, length, sym, ap, ◌∙◌, arith}
+use Rattle.std.proofs.Common.{◌≡◌, filter, length, sym, ap, ◌∙◌, arith}
 use Rattle.wh_dag.specs.Siblings.{is_sibling_pair, triples_of, each_below, sibling_pairs_of}
 use Rattle.wh_dag.proofs.SiblingLists.{kept_none, made_each}
 use Rattle.wh_dag.proofs.siblings.sibling_pairs.Goals as goal

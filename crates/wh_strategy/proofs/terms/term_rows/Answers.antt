@@ -1,4 +1,4 @@
-use Rattle.std.proofs.Common.{◌≡◌, rules, arith}
+use Rattle.std.proofs.Common.{arith}
 use Rattle.std.proofs.lemmas.Grind.{common_steps}
 use Rattle.wh_strategy.specs.Sizes.{sizes_of}
 use Rattle.wh_strategy.proofs.PlaceCosts.{terms_by_child}

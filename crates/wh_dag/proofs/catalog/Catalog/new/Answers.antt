@@ -1,4 +1,3 @@
-use Rattle.std.proofs.Common.{◌≡◌}
 use Rattle.wh_dag.proofs.Shown.{shows}
 use Rattle.wh_dag.proofs.catalog.Catalog.new.Goals as goal
 

@@ -1,4 +1,3 @@
-use Rattle.std.proofs.Common.{◌≡◌, ◌↔◌, IsTrue}
 use Rattle.std.proofs.lemmas.Bool.{both_ways}
 use Rattle.wh_dag.proofs.Within.{of_one_width}
 use Rattle.wh_dag.proofs.definition.Definition.fits.Goals as goal

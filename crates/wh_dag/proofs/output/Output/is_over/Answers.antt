@@ -1,4 +1,4 @@
-use Rattle.std.proofs.Common.{◌≡◌, ◌==◌, ◌&&◌}
+use Rattle.std.proofs.Common.{◌==◌, ◌&&◌}
 use Rattle.std.specs.List.{list_all}
 use Rattle.wh_formula.specs.Expr.{fits}
 use Rattle.wh_dag.proofs.Within.{kept_over, summed_over, when_true, when_false}

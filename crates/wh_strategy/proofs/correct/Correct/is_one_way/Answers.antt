@@ -1,4 +1,4 @@
-use Rattle.std.proofs.Common.{◌≡◌, ap, ◌∙◌, subst, IsTrue, ◌↔◌}
+use Rattle.std.proofs.Common.{ap, ◌∙◌, subst, IsTrue, ◌↔◌}
 use Rattle.wh_strategy.specs.Rules.{IsOneWay}
 use Rattle.wh_strategy.proofs.correct.Correct.is_one_way.Goals as goal
 
