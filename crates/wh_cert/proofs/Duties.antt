@@ -1,8 +1,8 @@
 -- Sums over the members of a list, and over its pairs.
-use Rattle.std.proofs.Common.{◌≡◌, ℕ, ◌+◌, ◌≤◌, List, [], ◌∷◌, Bool, true, false, cond, eqb, refl, sym, ap, ◌∙◌, subst, ◌||◌, ⊎_elim, arith}
+use Rattle.std.proofs.Common.{◌≡◌, ℕ, ◌+◌, ◌≤◌, List, [], ◌∷◌, Bool, true, false, cond, eqb, sym, ap, ◌∙◌, subst, ◌||◌, ⊎_elim, arith}
 use Rattle.std.specs.List.{sum_by}
 use Rattle.std.proofs.lemmas.List.Sums.{sum_by-cons}
-use Rattle.std.proofs.lemmas.Bool.{cases_Bool, eqb-true, eq-eqb, ne_eqb, or_left, or_right, cond-true, cond-false, both_ways}
+use Rattle.std.proofs.lemmas.Bool.{cases_Bool, eqb-true, ne_eqb, cond-true, cond-false, both_ways}
 use Rattle.wh_dag.specs.Shape.{has, Distinct}
 use Rattle.wh_strategy.proofs.Found.{has-head, has-tail}
 use Rattle.wh_strategy.proofs.SumsBelow.{sum_by-same, sum_by-plus, sum_by-none}

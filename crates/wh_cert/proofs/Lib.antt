@@ -6,3 +6,6 @@ pub mod Least
 pub mod OneVerdict
 pub mod PairSums
 pub mod Sums
+pub mod Trees
+pub mod Preorders
+pub mod Descents

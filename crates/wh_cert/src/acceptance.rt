@@ -2,17 +2,21 @@
 
 ghost use Rattle.std.specs.Prelude.{◌≡◌, ◌≤◌, ℕ, List, length};
 ghost use Rattle.wh_strategy.specs.declared.expression.Expression.{Expression};
-ghost use Rattle.wh_strategy.specs.Rules.{IsCorrect};
+ghost use Rattle.wh_dag.specs.Shape.{IsShape};
+ghost use Rattle.wh_strategy.specs.Rules.{IsCorrect, IsOneWay};
 ghost use Rattle.wh_strategy.specs.Sizes.{Size, sizes_of};
 ghost use Rattle.wh_strategy.specs.Work.{work_of};
 ghost use Rattle.wh_cert.specs.declared.certificate.Certificate.{Certificate};
 ghost use Rattle.wh_cert.specs.declared.certificate.Verdict.{Verdict};
-ghost use Rattle.wh_cert.specs.Bound.{pair_bound_of};
 ghost use Rattle.wh_cert.specs.Certificate.{IsJudged};
+ghost use Rattle.wh_cert.specs.Search.{IsAcceptedTree};
+ghost use Rattle.wh_cert.specs.Tree.{CaseTree};
 
 use crate::bound::pair_bound;
 use crate::certificate::{Certificate, PairMin, Verdict};
 use crate::lines::first_wrong;
+use crate::search::first_bad;
+use crate::tree::Tree;
 use wh_dag::Shape;
 use wh_strategy::{Correct, Costs, Sizes, work};
 
@@ -25,7 +29,7 @@ fn judge_pairs(
 ) -> Verdict
     requires same { correct.now.children ≡ shape.now.children }
     requires sizes { length sizes.now ≡ length shape.now.children }
-    ensures judged { IsJudged shape.now.children (sizes_of sizes.now) (work_of shape.now.children (sizes_of sizes.now) costs.comp costs.inst correct.now.list) (pair_bound_of shape.now.children (sizes_of sizes.now) costs.comp costs.inst) (Certificate.Pairs lines.now) result }
+    ensures judged { IsJudged shape.now.children (sizes_of sizes.now) costs.comp costs.inst (work_of shape.now.children (sizes_of sizes.now) costs.comp costs.inst correct.now.list) (Certificate.Pairs lines.now) result }
     ensures least { result ≡ Verdict.All → (list : List Expression) → IsCorrect shape.now.children list → work_of shape.now.children (sizes_of sizes.now) costs.comp costs.inst correct.now.list ≤ work_of shape.now.children (sizes_of sizes.now) costs.comp costs.inst list }
 {
     if let Some(line) = first_wrong(shape.child_lists(), sizes, lines) {
@@ -35,6 +39,21 @@ fn judge_pairs(
         Verdict::All
     } else {
         Verdict::Rejected(0)
+    }
+}
+
+fn judge_tree(shape: &Shape, sizes: &Sizes, costs: Costs, correct: &Correct, tree: &Tree) -> Verdict
+    requires same { correct.now.children ≡ shape.now.children }
+    requires sizes { length sizes.now ≡ length shape.now.children }
+    ensures judged { IsJudged shape.now.children (sizes_of sizes.now) costs.comp costs.inst (work_of shape.now.children (sizes_of sizes.now) costs.comp costs.inst correct.now.list) (Certificate.Search tree.now) result }
+    ensures one_way { result ≡ Verdict.OneWay → (list : List Expression) → IsCorrect shape.now.children list → IsOneWay list → work_of shape.now.children (sizes_of sizes.now) costs.comp costs.inst correct.now.list ≤ work_of shape.now.children (sizes_of sizes.now) costs.comp costs.inst list }
+{
+    // The proof needs what the lists of a shape keep to.
+    let _lists = shape.child_lists();
+    let work = work(shape, sizes, costs, correct);
+    match first_bad(shape, sizes, costs, work, tree) {
+        Some(place) => Verdict::Rejected(place),
+        None => Verdict::OneWay,
     }
 }
 
@@ -48,15 +67,22 @@ pub fn certify(
 ) -> Verdict
     requires same { correct.now.children ≡ shape.now.children }
     requires sizes { length sizes.now ≡ length shape.now.children }
-    ensures judged { IsJudged shape.now.children (sizes_of sizes.now) (work_of shape.now.children (sizes_of sizes.now) costs.comp costs.inst correct.now.list) (pair_bound_of shape.now.children (sizes_of sizes.now) costs.comp costs.inst) certificate.now result }
+    ensures judged { IsJudged shape.now.children (sizes_of sizes.now) costs.comp costs.inst (work_of shape.now.children (sizes_of sizes.now) costs.comp costs.inst correct.now.list) certificate.now result }
     ensures least { result ≡ Verdict.All → (list : List Expression) → IsCorrect shape.now.children list → work_of shape.now.children (sizes_of sizes.now) costs.comp costs.inst correct.now.list ≤ work_of shape.now.children (sizes_of sizes.now) costs.comp costs.inst list }
+    ensures one_way { result ≡ Verdict.OneWay → (list : List Expression) → IsCorrect shape.now.children list → IsOneWay list → work_of shape.now.children (sizes_of sizes.now) costs.comp costs.inst correct.now.list ≤ work_of shape.now.children (sizes_of sizes.now) costs.comp costs.inst list }
 {
     match certificate {
         Certificate::Pairs(lines) => judge_pairs(shape, sizes, costs, correct, lines.as_slice()),
+        Certificate::Search(tree) => judge_tree(shape, sizes, costs, correct, tree),
     }
 }
 
-/// A law: at a work and a bound, a certificate has one verdict only.
+/// A law: where a tree is accepted for a work, no correct one-way strategy costs less.
+pub fn no_one_way_strategy_is_below_a_tree()
+    ensures { (shape : List (List ℕ)) (sizes : ℕ → Size) (comp inst work : ℕ) (tree : CaseTree) (list : List Expression) → IsShape shape → IsAcceptedTree shape sizes comp inst work tree → IsCorrect shape list → IsOneWay list → work ≤ work_of shape sizes comp inst list }
+{}
+
+/// A law: at these costs and a work, a certificate has one verdict only.
 pub fn one_verdict()
-    ensures { (shape : List (List ℕ)) (sizes : ℕ → Size) (work bound : ℕ) (certificate : Certificate) (verdict other : Verdict) → IsJudged shape sizes work bound certificate verdict → IsJudged shape sizes work bound certificate other → verdict ≡ other }
+    ensures { (shape : List (List ℕ)) (sizes : ℕ → Size) (comp inst work : ℕ) (certificate : Certificate) (verdict other : Verdict) → IsJudged shape sizes comp inst work certificate verdict → IsJudged shape sizes comp inst work certificate other → verdict ≡ other }
 {}

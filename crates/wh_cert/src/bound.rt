@@ -8,7 +8,8 @@ ghost use Rattle.wh_strategy.specs.declared.sizes.SizeRow.{SizeRow};
 ghost use Rattle.wh_strategy.specs.Rules.{IsCorrect};
 ghost use Rattle.wh_strategy.specs.Sizes.{AreSizes, sizes_of};
 ghost use Rattle.wh_strategy.specs.Work.{work_of};
-ghost use Rattle.wh_cert.specs.Bound.{pair_min, rows_by, pair_bound_of};
+ghost use Rattle.wh_cert.specs.Bound.{in_order, pair_min, decided_value, rows_by, decided_bound_of, pair_bound_of};
+ghost use Rattle.wh_cert.specs.Graph.{decides};
 
 use wh_dag::Shape;
 use wh_strategy::{Costs, Sizes};
@@ -22,67 +23,114 @@ fn changed_rows(sizes: &Sizes, view: usize) -> u128
     sizes.row(view).change as u128
 }
 
-/// The minimum of two views that have a common parent, in rows.
+/// What two views that have a common parent cost in rows where the first of them is installed first.
 #[tactic(auto, unfolding(wh_strategy::specs::Sizes::sizes_of))]
+fn in_order(sizes: &Sizes, first: usize, second: usize) -> u128
+    requires first { first < length sizes.now }
+    requires second { second < length sizes.now }
+    ensures value { result ≡ in_order (sizes_of sizes.now) first second }
+    ensures small { result ≤ 2 ^ 41 }
+{
+    sizes.row(second).pre as u128 + sizes.row(first).post as u128
+}
+
+/// The minimum of two views that have a common parent, in rows.
 pub(crate) fn pair_min(sizes: &Sizes, first: usize, second: usize) -> u128
     requires first { first < length sizes.now }
     requires second { second < length sizes.now }
     ensures value { result ≡ pair_min (sizes_of sizes.now) first second }
     ensures small { result ≤ 2 ^ 41 }
 {
-    let (first, second) = (sizes.row(first), sizes.row(second));
-    let in_order = second.pre as u128 + first.post as u128;
-    let turned = first.pre as u128 + second.post as u128;
-    in_order.min(turned)
+    let kept = in_order(sizes, first, second);
+    let turned = in_order(sizes, second, first);
+    kept.min(turned)
 }
 
-/// The minima of a view with each of these others.
-fn minima_with(sizes: &Sizes, view: usize, others: &[usize]) -> u128
+/// Whether it is decided that the first view is installed before the second.
+#[tactic(auto, unfolding(crate::specs::Graph::decides))]
+pub(crate) fn decides(decided: &[(usize, usize)], first: usize, second: usize) -> bool
+    ensures { result ≡ decides decided.now first second }
+{
+    decided.iter().any(|d| d.0 == first && d.1 == second)
+}
+
+/// What two views that have a common parent cost in rows by these decisions: that of the decided order, or the minimum
+/// where neither is decided.
+#[tactic(auto, unfolding(wh_strategy::specs::Sizes::sizes_of))]
+fn decided_value(sizes: &Sizes, decided: &[(usize, usize)], first: usize, second: usize) -> u128
+    requires first { first < length sizes.now }
+    requires second { second < length sizes.now }
+    ensures value { result ≡ decided_value (sizes_of sizes.now) decided.now first second }
+    ensures small { result ≤ 2 ^ 41 }
+{
+    if decides(decided, first, second) {
+        in_order(sizes, first, second)
+    } else if decides(decided, second, first) {
+        in_order(sizes, second, first)
+    } else {
+        pair_min(sizes, first, second)
+    }
+}
+
+/// The values of a view with each of these others.
+fn values_with(sizes: &Sizes, decided: &[(usize, usize)], view: usize, others: &[usize]) -> u128
     requires view { view < length sizes.now }
     requires others { All (λ w. w < length sizes.now) others.now }
     requires few { length others.now ≤ 6 }
-    ensures value { result ≡ sum_by (pair_min (sizes_of sizes.now) view) others.now }
+    ensures value { result ≡ sum_by (decided_value (sizes_of sizes.now) decided.now view) others.now }
     ensures small { result ≤ 2 ^ 44 }
 {
     let mut total = 0;
     for other in others {
-        total += pair_min(sizes, view, *other);
+        total += decided_value(sizes, decided, view, *other);
     }
     total
 }
 
-/// What the Comps of a view over these children read at least.
+/// What the Comps of a view over these children read at least by these decisions.
 #[tactic(auto, using(crate::proofs::PairSums::pairs_none, crate::proofs::PairSums::pairs_step))]
-fn least_rows(sizes: &Sizes, children: &[usize]) -> u128
+fn least_rows(sizes: &Sizes, decided: &[(usize, usize)], children: &[usize]) -> u128
     requires views { All (λ w. w < length sizes.now) children.now }
     requires few { length children.now ≤ 6 }
-    ensures value { result ≡ rows_by (pair_min (sizes_of sizes.now)) (sizes_of sizes.now) children.now }
+    ensures value { result ≡ rows_by (decided_value (sizes_of sizes.now) decided.now) (sizes_of sizes.now) children.now }
     ensures small { result ≤ 2 ^ 48 }
 {
     let mut changes = 0;
-    let mut minima = 0;
+    let mut values = 0;
     for (i, child) in children.iter().enumerate() {
         changes += changed_rows(sizes, *child);
-        minima += minima_with(sizes, *child, &children[i + 1..]);
+        values += values_with(sizes, decided, *child, &children[i + 1..]);
     }
-    changes + minima
+    changes + values
 }
 
-/// The pair bound by its definition.
+/// The decided bound at these sizes and costs, in cost times rows: the pair bound with each decided couple at the value
+/// of its decision, the view that is installed first standing first. Takes no memory.
+pub fn decided_bound(shape: &Shape, sizes: &Sizes, costs: Costs, decided: &[(usize, usize)]) -> u128
+    requires { length sizes.now ≡ length shape.now.children }
+    ensures { result ≡ decided_bound_of shape.now.children (sizes_of sizes.now) costs.comp costs.inst decided.now }
+{
+    let children = shape.child_lists();
+    let mut rows = 0;
+    let mut changes = 0;
+    for view in 0..sizes.len() {
+        rows += least_rows(sizes, decided, children.of(view));
+        changes += changed_rows(sizes, view);
+    }
+    costs.comp as u128 * rows + costs.inst as u128 * changes
+}
+
+/// The pair bound by its definition: no couple is decided.
+#[tactic(auto, unfolding(crate::specs::Graph::decides))]
 fn bound_of(shape: &Shape, sizes: &Sizes, costs: Costs) -> u128
     requires { length sizes.now ≡ length shape.now.children }
     ensures value { result ≡ pair_bound_of shape.now.children (sizes_of sizes.now) costs.comp costs.inst }
     ensures shape { IsShape shape.now.children }
     ensures sizes { AreSizes sizes.now }
 {
-    let children = shape.child_lists();
-    let mut rows = 0;
-    let mut changes = 0;
-    for view in 0..sizes.len() {
-        rows += least_rows(sizes, children.of(view));
-        changes += changed_rows(sizes, view);
-    }
-    costs.comp as u128 * rows + costs.inst as u128 * changes
+    // The proof needs what the lists of a shape and the rows of sizes keep to.
+    let (_lists, _views) = (shape.child_lists(), sizes.len());
+    decided_bound(shape, sizes, costs, &[])
 }
 
 /// The pair bound at these sizes and costs, in cost times rows: every correct strategy of the shape, with Comps from any

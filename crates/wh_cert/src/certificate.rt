@@ -2,6 +2,7 @@
 
 ghost use Rattle.std.specs.Prelude.{◌≡◌};
 
+use crate::tree::Tree;
 use std::marker::Model;
 use wh_strategy::Correct;
 
@@ -70,6 +71,8 @@ impl PairMins {
 pub enum Certificate {
     /// The work is the pair bound, which is made of these minima and of the changes: no correct strategy costs less.
     Pairs(PairMins),
+    /// Whatever is decided on the couples, the tree says why no one-way strategy costs less.
+    Search(Tree),
 }
 
 /// What a certificate is found to be.
@@ -77,8 +80,11 @@ pub enum Certificate {
 pub enum Verdict {
     /// It is accepted: no correct strategy costs less.
     All,
-    /// It is not accepted. The place is that of the first line that differs from the right one, counted from 1, also
-    /// where it is missing or one too many; it is 0 where all lines are right and the work is not the pair bound.
+    /// It is accepted: no one-way correct strategy costs less.
+    OneWay,
+    /// It is not accepted. By pairs, the place is that of the first line that differs from the right one, counted from 1,
+    /// also where it is missing or one too many; it is 0 where all lines are right and the work is not the pair bound. By a
+    /// tree, it is that of its first bad node in preorder, counted from 1.
     Rejected(usize),
 }
 

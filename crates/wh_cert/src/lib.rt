@@ -8,12 +8,16 @@
 mod acceptance;
 mod bound;
 mod certificate;
+mod cycle;
+mod descent;
 mod lines;
 mod order;
-#[cfg(test)]
-mod tests;
+mod search;
+mod tree;
 
-pub use acceptance::{certify, one_verdict};
-pub use bound::{no_strategy_is_below_the_bound, pair_bound};
+pub use acceptance::{certify, no_one_way_strategy_is_below_a_tree, one_verdict};
+pub use bound::{decided_bound, no_strategy_is_below_the_bound, pair_bound};
 pub use certificate::{Certificate, PairMin, PairMins, Planned, Scope, Verdict};
+pub use lines::right_line;
 pub use order::comes_first;
+pub use tree::{MAX_DEPTH, Tree, TreeNode};

@@ -20,8 +20,8 @@ pub(crate) struct Followed {
     pub(crate) agrees: bool,
 }
 
-/// The line that a certificate is to have for a sibling pair.
-fn right_line(sizes: &Sizes, pair: SiblingPair) -> PairMin
+/// The line that a certificate is to have for a sibling pair: its views in the desired order, and their minimum.
+pub fn right_line(sizes: &Sizes, pair: SiblingPair) -> PairMin
     requires lower { pair.lower < length sizes.now }
     requires higher { pair.higher < length sizes.now }
     ensures { result ≡ line_of (sizes_of sizes.now) pair }

@@ -1,4 +1,4 @@
-use Rattle.std.proofs.Common.{◌≡◌, true, sym, ◌∙◌}
+use Rattle.std.proofs.Common.{sym, ◌∙◌}
 use Rattle.std.proofs.lemmas.Bool.{false≢true}
 use Rattle.wh_cert.proofs.Following.{goes_on, stops}
 use Rattle.wh_cert.proofs.lines.follow.Goals as goal

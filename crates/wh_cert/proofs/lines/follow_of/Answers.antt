@@ -1,4 +1,4 @@
-use Rattle.std.proofs.Common.{◌≡◌, ◌<◌, ◌++◌, ℕ, List, length, sym, ap, subst, ◌∙◌, arith}
+use Rattle.std.proofs.Common.{◌≡◌, ◌++◌, ℕ, List, length, sym, subst, ◌∙◌, arith}
 use Rattle.wh_dag.specs.Siblings.{each_below, triples_with}
 use Rattle.wh_dag.specs.declared.siblings.SiblingPair.{SiblingPair}
 use Rattle.wh_dag.proofs.SiblingLists.{no_pair_with}

@@ -1,11 +1,11 @@
 use Rattle.std.proofs.Common.{◌≡◌, ◌≤◌, ◌*◌, ◌^◌, take}
 use Rattle.std.specs.List.{sum_by}
 use Rattle.wh_strategy.specs.Sizes.{sizes_of}
-use Rattle.wh_cert.specs.Bound.{pair_min}
-use Rattle.wh_cert.proofs.bound.minima_with.Given as goal
+use Rattle.wh_cert.specs.Bound.{decided_value}
+use Rattle.wh_cert.proofs.bound.values_with.Given as goal
 
 abbrev pub invariant-loop-other : goal.invariant-loop-other
 invariant-loop-other l = record {
-  sum : l.total ≡ sum_by (pair_min (sizes_of l.sizes) l.view) (take l.other-index l.others);
+  sum : l.total ≡ sum_by (decided_value (sizes_of l.sizes) l.decided l.view) (take l.other-index l.others);
   small : l.total ≤ l.other-index * 2 ^ 41;
 }

@@ -2,12 +2,12 @@ use Rattle.std.proofs.Common.{◌≡◌, ◌≤◌, ◌*◌, ◌^◌}
 use Rattle.wh_dag.specs.Shape.{children_of}
 use Rattle.wh_strategy.specs.Sizes.{sizes_of}
 use Rattle.wh_strategy.specs.Sums.{sum_below}
-use Rattle.wh_cert.specs.Bound.{pair_min, rows_by}
-use Rattle.wh_cert.proofs.bound.bound_of.Given as goal
+use Rattle.wh_cert.specs.Bound.{decided_value, rows_by}
+use Rattle.wh_cert.proofs.bound.decided_bound.Given as goal
 
 abbrev pub invariant-loop-view : goal.invariant-loop-view
 invariant-loop-view l = record {
-  rows : l.rows ≡ sum_below (λ v. rows_by (pair_min (sizes_of l.sizes)) (sizes_of l.sizes) (children_of l.shape.children v)) l.view;
+  rows : l.rows ≡ sum_below (λ v. rows_by (decided_value (sizes_of l.sizes) l.decided) (sizes_of l.sizes) (children_of l.shape.children v)) l.view;
   changes : l.changes ≡ sum_below (λ v. (sizes_of l.sizes v).change) l.view;
   small : l.rows ≤ l.view * 2 ^ 48;
   low : l.changes ≤ l.view * 2 ^ 40;
