@@ -1,8 +1,8 @@
 -- How often a node stands in a list, and where.
-use Rattle.std.proofs.Common.{◌≡◌, ◌≢◌, ℕ, zero, suc, ◌+◌, ◌<◌, ◌≤◌, List, [], ◌∷◌, ◌++◌, ◌⊎◌, Bool, true, false, cond, refl, sym, ap, ◌∙◌, subst, length, map, take, get_or, slice_get, add-one, Option, Some, None, ⊎_elim, inl, inr, eqb, arith}
+use Rattle.std.proofs.Common.{◌≡◌, ◌≢◌, ℕ, zero, suc, ◌+◌, ◌<◌, ◌≤◌, List, [], ◌∷◌, ◌++◌, ◌⊎◌, Bool, true, false, refl, sym, ap, ◌∙◌, subst, length, map, get_or, slice_get, Some, ⊎_elim, inl, inr, arith}
 use Rattle.std.specs.List.{list_any, remove, All}
 use Rattle.std.proofs.lemmas.Option.{none-some, same_Some}
-use Rattle.std.proofs.lemmas.Bool.{eqb-true, eq-eqb, false≢true, or_left, or_right, or_cases, or_parts, or_from, and_parts, and_from, cases_eq, cases_Bool, ltb-true, lt-ltb, cond-true, cond-false, both_ways, true_from_ne_false, false_from_ne_true}
+use Rattle.std.proofs.lemmas.Bool.{eqb-true, eq-eqb, false≢true, or_cases, or_parts, or_from, and_parts, and_from, cases_Bool, cond-true, cond-false, false_from_ne_true}
 use Rattle.wh_minwork.specs.Nodes.{one_if, same_node, one, times}
 use Rattle.wh_minwork.specs.declared.node.Node.{Node}
 use Rattle.wh_minwork.specs.declared.node.Node.TheVariants.{Comp, Inst}

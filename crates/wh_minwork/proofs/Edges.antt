@@ -1,11 +1,11 @@
 -- Nodes and edges as a program tests them are those of the graph.
-use Rattle.std.proofs.Common.{◌≡◌, ℕ, zero, suc, ◌+◌, ◌<◌, ◌≤◌, List, [], ◌∷◌, ◌++◌, ◌⊎◌, Bool, true, false, cond, refl, sym, ap, ◌∙◌, subst, length, map, take, get_or, slice_get, add-one, Option, Some, None, ⊎_elim, inl, inr, eqb, arith}
-use Rattle.std.proofs.lemmas.Bool.{eqb-true, eq-eqb, false≢true, or_left, or_right, or_cases, or_parts, or_from, and_parts, and_from, cases_eq, cases_Bool, cases_lt, ltb-true, lt-ltb, cond-true, cond-false, both_ways, true_from_ne_false}
+use Rattle.std.proofs.Common.{◌≡◌, ℕ, ◌<◌, List, [], ◌∷◌, true, refl, sym, ap, ◌∙◌, subst, length, ⊎_elim, inl, inr}
+use Rattle.std.proofs.lemmas.Bool.{eqb-true, eq-eqb, false≢true, or_left, or_right, or_cases, and_parts, and_from, cases_lt, ltb-true, lt-ltb}
 use Rattle.std.proofs.lemmas.List.{get_or_past}
-use Rattle.wh_dag.specs.Shape.{has, children_of, IsShape}
+use Rattle.wh_dag.specs.Shape.{has, children_of}
 use Rattle.wh_strategy.specs.declared.expression.Expression.{Expression}
 use Rattle.wh_strategy.specs.declared.expression.Expression.TheVariants.{Comp as comp, Inst as inst}
-use Rattle.wh_cert.specs.Graph.{decides, IsNode, HasEdge, Leads, IsCycle}
+use Rattle.wh_cert.specs.Graph.{decides, IsNode, HasEdge}
 use Rattle.wh_minwork.specs.Nodes.{expression_of, is_node, leads}
 use Rattle.wh_minwork.specs.declared.node.Node.{Node}
 use Rattle.wh_minwork.specs.declared.node.Node.TheVariants.{Comp, Inst}

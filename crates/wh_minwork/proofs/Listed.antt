@@ -1,6 +1,6 @@
 -- The list of all nodes, as a program makes it.
-use Rattle.std.proofs.Common.{◌≡◌, ℕ, ◌+◌, ◌<◌, ◌≤◌, ◌⊎◌, List, [], ◌∷◌, ◌++◌, Bool, true, false, cond, refl, sym, ap, ◌∙◌, subst, length, ⊎_elim, inl, inr, eqb, ltb, ◌&&◌, ◌||◌, arith}
-use Rattle.std.proofs.lemmas.Bool.{eqb-true, eq-eqb, ne_eqb, false≢true, or_left, or_right, or_cases, or_from, and_parts, and_from, and_left, and_right, cases_eq, cases_Bool, cases_order, cases_lt, ltb-true, lt-ltb, le-ltb, cond-true, cond-false, both_ways}
+use Rattle.std.proofs.Common.{◌≡◌, ℕ, ◌+◌, ◌<◌, ◌⊎◌, List, [], ◌∷◌, ◌++◌, Bool, true, false, cond, refl, sym, ap, ◌∙◌, subst, length, ⊎_elim, inl, inr, eqb, ltb, ◌&&◌, ◌||◌, arith}
+use Rattle.std.proofs.lemmas.Bool.{eqb-true, eq-eqb, or_left, or_right, or_cases, or_from, and_parts, and_from, and_right, cases_eq, cases_Bool, ltb-true, lt-ltb, le-ltb, cond-true, cond-false, both_ways}
 use Rattle.wh_dag.specs.Shape.{has, children_of, IsShape}
 use Rattle.wh_minwork.proofs.Edges.{has_within}
 use Rattle.wh_minwork.specs.Nodes.{one_if, same_node, is_node, one, times, AreNodes}

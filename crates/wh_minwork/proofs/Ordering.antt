@@ -1,14 +1,14 @@
 -- All couples decided by the desired order, one after another.
-use Rattle.std.proofs.Common.{◌≡◌, ◌≢◌, ℕ, ◌+◌, ◌<◌, ◌≤◌, ◌⊎◌, List, [], ◌∷◌, ◌++◌, true, false, cond, refl, sym, ap, ◌∙◌, subst, length, ⊎_elim, inl, inr, arith}
-use Rattle.std.proofs.lemmas.Bool.{cases_Bool, cases_order, cases_lt, cases_eq, cond-true, cond-false, both_ways, false≢true, false_from_ne_true}
-use Rattle.wh_dag.specs.Shape.{has, children_of, IsShape}
-use Rattle.wh_dag.specs.Siblings.{have_parent, IsCouple}
+use Rattle.std.proofs.Common.{◌≡◌, ◌≢◌, ℕ, ◌+◌, ◌<◌, ◌≤◌, ◌⊎◌, List, [], ◌∷◌, ◌++◌, true, false, refl, sym, ap, ◌∙◌, subst, length, ⊎_elim, inl, inr, arith}
+use Rattle.std.proofs.lemmas.Bool.{cases_Bool, cases_order, cases_eq, cond-true, cond-false, both_ways, false≢true, false_from_ne_true}
+use Rattle.wh_dag.specs.Shape.{IsShape}
+use Rattle.wh_dag.specs.Siblings.{have_parent}
 use Rattle.wh_dag.proofs.CommonParents.{parent_of_both, both_have_parent}
 use Rattle.wh_strategy.specs.declared.expression.Expression.{Expression}
 use Rattle.wh_strategy.specs.declared.expression.Expression.TheVariants.{Comp, Inst}
 use Rattle.wh_strategy.specs.Sizes.{Size}
 use Rattle.wh_strategy.proofs.Found.{has_within}
-use Rattle.wh_cert.specs.Graph.{decides, IsNode, HasEdge, Leads, IsCycle, DecidesAll, DecidesAsDesired, IsOrdered}
+use Rattle.wh_cert.specs.Graph.{decides, HasEdge, Leads, IsCycle, IsOrdered}
 use Rattle.wh_cert.specs.Order.{comes_first, ComesFirst}
 use Rattle.wh_cert.proofs.DesiredOrder.{one_comes, not_both_come}
 use Rattle.wh_minwork.specs.Desired.{in_desired_order}

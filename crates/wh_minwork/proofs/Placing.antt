@@ -1,19 +1,14 @@
 -- A list of nodes that is taken apart, one ready node after another, is sorted.
-use Rattle.std.proofs.Common.{◌≡◌, ℕ, zero, suc, ◌+◌, ◌<◌, ◌≤◌, List, [], ◌∷◌, ◌++◌, ◌⊎◌, Bool, true, false, cond, refl, sym, ap, ◌∙◌, subst, length, map, take, get_or, slice_get, add-one, Option, Some, None, ⊎_elim, inl, inr, eqb, arith}
+use Rattle.std.proofs.Common.{◌≡◌, ℕ, zero, suc, ◌+◌, ◌<◌, ◌≤◌, List, [], ◌∷◌, ◌++◌, true, false, sym, ◌∙◌, subst, length, map, get_or, slice_get, Some, ⊎_elim, arith}
 use Rattle.std.specs.List.{list_any, remove, All}
-use Rattle.std.proofs.lemmas.Option.{none-some, same_Some}
-use Rattle.std.proofs.lemmas.Bool.{eqb-true, eq-eqb, false≢true, or_left, or_right, or_cases, or_parts, or_from, and_parts, and_from, cases_eq, cases_Bool, ltb-true, lt-ltb, cond-true, cond-false, both_ways, true_from_ne_false}
-use Rattle.wh_dag.specs.Shape.{has, children_of, IsShape}
-use Rattle.wh_strategy.specs.declared.expression.Expression.{Expression}
-use Rattle.wh_strategy.specs.declared.expression.Expression.TheVariants.{Comp as comp, Inst as inst}
-use Rattle.wh_cert.specs.Graph.{decides, IsNode, HasEdge, Leads, IsCycle}
-use Rattle.wh_strategy.specs.Expression.{At}
+use Rattle.std.proofs.lemmas.Option.{none-some}
+use Rattle.std.proofs.lemmas.Bool.{cases_eq, cases_Bool, both_ways, true_from_ne_false}
+use Rattle.wh_cert.specs.Graph.{IsNode, HasEdge}
 use Rattle.wh_minwork.specs.Sorted.{IsSorted}
 use Rattle.wh_minwork.specs.Nodes.{one_if, expression_of, is_node, leads, times, AreNodes, AreStuck}
 use Rattle.wh_minwork.proofs.Counting.{is_one, is_none, times_push, times_remove, times_get, found, twice, not_any, get_within, get_left, get_pushed, get_mapped, get_map, get_value}
 use Rattle.wh_minwork.proofs.Edges.{expression_same, node_of, node_is, edge_leads}
 use Rattle.wh_minwork.specs.declared.node.Node.{Node}
-use Rattle.wh_minwork.specs.declared.node.Node.TheVariants.{Comp, Inst}
 
 -- the nodes are parted into those that are placed, each after all that lead to it, and the rest
 pub record IsPart (shape : List (List ℕ)) (decided : List (ℕ × ℕ)) (placed rest : List Node) : Type 0 where

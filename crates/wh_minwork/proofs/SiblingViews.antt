@@ -1,8 +1,8 @@
 -- The sibling pairs of a shape are of its views.
-use Rattle.std.proofs.Common.{◌≡◌, ℕ, zero, suc, ◌+◌, ◌<◌, ◌≤◌, List, [], ◌∷◌, Bool, true, false, cond, refl, sym, subst, length, get_or, arith}
+use Rattle.std.proofs.Common.{◌≡◌, ℕ, zero, suc, ◌<◌, List, [], ◌∷◌, Bool, true, false, cond, refl, sym, subst, length, get_or, arith}
 use Rattle.std.specs.Prelude.{filter}
-use Rattle.std.proofs.lemmas.Bool.{and_parts, ltb-true}
-use Rattle.wh_dag.specs.Shape.{has, children_of, IsShape}
+use Rattle.std.proofs.lemmas.Bool.{and_parts}
+use Rattle.wh_dag.specs.Shape.{IsShape}
 use Rattle.wh_dag.specs.Siblings.{is_sibling_pair, sibling_pairs_of, triples_below}
 use Rattle.wh_dag.specs.declared.siblings.SiblingPair.{SiblingPair}
 use Rattle.wh_strategy.proofs.Found.{has_within}

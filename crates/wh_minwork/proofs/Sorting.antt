@@ -1,5 +1,5 @@
 -- A sorted list of the graph of all couples is a correct one-way strategy, and what it costs.
-use Rattle.std.proofs.Common.{◌≡◌, ◌≢◌, ℕ, zero, suc, Some, ◌<◌, ◌≤◌, List, [], ◌∷◌, true, false, cond, refl, sym, ap, ◌∙◌, subst, length, ⊎_elim, inl, inr, arith}
+use Rattle.std.proofs.Common.{◌≡◌, ◌≢◌, ℕ, ◌<◌, ◌≤◌, List, [], ◌∷◌, true, false, cond, refl, sym, ap, ◌∙◌, subst, length, ⊎_elim, inl, inr, arith}
 use Rattle.std.proofs.lemmas.Bool.{cond-true, cond-false, both_ways, false_from_ne_true}
 use Rattle.wh_dag.specs.Shape.{has, Distinct, IsShape, children_of}
 use Rattle.wh_dag.proofs.CommonParents.{parent_of_both, both_have_parent}
@@ -11,7 +11,7 @@ use Rattle.wh_strategy.specs.Sizes.{Size}
 use Rattle.wh_strategy.specs.Work.{work_of}
 use Rattle.wh_strategy.proofs.Found.{has_within}
 use Rattle.wh_cert.specs.Bound.{in_order, pair_min, pair_bound_of, decided_value, decided_bound_of}
-use Rattle.wh_cert.specs.Graph.{decides, IsNode, HasEdge, Leads, IsCycle, DecidesAll, DecidesAsDesired}
+use Rattle.wh_cert.specs.Graph.{decides, Leads, IsCycle, DecidesAll, DecidesAsDesired}
 use Rattle.wh_minwork.specs.Sorted.{IsSorted}
 use Rattle.wh_minwork.proofs.Exact.{work_one_way, work_as_desired}
 use Rattle.wh_minwork.proofs.OneWay.{single_has, single_own}

@@ -1,18 +1,14 @@
 -- A walk back along edges, which ends where it meets itself, is a cycle.
-use Rattle.std.proofs.Common.{◌≡◌, ◌≢◌, ℕ, zero, suc, ◌+◌, ◌<◌, ◌≤◌, List, [], ◌∷◌, ◌++◌, ◌⊎◌, Bool, true, false, cond, refl, sym, ap, ◌∙◌, subst, length, map, take, get_or, slice_get, add-one, Option, Some, None, ⊎_elim, inl, inr, eqb, arith}
+use Rattle.std.proofs.Common.{◌≡◌, ◌≢◌, ℕ, zero, suc, ◌+◌, ◌<◌, List, [], ◌∷◌, true, refl, sym, ap, ◌∙◌, subst, length, map, take, get_or, slice_get, add-one, Some, arith}
 use Rattle.std.specs.List.{list_any, remove, All}
 use Rattle.std.proofs.lemmas.Option.{none-some, same_Some}
-use Rattle.std.proofs.lemmas.Bool.{eqb-true, eq-eqb, false≢true, or_left, or_right, or_cases, or_parts, or_from, and_parts, and_from, cases_eq, cases_Bool, ltb-true, lt-ltb, cond-true, cond-false, both_ways, true_from_ne_false}
 use Rattle.std.proofs.lemmas.List.{take-map}
-use Rattle.wh_dag.specs.Shape.{has, children_of, IsShape}
 use Rattle.wh_strategy.specs.declared.expression.Expression.{Expression}
-use Rattle.wh_strategy.specs.declared.expression.Expression.TheVariants.{Comp as comp, Inst as inst}
-use Rattle.wh_cert.specs.Graph.{decides, IsNode, HasEdge, Leads, IsCycle}
-use Rattle.wh_minwork.specs.Nodes.{expression_of, is_node, leads, one, times, AreStuck}
+use Rattle.wh_cert.specs.Graph.{IsNode, HasEdge, Leads, IsCycle}
+use Rattle.wh_minwork.specs.Nodes.{expression_of, leads, one, times, AreStuck}
 use Rattle.wh_minwork.proofs.Counting.{one_itself, times_remove, times_get, times_none, get_map, get_value, get_some}
 use Rattle.wh_minwork.proofs.Edges.{node_is, leads_edge}
 use Rattle.wh_minwork.specs.declared.node.Node.{Node}
-use Rattle.wh_minwork.specs.declared.node.Node.TheVariants.{Comp, Inst}
 
 -- a walk back along edges, the last node first
 abbrev pub IsWalk : List (List ℕ) → List (ℕ × ℕ) → Expression → List Expression → Type 0

@@ -1,6 +1,6 @@
 -- What a graph is drawn from, and the tables that it looks up.
 use Rattle.std.specs.Prelude.{◌≡◌, ℕ, ◌<◌, List, Bool}
-use Rattle.wh_dag.specs.Shape.{has, children_of, IsShape}
+use Rattle.wh_dag.specs.Shape.{has, children_of}
 use Rattle.wh_cert.specs.Graph.{decides}
 use Rattle.wh_minwork.specs.Relations.{related}
 

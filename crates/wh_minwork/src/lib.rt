@@ -9,8 +9,6 @@ mod lines;
 mod minwork;
 mod node;
 mod relation;
-#[cfg(test)]
-mod tests;
 mod unplaced;
 
 pub use decided::Decided;

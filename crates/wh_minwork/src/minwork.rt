@@ -83,7 +83,7 @@ pub fn min_work(
     ensures work { IfOk result (λ p. p.work ≡ work_of shape.now.children (sizes_of sizes.now) costs.comp costs.inst p.correct.list) }
     ensures least { IfOk result (λ p. p.work ≡ pair_bound_of shape.now.children (sizes_of sizes.now) costs.comp costs.inst) }
     ensures scope { IfOk result (λ p. p.scope ≡ Scope.All) }
-    ensures accepted { IfOk result (λ p. IsJudged shape.now.children (sizes_of sizes.now) p.work (pair_bound_of shape.now.children (sizes_of sizes.now) costs.comp costs.inst) p.certificate Verdict.All) }
+    ensures accepted { IfOk result (λ p. IsJudged shape.now.children (sizes_of sizes.now) costs.comp costs.inst p.work p.certificate Verdict.All) }
     ensures err { IfErr result (IsMinReason shape.now.children (sizes_of sizes.now)) }
 {
     let strategy = match ordered_strategy(alloc, shape, sizes) {

@@ -1,7 +1,4 @@
-use Rattle.std.proofs.Common.{◌≡◌, ◌<◌, ℕ, List, [], ◌∷◌, sym, ap, ◌∙◌, subst, length, get_or}
-use Rattle.std.specs.List.{remove, All}
-use Rattle.wh_minwork.specs.Nodes.{AreStuck}
-use Rattle.wh_minwork.specs.declared.node.Node.{Node}
+use Rattle.std.proofs.Common.{◌≡◌, ap, ◌∙◌, get_or}
 use Rattle.wh_minwork.proofs.Walking.{led_first, led_next, search_start, search_more, search_meets, search_closes}
 use Rattle.wh_minwork.proofs.cycle.cycle.Goals as goal
 

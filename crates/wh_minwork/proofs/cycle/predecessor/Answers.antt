@@ -1,4 +1,4 @@
-use Rattle.std.proofs.Common.{◌≡◌, true, Some, sym, subst, get_or, slice_get}
+use Rattle.std.proofs.Common.{◌≡◌, true, Some, sym, subst, slice_get}
 use Rattle.std.proofs.lemmas.Bool.{both_ways}
 use Rattle.wh_minwork.specs.Nodes.{leads}
 use Rattle.wh_minwork.specs.declared.node.Node.TheVariants.{Comp}

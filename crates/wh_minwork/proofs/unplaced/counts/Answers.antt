@@ -1,4 +1,4 @@
-use Rattle.std.proofs.Common.{◌≡◌, ◌≤◌, ℕ, length, arith}
+use Rattle.std.proofs.Common.{◌≡◌, length, arith}
 use Rattle.wh_minwork.specs.declared.node.Node.TheVariants.{Comp}
 use Rattle.wh_minwork.proofs.Waiting.{first_none, first_more, first_all}
 use Rattle.wh_minwork.proofs.unplaced.counts.Goals as goal

@@ -1,6 +1,5 @@
-use Rattle.std.proofs.Common.{◌≡◌, true, false, sym, ◌∙◌}
+use Rattle.std.proofs.Common.{sym, ◌∙◌}
 use Rattle.std.proofs.lemmas.Bool.{both_ways}
-use Rattle.wh_minwork.specs.Relations.{related}
 use Rattle.wh_minwork.proofs.Tables.{tables_tell}
 use Rattle.wh_minwork.proofs.graph.Graph.leads.Goals as goal
 use Rattle.wh_minwork.proofs.graph.Graph.leads.Goals.{then-has, else-has}

@@ -1,8 +1,7 @@
-use Rattle.std.proofs.Common.{◌≡◌, ◌<◌, ◌≤◌, ℕ, Bool, sym, ap, ◌∙◌, subst, length, arith}
+use Rattle.std.proofs.Common.{◌≡◌, sym, ap, ◌∙◌, subst, length, arith}
 use Rattle.wh_dag.specs.Shape.{has, children_of, IsShape}
 use Rattle.wh_minwork.specs.Drawn.{Drawn}
-use Rattle.wh_minwork.specs.Nodes.{AreNodes}
-use Rattle.wh_minwork.proofs.Listed.{AreListed, is_listed, is_listed_then, listed_none, listed_comp, listed_skip, listed_row, listed_comps, listed_inst, listed_all}
+use Rattle.wh_minwork.proofs.Listed.{AreListed, is_listed, listed_none, listed_comp, listed_skip, listed_row, listed_comps, listed_inst, listed_all}
 use Rattle.wh_minwork.proofs.graph.Graph.nodes.Goals as goal
 use Rattle.wh_minwork.proofs.graph.Graph.nodes.Goals.{then-has+in_ok-push, else-has}
 

@@ -1,4 +1,4 @@
-use Rattle.std.proofs.Common.{◌≡◌, length, arith}
+use Rattle.std.proofs.Common.{arith}
 use Rattle.wh_minwork.proofs.Tables.{related_more}
 use Rattle.wh_minwork.proofs.relation.Relation.insert.Goals as goal
 

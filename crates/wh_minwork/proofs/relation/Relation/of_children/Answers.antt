@@ -1,8 +1,6 @@
-use Rattle.std.proofs.Common.{◌≡◌, ◌<◌, ◌≤◌, ℕ, List, length, sym, subst, arith}
+use Rattle.std.proofs.Common.{◌≡◌, ◌<◌, length, sym, subst, arith}
 use Rattle.std.specs.List.{All}
-use Rattle.wh_dag.specs.Shape.{has}
-use Rattle.wh_minwork.specs.Relations.{related}
-use Rattle.wh_minwork.proofs.Tables.{rows_none, rows_more, rows_all, children_small, rows_by_list}
+use Rattle.wh_minwork.proofs.Tables.{rows_none, rows_all, children_small, rows_by_list}
 use Rattle.wh_minwork.proofs.relation.Relation.of_children.Goals as goal
 
 pub insert_row-requires-clause-row : goal.insert_row-requires-clause-row

@@ -1,4 +1,4 @@
-use Rattle.std.proofs.Common.{◌≡◌, ◌<◌, ◌≤◌, ℕ, get_or, arith}
+use Rattle.std.proofs.Common.{get_or, arith}
 use Rattle.wh_minwork.proofs.Tables.{couples_none, couples_in, couples_out}
 use Rattle.wh_minwork.proofs.relation.Relation.of_couples.Goals as goal
 use Rattle.wh_minwork.proofs.relation.Relation.of_couples.Goals.{then-u-lt-VIEWS+then-w-lt-VIEWS, else-u-lt-VIEWS, else-u-lt-VIEWS-via-then-u-lt-VIEWS+else-w-lt-VIEWS, else-u-lt-VIEWS-via-else-u-lt-VIEWS}

@@ -1,4 +1,4 @@
-use Rattle.std.proofs.Common.{◌≡◌, ◌<◌, ◌≤◌, ℕ, sym, subst, length, arith}
+use Rattle.std.proofs.Common.{◌<◌, ◌≤◌, sym, subst, length, arith}
 use Rattle.std.specs.List.{All}
 use Rattle.wh_minwork.proofs.Tables.{children_small, parents_none, parents_more, parents_all}
 use Rattle.wh_minwork.proofs.relation.Relation.of_siblings.Goals as goal
