@@ -1,32 +1,37 @@
+mod Apart
+pub mod BagLemmas
+mod BothSums
 mod Caps
 mod Charges
 mod Children
 mod CountsChecked
+pub mod Differences
 mod Examples
 mod FirstAbsent
+pub mod FitTables
+mod FitTests
+pub mod Folds
+pub mod FromScratch
+pub mod GroupChanges
 mod GroupSteps
 mod Lacking
 mod MadeRows
 mod Matched
 mod Members
+pub mod MetRows
 mod NewGroups
 mod NewRows
+pub mod NoNegative
 mod OldGroups
+pub mod OldRows
 mod OneRow
 mod PartSums
-mod Standing
-mod TermSums
-pub mod BagLemmas
-pub mod Differences
-pub mod FitTables
-pub mod Folds
-pub mod FromScratch
-pub mod GroupChanges
-pub mod MetRows
-pub mod NoNegative
-pub mod OldRows
 pub mod Products
 pub mod SizeBounds
+mod SourceTests
+mod Standing
 pub mod Summaries
 pub mod Telescope
+mod TermSums
+mod ViewsEvaluated
 pub mod Widths

@@ -37,7 +37,7 @@ other_groups sums table fit r n (e ∷ es) below all =
     false≢true (sym (ap is_eq below.0) ∙ ap (λ x. is_row r x) (sym (fit.one_per_group r e.0 n all.0 (same_row (group_of sums r) (group_of sums e.0) t))) ∙ itself r)) in
     λ i. other i || other_groups sums table fit r n es below.1 all.1 i
 
-apart_from : (sums : ℕ) (table : Bag) → IsSummaryTable sums table → (es : Counted) → AreRising (rows_of es) → AreIn table es → Apart sums es
+pub apart_from : (sums : ℕ) (table : Bag) → IsSummaryTable sums table → (es : Counted) → AreRising (rows_of es) → AreIn table es → Apart sums es
 unfolding IsStrictlySortedBy
 apart_from sums table fit [] rising all = tt
 apart_from sums table fit (e ∷ es) rising all = (other_groups sums table fit e.0 all.0 es rising.0 all.1, apart_from sums table fit es rising.1 all.1)

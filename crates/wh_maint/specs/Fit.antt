@@ -1,5 +1,5 @@
 -- Tables that are fit for a night.
-use Rattle.std.specs.Prelude.{◌≡◌, ◌≢◌, ℕ, ◌<◌, pos, negsuc, ◌+ℤ◌, ◌≤ℤ◌, length}
+use Rattle.std.specs.Prelude.{◌≡◌, ◌≢◌, ℕ, ◌<◌, pos, negsuc, ◌+ℤ◌, ◌≤ℤ◌, ℤ, length}
 use Rattle.std.specs.declared.cmp.Ordering.TheVariants.{Less}
 use Rattle.wh_row.specs.Row.{Row, row_cmp}
 use Rattle.wh_row.specs.Bag.{Bag, count, IsTable}
@@ -12,6 +12,12 @@ pub record IsSummaryTable (sums : ℕ) (table : Bag) : Type 0 where
   pub once : (row : Row) → count table row ≢ pos 0 → count table row ≡ pos 1
   pub one_per_group : (row other : Row) → count table row ≢ pos 0 → count table other ≢ pos 0 → group_of sums row ≡ group_of sums other → row ≡ other
   pub positive : (row : Row) → count table row ≢ pos 0 → pos 1 ≤ℤ cell_of sums 0 row
+
+-- a row of a summary: it has a count and all sums, stands once, and its group counts
+pub record IsSummaryRow (sums : ℕ) (row : Row) (count : ℤ) : Type 0 where
+  pub wide : sums < length row
+  pub once : count ≡ pos 1
+  pub positive : pos 1 ≤ℤ cell_of sums 0 row
 
 -- a table is fit where no count is negative and, of a summary, its rows are as a summary has them
 abbrev pub IsFitTable : Kind → Bag → Type 0

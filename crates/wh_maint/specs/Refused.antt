@@ -1,11 +1,13 @@
 -- Why changes are refused.
-use Rattle.std.specs.Prelude.{◌≡◌, ◌≢◌, ℕ, pos}
+use Rattle.std.specs.Prelude.{◌≡◌, ◌≢◌, ℕ, suc, pos, ◌+ℤ◌, List, FitsSigned}
+use Rattle.std.specs.Int.{w128}
 use Rattle.std.specs.declared.cmp.Ordering.TheVariants.{Less}
 use Rattle.wh_row.specs.Row.{Row, row_cmp}
 use Rattle.wh_row.specs.Bag.{Bag, SumFits, count}
 use Rattle.wh_maint.specs.declared.fault.MaintFault.{MaintFault}
 use Rattle.wh_maint.specs.declared.fault.MaintFault.TheVariants.{Large, Range, Memory, Absent}
 use Rattle.wh_maint.specs.View.{Kind}
+use Rattle.wh_maint.specs.Comp.{bag_at}
 use Rattle.wh_maint.specs.Value.{NewCountsFit, ChangeHasValue}
 use Rattle.wh_maint.specs.Fit.{IsAbsent, IsFirstAbsent}
 
@@ -38,3 +40,19 @@ IsFinishFault view kind table pending (Large v) = (v ≡ view) × ¬ (NewCountsF
 IsFinishFault view kind table pending (Range v) = (v ≡ view) × NewCountsFit kind table pending × ¬ (ChangeHasValue kind table pending)
 IsFinishFault view kind table pending Memory = Unit {0}
 IsFinishFault view kind table pending (Absent v row) = ⊥
+
+-- each row's sums in both bags together are an i128
+abbrev pub SumsTogetherFit : Bag → Bag → Type 0
+SumsTogetherFit sums others = (row : Row) → FitsSigned w128 (count sums row +ℤ count others row)
+
+-- the counts of two Comps of one view together are i64s, and their sums i128s
+pub record MergedFit (columns others : List Bag) : Type 0 where
+  pub counts : SumFits (bag_at columns 0) (bag_at others 0)
+  pub sums : (j : ℕ) → SumsTogetherFit (bag_at columns (suc j)) (bag_at others (suc j))
+
+-- of what is pending and is to have that of another Comp: a count or a sum leaves its range; memory may be refused at any time
+abbrev pub IsMergeFault : ℕ → List Bag → List Bag → MaintFault → Type 0
+IsMergeFault view columns others (Large v) = (v ≡ view) × ¬ (MergedFit columns others)
+IsMergeFault view columns others (Range v) = ⊥
+IsMergeFault view columns others Memory = Unit {0}
+IsMergeFault view columns others (Absent v row) = ⊥

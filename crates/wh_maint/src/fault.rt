@@ -1,11 +1,11 @@
 //! Why a view's rows were not computed.
 
 ghost use Rattle.std.specs.Prelude.{◌≡◌};
-ghost use Rattle.wh_maint.specs.Fault.{fault_number, fault_of};
+ghost use Rattle.wh_maint.specs.Fault.{fault_number, fault_of, bag_fault_of};
 
 use std::alloc::{AllocError, AllocFailed};
 use std::marker::Model;
-use wh_row::Row;
+use wh_row::{BagFault, Row};
 
 /// A row that a fault names.
 #[derive(Drop)]
@@ -60,6 +60,16 @@ impl MaintFault {
             MaintFault::Range(_) => 2,
             MaintFault::Memory => 3,
             MaintFault::Absent(_, _) => 4,
+        }
+    }
+
+    /// The fault of the view whose bag was not changed.
+    pub(crate) fn of_bag(fault: BagFault, view: usize) -> MaintFault
+        ensures { result ≡ bag_fault_of view fault }
+    {
+        match fault {
+            BagFault::Memory => MaintFault::Memory,
+            BagFault::Large => MaintFault::Large(view),
         }
     }
 }

@@ -234,7 +234,7 @@ fn new_cell(
 }
 
 /// The cell of the group's old row, 0 where it has none.
-fn old_cell(sums: usize, old: Option<&[i64]>, column: usize) -> i64
+pub(crate) fn old_cell(sums: usize, old: Option<&[i64]>, column: usize) -> i64
     requires wide { IsWide sums old }
     requires column { column < suc sums }
     ensures { result ≡ cell_before sums old.entry column }

@@ -5,9 +5,12 @@
 //! adds it. What this rests on are laws: functions that do nothing, on whose contracts a proof calls.
 #![tactic(auto)]
 
+mod asked;
 mod base_change;
+mod both_sums;
 mod combined;
 mod comps;
+mod evaluated;
 mod fault;
 mod finished;
 mod group_change;
@@ -16,11 +19,11 @@ mod laws;
 mod pending;
 mod size;
 mod term;
-#[cfg(test)]
-mod tests;
 
+pub use asked::{are_bags, are_sources, is_fit};
 pub use base_change::changed;
 pub use comps::comp;
+pub use evaluated::evaluate;
 pub use fault::{MaintFault, NamedRow};
 pub use finished::finish;
 pub use installed::install;

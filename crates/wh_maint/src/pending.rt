@@ -1,12 +1,14 @@
 //! What the Comps of a view have added so far.
 
-ghost use Rattle.std.specs.Prelude.{◌≡◌, ℕ, suc, ◌<◌, ℤ, pos, ◌+ℤ◌, ◌*ℤ◌, FitsSigned, length, map, IfOk, OnOk, OnErr, slice_index_or};
+ghost use Rattle.std.specs.Prelude.{◌≡◌, ℕ, suc, ◌<◌, ℤ, pos, ◌+ℤ◌, ◌*ℤ◌, FitsSigned, length, map, IfOk, IfErr, OnOk, OnErr, slice_index_or};
 ghost use Rattle.std.specs.List.{range_with_len};
 ghost use mir.Syntax.{w64, w128};
 ghost use Rattle.wh_row.specs.Bag.{count as count_of, empty, plus};
-ghost use Rattle.wh_maint.specs.Comp.{bag_at};
+ghost use Rattle.wh_maint.specs.Comp.{bag_at, merged};
+ghost use Rattle.wh_maint.specs.Refused.{MergedFit, IsMergeFault};
 
-use crate::fault::RowFault;
+use crate::both_sums::in_each_column;
+use crate::fault::{MaintFault, RowFault};
 use std::alloc::{AllocError, Global};
 use std::marker::Model;
 use wh_row::{Bag, BagFault, Sums};
@@ -76,6 +78,30 @@ impl Pending {
         self.sums[number].sum(group)
     }
 
+    /// Adds what another Comp of the same view adds: each row or group then has the counts and the
+    /// sums of both. Large where a count leaves i64 or a sum i128. A refusal changes nothing.
+    pub fn merge(&mut self, other: &Pending) -> Result<(), MaintFault>
+        requires view { other.now.view ≡ self.old.view }
+        requires columns { length other.now.columns ≡ length self.old.columns }
+        ensures view { self.new.view ≡ self.old.view }
+        ensures sum { OnOk result (self.new.columns ≡ merged self.old.columns other.now.columns) }
+        ensures fits { OnOk result (MergedFit self.old.columns other.now.columns) }
+        ensures refused { IfErr result (IsMergeFault self.old.view self.old.columns other.now.columns) }
+        ensures err { OnErr result (self.new ≡ self.old) }
+    {
+        let sums = match in_each_column(self.alloc, self.sums.as_slice(), other.sums.as_slice()) {
+            Ok(sums) => sums,
+            Err(fault) => return Err(MaintFault::of_bag(fault, self.view)),
+        };
+        match self.counts.merge(&other.counts) {
+            Ok(()) => {
+                self.sums = sums;
+                Ok(())
+            }
+            Err(fault) => Err(MaintFault::of_bag(fault, self.view)),
+        }
+    }
+
     /// Adds to a count.
     pub(crate) fn add_count(&mut self, row: &[i64], count: i64) -> Result<(), RowFault>
         requires { FitsSigned w64 (count_of (bag_at self.old.columns 0) row.now +ℤ count) }
@@ -117,6 +143,13 @@ impl Pending {
         ensures { result.now ≡ bag_at self.now.columns 0 }
     {
         &self.counts
+    }
+
+    /// The counts alone.
+    pub(crate) fn into_counts(self) -> Bag
+        ensures { result ≡ bag_at self.columns 0 }
+    {
+        self.counts
     }
 }
 
