@@ -17,7 +17,7 @@ pub gone_on : {A B : Type 0} (first : Result A LoadFault) (next : A → Result B
 gone_on (Ok value) next last same = (value, refl, same)
 gone_on (Err fault) next last same = cc
 
-some_from_ok : {A : Type 0} (found : Option A) (fault : LoadFault) (value : A) → ok_or found fault ≡ Ok value → found ≡ Some value
+pub some_from_ok : {A : Type 0} (found : Option A) (fault : LoadFault) (value : A) → ok_or found fault ≡ Ok value → found ≡ Some value
 some_from_ok None fault value same = cc
 some_from_ok (Some other) fault value same = cc
 
@@ -27,7 +27,7 @@ name_in-form text name same = elim (cases_Bool (is_name text)) [
   | inr fails ↦ let lost = rw fails at same in cc
 ]
 
-form_from : (text : Option (List ℕ)) (name : List ℕ) → option_and_then name_in text ≡ Some name → is_name name ≡ true
+pub form_from : (text : Option (List ℕ)) (name : List ℕ) → option_and_then name_in text ≡ Some name → is_name name ≡ true
 form_from None name same = cc
 form_from (Some text) name same = name_in-form text name same
 

@@ -1,5 +1,5 @@
 -- One level of a formula whose kinds are looked at.
-use Rattle.std.proofs.Common.{◌≡◌, ℕ, suc, Option, Some, Result, Ok, Err, refl, inl, inr}
+use Rattle.std.proofs.Common.{◌≡◌, ℕ, suc, Some, Result, Ok, Err, refl, inl, inr}
 use Rattle.std.specs.Prelude.{◌⊎◌, IfOk, IfErr}
 use Rattle.toml.specs.Data.{Data}
 use Rattle.wh_load.specs.ExprForm.{WrittenExpr, expr_form}

@@ -1,6 +1,5 @@
 -- One link after another.
-use Rattle.std.proofs.Common.{◌≡◌, ℕ, ◌+◌, ◌<◌, List, [], ◌∷◌, ◌++◌, length, get_or, drop, map, Option, Some, None, Result, Ok, refl, ap, sym, ◌∙◌}
-use Rattle.std.specs.Option.{option_or}
+use Rattle.std.proofs.Common.{◌≡◌, ℕ, ◌+◌, ◌<◌, List, [], ◌∷◌, ◌++◌, length, get_or, drop, map, Some, None, Ok, refl}
 use Rattle.std.proofs.lemmas.List.{drop_more}
 use Rattle.wh_load.specs.Columns.{NamedKind}
 use Rattle.wh_load.specs.Header.{HeaderOf}

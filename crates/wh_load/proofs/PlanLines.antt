@@ -1,5 +1,5 @@
 -- A line of a plan, as its words are read.
-use Rattle.std.proofs.Common.{◌≡◌, ℕ, false, List, length, map, Option, Bor, refl, ap, sym, subst, ◌∙◌}
+use Rattle.std.proofs.Common.{◌≡◌, ℕ, false, List, length, Option, Bor, ap, sym, ◌∙◌}
 use Rattle.std.specs.Prelude.{◌==◌, if◌then◌else◌, Some}
 use Rattle.std.proofs.lemmas.List.{length-map}
 use Rattle.wh_load.specs.PlanLine.{plan_line_of}

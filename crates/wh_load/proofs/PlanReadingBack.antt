@@ -1,29 +1,27 @@
 -- A plan that was written is read back.
-use Rattle.std.proofs.Common.{◌≡◌, ◌≢◌, ℕ, ◌+◌, ◌<◌, ◌≤◌, ◌==◌, ◌||◌, Bool, true, false, not, suc, List, [], ◌∷◌, ◌++◌, length, map, Option, Some, None, Result, Ok, Err, ◌⊎◌, inl, inr, refl, ap, sym, subst, ◌∙◌, arith, if◌then◌else◌}
-use Rattle.std.specs.Prelude.{AllPairs, ◌^◌, ◌&&◌, codes, decimal, nat_lt}
+use Rattle.std.proofs.Common.{◌≡◌, ◌≢◌, ℕ, ◌+◌, ◌<◌, ◌≤◌, ◌==◌, ◌||◌, true, false, suc, List, [], ◌∷◌, ◌++◌, length, map, Some, Result, Ok, Err, ◌⊎◌, inl, inr, refl, ap, sym, ◌∙◌, arith}
+use Rattle.std.specs.Prelude.{AllPairs, ◌^◌, codes, decimal}
 use Rattle.std.specs.List.{All, flat_map, join_with_byte, list_all, list_any}
 use Rattle.std.specs.Str.Parse.{AllDigits}
-use Rattle.std.proofs.lemmas.Bool.{and_parts, lt-ltb}
+use Rattle.std.proofs.lemmas.Bool.{lt-ltb}
 use Rattle.std.proofs.lemmas.Bool.Decides.{eqb_tells}
 use Rattle.std.proofs.lemmas.Fmt.{decimal_is_IsNumeral_wide}
-use Rattle.std.proofs.lemmas.Grind.{flat_map-append}
-use Rattle.std.proofs.lemmas.List.{append-nil, append_assoc, map-append, length-append}
-use Rattle.std.proofs.lemmas.List.Folds.{list_any-append, flat_map-map}
+use Rattle.std.proofs.lemmas.List.{append-nil, append_assoc, length-append}
+use Rattle.std.proofs.lemmas.List.Folds.{list_any-append}
 use Rattle.std.proofs.lemmas.Str.Parse.{digit_from_value}
-use Rattle.wh_cert.specs.declared.certificate.Certificate.TheVariants.{Pairs}
+use Rattle.wh_cert.specs.declared.certificate.Certificate.TheVariants.{Pairs, Search}
 use Rattle.wh_cert.specs.declared.certificate.Certificate.{Certificate}
 use Rattle.wh_cert.specs.declared.certificate.PairMin.{PairMin}
 use Rattle.wh_cert.specs.declared.certificate.Scope.TheVariants as scope
 use Rattle.wh_strategy.specs.declared.expression.Expression.{Expression}
 use Rattle.wh_strategy.specs.declared.expression.Expression.TheVariants.{Comp, Inst}
 use Rattle.wh_load.specs.ExpressionText.{words_for, expression_of}
-use Rattle.wh_load.specs.Line.{is_blank}
 use Rattle.wh_load.specs.Natural.{natural}
 use Rattle.wh_load.specs.PlanLine.{plan_line_of}
-use Rattle.wh_load.specs.PlanReadsBack.{IsPairWithin, IsWritable, PlanReadsBack, TextsDiffer}
-use Rattle.wh_load.specs.PlanText.{is_paired, may_follow, if_said, with_line, plan_said, said_after, pair_words, line_text, plan_from, plan_of, plan_text, listed_in, pairs_in}
+use Rattle.wh_load.specs.PlanReadsBack.{IsPairWithin, PlanReadsBack, TextsDiffer}
+use Rattle.wh_load.specs.PlanText.{is_paired, may_follow, if_said, with_line, plan_said, said_after, pair_words, line_text, plan_of, plan_text, listed_in, pairs_in}
 use Rattle.wh_load.specs.ReadsBack.{IsWithin, is_plain}
-use Rattle.wh_load.specs.Words.{is_word, lines_of, words_of}
+use Rattle.wh_load.specs.Words.{lines_of}
 use Rattle.wh_load.specs.declared.fault.LoadFault.{LoadFault}
 use Rattle.wh_load.specs.declared.plan.Plan.{Plan}
 use Rattle.wh_load.specs.declared.plan.line.PlanLine.{PlanLine}
@@ -180,6 +178,7 @@ list_said (Err fault) = []
 
 pairs_of : Certificate → List PairMin
 pairs_of (Pairs pairs) = pairs
+pairs_of (Search nodes) = []
 
 pairs_said : Result Plan LoadFault → List PairMin
 pairs_said (Ok plan) = pairs_of plan.certificate

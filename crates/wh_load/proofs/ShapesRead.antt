@@ -22,7 +22,7 @@ pub same_Ok : {A : Type 0} (read : Result A LoadFault) (first second : A) → re
 same_Ok read first second e f = cc
 
 -- as many names as lists
-same_length : (values : List Data) (views : WrittenViews) → written_views values ≡ Ok views → length views.names ≡ length views.over
+pub same_length : (values : List Data) (views : WrittenViews) → written_views values ≡ Ok views → length views.names ≡ length views.over
 same_length [] views e = subst (λ v. length v.names ≡ length v.over) (same_Ok _ _ _ refl e) refl
 same_length (value ∷ rest) views e =
     let name = from_step (named value) _ views e in

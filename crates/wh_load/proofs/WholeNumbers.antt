@@ -1,14 +1,14 @@
 -- `parse` reads the whole numbers that cells write.
-use Rattle.std.proofs.Common.{◌≡◌, ℕ, ℤ, pos, negsuc, true, false, List, [], ◌∷◌, length, Option, Some, None, Result, Ok, Err, ◌⊎◌, inl, inr, refl, FitsSigned, w64}
+use Rattle.std.proofs.Common.{◌≡◌, ◌<◌, ℕ, ℤ, pos, negsuc, true, false, List, [], ◌∷◌, length, Option, Some, None, Result, Ok, Err, ◌⊎◌, inl, inr, refl, subst, sym, ap, arith, FitsSigned, w64}
 use Rattle.std.proofs.lemmas.Int.{to_z-of_z}
-use Rattle.std.specs.Prelude.{IfSome, ◌&&◌, ◌^◌, nat_lt, if◌then◌else◌}
+use Rattle.std.specs.Prelude.{IfSome, ◌&&◌, ◌^◌, ◌==◌, nat_lt, if◌then◌else◌}
 use Rattle.std.specs.Bool.{Decides}
 use Rattle.std.specs.Char.{digit_value}
 use Rattle.std.specs.List.{list_all}
-use Rattle.std.specs.Result.{result_ok}
-use Rattle.std.specs.Str.Parse.{AllDigits, IsNumeral, ParsesSigned, signed_digits_value, without_leading_sign}
+use Rattle.std.specs.Result.{OkIff, result_ok}
+use Rattle.std.specs.Str.Parse.{AllDigits, IsNumeral, ParsesSigned, digits_value, signed_digits_value, without_leading_sign}
 use Rattle.std.proofs.lemmas.Bool.{cases_Bool}
-use Rattle.std.proofs.lemmas.Bool.Decides.{Decides-and, Decides-like, Decides-ltb}
+use Rattle.std.proofs.lemmas.Bool.Decides.{Decides-and, Decides-eqb, Decides-like, Decides-ltb}
 use Rattle.wh_load.specs.WholeNumber.{are_digits, is_i64, whole_number}
 
 all-decides : (text : List ℕ) → Decides (list_all (λ digit. nat_lt (digit_value digit) 10) text) (AllDigits 10 text)
@@ -50,6 +50,37 @@ whole_number-fits text o e =
         → IfSome o (λ number. FitsSigned w64 number)
     by o (inl met) holds e = rw (e, met) (holds met).1
     by o (inr failed) holds e = rw (e, failed) tt
+
+other-digit : (c k : ℕ) → digit_value c < 10 → (digit_value k < 10 → ⊥) → (c == k) ≡ false
+other-digit c k digit other = by (cases_Bool (c == k))
+  where
+    by : ((c == k) ≡ true) ⊎ ((c == k) ≡ false) → (c == k) ≡ false
+    by (inl e) = absurd (other (subst (λ d. digit_value d < 10) ((Decides-eqb c k).0 e) digit))
+    by (inr e) = e
+
+no-digit-plus : digit_value 43 < 10 → ⊥
+no-digit-plus l = omega (arith, l)
+
+no-digit-minus : digit_value 45 < 10 → ⊥
+no-digit-minus l = omega (arith, l)
+
+-- digits alone write their number
+pub whole_number-plain : (text : List ℕ) (n : ℕ) → 0 < length text → AllDigits 10 text → digits_value 10 text ≡ n → FitsSigned w64 (pos n) → whole_number text ≡ Some (pos n)
+unfolding whole_number
+whole_number-plain [] n some digits value fits = absurd (omega (arith, some))
+whole_number-plain (c ∷ cs) n some digits value fits =
+    let minus = other-digit c 45 digits.0 no-digit-minus in
+    let plus = other-digit c 43 digits.0 no-digit-plus in
+    let bare : without_leading_sign (c ∷ cs) ≡ c ∷ cs = rw (minus, plus) refl in
+    let signed : signed_digits_value 10 (c ∷ cs) ≡ pos n = rw (minus, plus) (ap (λ m. pos m) value) in
+    let are : are_digits (without_leading_sign (c ∷ cs)) ≡ true = rw bare ((are_digits-decides (c ∷ cs)).1 (some, digits)) in
+    let is : is_i64 (signed_digits_value 10 (c ∷ cs)) ≡ true = rw signed ((is_i64-decides (pos n)).1 fits) in
+    rw (are, is) (ap (λ z. Some z) signed)
+
+-- what is left of it where it is an i64
+pub plain-fits : {E : Type 0} (text : List ℕ) (n : ℕ) (r : Result ℤ E) → 0 < length text → AllDigits 10 text → n ≡ digits_value 10 text → OkIff r (FitsSigned w64 (pos n)) (pos n) → IfSome (result_ok r) (λ number. whole_number text ≡ Some number)
+plain-fits text n (Ok z) some digits value fits = rw fits.1 (whole_number-plain text n some digits (sym value) fits.0)
+plain-fits text n (Err e) some digits value fits = tt
 
 -- a number that fits is itself, in the code's bits
 pub ruleset whole_numbers = (to_z-of_z)

@@ -1,5 +1,5 @@
 -- The columns of a base view: its key `columns`.
-use Rattle.std.specs.Prelude.{ℕ, List, [], ◌∷◌, ◌++◌, length, Bool, ◌==◌, ◌&&◌, nat_le, codes, if◌then◌else◌, Option, Some, None, ok_or, option_map, option_and_then, Result, Ok, Err}
+use Rattle.std.specs.Prelude.{ℕ, List, [], ◌∷◌, ◌++◌, length, Bool, ◌==◌, ◌&&◌, nat_le, codes, if◌then◌else◌, Option, Some, None, ok_or, option_map, option_and_then, Result, Ok}
 use Rattle.std.specs.List.{before_first, after_first}
 use Rattle.std.specs.Str.{bytes_eq}
 use Rattle.toml.specs.Data.{Data, as_str, get}

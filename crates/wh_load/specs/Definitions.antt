@@ -1,6 +1,6 @@
 -- What a catalogue says of its views beyond their names and what each is over: their columns, and how the derived ones are
 -- defined. Key by key its form comes first, then its columns, then its kinds.
-use Rattle.std.specs.Prelude.{ℕ, List, [], ◌∷◌, ◌++◌, length, map, flat_map, slice_index_or, codes, Option, Some, None, option_map, ok_or, Result, Ok, Err}
+use Rattle.std.specs.Prelude.{ℕ, List, [], ◌∷◌, ◌++◌, length, map, flat_map, slice_index_or, codes, Option, Some, None, option_map, ok_or, Result, Ok}
 use Rattle.toml.specs.Data.{Data, get}
 use Rattle.wh_dag.specs.Catalog.{DefinitionOf}
 use Rattle.wh_dag.specs.Shape.{Views, children_of}

@@ -1,5 +1,5 @@
 -- The predicate that the rows of a derived view meet: the key `where`.
-use Rattle.std.specs.Prelude.{List, codes, Option, Some, None, Result, Ok, Err}
+use Rattle.std.specs.Prelude.{codes, Option, Some, None, Ok}
 use Rattle.toml.specs.Data.{Data, get}
 use Rattle.wh_formula.specs.Pred.{True}
 use Rattle.wh_load.specs.Catalogue.{◌>>=◌}

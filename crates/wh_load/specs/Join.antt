@@ -1,5 +1,5 @@
 -- The pairs of columns that are equal in a joined row: the key `join`.
-use Rattle.std.specs.Prelude.{ℕ, List, [], ◌∷◌, ◌++◌, Bool, true, false, codes, Option, Some, None, ok_or, option_and_then, Result, Ok, Err}
+use Rattle.std.specs.Prelude.{ℕ, List, [], ◌∷◌, ◌++◌, Bool, true, false, codes, Option, Some, None, ok_or, option_and_then, Result, Ok}
 use Rattle.std.specs.Option.{option_or}
 use Rattle.toml.specs.Data.{Data, get}
 use Rattle.wh_load.specs.Catalogue.{◌>>=◌, array_of}

@@ -29,6 +29,7 @@ pub mod PlanReadsBack
 pub mod PlanText
 pub mod PredForm
 pub mod RawPart
+pub mod ReadCatalog
 pub mod Reading
 pub mod ReadsBack
 pub mod Records
@@ -36,9 +37,11 @@ pub mod Reference
 pub mod Seen
 pub mod SizesText
 pub mod StrategyText
+pub mod TableReadsBack
 pub mod TableText
 pub mod TableWritten
 pub mod Text
+pub mod TreeText
 pub mod Unread
 pub mod WholeNumber
 pub mod Words

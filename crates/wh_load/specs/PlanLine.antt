@@ -4,7 +4,6 @@ use Rattle.std.specs.Option.{option_or}
 use Rattle.std.specs.Str.{bytes_eq}
 use Rattle.wh_dag.specs.Written.{number_of}
 use Rattle.wh_cert.specs.declared.certificate.PairMin.{PairMin}
-use Rattle.wh_cert.specs.declared.certificate.Scope.{Scope}
 use Rattle.wh_cert.specs.declared.certificate.Scope.TheVariants as scope
 use Rattle.wh_load.specs.ExpressionText.{expression_of}
 use Rattle.wh_load.specs.Natural.{natural}

@@ -3,13 +3,14 @@ use Rattle.std.specs.Prelude.{◌+◌, ◌++◌, ◌==◌, ◌&&◌, ℕ, Bool, 
 use Rattle.std.specs.List.{flat_map, join_with_byte, list_any}
 use Rattle.wh_dag.specs.Written.{name_of}
 use Rattle.wh_cert.specs.declared.certificate.Certificate.{Certificate}
-use Rattle.wh_cert.specs.declared.certificate.Certificate.TheVariants.{Pairs}
+use Rattle.wh_cert.specs.declared.certificate.Certificate.TheVariants.{Pairs, Search}
 use Rattle.wh_cert.specs.declared.certificate.PairMin.{PairMin}
 use Rattle.wh_cert.specs.declared.certificate.Scope.{Scope}
 use Rattle.wh_cert.specs.declared.certificate.Scope.TheVariants as scope
 use Rattle.wh_strategy.specs.declared.expression.Expression.{Expression}
 use Rattle.wh_load.specs.PlanLine.{plan_line_of}
 use Rattle.wh_load.specs.StrategyText.{strategy_text}
+use Rattle.wh_load.specs.TreeText.{tree_text}
 use Rattle.wh_load.specs.Words.{lines_of, words_of}
 use Rattle.wh_load.specs.declared.fault.LoadFault.{LoadFault}
 use Rattle.wh_load.specs.declared.fault.LoadFault.TheVariants.{Plan as PlanFault}
@@ -101,9 +102,10 @@ pair_words names pair =
 abbrev pub line_text : List (List ℕ) → List ℕ
 line_text words = join_with_byte 32 words ++ 10 ∷ []
 
--- a certificate as it is written: a line for each pair
+-- a certificate as it is written: a line for each pair, or for each node of its tree
 abbrev pub certificate_text : List (List ℕ) → Certificate → List ℕ
 certificate_text names (Pairs pairs) = flat_map (λ pair. line_text (pair_words names pair)) pairs
+certificate_text names (Search nodes) = tree_text names nodes
 
 -- a plan of this scope, work, list and certificate as it is written
 abbrev pub plan_text : List (List ℕ) → Scope → ℕ → List Expression → Certificate → List ℕ

@@ -14,8 +14,6 @@ pub mod piece;
 mod reading;
 mod seen;
 mod spelling;
-#[cfg(test)]
-mod tests;
 mod text;
 pub mod word;
 

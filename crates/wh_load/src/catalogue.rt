@@ -168,6 +168,3 @@ pub fn read_shape(alloc: Global, text: &[u8]) -> Result<Shape, LoadFault>
     let views = written_views(alloc, views)?;
     shape_written(alloc, views)
 }
-
-#[cfg(test)]
-mod tests;

@@ -3,6 +3,7 @@ ghost use Rattle.std.specs.Prelude.{◌≡◌, ◌⊎◌, [], length, map, Ok, E
 ghost use Rattle.toml.specs.View.{view};
 ghost use Rattle.wh_load.specs.Catalogue.{shape_of};
 ghost use Rattle.wh_load.specs.Definitions.{definitions_of, shown_view, views_after};
+ghost use Rattle.wh_load.specs.ReadCatalog.{AreDefinitions, DefinitionsFit};
 
 mod base_columns;
 mod column_names;
@@ -53,6 +54,9 @@ fn views_after(
 /// then `keep`, from left to right. The fault is the first one, view by view and key by key in the order `columns`, or
 /// `join`, `where`, `keep`, `group`, `count`, `sum`: the form of the whole key (Key), then Column, then Kind. Memory may
 /// come at any point. After an Err the dictionary may have more texts than before.
+///
+/// What is read makes a catalogue over the shape: each view has 1 to 64 columns of distinct names, and each derived view
+/// is defined over its combined rows, in which each place that the definition reads lies.
 pub fn read_definitions(
     alloc: Global,
     text: &[u8],
@@ -61,6 +65,7 @@ pub fn read_definitions(
 ) -> Result<Written, LoadFault>
     requires { shape_of text.now ≡ Ok shape.now }
     ensures ok { IfOk result (λ written. definitions_of shape.now text.now texts.old ≡ Ok (map shown_view written.views.items, texts.new)) }
+    ensures fit { IfOk result (λ written. AreDefinitions shape.now (map shown_view written.views.items)) }
     ensures err { IfErr result (λ f. (f ≡ LoadFault.Memory) ⊎ (definitions_of shape.now text.now texts.old ≡ Err f)) }
 {
     let document = document(alloc, text)?;
@@ -70,3 +75,9 @@ pub fn read_definitions(
     let views = views_after(alloc, shape, texts, tables)?;
     Ok(Written { views })
 }
+
+/// A law of the definitions: what is read of a catalogue's text is a catalogue over its shape, where each place that a
+/// definition reads lies in its combined row.
+pub fn definitions_fit_law()
+    ensures { DefinitionsFit }
+{}

@@ -20,8 +20,6 @@ mod records;
 mod sizes;
 mod strategy;
 mod table;
-#[cfg(test)]
-mod tests;
 mod words;
 
 pub use bundle::fault::{Nights, PartFault};
@@ -33,8 +31,8 @@ pub use bundle::{Bundle, parts};
 pub use catalogue::read_shape;
 pub use columns::{Column, Kind};
 pub use definitions::output::WrittenOutput;
-pub use definitions::read_definitions;
 pub use definitions::views::{Written, WrittenDefinition, WrittenView};
+pub use definitions::{definitions_fit_law, read_definitions};
 pub use dict::Dict;
 pub use expression::write_expression;
 pub use fault::{Key, LoadFault};
@@ -43,4 +41,4 @@ pub use plan::{Plan, plan_reads_back_law, read_plan, write_plan};
 pub use read::{ReadFault, read_all};
 pub use sizes::read_sizes;
 pub use strategy::{read_strategy, reads_back_law, write_strategy};
-pub use table::{read_changes, read_table, write_table};
+pub use table::{read_changes, read_table, table_reads_back_law, write_table};

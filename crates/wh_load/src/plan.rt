@@ -1,12 +1,13 @@
 //! A plan as text: its scope, its work, the list of its strategy, and the lines of its certificate.
 ghost use Rattle.std.specs.Prelude.{◌≡◌, ◌⊎◌, ◌++◌, Ok, Err, IfOk, IfErr, OnOk};
-ghost use Rattle.std.specs.List.{join_with_byte};
+ghost use Rattle.std.specs.List.{flat_map, join_with_byte};
 ghost use Rattle.wh_load.specs.PlanReadsBack.{PlanReadsBack, TextsDiffer};
-ghost use Rattle.wh_load.specs.PlanText.{certificate_text, scope_text, pair_words, plan_from, plan_of, plan_text, scope_in, work_in};
+ghost use Rattle.wh_load.specs.PlanText.{certificate_text, line_text, scope_text, pair_words, plan_from, plan_of, plan_text, scope_in, work_in};
 
 mod line;
 mod natural;
 mod said;
+mod tree;
 
 use crate::expression::append_name;
 use crate::fault::LoadFault;
@@ -15,6 +16,7 @@ use crate::strategy::write_strategy;
 use line::PlanLine;
 use said::said_lines;
 use std::alloc::{AllocError, Global};
+use tree::append_tree;
 use wh_cert::{Certificate, PairMin, PairMins, Planned, Scope};
 use wh_strategy::Strategy;
 
@@ -103,6 +105,21 @@ fn append_pair(
     out.extend_from_slice(end.as_bytes())
 }
 
+fn append_pairs(
+    alloc: Global,
+    out: &mut Vec<u8>,
+    names: &Names,
+    pairs: &[PairMin],
+) -> Result<(), AllocError>
+    ensures { OnOk result (out.new.items ≡ out.old.items ++ flat_map (λ pair. line_text (pair_words names.now pair)) pairs.now) }
+{
+    for pair in pairs {
+        append_pair(alloc, out, names, *pair)?;
+        out.push(b'\n')?;
+    }
+    Ok(())
+}
+
 fn append_certificate(
     alloc: Global,
     out: &mut Vec<u8>,
@@ -111,12 +128,10 @@ fn append_certificate(
 ) -> Result<(), AllocError>
     ensures { OnOk result (out.new.items ≡ out.old.items ++ certificate_text names.now certificate.now) }
 {
-    let Certificate::Pairs(pairs) = certificate;
-    for pair in pairs.as_slice() {
-        append_pair(alloc, out, names, *pair)?;
-        out.push(b'\n')?;
+    match certificate {
+        Certificate::Pairs(pairs) => append_pairs(alloc, out, names, pairs.as_slice()),
+        Certificate::Search(tree) => append_tree(out, names, tree.as_slice()),
     }
-    Ok(())
 }
 
 fn scope_text(scope: Scope) -> &'static str

@@ -1,6 +1,6 @@
 //! The records of a CSV part, one by one, with what all readers of such parts ask of them.
 
-ghost use Rattle.std.specs.Prelude.{◌≡◌, ◌⊎◌, ◌+◌, ◌∷◌, [], IfOk, IfErr, IfSome, FitsSigned, length, map, None, Ok, true};
+ghost use Rattle.std.specs.Prelude.{◌≡◌, ◌⊎◌, ◌+◌, ◌∷◌, [], IfOk, IfErr, IfSome, FitsSigned, length, map, None, Some, Ok, true};
 ghost use Rattle.std.specs.Cmp.Lexicographic.{pointwise};
 ghost use Rattle.std.specs.Int.{w64};
 ghost use Rattle.std.specs.Str.{bytes_eq};
@@ -135,10 +135,32 @@ pub(crate) fn are_cells(cells: &StringRecord, words: &[&str]) -> bool
     true
 }
 
+// The number that digits alone write; none for any other text, and where it is large, though that may be a number too.
+fn plain_number(text: &[u8]) -> Option<i64>
+    ensures { IfSome result (λ number. whole_number text.now ≡ Some number) }
+{
+    if text.is_empty() {
+        return None;
+    }
+    let mut number: u64 = 0;
+    'digits: for place in 0..text.len() {
+        let byte = text[place];
+        if !byte.is_ascii_digit() {
+            return None;
+        }
+        number = number.checked_mul(10)?.checked_add(u64::from(byte - b'0'))?;
+    }
+    i64::try_from(number).ok()
+}
+
 /// The whole number that a cell writes, if it is one: a sign or none and one or more digits, within i64.
 pub(crate) fn whole_number(text: &str) -> Option<i64>
     ensures value { result ≡ whole_number text.now }
     ensures fits { IfSome result (λ number. FitsSigned w64 number) }
 {
+    // Most cells are plain digits, which this loop reads faster than `parse`.
+    if let Some(number) = plain_number(text.as_bytes()) {
+        return Some(number);
+    }
     text.parse::<i64>().ok()
 }

@@ -222,6 +222,3 @@ pub fn read_sizes(alloc: Global, shape: &Shape, text: &[u8]) -> Result<Sizes, Lo
         Err(_) => unreachable!(),
     }
 }
-
-#[cfg(test)]
-mod tests;

@@ -2,10 +2,11 @@
 ghost use Rattle.std.specs.Prelude.{◌≡◌, ◌⊎◌, ◌+◌, ◌<◌, ◌^◌, length, [], List, ℕ, IfOk, IfErr, OnOk, OnErr, Ok, Err, Some, None};
 ghost use Rattle.std.specs.Result.{result_err};
 ghost use Rattle.csv.specs.Records.{fields_of};
-ghost use Rattle.wh_row.specs.Bag.{bag_of};
+ghost use Rattle.wh_row.specs.Bag.{HasWidth, IsTable, bag_of};
 ghost use Rattle.wh_row.specs.Records.{EachSumFits};
 ghost use Rattle.wh_load.specs.Dict.{BeginsWith};
 ghost use Rattle.wh_load.specs.Records.{form_fault};
+ghost use Rattle.wh_load.specs.TableReadsBack.{NamesAreText, TableReadsBack};
 ghost use Rattle.wh_load.specs.TableText.{EndsSum, ReadTo, count_cells, counting_of, dictionary_after, header_gives, kinds_of, names_of, text_gives};
 ghost use Rattle.wh_load.specs.declared.table.header.Content.TheVariants.{Table, Changes};
 
@@ -164,6 +165,8 @@ pub fn read_table(
     dict: &mut Dict,
 ) -> Result<Bag, LoadFault>
     ensures ok { IfOk result (λ bag. text_gives Table columns.now dict.old text.now ≡ Ok (bag, dict.new)) }
+    ensures table { IfOk result (λ bag. IsTable bag) }
+    ensures width { IfOk result (λ bag. HasWidth bag (length columns.now)) }
     ensures err { IfErr result (λ f. (f ≡ LoadFault.Memory) ⊎ (text_gives Table columns.now dict.old text.now ≡ Err f)) }
     ensures kept { OnErr result (dict.new ≡ dict.old) }
 {
@@ -179,8 +182,16 @@ pub fn read_changes(
     dict: &mut Dict,
 ) -> Result<Bag, LoadFault>
     ensures ok { IfOk result (λ bag. text_gives Changes columns.now dict.old text.now ≡ Ok (bag, dict.new)) }
+    ensures width { IfOk result (λ bag. HasWidth bag (length columns.now)) }
     ensures err { IfErr result (λ f. (f ≡ LoadFault.Memory) ⊎ (text_gives Changes columns.now dict.old text.now ≡ Err f)) }
     ensures kept { OnErr result (dict.new ≡ dict.old) }
 {
     read_part(alloc, Content::Changes, columns, text, dict)
 }
+
+/// A law of the definitions: a table that was written is read back as it was, and leaves the dictionary as it is. It asks
+/// that the columns' names are UTF-8, as those that are read of a catalogue are.
+pub fn table_reads_back_law()
+    ensures back { TableReadsBack }
+    ensures names { NamesAreText }
+{}

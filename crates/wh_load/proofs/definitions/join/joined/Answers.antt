@@ -1,4 +1,4 @@
-use Rattle.std.proofs.Common.{[], ap, sym, drop, map, ◌+◌, ◌∙◌}
+use Rattle.std.proofs.Common.{ap, sym, drop, map, ◌+◌, ◌∙◌}
 use Rattle.wh_load.specs.Join.{joined, seen_link}
 use Rattle.wh_load.proofs.JoinSteps.{joined-more}
 use Rattle.wh_load.proofs.definitions.join.joined.Goals as goal

@@ -1,4 +1,4 @@
-use Rattle.std.proofs.Common.{Bool, List, Some, None, inr, refl, sym, ap, ◌∙◌}
+use Rattle.std.proofs.Common.{Bool, Some, None, inr, refl, ap, ◌∙◌}
 use Rattle.std.specs.Prelude.{◌==◌, if◌then◌else◌}
 use Rattle.wh_load.specs.PlanLine.{plan_line_of}
 use Rattle.wh_load.proofs.PlanLines.{with_line-words}
