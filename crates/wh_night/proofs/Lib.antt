@@ -1,0 +1,10 @@
+pub mod Prefixes
+pub mod Stands
+pub mod FitNights
+pub mod PartReads
+pub mod StepRows
+pub mod Agreeing
+pub mod Storing
+pub mod Refusals
+pub mod Nights
+pub mod FirstRefusals

@@ -1,0 +1,33 @@
+//! What a night reports, and why it was refused.
+
+use wh_maint::MaintFault;
+use wh_row::Bag;
+use wh_strategy::Expression;
+
+/// What a night reports.
+#[derive(Drop)]
+pub struct Report {
+    /// The number of the new contents; those before the first night have 0.
+    pub version: u64,
+    /// The expressions in their order, each with its rows: what a Comp reads in all its terms, and what an Inst
+    /// changes; 2^128 - 1 stands for more.
+    pub steps: Vec<(Expression, u128)>,
+}
+
+/// What a night makes of tables.
+#[derive(Drop)]
+pub struct Carried {
+    /// The new table of each view.
+    pub tables: Vec<Bag>,
+    /// What each expression did.
+    pub report: Report,
+}
+
+/// Why a night was refused. The tables that it began from are as they were.
+#[derive(Drop)]
+pub struct CarryFault {
+    /// What was refused.
+    pub fault: MaintFault,
+    /// Whether the first expression had begun: not where a base change is refused, nor where memory is before it.
+    pub started: bool,
+}
