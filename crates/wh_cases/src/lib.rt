@@ -3,3 +3,14 @@
 //!
 //! They stand here and not in the crates below, since a crate that has tests is proved a second time with them.
 #![tactic(auto)]
+
+#[cfg(test)]
+mod carried;
+#[cfg(test)]
+mod nights;
+#[cfg(test)]
+mod plans;
+#[cfg(test)]
+mod texts;
+#[cfg(test)]
+mod trees;

@@ -1,0 +1,4 @@
+//! Nights that are carried out by public calls.
+
+mod given;
+mod two_tables;

@@ -1,0 +1,10 @@
+//! Nights by public calls: what each Comp reads, what is installed, the tables in the end, and what is refused.
+
+mod calls;
+mod carried;
+mod catalogs;
+mod closures;
+mod examples;
+mod groups;
+mod limits;
+mod tables;

@@ -1,0 +1,90 @@
+// Each call, once what it asks for was tested.
+ghost use Rattle.std.specs.Prelude.{◌≡◌};
+
+use std::alloc::Global;
+use std::process::Abort;
+use wh_dag::Catalog;
+use wh_formula::{RowTest, RowValue};
+use wh_maint::{
+    MaintFault, Pending, are_bags, are_sources, comp, evaluate, finish, is_fit, operand_rows,
+};
+use wh_row::Bag;
+
+/// What a Comp answers.
+pub(crate) fn comp_of<F: RowTest, G: RowValue>(
+    rt: &impl Abort,
+    alloc: Global,
+    catalog: &Catalog<F, G>,
+    view: usize,
+    sources: &[usize],
+    tables: &[Bag],
+    changes: &[Bag],
+) -> Result<Pending, MaintFault> {
+    assert!(rt; view < catalog.shape().len());
+    assert!(rt; !catalog.is_base(view));
+    assert!(rt; are_sources(catalog, view, sources));
+    assert!(rt; are_bags(catalog, tables));
+    assert!(rt; are_bags(catalog, changes));
+    comp(alloc, catalog, view, sources, tables, changes)
+}
+
+/// How many rows a Comp's operands have.
+pub(crate) fn rows_of<F: RowTest, G: RowValue>(
+    rt: &impl Abort,
+    catalog: &Catalog<F, G>,
+    view: usize,
+    sources: &[usize],
+    tables: &[Bag],
+    changes: &[Bag],
+) -> u128 {
+    assert!(rt; view < catalog.shape().len());
+    assert!(rt; !catalog.is_base(view));
+    assert!(rt; are_sources(catalog, view, sources));
+    assert!(rt; are_bags(catalog, tables));
+    assert!(rt; are_bags(catalog, changes));
+    operand_rows(catalog, view, sources, tables, changes)
+}
+
+/// The value of a view.
+pub(crate) fn value_of<F: RowTest, G: RowValue>(
+    rt: &impl Abort,
+    alloc: Global,
+    catalog: &Catalog<F, G>,
+    view: usize,
+    tables: &[Bag],
+) -> Result<Bag, MaintFault> {
+    assert!(rt; view < catalog.shape().len());
+    assert!(rt; !catalog.is_base(view));
+    assert!(rt; are_bags(catalog, tables));
+    evaluate(alloc, catalog, view, tables)
+}
+
+/// The change of a view; its table is fit.
+pub(crate) fn change_of<F: RowTest, G: RowValue>(
+    rt: &impl Abort,
+    alloc: Global,
+    catalog: &Catalog<F, G>,
+    view: usize,
+    pending: &Pending,
+    table: &Bag,
+) -> Result<Bag, MaintFault> {
+    assert!(rt; view < catalog.shape().len());
+    assert!(rt; !catalog.is_base(view));
+    assert!(rt; pending.is_for(catalog, view));
+    let Ok(fit) = is_fit(alloc, catalog, view, table) else {
+        return Err(MaintFault::Memory);
+    };
+    assert!(rt; fit);
+    finish(alloc, catalog, view, pending, table)
+}
+
+/// Adds what another Comp of the view adds.
+pub(crate) fn merge_into(
+    rt: &impl Abort,
+    pending: &mut Pending,
+    other: &Pending,
+) -> Result<(), MaintFault> {
+    assert!(rt; other.view() == pending.view());
+    assert!(rt; other.sums() == pending.sums());
+    pending.merge(other)
+}

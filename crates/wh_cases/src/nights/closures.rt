@@ -1,0 +1,207 @@
+// The first Comp of two nights, over catalogues that are made of closures.
+ghost use Rattle.std.specs.Prelude.{◌≡◌, length};
+ghost use Rattle.wh_formula.specs.Expr.{Column};
+ghost use Rattle.wh_formula.specs.Pred.{True};
+ghost use Rattle.wh_formula.specs.Native.{CallableOnRows};
+ghost use Rattle.wh_formula.specs.Filter.{AnswersPred};
+ghost use Rattle.wh_formula.specs.Combiner.{AnswersExpr};
+
+use crate::nights::calls::{change_of, comp_of, rows_of};
+use crate::nights::tables::bag;
+use std::alloc::{AllocError, Global};
+use std::process::Abort;
+use std::test::Fail;
+use wh_dag::{Catalog, Definition, Output, Shape};
+use wh_formula::{Combiner, Expr, Filter, Native, Pred, RowTest, RowValue};
+use wh_row::Bag;
+
+type Value = Box<dyn Fn(&[i64]) -> Option<i64> + Sync>;
+
+// Base views of these names, and a view over them.
+fn shape(rt: &impl Abort, alloc: Global, bases: &[&str]) -> Result<Shape, Fail> {
+    let mut names = Vec::new(alloc);
+    let mut over = Vec::new(alloc);
+    let mut children = Vec::new(alloc);
+    for base in bases {
+        names.push(String::from_str(alloc, base)?)?;
+        over.push(None)?;
+        children.push(String::from_str(alloc, base)?)?;
+    }
+    names.push(String::from_str(alloc, "v")?)?;
+    over.push(Some(children))?;
+    assert_eq!(rt; names.len(), over.len());
+    Ok(Shape::new(alloc, names, over)?)
+}
+
+fn catalog<F: RowTest + Drop, G: RowValue + Drop>(
+    rt: &impl Abort,
+    alloc: Global,
+    bases: &[&str],
+    join: Vec<(usize, usize)>,
+    filter: Filter<F>,
+    out: Output<G>,
+) -> Result<Catalog<F, G>, Fail> {
+    let mut widths = Vec::new(alloc);
+    for _base in bases {
+        widths.push(2)?;
+    }
+    assert!(rt; Definition::fits(&join, &filter, &out));
+    let mut definitions = Vec::new(alloc);
+    definitions.push(Definition::new(join, filter, out))?;
+    let shape = shape(rt, alloc, bases)?;
+    assert!(rt; Catalog::fits(&shape, &widths, &definitions));
+    Ok(Catalog::new(alloc, shape, widths, definitions)?)
+}
+
+fn three(alloc: Global, first: Bag, second: Bag) -> Result<Vec<Bag>, AllocError> {
+    let mut bags = Vec::new(alloc);
+    bags.push(first)?;
+    bags.push(second)?;
+    bags.push(Bag::new(alloc))?;
+    Ok(bags)
+}
+
+// v keeps a.x and b.z where a.y = b.y.
+fn joins<F: RowTest + Drop, G: RowValue + Drop>(
+    rt: &impl Abort,
+    alloc: Global,
+    every: F,
+    x: G,
+    z: G,
+) -> Result<(), Fail>
+    requires callable { CallableOnRows 4 (F.can_test every) }
+    requires answers { AnswersPred True 4 (F.tests every) }
+    requires callable_x { CallableOnRows 4 (G.can_combine x) }
+    requires answers_x { AnswersExpr (Column 0) 4 (G.combines x) }
+    requires callable_z { CallableOnRows 4 (G.can_combine z) }
+    requires answers_z { AnswersExpr (Column 3) 4 (G.combines z) }
+{
+    let mut kept = Vec::new(alloc);
+    kept.push(Combiner::new(Expr::column(0), 4, x))?;
+    kept.push(Combiner::new(Expr::column(3), 4, z))?;
+    let join = vec![in alloc; (1, 2)]?;
+    let filter = Filter::new(Pred::always(), 4, every);
+    let catalog = catalog(rt, alloc, &["a", "b"], join, filter, Output::Keep(kept))?;
+    joins_tables(rt, alloc, &catalog)
+}
+
+fn joins_tables<F: RowTest, G: RowValue>(
+    rt: &impl Abort,
+    alloc: Global,
+    catalog: &Catalog<F, G>,
+) -> Result<(), Fail> {
+    let a = bag(alloc, &[(&[1, 10], 1), (&[2, 10], 1)])?;
+    let b = bag(alloc, &[(&[10, 5], 1)])?;
+    let tables = three(alloc, a, b)?;
+    let of_a = bag(alloc, &[(&[2, 10], -1), (&[3, 10], 1)])?;
+    let of_b = bag(alloc, &[(&[10, 5], -1), (&[10, 6], 1)])?;
+    let changes = three(alloc, of_a, of_b)?;
+    assert_eq!(rt; rows_of(rt, catalog, 2, &[0], &tables, &changes), 3);
+    assert_eq!(rt; rows_of(rt, catalog, 2, &[0, 1], &tables, &changes), 11);
+    match comp_of(rt, alloc, catalog, 2, &[0, 1], &tables, &changes) {
+        Ok(all) => {
+            assert_eq!(rt; all.counts().total(), 4);
+            assert_eq!(rt; (all.count(&[1, 5]), all.count(&[1, 6])), (-1, 1));
+            assert_eq!(rt; (all.count(&[2, 5]), all.count(&[3, 6])), (-1, 1));
+        }
+        Err(_fault) => assert!(rt; false, "refused"),
+    }
+    Ok(())
+}
+
+#[test]
+fn two_tables_are_joined_by_closures(rt: HostRuntime) -> Result<(), Fail> {
+    let alloc = rt.alloc();
+    let x: Value = Box::new(
+        alloc,
+        |row: &[i64]| -> Option<i64>
+            requires { length row.now ≡ 4 }
+        { Some(row[0]) },
+    )?;
+    let z: Value = Box::new(
+        alloc,
+        |row: &[i64]| -> Option<i64>
+            requires { length row.now ≡ 4 }
+        { Some(row[3]) },
+    )?;
+    joins(
+        &rt,
+        alloc,
+        Native(
+            |_row: &[i64]| -> bool
+                requires { length _row.now ≡ 4 }
+            { true },
+        ),
+        Native(&*x),
+        Native(&*z),
+    )
+}
+
+// The sums of a.x by a.g.
+fn sums<F: RowTest + Drop, G: RowValue + Drop>(
+    rt: &impl Abort,
+    alloc: Global,
+    every: F,
+    x: G,
+) -> Result<(), Fail>
+    requires callable { CallableOnRows 2 (F.can_test every) }
+    requires answers { AnswersPred True 2 (F.tests every) }
+    requires callable_x { CallableOnRows 2 (G.can_combine x) }
+    requires answers_x { AnswersExpr (Column 1) 2 (G.combines x) }
+{
+    let mut sums = Vec::new(alloc);
+    sums.push(Combiner::new(Expr::column(1), 2, x))?;
+    let group = vec![in alloc; 0]?;
+    let filter = Filter::new(Pred::always(), 2, every);
+    let out = Output::Sums { group, sums };
+    let catalog = catalog(rt, alloc, &["a"], Vec::new(alloc), filter, out)?;
+    sums_groups(rt, alloc, &catalog)
+}
+
+fn sums_groups<F: RowTest, G: RowValue>(
+    rt: &impl Abort,
+    alloc: Global,
+    catalog: &Catalog<F, G>,
+) -> Result<(), Fail> {
+    let mut tables = Vec::new(alloc);
+    tables.push(bag(alloc, &[(&[1, 5], 1), (&[2, 3], 1), (&[2, 4], 1)])?)?;
+    tables.push(bag(alloc, &[(&[1, 1, 5], 1), (&[2, 2, 7], 1)])?)?;
+    let mut changes = Vec::new(alloc);
+    changes.push(bag(alloc, &[(&[1, 5], -1), (&[2, 4], -1), (&[2, -3], 1)])?)?;
+    changes.push(Bag::new(alloc))?;
+    match comp_of(rt, alloc, catalog, 1, &[0], &tables, &changes) {
+        Ok(all) => {
+            assert_eq!(rt; (all.count(&[1]), all.count(&[2])), (-1, 0));
+            assert!(rt; all.sums() == 1);
+            assert_eq!(rt; (all.sum(0, &[1]), all.sum(0, &[2])), (-5, -7));
+            match change_of(rt, alloc, catalog, 1, &all, &tables[1]) {
+                Ok(own) => {
+                    assert_eq!(rt; own.total(), 3);
+                    assert_eq!(rt; (own.count(&[1, 1, 5]), own.count(&[2, 2, 7])), (-1, -1));
+                    assert_eq!(rt; own.count(&[2, 2, 0]), 1);
+                }
+                Err(_fault) => assert!(rt; false, "refused"),
+            }
+        }
+        Err(_fault) => assert!(rt; false, "refused"),
+    }
+    Ok(())
+}
+
+#[test]
+fn a_summary_adds_up_by_closures(rt: HostRuntime) -> Result<(), Fail> {
+    sums(
+        &rt,
+        rt.alloc(),
+        Native(
+            |_row: &[i64]| -> bool
+                requires { length _row.now ≡ 2 }
+            { true },
+        ),
+        Native(
+            |row: &[i64]| -> Option<i64>
+                requires { length row.now ≡ 2 }
+            { Some(row[1]) },
+        ),
+    )
+}

@@ -1,0 +1,132 @@
+// Groups of a summary that leave, stay and come back, and their counts and sums at the limits.
+
+use crate::nights::calls::{change_of, comp_of};
+use crate::nights::carried::{Night, tells};
+use crate::nights::catalogs::read_warehouse;
+use crate::nights::examples::{BY_GROUP, GROUPS};
+use crate::nights::tables::{bag, bags};
+use std::alloc::Global;
+use std::process::Abort;
+use std::test::Fail;
+use wh_load::{Dict, write_table};
+use wh_maint::{MaintFault, Pending, are_bags, are_sources, is_fit};
+use wh_row::Bag;
+
+#[test]
+fn a_group_leaves_and_comes_back(rt: HostRuntime) -> Result<(), Fail> {
+    let night = Night {
+        tables: &["g,x\n1,5\n2,3\n"],
+        changes: &["#,g,x\n-1,1,5\n1,1,7\n-1,2,3\n"],
+        ..GROUPS
+    };
+    let wanted = "comp s from a: 3\ninst a: 3\ninst s: 3\n#,g,n,t\n1,1,1,7\n";
+    tells(&rt, rt.alloc(), &night, wanted)
+}
+
+// A change that leaves a group its count and its sum changes nothing.
+#[test]
+fn a_group_with_the_same_sums_stays(rt: HostRuntime) -> Result<(), Fail> {
+    let night = Night {
+        tables: &["g,x\n1,5\n1,1\n"],
+        changes: &["#,g,x\n-1,1,5\n-1,1,1\n1,1,4\n1,1,2\n"],
+        ..GROUPS
+    };
+    let wanted = "comp s from a: 4\ninst a: 4\ninst s: 0\n#,g,n,t\n1,1,2,6\n";
+    tells(&rt, rt.alloc(), &night, wanted)
+}
+
+// The change of s, whose table is given, by a change of a, as it is written.
+fn change(
+    rt: &impl Abort,
+    alloc: Global,
+    table: Bag,
+    of_a: Bag,
+) -> Result<Result<Vec<u8>, MaintFault>, Fail> {
+    let mut dict = Dict::new(alloc);
+    let house = read_warehouse(rt, alloc, BY_GROUP, &mut dict)?;
+    let tables = bags(alloc, Bag::new(alloc), table)?;
+    let changes = bags(alloc, of_a, Bag::new(alloc))?;
+    let pending = match comp_of(rt, alloc, &house.catalog, 1, &[0], &tables, &changes) {
+        Ok(pending) => pending,
+        Err(fault) => return Ok(Err(fault)),
+    };
+    assert_eq!(rt; (pending.view(), pending.sums()), (1, 1));
+    assert!(rt; tables.len() == 2);
+    let own = match change_of(rt, alloc, &house.catalog, 1, &pending, &tables[1]) {
+        Ok(own) => own,
+        Err(fault) => return Ok(Err(fault)),
+    };
+    let mut out = Vec::new(alloc);
+    assert!(rt; house.columns.len() == 2);
+    write_table(&mut out, &house.columns[1], &own, &dict)?;
+    Ok(Ok(out))
+}
+
+#[test]
+fn a_count_or_a_sum_leaves_i64(rt: HostRuntime) -> Result<(), Fail> {
+    let alloc = rt.alloc();
+    let most = bag(alloc, &[(&[1, i64::MAX, i64::MAX], 1)])?;
+    let both = change(&rt, alloc, most, bag(alloc, &[(&[1, 1], 1)])?)?;
+    assert!(&rt; matches!(both, Err(MaintFault::Large(1))));
+    let most = bag(alloc, &[(&[1, 1, i64::MAX], 1)])?;
+    let sum = change(&rt, alloc, most, bag(alloc, &[(&[1, 1], 1)])?)?;
+    assert!(&rt; matches!(sum, Err(MaintFault::Range(1))));
+    Ok(())
+}
+
+// The sums of a group that leaves are not looked at.
+#[test]
+fn a_group_that_leaves_has_no_sum(rt: HostRuntime) -> Result<(), Fail> {
+    let alloc = rt.alloc();
+    let table = bag(alloc, &[(&[1, 1, i64::MIN], 1)])?;
+    let told = change(&rt, alloc, table, bag(alloc, &[(&[1, 1], -1)])?)?;
+    assert!(&rt;
+        told.is_ok_and(|text| text.as_slice()
+            == b"#,g,n,t\n-1,1,1,-9223372036854775808\n".as_slice())
+    );
+    Ok(())
+}
+
+#[test]
+fn tables_are_fit_or_not(rt: HostRuntime) -> Result<(), Fail> {
+    let alloc = rt.alloc();
+    let mut dict = Dict::new(alloc);
+    let house = read_warehouse(&rt, alloc, BY_GROUP, &mut dict)?;
+    assert!(&rt; house.catalog.shape().len() == 2 && !house.catalog.is_base(1));
+    let cases: [(&[(&[i64], i64)], bool); 6] = [
+        (&[], true),
+        (&[(&[1, 2, 0], 1), (&[2, 1, 0], 1)], true),
+        (&[(&[1, 0, 0], 1)], false),
+        (&[(&[1, 2, 0], 2)], false),
+        (&[(&[1, 2, 0], 1), (&[1, 3, 0], 1)], false),
+        (&[(&[3], 1)], false),
+    ];
+    for (rows, wanted) in cases {
+        let table = bag(alloc, rows)?;
+        assert_eq!(&rt; is_fit(alloc, &house.catalog, 1, &table)?, wanted);
+    }
+    Ok(())
+}
+
+#[test]
+fn bags_sources_and_pendings_are_told_apart(rt: HostRuntime) -> Result<(), Fail> {
+    let alloc = rt.alloc();
+    let mut dict = Dict::new(alloc);
+    let house = read_warehouse(&rt, alloc, BY_GROUP, &mut dict)?;
+    assert!(&rt; house.catalog.shape().len() == 2 && !house.catalog.is_base(1));
+    let wide = bags(
+        alloc,
+        bag(alloc, &[(&[1, 2], 1)])?,
+        bag(alloc, &[(&[1, 2], 1)])?,
+    )?;
+    assert!(&rt; !are_bags(&house.catalog, &wide));
+    assert!(&rt; !are_bags(&house.catalog, &[]));
+    assert!(&rt; are_sources(&house.catalog, 1, &[0]));
+    assert!(&rt; !are_sources(&house.catalog, 1, &[]));
+    assert!(&rt; !are_sources(&house.catalog, 1, &[0, 0]));
+    assert!(&rt; !are_sources(&house.catalog, 1, &[1]));
+    assert!(&rt; Pending::new(alloc, 1, 1)?.is_for(&house.catalog, 1));
+    assert!(&rt; !Pending::new(alloc, 1, 0)?.is_for(&house.catalog, 1));
+    assert!(&rt; !Pending::new(alloc, 0, 1)?.is_for(&house.catalog, 1));
+    Ok(())
+}

@@ -1,0 +1,8 @@
+//! Shapes, catalogues, strategies, certificates and plans by public calls, with values from outside.
+
+mod catalogues;
+mod certificates;
+mod given;
+mod least;
+mod shapes;
+mod strategies;

@@ -1,0 +1,257 @@
+//! Written shapes from outside, and the view and the text that each fault names.
+
+use std::alloc::{AllocError, Global};
+use std::process::Abort;
+use std::test::Fail;
+use wh_dag::{Couple, Name, Shape, ShapeFault, SiblingPair};
+
+/// The children of a view, by their names with spaces between: "-" for a base view.
+fn children(alloc: Global, names: &str) -> Result<Option<Vec<String>>, AllocError> {
+    if names == "-" {
+        return Ok(None);
+    }
+    let mut children = Vec::new(alloc);
+    for name in names.split_whitespace() {
+        children.push(String::from_str(alloc, name)?)?;
+    }
+    Ok(Some(children))
+}
+
+/// The shape of these views, each by its name and its children.
+pub fn read(rt: &impl Abort, alloc: Global, rows: &[(&str, &str)]) -> Result<Shape, ShapeFault> {
+    let mut names = Vec::new(alloc);
+    let mut over = Vec::new(alloc);
+    for (name, own) in rows {
+        names.push(String::from_str(alloc, name)?)?;
+        over.push(children(alloc, own)?)?;
+    }
+    assert_eq!(rt; names.len(), over.len());
+    Shape::new(alloc, names, over)
+}
+
+/// A fault by its number, the view at fault and the text that it names.
+fn told(fault: &ShapeFault) -> (u8, usize, &str) {
+    let (view, text) = match fault {
+        ShapeFault::Duplicate { view, name } => (*view, name.as_str()),
+        ShapeFault::Unknown { view, child } => (*view, child.as_str()),
+        ShapeFault::Forward { view, child } => (*view, child.as_str()),
+        ShapeFault::Repeated { view, child } => (*view, child.as_str()),
+        ShapeFault::TooMany { view, name } => (*view, name.as_str()),
+        ShapeFault::EmptyOver { view, name } => (*view, name.as_str()),
+        ShapeFault::Memory => (0, ""),
+    };
+    (fault.number(), view, text)
+}
+
+#[test]
+fn a_view_over_two_bases_reads_back(rt: HostRuntime) -> Result<(), Fail> {
+    let alloc = rt.alloc();
+    let shape = read(&rt, alloc, &[("a", "-"), ("b", "-"), ("v", "b a")])?;
+    assert_eq!(rt; shape.len(), 3);
+    assert!(rt; !shape.is_empty());
+    assert_eq!(rt; shape.name(2), "v");
+    assert_eq!(rt; shape.children(0), [].as_slice());
+    assert_eq!(rt; shape.children(2), [1, 0].as_slice());
+    let lists = shape.child_lists();
+    assert_eq!(rt; lists.len(), 3);
+    assert!(rt; !lists.is_empty());
+    assert_eq!(rt; lists.of(2), [1, 0].as_slice());
+    let copy = lists.copy(alloc)?;
+    assert!(rt; copy.is_same(lists));
+    let other = read(&rt, alloc, &[("a", "-"), ("b", "-"), ("v", "a b")])?;
+    assert!(rt; !other.child_lists().is_same(lists));
+    Ok(())
+}
+
+/// Views, of which v is over two bases and w over v and the first base.
+static THREE_LEVELS: [(&str, &str); 4] = [("a", "-"), ("b", "-"), ("v", "a b"), ("w", "v a")];
+
+#[test]
+fn levels_follow_the_views(rt: HostRuntime) -> Result<(), Fail> {
+    let shape = read(&rt, rt.alloc(), &THREE_LEVELS)?;
+    assert_eq!(rt; shape.len(), 4);
+    assert_eq!(rt; shape.level(1), 0);
+    assert_eq!(rt; shape.level(2), 1);
+    assert_eq!(rt; shape.level(3), 2);
+    Ok(())
+}
+
+#[test]
+fn parents_follow_the_views(rt: HostRuntime) -> Result<(), Fail> {
+    let alloc = rt.alloc();
+    let shape = read(&rt, alloc, &THREE_LEVELS)?;
+    assert_eq!(rt; shape.len(), 4);
+    assert_eq!(rt; shape.parents(alloc, 0)?.as_slice(), [2, 3].as_slice());
+    assert_eq!(rt; shape.parents(alloc, 1)?.as_slice(), [2].as_slice());
+    assert_eq!(rt; shape.parents(alloc, 3)?.as_slice(), [].as_slice());
+    Ok(())
+}
+
+#[test]
+fn a_name_of_two_views_means_the_first(rt: HostRuntime) -> Result<(), Fail> {
+    // View 1 is over "a", which view 0 is; that view 2 is "a" again comes to light in its own turn.
+    tells(
+        &rt,
+        rt.alloc(),
+        &[("a", "-"), ("v", "a"), ("a", "-")],
+        (1, 2, "a"),
+    )
+}
+
+#[test]
+fn the_first_fault_is_told(rt: HostRuntime) -> Result<(), Fail> {
+    let alloc = rt.alloc();
+    // Alone: each fault with what it names.
+    tells(&rt, alloc, &[("a", "-"), ("a", "-")], (1, 1, "a"))?;
+    tells(&rt, alloc, &[("v", "a")], (2, 0, "a"))?;
+    tells(&rt, alloc, &[("v", "v")], (3, 0, "v"))?;
+    tells(&rt, alloc, &[("v", "a"), ("a", "-")], (3, 0, "a"))?;
+    tells(&rt, alloc, &[("a", "-"), ("v", "a a")], (4, 1, "a"))?;
+    tells(&rt, alloc, &[("v", "a b c d e f g")], (5, 0, "v"))?;
+    tells(&rt, alloc, &[("v", "")], (6, 0, "v"))?;
+    Ok(())
+}
+
+#[test]
+fn of_two_faults_the_first_is_told(rt: HostRuntime) -> Result<(), Fail> {
+    let alloc = rt.alloc();
+    tells(&rt, alloc, &[("a", "-"), ("a", "")], (1, 1, "a"))?;
+    tells(
+        &rt,
+        alloc,
+        &[("a", "-"), ("a", "a b c d e f g")],
+        (1, 1, "a"),
+    )?;
+    tells(&rt, alloc, &[("v", ""), ("v", "-")], (6, 0, "v"))?;
+    tells(&rt, alloc, &[("v", "x v")], (2, 0, "x"))?;
+    tells(&rt, alloc, &[("v", "v x")], (3, 0, "v"))?;
+    tells(&rt, alloc, &[("v", "v v")], (3, 0, "v"))?;
+    tells(&rt, alloc, &[("a", "-"), ("v", "a a v")], (4, 1, "a"))?;
+    Ok(())
+}
+
+fn tells(
+    rt: &impl Abort,
+    alloc: Global,
+    rows: &[(&str, &str)],
+    want: (u8, usize, &str),
+) -> Result<(), Fail> {
+    match read(rt, alloc, rows) {
+        Ok(_) => assert!(rt; false, "no fault"),
+        Err(fault) => {
+            let got = told(&fault);
+            assert_eq!(rt; got.0, want.0);
+            assert_eq!(rt; got.1, want.1);
+            assert_eq!(rt; got.2, want.2);
+        }
+    }
+    Ok(())
+}
+
+#[test]
+fn six_children_pass_and_seven_are_too_many(rt: HostRuntime) -> Result<(), Fail> {
+    let alloc = rt.alloc();
+    let mut rows = [
+        ("a", "-"),
+        ("b", "-"),
+        ("c", "-"),
+        ("d", "-"),
+        ("e", "-"),
+        ("f", "-"),
+        ("g", "-"),
+        ("v", "a b c d e f"),
+    ];
+    let shape = read(&rt, alloc, &rows)?;
+    assert_eq!(rt; shape.len(), 8);
+    assert_eq!(rt; shape.children(7).len(), 6);
+    rows[7] = ("v", "a b c d e f g");
+    tells(&rt, alloc, &rows, (5, 7, "v"))
+}
+
+/// Base views "0", "1" and so on, as many as count.
+fn bases(
+    alloc: Global,
+    count: usize,
+) -> Result<(Vec<String>, Vec<Option<Vec<String>>>), AllocError> {
+    let mut names = Vec::new(alloc);
+    let mut over = Vec::new(alloc);
+    for number in 0..count {
+        names.push(format!(in alloc; "{number}")?)?;
+        over.push(None)?;
+    }
+    Ok((names, over))
+}
+
+#[test]
+fn the_65th_view_is_one_too_many(rt: HostRuntime) -> Result<(), Fail> {
+    let alloc = rt.alloc();
+    let (names, over) = bases(alloc, 64)?;
+    assert_eq!(rt; names.len(), over.len());
+    assert_eq!(rt; Shape::new(alloc, names, over)?.len(), 64);
+    let (names, over) = bases(alloc, 65)?;
+    assert_eq!(rt; names.len(), over.len());
+    match Shape::new(alloc, names, over) {
+        Ok(_) => assert!(rt; false, "65 views"),
+        Err(fault) => assert_eq!(rt; told(&fault), (5, 64, "64")),
+    }
+    let (names, mut over) = bases(alloc, 65)?;
+    assert_eq!(rt; names.len(), over.len());
+    over.pop();
+    over.pop();
+    over.push(Some(Vec::new(alloc)))?;
+    over.push(None)?;
+    assert_eq!(rt; names.len(), over.len());
+    match Shape::new(alloc, names, over) {
+        Ok(_) => assert!(rt; false, "65 views, one over nothing"),
+        Err(fault) => assert_eq!(rt; told(&fault), (6, 63, "63")),
+    }
+    Ok(())
+}
+
+#[test]
+fn a_name_gives_its_text_back(rt: HostRuntime) -> Result<(), Fail> {
+    let name = Name::new(String::from_str(rt.alloc(), "orders")?);
+    assert_eq!(rt; name.as_str(), "orders");
+    assert_eq!(rt; name.into_string().as_str(), "orders");
+    Ok(())
+}
+
+#[test]
+fn want_of_memory_is_the_seventh_refusal(rt: HostRuntime) {
+    assert_eq!(rt; ShapeFault::Memory.number(), 7);
+}
+
+static PAIRS: [SiblingPair; 2] = [
+    SiblingPair {
+        parent: 2,
+        lower: 0,
+        higher: 1,
+    },
+    SiblingPair {
+        parent: 3,
+        lower: 0,
+        higher: 2,
+    },
+];
+
+static COUPLES: [Couple; 2] = [
+    Couple {
+        lower: 0,
+        higher: 1,
+    },
+    Couple {
+        lower: 0,
+        higher: 2,
+    },
+];
+
+// w is over v and b, in this order: its pair has the lower number first all the same.
+#[test]
+fn siblings_and_couples_rise(rt: HostRuntime) -> Result<(), Fail> {
+    let alloc = rt.alloc();
+    let rows = [("b", "-"), ("c", "-"), ("v", "b c"), ("w", "v b")];
+    let shape = read(&rt, alloc, &rows)?;
+    assert_eq!(rt; shape.sibling_pairs(alloc)?.as_slice(), PAIRS.as_slice());
+    assert_eq!(rt; shape.couples(alloc)?.as_slice(), COUPLES.as_slice());
+    Ok(())
+}

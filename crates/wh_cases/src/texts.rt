@@ -1,0 +1,15 @@
+//! The texts that are read and written: tables of texts, each with what it says or its first fault, worked out by hand
+//! from the formats.
+
+mod bundles;
+mod cases;
+mod catalogues;
+mod cuts;
+mod definitions;
+mod faults;
+mod formulas;
+mod plans;
+mod reading;
+mod sizes;
+mod strategies;
+mod tables;

@@ -1,0 +1,40 @@
+// The faults that no text of these tables has: what they are numbered and what is printed for them.
+
+use crate::texts::cases::fault_line;
+use std::alloc::{AllocError, Global};
+use wh_dag::ShapeFault;
+use wh_load::{LoadFault, Word};
+
+const LINES: &str = "10 fault read
+11 memory
+11 memory
+13 fault toolong
+9 fault schedule 3
+12 fault part \u{ff}
+";
+
+fn fault(alloc: Global, place: usize) -> Result<LoadFault, AllocError> {
+    Ok(match place {
+        0 => LoadFault::Read,
+        1 => LoadFault::Memory,
+        2 => LoadFault::Shape(ShapeFault::Memory),
+        3 => LoadFault::TooLong,
+        4 => LoadFault::Schedule(3),
+        _ => LoadFault::Part(Word::new(alloc, b"\xff")?),
+    })
+}
+
+fn lines(alloc: Global) -> Result<String, AllocError> {
+    let mut lines = String::new(alloc);
+    for place in 0..6 {
+        let fault = fault(alloc, place)?;
+        lines.push_str(fault_line(alloc, &fault)?.as_str())?;
+    }
+    Ok(lines)
+}
+
+#[test]
+fn each_fault_prints_its_line(rt: HostRuntime) -> Result<(), AllocError> {
+    assert_eq!(&rt; lines(rt.alloc())?.as_str(), LINES);
+    Ok(())
+}

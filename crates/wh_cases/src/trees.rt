@@ -1,0 +1,5 @@
+//! Certificates by search by public calls, with verdicts from outside.
+
+mod given;
+mod limits;
+mod verdicts;
