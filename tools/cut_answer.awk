@@ -1,6 +1,7 @@
-# The answer for a beginning of the stored input, by the rules of docs/FORMATS.md for what a cut can leave unfinished: the
-# word, a heading, a part that is missing, and the records of the sizes, which stand last. A cut leaves the catalogue and the
-# strategy whole wherever the sizes have begun, so these have no fault of their own.
+# The answer for a beginning of an input, by the rules of docs/FORMATS.md for what a cut can leave unfinished: the word, a
+# heading, a part that is missing, and the records of the sizes, which stand last. A cut leaves the catalogue and the strategy
+# whole wherever the sizes have begun, so these have no fault of their own. `word` is the command, and `whole` what it prints
+# for the whole input.
 
 function answer(text, status) {
   if (text != "") print text
@@ -10,7 +11,7 @@ function answer(text, status) {
 }
 
 # What the command line parser prints is not fixed, so a status 2 stands alone.
-NR == 1 { if ($0 != "check") answer("", 2) }
+NR == 1 { if ($0 != word) answer("", 2) }
 
 NR > 1 && /^@/ {
   heading = substr($0, 2)
@@ -43,5 +44,5 @@ END {
   if (!given["A"]) answer("fault sizes A", 3)
   if (!given["B"]) answer("fault sizes B", 3)
   if (!given["V"]) answer("fault sizes V", 3)
-  answer("correct\nwork 154", 0)
+  answer(whole, 0)
 }

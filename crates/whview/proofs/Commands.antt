@@ -71,8 +71,11 @@ each_command : EachCommand IsCommand (built whview_app).subs
 each_command = (
   λ word words answers named e. command_costs (codes "check") (inl refl) words e,
   (
-    λ word words answers named e. command_costs (codes "certify") (inr refl) words e,
-    (λ word words answers named e. absurd (not_help word answers named), tt),
+    λ word words answers named e. command_costs (codes "plan") (inr (inl refl)) words e,
+    (
+      λ word words answers named e. command_costs (codes "certify") (inr (inr refl)) words e,
+      (λ word words answers named e. absurd (not_help word answers named), tt),
+    ),
   ),
 )
 

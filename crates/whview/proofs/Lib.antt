@@ -6,6 +6,9 @@ pub mod FirstPlaces
 pub mod IfOks
 pub mod LeafRows
 pub mod Outputs
+pub mod Planned
 pub mod SingleAnswers
+pub mod SinglePlans
 pub mod Texts
+pub mod Told
 pub mod Verdicts

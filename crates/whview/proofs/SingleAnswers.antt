@@ -17,16 +17,16 @@ use Rattle.wh_strategy.specs.Rules.{IsFirstBroken, IsFirstPlace, number_of}
 use Rattle.wh_strategy.specs.Sizes.{sizes_of}
 use Rattle.wh_strategy.specs.Work.{work_of}
 use Rattle.wh_strategy.proofs.Agreeing.{refused}
-use Rattle.wh_cert.specs.Bound.{pair_bound_of}
 use Rattle.wh_cert.specs.Certificate.{IsJudged}
 use Rattle.wh_cert.specs.declared.certificate.Verdict.{Verdict}
-use Rattle.wh_cert.specs.declared.certificate.Verdict.TheVariants.{All, Rejected}
+use Rattle.wh_cert.specs.declared.certificate.Verdict.TheVariants.{All, OneWay, Rejected}
 use Rattle.wh_cert.proofs.OneVerdict.{verdicts_same}
 use Rattle.wh_load.specs.PlanText.{plan_of}
-use Rattle.whview.specs.CertifyOutput.{Claim, IsCertifyOutput, IsJudgement, bound_at, broken as broken_claim, certified, claim_in, claim_of, claim_texts_of, other_work, rejected, rejected_text, work_at}
+use Rattle.whview.specs.CertifyOutput.{Claim, IsCertifyOutput, IsJudgement, broken as broken_claim, certified, certified_one_way, claim_in, claim_of, claim_texts_of, other_work, rejected, rejected_text, work_at}
 use Rattle.whview.specs.CheckOutput.{Inputs, IsCheckOutput, IsFaultShown, IsVerdict, broken, broken_text, correct, correct_text, inputs_in, inputs_of, texts_of}
 use Rattle.whview.specs.CommandLine.{IsAsked, whview_app}
-use Rattle.whview.specs.OneAnswer.{AreSame, IsReadFailure, OneCertifyOutput, OneCheckOutput, OneHandedOutput, OneInputOutput}
+use Rattle.whview.proofs.SinglePlans.{as_planning, one_plan}
+use Rattle.whview.specs.OneAnswer.{AreOneAnswer, AreSame, IsReadFailure, OneCertifyOutput, OneCheckOutput, OneHandedOutput, OneInputOutput}
 use Rattle.whview.specs.Output.{IsCommandOutput, IsHandedOutput, IsRead, IsRefused, ReadsInput, a_file, input_too_long, line_answered, line_names_a_file, line_not_text, line_refused, read_fails, read_too_long, read_within, words_answered, words_refused}
 use Rattle.whview.specs.declared.command_line.Asked.{Asked}
 use Rattle.whview.specs.declared.command_line.Asked.TheVariants as asked
@@ -102,32 +102,52 @@ one_check costs bytes text other status ended = go (inputs_of bytes) (shape_read
 
 one_judgement : (costs : Costs) (claim : Claim) (text other : List ℕ) (status ended : ℕ) → IsShape claim.shape.children
     → IsJudgement costs claim text status → IsJudgement costs claim other ended → AreSame text status other ended
-one_judgement costs claim text other status ended sh (broken_claim rule place f t s) (broken_claim rule' place' g u e) =
-    record { texts = t ∙ one_broken _ _ rule rule' place place' f g (one_rule rule rule' (one_number _ _ rule rule' place place' f g)) ∙ sym u; statuses = s ∙ sym e }
-one_judgement costs claim text other status ended sh (broken_claim rule place f t s) (other_work is n u e) = absurd (refused rule _ _ place sh f is)
-one_judgement costs claim text other status ended sh (broken_claim rule place f t s) (certified is w j u e) = absurd (refused rule _ _ place sh f is)
-one_judgement costs claim text other status ended sh (broken_claim rule place f t s) (rejected place' is w j u e) = absurd (refused rule _ _ place sh f is)
-one_judgement costs claim text other status ended sh (other_work is n t s) (broken_claim rule place f u e) = absurd (refused rule _ _ place sh f is)
-one_judgement costs claim text other status ended sh (other_work is n t s) (other_work is' n' u e) = record { texts = t ∙ sym u; statuses = s ∙ sym e }
-one_judgement costs claim text other status ended sh (other_work is n t s) (certified is' w j u e) = absurd (n w)
-one_judgement costs claim text other status ended sh (other_work is n t s) (rejected place is' w j u e) = absurd (n w)
-one_judgement costs claim text other status ended sh (certified is w j t s) (broken_claim rule place f u e) = absurd (refused rule _ _ place sh f is)
-one_judgement costs claim text other status ended sh (certified is w j t s) (other_work is' n u e) = absurd (n w)
-one_judgement costs claim text other status ended sh (certified is w j t s) (certified is' w' j' u e) = record { texts = t ∙ sym u; statuses = s ∙ sym e }
-one_judgement costs claim text other status ended sh (certified is w j t s) (rejected place is' w' j' u e) =
-    let same : All ≡ Rejected place = verdicts_same _ _ _ _ claim.plan.certificate All (Rejected place) j j' in
+one_judgement costs claim text other status ended sh (broken_claim rule place f t s) (broken_claim rule' place' f' t' s') = record { texts = t ∙ one_broken _ _ rule rule' place place' f f' (one_rule rule rule' (one_number _ _ rule rule' place place' f f')) ∙ sym t'; statuses = s ∙ sym s' }
+one_judgement costs claim text other status ended sh (broken_claim rule place f t s) (other_work is' n' t' s') = absurd (refused rule _ _ place sh f is')
+one_judgement costs claim text other status ended sh (broken_claim rule place f t s) (certified is' w' j' t' s') = absurd (refused rule _ _ place sh f is')
+one_judgement costs claim text other status ended sh (broken_claim rule place f t s) (certified_one_way is' w' j' t' s') = absurd (refused rule _ _ place sh f is')
+one_judgement costs claim text other status ended sh (broken_claim rule place f t s) (rejected place' is' w' j' t' s') = absurd (refused rule _ _ place sh f is')
+one_judgement costs claim text other status ended sh (other_work is n t s) (broken_claim rule' place' f' t' s') = absurd (refused rule' _ _ place' sh f' is)
+one_judgement costs claim text other status ended sh (other_work is n t s) (other_work is' n' t' s') = record { texts = t ∙ sym t'; statuses = s ∙ sym s' }
+one_judgement costs claim text other status ended sh (other_work is n t s) (certified is' w' j' t' s') = absurd (n w')
+one_judgement costs claim text other status ended sh (other_work is n t s) (certified_one_way is' w' j' t' s') = absurd (n w')
+one_judgement costs claim text other status ended sh (other_work is n t s) (rejected place' is' w' j' t' s') = absurd (n w')
+one_judgement costs claim text other status ended sh (certified is w j t s) (broken_claim rule' place' f' t' s') = absurd (refused rule' _ _ place' sh f' is)
+one_judgement costs claim text other status ended sh (certified is w j t s) (other_work is' n' t' s') = absurd (n' w)
+one_judgement costs claim text other status ended sh (certified is w j t s) (certified is' w' j' t' s') = record { texts = t ∙ sym t'; statuses = s ∙ sym s' }
+one_judgement costs claim text other status ended sh (certified is w j t s) (certified_one_way is' w' j' t' s') =
+    let same : All ≡ OneWay = verdicts_same _ _ _ _ _ claim.plan.certificate All OneWay j j' in
     let bad : ⊥ = cc in
     absurd bad
-one_judgement costs claim text other status ended sh (rejected place is w j t s) (broken_claim rule place' f u e) = absurd (refused rule _ _ place' sh f is)
-one_judgement costs claim text other status ended sh (rejected place is w j t s) (other_work is' n u e) = absurd (n w)
-one_judgement costs claim text other status ended sh (rejected place is w j t s) (certified is' w' j' u e) =
-    let same : Rejected place ≡ All = verdicts_same _ _ _ _ claim.plan.certificate (Rejected place) All j j' in
+one_judgement costs claim text other status ended sh (certified is w j t s) (rejected place' is' w' j' t' s') =
+    let same : All ≡ Rejected place' = verdicts_same _ _ _ _ _ claim.plan.certificate All (Rejected place') j j' in
     let bad : ⊥ = cc in
     absurd bad
-one_judgement costs claim text other status ended sh (rejected place is w j t s) (rejected place' is' w' j' u e) =
-    let verdicts : Rejected place ≡ Rejected place' = verdicts_same _ _ _ _ claim.plan.certificate (Rejected place) (Rejected place') j j' in
+one_judgement costs claim text other status ended sh (certified_one_way is w j t s) (broken_claim rule' place' f' t' s') = absurd (refused rule' _ _ place' sh f' is)
+one_judgement costs claim text other status ended sh (certified_one_way is w j t s) (other_work is' n' t' s') = absurd (n' w)
+one_judgement costs claim text other status ended sh (certified_one_way is w j t s) (certified is' w' j' t' s') =
+    let same : OneWay ≡ All = verdicts_same _ _ _ _ _ claim.plan.certificate OneWay All j j' in
+    let bad : ⊥ = cc in
+    absurd bad
+one_judgement costs claim text other status ended sh (certified_one_way is w j t s) (certified_one_way is' w' j' t' s') = record { texts = t ∙ sym t'; statuses = s ∙ sym s' }
+one_judgement costs claim text other status ended sh (certified_one_way is w j t s) (rejected place' is' w' j' t' s') =
+    let same : OneWay ≡ Rejected place' = verdicts_same _ _ _ _ _ claim.plan.certificate OneWay (Rejected place') j j' in
+    let bad : ⊥ = cc in
+    absurd bad
+one_judgement costs claim text other status ended sh (rejected place is w j t s) (broken_claim rule' place' f' t' s') = absurd (refused rule' _ _ place' sh f' is)
+one_judgement costs claim text other status ended sh (rejected place is w j t s) (other_work is' n' t' s') = absurd (n' w)
+one_judgement costs claim text other status ended sh (rejected place is w j t s) (certified is' w' j' t' s') =
+    let same : Rejected place ≡ All = verdicts_same _ _ _ _ _ claim.plan.certificate (Rejected place) All j j' in
+    let bad : ⊥ = cc in
+    absurd bad
+one_judgement costs claim text other status ended sh (rejected place is w j t s) (certified_one_way is' w' j' t' s') =
+    let same : Rejected place ≡ OneWay = verdicts_same _ _ _ _ _ claim.plan.certificate (Rejected place) OneWay j j' in
+    let bad : ⊥ = cc in
+    absurd bad
+one_judgement costs claim text other status ended sh (rejected place is w j t s) (rejected place' is' w' j' t' s') =
+    let verdicts : Rejected place ≡ Rejected place' = verdicts_same _ _ _ _ _ claim.plan.certificate (Rejected place) (Rejected place') j j' in
     let same : place ≡ place' = cc in
-    record { texts = t ∙ ap rejected_text same ∙ sym u; statuses = s ∙ sym e }
+    record { texts = t ∙ ap rejected_text same ∙ sym t'; statuses = s ∙ sym s' }
 
 -- what is read of a claim has a shape
 claim_shape_read : (bytes : List ℕ) (claim : Claim) → claim_of bytes ≡ Ok claim → IsShape claim.shape.children
@@ -151,29 +171,26 @@ one_certification costs bytes text other status ended = go (claim_of bytes) (cla
 
 -- ---- one command
 
--- the same work and bound at the same numbers
+-- the same work at the same numbers
 same_work : (costs other : Costs) (claim : Claim) → other.comp ≡ costs.comp → other.inst ≡ costs.inst → work_at other claim ≡ work_at costs claim
 same_work costs other claim e f =
     ap (λ c. work_of claim.shape.children (sizes_of claim.sizes) c other.inst claim.plan.strategy) e
     ∙ ap (λ i. work_of claim.shape.children (sizes_of claim.sizes) costs.comp i claim.plan.strategy) f
 
-same_bound : (costs other : Costs) (claim : Claim) → other.comp ≡ costs.comp → other.inst ≡ costs.inst → bound_at other claim ≡ bound_at costs claim
-same_bound costs other claim e f =
-    ap (λ c. pair_bound_of claim.shape.children (sizes_of claim.sizes) c other.inst) e
-    ∙ ap (λ i. pair_bound_of claim.shape.children (sizes_of claim.sizes) costs.comp i) f
-
 judged_at : (costs other : Costs) (claim : Claim) (verdict : Verdict) → other.comp ≡ costs.comp → other.inst ≡ costs.inst
-    → IsJudged claim.shape.children (sizes_of claim.sizes) (work_at other claim) (bound_at other claim) claim.plan.certificate verdict
-    → IsJudged claim.shape.children (sizes_of claim.sizes) (work_at costs claim) (bound_at costs claim) claim.plan.certificate verdict
+    → IsJudged claim.shape.children (sizes_of claim.sizes) other.comp other.inst (work_at other claim) claim.plan.certificate verdict
+    → IsJudged claim.shape.children (sizes_of claim.sizes) costs.comp costs.inst (work_at costs claim) claim.plan.certificate verdict
 judged_at costs other claim verdict e f j =
-    subst (λ w. IsJudged claim.shape.children (sizes_of claim.sizes) w (bound_at costs claim) claim.plan.certificate verdict) (same_work costs other claim e f)
-    (subst (λ b. IsJudged claim.shape.children (sizes_of claim.sizes) (work_at other claim) b claim.plan.certificate verdict) (same_bound costs other claim e f) j)
+    subst (λ w. IsJudged claim.shape.children (sizes_of claim.sizes) costs.comp costs.inst w claim.plan.certificate verdict) (same_work costs other claim e f)
+    (subst (λ i. IsJudged claim.shape.children (sizes_of claim.sizes) costs.comp i (work_at other claim) claim.plan.certificate verdict) f
+    (subst (λ c. IsJudged claim.shape.children (sizes_of claim.sizes) c other.inst (work_at other claim) claim.plan.certificate verdict) e j))
 
 judgement_at : (costs other : Costs) (claim : Claim) (text : List ℕ) (status : ℕ) → other.comp ≡ costs.comp → other.inst ≡ costs.inst
     → IsJudgement other claim text status → IsJudgement costs claim text status
 judgement_at costs other claim text status e f (broken_claim rule place is t s) = broken_claim rule place is t s
 judgement_at costs other claim text status e f (other_work is n t s) = other_work is (λ w. n (same_work costs other claim e f ∙ w)) t s
 judgement_at costs other claim text status e f (certified is w j t s) = certified is (sym (same_work costs other claim e f) ∙ w) (judged_at costs other claim All e f j) t s
+judgement_at costs other claim text status e f (certified_one_way is w j t s) = certified_one_way is (sym (same_work costs other claim e f) ∙ w) (judged_at costs other claim OneWay e f j) t s
 judgement_at costs other claim text status e f (rejected place is w j t s) = rejected place is (sym (same_work costs other claim e f) ∙ w) (judged_at costs other claim (Rejected place) e f j) t s
 
 as_certification : (costs other : Costs) (bytes text : List ℕ) (status : ℕ) → other.comp ≡ costs.comp → other.inst ≡ costs.inst
@@ -209,13 +226,30 @@ one_asked (Some found) (asked.Check costs input) (asked.Check costs' input') f g
     as_check costs costs' bytes text status (g.1.comp_cost ∙ sym f.1.comp_cost) (g.1.inst_cost ∙ sym f.1.inst_cost) is
 one_asked (Some found) (asked.Certify costs input) (asked.Certify costs' input') f g bytes text status is =
     as_certification costs costs' bytes text status (g.1.comp_cost ∙ sym f.1.comp_cost) (g.1.inst_cost ∙ sym f.1.inst_cost) is
+one_asked (Some found) (asked.Plan costs input) (asked.Plan costs' input') f g bytes text status is =
+    as_planning costs costs' bytes text status (g.1.comp_cost ∙ sym f.1.comp_cost) (g.1.inst_cost ∙ sym f.1.inst_cost) is
+one_asked (Some found) (asked.Check costs input) (asked.Plan costs' input') f g bytes text status is =
+    let bad : codes "check" ≡ codes "plan" = sym f.0 ∙ g.0 in cc
 one_asked (Some found) (asked.Check costs input) (asked.Certify costs' input') f g bytes text status is =
     let bad : codes "check" ≡ codes "certify" = sym f.0 ∙ g.0 in cc
+one_asked (Some found) (asked.Plan costs input) (asked.Check costs' input') f g bytes text status is =
+    let bad : codes "plan" ≡ codes "check" = sym f.0 ∙ g.0 in cc
+one_asked (Some found) (asked.Plan costs input) (asked.Certify costs' input') f g bytes text status is =
+    let bad : codes "plan" ≡ codes "certify" = sym f.0 ∙ g.0 in cc
 one_asked (Some found) (asked.Certify costs input) (asked.Check costs' input') f g bytes text status is =
     let bad : codes "certify" ≡ codes "check" = sym f.0 ∙ g.0 in cc
+one_asked (Some found) (asked.Certify costs input) (asked.Plan costs' input') f g bytes text status is =
+    let bad : codes "certify" ≡ codes "plan" = sym f.0 ∙ g.0 in cc
 
-one_output : (command : Asked) (bytes text other : List ℕ) (status ended : ℕ) → IsCommandOutput command bytes text status → IsCommandOutput command bytes other ended → AreSame text status other ended
+-- what has one text and one status is one answer
+as_one : (command : Asked) (text other : List ℕ) (status ended : ℕ) → AreSame text status other ended → AreOneAnswer command text status other ended
+as_one (asked.Check costs input) text other status ended same = same
+as_one (asked.Plan costs input) text other status ended same = record { statuses = same.statuses; texts = inl same.texts }
+as_one (asked.Certify costs input) text other status ended same = same
+
+one_output : (command : Asked) (bytes text other : List ℕ) (status ended : ℕ) → IsCommandOutput command bytes text status → IsCommandOutput command bytes other ended → AreOneAnswer command text status other ended
 one_output (asked.Check costs input) bytes text other status ended f g = one_check costs bytes text other status ended f g
+one_output (asked.Plan costs input) bytes text other status ended f g = one_plan costs bytes text other status ended f g
 one_output (asked.Certify costs input) bytes text other status ended f g = one_certification costs bytes text other status ended f g
 
 -- two commands that the same words ask for read the same
@@ -223,11 +257,16 @@ one_file : (found : Option (Text × List Row)) (command other : Asked) → IsAsk
 one_file None command other f g reads = absurd f
 one_file (Some found) (asked.Check costs input) (asked.Check costs' input') f g reads = g.1.file ∙ sym f.1.file ∙ reads
 one_file (Some found) (asked.Certify costs input) (asked.Certify costs' input') f g reads = g.1.file ∙ sym f.1.file ∙ reads
+one_file (Some found) (asked.Plan costs input) (asked.Plan costs' input') f g reads = g.1.file ∙ sym f.1.file ∙ reads
+one_file (Some found) (asked.Check costs input) (asked.Plan costs' input') f g reads = let bad : codes "check" ≡ codes "plan" = sym f.0 ∙ g.0 in cc
+one_file (Some found) (asked.Plan costs input) (asked.Check costs' input') f g reads = let bad : codes "plan" ≡ codes "check" = sym f.0 ∙ g.0 in cc
+one_file (Some found) (asked.Plan costs input) (asked.Certify costs' input') f g reads = let bad : codes "plan" ≡ codes "certify" = sym f.0 ∙ g.0 in cc
+one_file (Some found) (asked.Certify costs input) (asked.Plan costs' input') f g reads = let bad : codes "certify" ≡ codes "plan" = sym f.0 ∙ g.0 in cc
 one_file (Some found) (asked.Check costs input) (asked.Certify costs' input') f g reads = let bad : codes "check" ≡ codes "certify" = sym f.0 ∙ g.0 in cc
 one_file (Some found) (asked.Certify costs input) (asked.Check costs' input') f g reads = let bad : codes "certify" ≡ codes "check" = sym f.0 ∙ g.0 in cc
 
-one_read : (command : Asked) (bytes text other : List ℕ) (status ended : ℕ) → IsRead command bytes text status → IsRead command bytes other ended → AreSame text status other ended
-one_read command bytes text other status ended (read_too_long l f) (read_too_long m g) = one_shown _ text other status ended f g
+one_read : (command : Asked) (bytes text other : List ℕ) (status ended : ℕ) → IsRead command bytes text status → IsRead command bytes other ended → AreOneAnswer command text status other ended
+one_read command bytes text other status ended (read_too_long l f) (read_too_long m g) = as_one command text other status ended (one_shown _ text other status ended f g)
 one_read command bytes text other status ended (read_too_long l f) (read_within m g) = let bad : ⊥ = omega arith in absurd bad
 one_read command bytes text other status ended (read_within l f) (read_too_long m g) = let bad : ⊥ = omega arith in absurd bad
 one_read command bytes text other status ended (read_within l f) (read_within m g) = one_output command bytes text other status ended f g
@@ -285,11 +324,11 @@ one_line input text other status ended (line_names_a_file m u n f s) (line_answe
 one_line input text other status ended (line_refused m u n f) (input_too_long l g) = let bad : ⊥ = omega arith in absurd bad
 one_line input text other status ended (line_refused m u n f) (line_not_text m' u' g e) = let bad : false ≡ true = sym u' ∙ u in cc
 one_line input text other status ended (line_refused m u n f) (line_names_a_file m' u' n' g e) = let bad : true ≡ false = sym n' ∙ n in cc
-one_line input text other status ended (line_refused m u n f) (line_refused m' u' n' g) = inr (f, g)
+one_line input text other status ended (line_refused m u n f) (line_refused m' u' n' g) = inr (inr (f, g))
 one_line input text other status ended (line_refused m u n f) (line_answered c m' u' n' t a g) = absurd (not_refused _ status t f)
 one_line input text other status ended (line_answered c m u n t a f) (input_too_long l g) = let bad : ⊥ = omega arith in absurd bad
 one_line input text other status ended (line_answered c m u n t a f) (line_not_text m' u' g e) = let bad : false ≡ true = sym u' ∙ u in cc
 one_line input text other status ended (line_answered c m u n t a f) (line_names_a_file m' u' n' g e) = let bad : true ≡ false = sym n' ∙ n in cc
 one_line input text other status ended (line_answered c m u n t a f) (line_refused m' u' n' g) = absurd (not_refused _ ended t g)
 one_line input text other status ended (line_answered c m u n t a f) (line_answered c' m' u' n' t' a' g) =
-    inl (one_output c _ text other status ended f (one_asked _ c c' a a' _ other ended g))
+    inr (inl (c, a, one_output c _ text other status ended f (one_asked _ c c' a a' _ other ended g)))

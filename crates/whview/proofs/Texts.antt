@@ -1,5 +1,5 @@
 -- The texts of the parts, up to the first that is missing.
-use Rattle.std.proofs.Common.{◌≡◌, ℕ, List, Result, Ok, Err, ap, ◌∙◌}
+use Rattle.std.proofs.Common.{◌≡◌, ℕ, List, Ok, Err, ap, ◌∙◌}
 use Rattle.std.specs.Prelude.{codes}
 use Rattle.wh_load.specs.Catalogue.{◌>>=◌}
 use Rattle.wh_load.specs.declared.bundle.heading.Heading.TheVariants as heading

@@ -1,7 +1,6 @@
 -- What `certify` prints for the bytes of a bundle, and the status that it ends with.
 use Rattle.std.specs.Prelude.{◌≡◌, ◌≢◌, ◌++◌, ℕ, List, Result, Ok, codes, decimal, MatchResult}
 use Rattle.wh_dag.specs.Shape.{Views}
-use Rattle.wh_cert.specs.Bound.{pair_bound_of}
 use Rattle.wh_cert.specs.Certificate.{IsJudged}
 use Rattle.wh_cert.specs.declared.certificate.Verdict.TheVariants as verdict
 use Rattle.wh_load.specs.Catalogue.{◌>>=◌, shape_of}
@@ -56,16 +55,17 @@ claim_texts_of bytes = parts_in nights.Ignored bytes >>= claim_texts_in
 abbrev pub claim_of : List ℕ → Result Claim LoadFault
 claim_of bytes = claim_texts_of bytes >>= claim_in
 
--- the work that the plan's list has, and the pair bound, at these costs
+-- the work that the plan's list has at these costs
 abbrev pub work_at : Costs → Claim → ℕ
 work_at costs claim = work_of claim.shape.children (sizes_of claim.sizes) costs.comp costs.inst claim.plan.strategy
 
-abbrev pub bound_at : Costs → Claim → ℕ
-bound_at costs claim = pair_bound_of claim.shape.children (sizes_of claim.sizes) costs.comp costs.inst
-
--- what is printed of a plan of this work that is certified
+-- what is printed of a plan of this work that is certified against all strategies
 abbrev pub certified_text : ℕ → List ℕ
 certified_text work = line (codes "certified all work " ++ decimal work)
+
+-- what is printed of one that is certified against one-way strategies
+abbrev pub certified_one_way_text : ℕ → List ℕ
+certified_one_way_text work = line (codes "certified one-way work " ++ decimal work)
 
 -- what is printed of one whose certificate is rejected at this place
 abbrev pub rejected_text : ℕ → List ℕ
@@ -76,10 +76,13 @@ pub data IsJudgement (costs : Costs) (claim : Claim) (text : List ℕ) (status :
   broken : (rule : Rule) (place : ℕ) → IsFirstBroken claim.shape.children claim.plan.strategy rule place → text ≡ broken_text rule place → status ≡ 1 → IsJudgement costs claim text status
   other_work : IsCorrect claim.shape.children claim.plan.strategy → work_at costs claim ≢ claim.plan.work → text ≡ line (codes "rejected work") → status ≡ 1 → IsJudgement costs claim text status
   certified : IsCorrect claim.shape.children claim.plan.strategy → work_at costs claim ≡ claim.plan.work
-      → IsJudged claim.shape.children (sizes_of claim.sizes) (work_at costs claim) (bound_at costs claim) claim.plan.certificate verdict.All
+      → IsJudged claim.shape.children (sizes_of claim.sizes) costs.comp costs.inst (work_at costs claim) claim.plan.certificate verdict.All
       → text ≡ certified_text claim.plan.work → status ≡ 0 → IsJudgement costs claim text status
+  certified_one_way : IsCorrect claim.shape.children claim.plan.strategy → work_at costs claim ≡ claim.plan.work
+      → IsJudged claim.shape.children (sizes_of claim.sizes) costs.comp costs.inst (work_at costs claim) claim.plan.certificate verdict.OneWay
+      → text ≡ certified_one_way_text claim.plan.work → status ≡ 0 → IsJudgement costs claim text status
   rejected : (place : ℕ) → IsCorrect claim.shape.children claim.plan.strategy → work_at costs claim ≡ claim.plan.work
-      → IsJudged claim.shape.children (sizes_of claim.sizes) (work_at costs claim) (bound_at costs claim) claim.plan.certificate (verdict.Rejected place)
+      → IsJudged claim.shape.children (sizes_of claim.sizes) costs.comp costs.inst (work_at costs claim) claim.plan.certificate (verdict.Rejected place)
       → text ≡ rejected_text place → status ≡ 1 → IsJudgement costs claim text status
 
 -- what `certify` prints for a bundle's bytes, and the status

@@ -1,5 +1,5 @@
 -- What `check` prints for the bytes of a bundle, and the status that it ends with.
-use Rattle.std.specs.Prelude.{◌≡◌, ◌++◌, ◌<◌, ℕ, List, [], ◌∷◌, length, Option, Some, None, Result, Ok, Err, codes, decimal, ok_or, option_map, MatchResult}
+use Rattle.std.specs.Prelude.{◌≡◌, ◌++◌, ℕ, List, [], ◌∷◌, Option, Some, None, Result, Ok, Err, codes, decimal, ok_or, option_map, MatchResult}
 use Rattle.wh_dag.specs.Shape.{Views}
 use Rattle.wh_load.specs.Bundle.{fault_of, parts_of}
 use Rattle.wh_load.specs.Catalogue.{◌>>=◌, shape_of}

@@ -35,8 +35,8 @@ with_commands a = record a { top = record a.top { no_binary_name = true; subcomm
 
 -- the program, with its commands
 abbrev pub whview_app : App
-whview_app = with_subcommand (with_subcommand (with_commands (new_app (codes "whview"))) (command_app (codes "check")).top)
-    (command_app (codes "certify")).top
+whview_app = with_subcommand (with_subcommand (with_subcommand (with_commands (new_app (codes "whview"))) (command_app (codes "check")).top)
+    (command_app (codes "plan")).top) (command_app (codes "certify")).top
 
 -- ---- what they ask for
 
@@ -57,6 +57,7 @@ pub record HasOptions (options : List Row) (costs : Costs) (input : Option (Bor 
 -- the command of this name with these options is asked for
 abbrev pub AsksBy : Text → List Row → Asked → Type 0
 AsksBy name options (asked.Check costs input) = (name ≡ codes "check") × HasOptions options costs input
+AsksBy name options (asked.Plan costs input) = (name ≡ codes "plan") × HasOptions options costs input
 AsksBy name options (asked.Certify costs input) = (name ≡ codes "certify") × HasOptions options costs input
 
 -- the command that was found in the words, with its options, is asked for
@@ -71,7 +72,7 @@ TakesCost name options = IfSome (first_of name options) (Accepts false cost_pars
 
 -- the name is that of one of the commands
 abbrev pub IsCommandName : Text → Type 0
-IsCommandName name = (name ≡ codes "check") ⊎ (name ≡ codes "certify")
+IsCommandName name = (name ≡ codes "check") ⊎ ((name ≡ codes "plan") ⊎ (name ≡ codes "certify"))
 
 -- the command is one of the program's, and its options for costs are costs
 abbrev pub IsCommand : Text × List Row → Type 0

@@ -5,4 +5,5 @@ pub mod CommandLine
 pub mod FirstLine
 pub mod OneAnswer
 pub mod Output
+pub mod PlanOutput
 pub mod Shown

@@ -1,5 +1,5 @@
 -- What the program prints for words and the bytes of its input, and the status that it ends with.
-use Rattle.std.specs.Prelude.{◌≡◌, ◌<◌, ◌≤◌, ℕ, List, [], length, Option, None, IfSome, codes, option_map, true, false}
+use Rattle.std.specs.Prelude.{◌≡◌, ◌<◌, ◌≤◌, ℕ, List, [], length, Option, None, IfSome, Result, MatchResult, codes, option_map, true, false}
 use Rattle.std.specs.List.{list_any}
 use Rattle.std.specs.Str.{is_utf8}
 use Rattle.clap.specs.Words.{IsAmong, fault_of, subcommand_of}
@@ -10,22 +10,35 @@ use Rattle.whview.specs.CheckOutput.{IsCheckOutput, IsFaultShown, line}
 use Rattle.whview.specs.CommandFault.{status_of_kind}
 use Rattle.whview.specs.CommandLine.{IsAsked, whview_app}
 use Rattle.whview.specs.FirstLine.{first_line_of, after_first_line, words_in, names_input}
+use Rattle.whview.specs.PlanOutput.{IsPlanOutput}
+use Rattle.whview.specs.declared.answer.Answer.{Answer}
 use Rattle.whview.specs.declared.command_line.Asked.{Asked}
 use Rattle.whview.specs.declared.command_line.Asked.TheVariants as asked
 
 -- what a command prints for the bytes of a bundle, and the status
 abbrev pub IsCommandOutput : Asked → List ℕ → List ℕ → ℕ → Type 0
 IsCommandOutput (asked.Check costs input) bytes text status = IsCheckOutput costs bytes text status
+IsCommandOutput (asked.Plan costs input) bytes text status = IsPlanOutput costs bytes text status
 IsCommandOutput (asked.Certify costs input) bytes text status = IsCertifyOutput costs bytes text status
 
 -- the file that the command reads in place of the program's reader
 abbrev pub file_of : Asked → Option (List ℕ)
 file_of (asked.Check costs input) = option_map (λ path. path.now) input
+file_of (asked.Plan costs input) = option_map (λ path. path.now) input
 file_of (asked.Certify costs input) = option_map (λ path. path.now) input
 
 -- the command reads the program's reader
 abbrev pub ReadsInput : Asked → Type 0
 ReadsInput command = file_of command ≡ None
+
+-- that memory was refused is told
+pub record IsMemoryTold (text : List ℕ) (status : ℕ) : Type 0 where
+  pub printed : text ≡ line (codes "memory")
+  pub ended : status ≡ 4
+
+-- an answer is told as it is, and want of memory where there is none
+abbrev pub IsTold : {E : Type 0} → Result Answer E → List ℕ → ℕ → Type 0
+IsTold answer text status = MatchResult answer (λ a. (text ≡ a.text.items) × (status ≡ a.status)) (λ _. IsMemoryTold text status)
 
 -- these words are no command line, or ask for help: `clap` takes exactly those where it finds nothing. The text is not promised, and the status is that of what `clap` finds in them
 pub record IsRefused (words : List (List ℕ)) (status : ℕ) : Type 0 where

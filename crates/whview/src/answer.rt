@@ -2,11 +2,14 @@
 
 ghost use Rattle.std.specs.Prelude.{◌≡◌, IfOk, decimal, string_bytes};
 ghost use Rattle.wh_load.specs.FaultText.{fault_text};
-ghost use Rattle.whview.specs.CertifyOutput.{certified_text, rejected_text};
+ghost use Rattle.wh_load.specs.PlanText.{plan_text};
+ghost use Rattle.whview.specs.CertifyOutput.{certified_text, certified_one_way_text, rejected_text};
 ghost use Rattle.whview.specs.CheckOutput.{IsFaultShown, correct_text, broken_text, line};
 
 use std::alloc::{AllocError, Global};
-use wh_load::LoadFault;
+use wh_cert::Planned;
+use wh_dag::Shape;
+use wh_load::{LoadFault, Names, write_plan};
 use wh_strategy::Rule;
 
 /// A text, built whole, and the status to end with.
@@ -44,12 +47,24 @@ impl Answer {
         })
     }
 
-    /// The answer for a plan that is certified, of this work.
+    /// The answer for a plan that is certified against all strategies, of this work.
     pub fn certified(alloc: Global, work: u128) -> Result<Answer, AllocError>
         ensures text { IfOk result (λ a. a.text.items ≡ certified_text work) }
         ensures status { IfOk result (λ a. a.status ≡ 0) }
     {
         let text = format!(in alloc; "certified all work {work}\n")?;
+        Ok(Answer {
+            text: text.into_bytes(),
+            status: 0,
+        })
+    }
+
+    /// The answer for a plan that is certified against one-way strategies, of this work.
+    pub fn certified_one_way(alloc: Global, work: u128) -> Result<Answer, AllocError>
+        ensures text { IfOk result (λ a. a.text.items ≡ certified_one_way_text work) }
+        ensures status { IfOk result (λ a. a.status ≡ 0) }
+    {
+        let text = format!(in alloc; "certified one-way work {work}\n")?;
         Ok(Answer {
             text: text.into_bytes(),
             status: 0,
@@ -66,6 +81,17 @@ impl Answer {
             text: text.into_bytes(),
             status: 1,
         })
+    }
+
+    /// The answer for a plan over the views of this shape.
+    pub fn planned(alloc: Global, shape: &Shape, planned: &Planned) -> Result<Answer, AllocError>
+        ensures text { IfOk result (λ a. a.text.items ≡ plan_text shape.now.names planned.now.scope planned.now.work planned.now.correct.list planned.now.certificate) }
+        ensures status { IfOk result (λ a. a.status ≡ 0) }
+    {
+        let names = Names::of(alloc, shape)?;
+        let mut text = Vec::new(alloc);
+        write_plan(alloc, &mut text, &names, planned)?;
+        Ok(Answer { text, status: 0 })
     }
 
     /// The answer for a fault of the input.

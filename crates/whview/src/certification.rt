@@ -101,6 +101,7 @@ fn judgement(alloc: Global, costs: Costs, claim: Claim) -> Result<Answer, AllocE
     }
     match certify(&shape, &sizes, costs, &correct, &certificate) {
         Verdict::All => Answer::certified(alloc, claimed),
+        Verdict::OneWay => Answer::certified_one_way(alloc, claimed),
         Verdict::Rejected(place) => Answer::rejected(alloc, place),
     }
 }

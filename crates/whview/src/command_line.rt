@@ -28,6 +28,13 @@ pub enum Asked<'a> {
         /// The file of the input; None for standard input.
         input: Option<&'a str>,
     },
+    /// Plan a strategy of least work.
+    Plan {
+        /// What a row costs.
+        costs: Costs,
+        /// The file of the input; None for standard input.
+        input: Option<&'a str>,
+    },
     /// Judge a plan: the strategy, its work, and the certificate that it is least.
     Certify {
         /// What a row costs.
@@ -65,6 +72,10 @@ fn asked_of<'a>(matches: &ArgMatches<'a>) -> Asked<'a>
 {
     match matches.subcommand() {
         Some(("check", options)) => Asked::Check {
+            costs: costs_of(options),
+            input: options.get_str("input"),
+        },
+        Some(("plan", options)) => Asked::Plan {
             costs: costs_of(options),
             input: options.get_str("input"),
         },

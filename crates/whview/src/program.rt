@@ -5,11 +5,12 @@ ghost use Rattle.std.specs.Io.KnownBytes.{Appends};
 ghost use Rattle.clap.specs.Walk.{texts};
 ghost use Rattle.whview.specs.CheckOutput.{line};
 ghost use Rattle.whview.specs.CommandFault.{status_of};
-ghost use Rattle.whview.specs.Output.{IsCommandOutput, IsHandedOutput, IsInputOutput, IsRead, ReadsInput, file_of};
+ghost use Rattle.whview.specs.Output.{IsCommandOutput, IsHandedOutput, IsInputOutput, IsMemoryTold, IsRead, IsTold, ReadsInput, file_of};
 
 use crate::answer::Answer;
 use crate::certification::certification;
 use crate::command_line::{Asked, CommandFault, parse};
+use crate::planning::planning;
 use crate::verdict::judge;
 use crate::words::{first_line, refuses_input, words_of_line};
 use std::alloc::{AllocError, Global};
@@ -32,6 +33,7 @@ fn command_answer(alloc: Global, asked: &Asked<'_>, bytes: &[u8]) -> Result<Answ
 {
     match asked {
         Asked::Check { costs, .. } => judge(alloc, *costs, bytes),
+        Asked::Plan { costs, .. } => planning(alloc, *costs, bytes),
         Asked::Certify { costs, .. } => certification(alloc, *costs, bytes),
     }
 }
@@ -41,7 +43,9 @@ fn file_of<'a>(asked: &Asked<'a>) -> Option<&'a str>
     ensures { option_map (λ path. path.now) result ≡ file_of asked.now }
 {
     match asked {
-        Asked::Check { input, .. } | Asked::Certify { input, .. } => *input,
+        Asked::Check { input, .. } | Asked::Plan { input, .. } | Asked::Certify { input, .. } => {
+            *input
+        }
     }
 }
 
@@ -160,10 +164,21 @@ pub fn want_of_memory<W: Write>(out: &mut W) -> u8
     give(out, b"memory\n", MEMORY)
 }
 
+/// Writes an answer whole, or that memory was refused.
+fn tell<W: Write>(out: &mut W, answer: Result<Answer, AllocError>) -> u8
+    ensures { result ≢ 5 → (text : List ℕ) × Appends (W.contents out.old) (W.contents out.new) text × IsTold answer text result }
+{
+    match answer {
+        Ok(answer) => give(out, &answer.text, answer.status),
+        Err(AllocError) => want_of_memory(out),
+    }
+}
+
 /// The program: reads the input, or the file that the words name, and writes its whole text. The words are those of the
 /// command line, without the program's name; where there are none, the first line of the input gives them.
 ///
-/// Answers the status: 0 done, 1 a negative verdict, 2 the command line, 3 a fault of the input, 4 memory, 5 the output.
+/// Answers the status: 0 done, 1 a negative verdict, 2 the command line, 3 a fault of the input, 4 memory or a cycle that a
+/// plan would need a search for, 5 the output.
 pub fn run<'a, F: Files, R: Read, W: Write>(
     files: &F,
     alloc: Global,
@@ -171,20 +186,18 @@ pub fn run<'a, F: Files, R: Read, W: Write>(
     input: &mut R,
     out: &mut W,
 ) -> u8
-    // Where memory was refused or the writer fails nothing is promised of the text.
-    ensures handed { words.now ≢ [] → result ≢ 4 → result ≢ 5 → (text : List ℕ) × Appends (W.contents out.old) (W.contents out.new) text
-        × IsHandedOutput (texts words.now) (R.remaining input.old) text result }
+    // Where the writer fails nothing is promised of the text.
+    ensures handed { words.now ≢ [] → result ≢ 5 → (text : List ℕ) × Appends (W.contents out.old) (W.contents out.new) text
+        × (IsMemoryTold text result ⊎ IsHandedOutput (texts words.now) (R.remaining input.old) text result) }
 
-    ensures in_line { words.now ≡ [] → result ≢ 4 → result ≢ 5 → (text : List ℕ) × Appends (W.contents out.old) (W.contents out.new) text
-        × (((text ≡ line (codes "fault read")) × (result ≡ 3)) ⊎ IfSome (R.remaining input.old) (λ bytes. IsInputOutput bytes text result)) }
+    ensures in_line { words.now ≡ [] → result ≢ 5 → (text : List ℕ) × Appends (W.contents out.old) (W.contents out.new) text
+        × (IsMemoryTold text result ⊎ (((text ≡ line (codes "fault read")) × (result ≡ 3)) ⊎ IfSome (R.remaining input.old) (λ bytes. IsInputOutput bytes text result))) }
 {
-    let answer = if words.is_empty() {
-        input_answer(alloc, input)
+    if words.is_empty() {
+        let answer = input_answer(alloc, input);
+        tell(out, answer)
     } else {
-        words_answer(files, alloc, words, input)
-    };
-    match answer {
-        Ok(answer) => give(out, &answer.text, answer.status),
-        Err(AllocError) => want_of_memory(out),
+        let answer = words_answer(files, alloc, words, input);
+        tell(out, answer)
     }
 }

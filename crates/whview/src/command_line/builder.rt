@@ -20,9 +20,15 @@ pub fn whview_command<'a>(alloc: Global) -> Result<Command<'a>, AllocError>
         "check",
         "Judges a strategy and gives its work. Reads the catalogue, the strategy and the sizes.",
     )?;
-    let with_certify = with_command(
+    let with_plan = with_command(
         alloc,
         with_check,
+        "plan",
+        "Plans a strategy of least work and says why none costs less. Reads the catalogue and the sizes.",
+    )?;
+    let with_certify = with_command(
+        alloc,
+        with_plan,
         "certify",
         "Judges a plan by its certificate. Reads the catalogue, the sizes and the plan.",
     )?;
@@ -38,7 +44,7 @@ fn bare_command<'a>(alloc: Global) -> Result<Command<'a>, AllocError>
     let named = bare.bin_name("whview")?;
     Ok(
         named
-            .about("Judges strategies that update the views of a warehouse.")
+            .about("Judges and plans strategies that update the views of a warehouse.")
             .subcommand_required(true),
     )
 }

@@ -112,6 +112,19 @@ fn a_certification_has_its_costs_and_its_file(rt: HostRuntime) {
 }
 
 #[test]
+fn a_plan_has_its_costs_and_its_file(rt: HostRuntime) {
+    let words = ["plan", "--input=f", "--comp-cost", "2", "--inst-cost", "3"];
+    match parse(rt.alloc(), words.as_slice()) {
+        Ok(Asked::Plan { costs, input }) => {
+            assert_eq!(&rt; (costs.comp, costs.inst), (2, 3));
+            assert!(&rt; input == Some("f"));
+        }
+        Ok(asked) => panic!(&rt; "{asked:?}"),
+        Err(fault) => panic!(&rt; "{fault:?}"),
+    }
+}
+
+#[test]
 fn a_cost_is_a_number_from_1_to_a_million(rt: HostRuntime) {
     for cost in [
         "0",
@@ -136,7 +149,7 @@ fn a_cost_is_a_number_from_1_to_a_million(rt: HostRuntime) {
 fn other_words_are_refused(rt: HostRuntime) {
     for line in [
         "",
-        "plan",
+        "plans",
         "certif",
         "chec",
         "Check",
@@ -153,12 +166,13 @@ fn other_words_are_refused(rt: HostRuntime) {
         "check --comp-cost 2 --comp-cost 2",
         "check --comp 2",
         "check --budget 2",
+        "plan --budget 2",
         "check -c",
         "-V",
         "--version",
         "check -V",
         "check --version",
-        "help plan",
+        "help plans",
     ] {
         ends(&rt, rt.alloc(), line, 2);
     }
@@ -181,6 +195,7 @@ fn help_that_is_asked_for_ends_with_0(rt: HostRuntime) {
         "--help",
         "help",
         "help check",
+        "help plan",
         "help help",
         "check -h",
         "check --help",
@@ -189,12 +204,13 @@ fn help_that_is_asked_for_ends_with_0(rt: HostRuntime) {
     }
 }
 
-const PROGRAM_HELP: &str = "Judges strategies that update the views of a warehouse.
+const PROGRAM_HELP: &str = "Judges and plans strategies that update the views of a warehouse.
 
 Usage: whview <COMMAND>
 
 Commands:
   check    Judges a strategy and gives its work. Reads the catalogue, the strategy and the sizes.
+  plan     Plans a strategy of least work and says why none costs less. Reads the catalogue and the sizes.
   certify  Judges a plan by its certificate. Reads the catalogue, the sizes and the plan.
   help     Print this message or the help of the given subcommand(s)
 
@@ -214,16 +230,29 @@ Options:
   -h, --help           Print help
 ";
 
+const PLAN_HELP: &str =
+    "Plans a strategy of least work and says why none costs less. Reads the catalogue and the sizes.
+
+Usage: whview plan [OPTIONS]
+
+Options:
+      --comp-cost <N>  The cost of a row that a Comp reads, 1 to 1,000,000 [default: 1]
+      --inst-cost <N>  The cost of a row that an Inst writes, 1 to 1,000,000 [default: 1]
+      --input <FILE>   The file to read [default: standard input]
+  -h, --help           Print help
+";
+
 #[test]
 fn help_names_each_command_and_option(rt: HostRuntime) {
     shows(&rt, rt.alloc(), "--help", 0, PROGRAM_HELP);
     shows(&rt, rt.alloc(), "help", 0, PROGRAM_HELP);
     shows(&rt, rt.alloc(), "check --help", 0, CHECK_HELP);
     shows(&rt, rt.alloc(), "help check", 0, CHECK_HELP);
+    shows(&rt, rt.alloc(), "plan --help", 0, PLAN_HELP);
 }
 
 const NO_COMMAND: &str = "error: 'whview' requires a subcommand but one was not provided
-  [subcommands: check, certify, help]
+  [subcommands: check, plan, certify, help]
 
 Usage: whview <COMMAND>
 

@@ -32,6 +32,35 @@ inst V
 
 const CORRECT: &[u8] = b"correct\nwork 154\n";
 
+const PLAN: &[u8] = b"scope all
+work 154
+comp V from B
+inst B
+comp V from A
+inst A
+inst V
+pair V B A 80
+";
+
+const CYCLIC: &[u8] = b"@catalogue
+[[view]]
+name = \"B\"
+[[view]]
+name = \"C\"
+[[view]]
+name = \"V1\"
+over = [\"B\", \"C\"]
+[[view]]
+name = \"V2\"
+over = [\"B\", \"V1\"]
+@sizes
+view,pre,post,change
+B,100,90,20
+C,50,55,5
+V1,80,60,40
+V2,200,190,30
+";
+
 /// Gives a text a byte at a time, and fails at the read of this number, counted from 0.
 #[derive(Drop)]
 struct Dripping<'a> {
@@ -148,6 +177,26 @@ fn a_reader_that_gives_a_byte_at_a_time_is_read_whole(rt: HostRuntime) {
         failing: None,
     };
     prints(&rt, rt.alloc(), &["check"], input, CORRECT, 0);
+}
+
+#[test]
+fn a_plan_has_its_scope_work_list_and_pairs(rt: HostRuntime) {
+    let input = Padded {
+        text: BUNDLE,
+        lines: 0,
+    };
+    prints(&rt, rt.alloc(), &["plan"], input, PLAN, 0);
+}
+
+// V1 shrinks more than B, and B more than C: V1's Inst is to come before V2's Comp from B, that before B's Inst, that before
+// V1's Comp from C, and that before V1's Inst.
+#[test]
+fn a_plan_where_the_ordered_graph_has_a_cycle_ends_with_4(rt: HostRuntime) {
+    let input = Padded {
+        text: CYCLIC,
+        lines: 0,
+    };
+    prints(&rt, rt.alloc(), &["plan"], input, b"cyclic\n", 4);
 }
 
 #[test]

@@ -6,7 +6,7 @@ use Rattle.clap.specs.declared.parser.matches.ArgMatches.TheViews.{out-ArgMatche
 use Rattle.clap.proofs.WalkLemmas.{first_value-rows}
 use Rattle.whview.specs.CommandLine.{AsksBy, IsAsked}
 use Rattle.whview.specs.declared.command_line.Asked.{Asked}
-use Rattle.whview.specs.declared.command_line.Asked.TheVariants.{Certify, Check}
+use Rattle.whview.specs.declared.command_line.Asked.TheVariants.{Certify, Check, Plan}
 use Rattle.whview.proofs.command_line.asked_of.Goals as goal
 
 fused : {X Y Z : Type 0} (f : Y → Z) (g : X → Y) (o : Option X) → option_map (λ x. f (g x)) o ≡ option_map f (option_map g o)
@@ -35,6 +35,21 @@ returns-in-Some-check-default c =
         comp_cost = c.costs_of.ensures.comp;
         inst_cost = c.costs_of.ensures.inst;
         file = c.get_str.ensures ∙ first_value-rows (found_of options) (codes "input");
+      },
+    )
+
+pub returns-in-Some-plan-default : goal.returns-in-Some-plan-default
+returns-in-Some-plan-default c =
+    let options = c.in-Some-plan-default.options.now in
+    let costs = c.costs_of-in-Some-plan-default in
+    let file = c.get_str-in-Some-plan-default in
+    asked_by (subcommand_rows_of c.args.matches.now) (codes "plan") (rows_of (found_of options)) (Plan costs.result file.result)
+    (ap Some (sym c.in-Some-plan-default.is-plan) ∙ c.in-Some-plan-default.ensures.name ∙ named c.args.matches.now) c.in-Some-plan-default.ensures.rows (
+      refl,
+      record {
+        comp_cost = costs.ensures.comp;
+        inst_cost = costs.ensures.inst;
+        file = file.ensures ∙ first_value-rows (found_of options) (codes "input");
       },
     )
 

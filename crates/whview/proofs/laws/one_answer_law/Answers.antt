@@ -1,8 +1,12 @@
 use Rattle.whview.proofs.SingleAnswers.{one_certification, one_check, one_handed, one_line}
+use Rattle.whview.proofs.SinglePlans.{one_plan}
 use Rattle.whview.proofs.laws.one_answer_law.Goals as goal
 
 pub returns-clause-check : goal.returns-clause-check
 returns-clause-check c = one_check
+
+pub returns-clause-plan : goal.returns-clause-plan
+returns-clause-plan c = one_plan
 
 pub returns-clause-certify : goal.returns-clause-certify
 returns-clause-certify c = one_certification

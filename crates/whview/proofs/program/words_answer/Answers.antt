@@ -1,4 +1,3 @@
-use Rattle.std.proofs.Common.{◌≡◌}
 use Rattle.clap.specs.Walk.{texts}
 use Rattle.whview.proofs.IfOks.{if_ok, if_ok_both, if_ok_any}
 use Rattle.whview.specs.Output.{words_refused}

@@ -1,4 +1,4 @@
-use Rattle.std.proofs.Common.{◌≡◌, ◌⊎◌, inl, inr, ⊎_elim}
+use Rattle.std.proofs.Common.{inl, inr, ⊎_elim}
 use Rattle.whview.proofs.Texts.{no_strategy}
 use Rattle.whview.proofs.verdict.texts_in.Goals as goal
 

@@ -1,0 +1,13 @@
+use Rattle.clap.specs.Walk.{texts}
+use Rattle.whview.specs.Output.{IsHandedOutput}
+use Rattle.whview.proofs.Told.{memory_or}
+use Rattle.whview.proofs.program.run.Goals as goal
+
+pub returns-else-is_empty-clause-handed : goal.returns-else-is_empty-clause-handed
+returns-else-is_empty-clause-handed g c some written =
+    let told = c.tell-else-is_empty.ensures written in (
+      told.0,
+      told.1,
+      memory_or c.words_answer-answer.result (IsHandedOutput (texts c.args.words.now) (g.R.Read.remaining c.args.input.now))
+          told.0 c.tell-else-is_empty.result c.words_answer-answer.ensures told.2,
+    )

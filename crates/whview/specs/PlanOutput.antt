@@ -1,0 +1,84 @@
+-- What `plan` prints for the bytes of a bundle, and the status that it ends with.
+use Rattle.std.specs.Prelude.{◌≡◌, ◌≤◌, ℕ, List, Result, Ok, codes, MatchResult}
+use Rattle.wh_dag.specs.Shape.{Views}
+use Rattle.wh_cert.specs.Bound.{pair_bound_of}
+use Rattle.wh_cert.specs.Certificate.{IsJudged}
+use Rattle.wh_cert.specs.Graph.{IsCycle, IsOrdered}
+use Rattle.wh_cert.specs.declared.certificate.Certificate.{Certificate}
+use Rattle.wh_cert.specs.declared.certificate.Scope.TheVariants as scope
+use Rattle.wh_cert.specs.declared.certificate.Verdict.TheVariants as verdict
+use Rattle.wh_load.specs.Catalogue.{◌>>=◌, shape_of}
+use Rattle.wh_load.specs.PlanText.{plan_text}
+use Rattle.wh_load.specs.SizesText.{sizes_of_text}
+use Rattle.wh_load.specs.declared.bundle.fault.Nights.TheVariants as nights
+use Rattle.wh_load.specs.declared.bundle.heading.Heading.TheVariants as heading
+use Rattle.wh_load.specs.declared.bundle.part.Part.{Part}
+use Rattle.wh_load.specs.declared.fault.LoadFault.{LoadFault}
+use Rattle.wh_minwork.specs.Plan.{IsAcyclicAsDesired, IsSortedAsDesired}
+use Rattle.wh_strategy.specs.declared.costs.Costs.{Costs}
+use Rattle.wh_strategy.specs.declared.expression.Expression.{Expression}
+use Rattle.wh_strategy.specs.declared.sizes.SizeRow.{SizeRow}
+use Rattle.wh_strategy.specs.Rules.{IsCorrect, IsOneWay}
+use Rattle.wh_strategy.specs.Sizes.{Size, sizes_of}
+use Rattle.wh_strategy.specs.Work.{work_of}
+use Rattle.whview.specs.CheckOutput.{IsFaultShown, line, parts_in, text_in}
+
+-- what is planned for: the views, and their sizes
+pub record Measured : Type 0 where
+  pub shape : Views
+  pub sizes : List SizeRow
+
+-- the texts of the parts that this reads
+pub record MeasuredTexts : Type 0 where
+  pub catalogue : List ℕ
+  pub sizes : List ℕ
+
+-- these texts among the parts of a bundle; the first that is missing, in the order of the headings, is a fault
+abbrev pub measured_texts_in : List Part → Result MeasuredTexts LoadFault
+measured_texts_in parts = do
+  catalogue ← text_in parts heading.Catalogue (codes "catalogue")
+  sizes ← text_in parts heading.Sizes (codes "sizes")
+  Ok (record { catalogue = catalogue; sizes = sizes })
+
+-- what these texts say, or their first fault: the catalogue's, the sizes'
+abbrev pub measured_in : MeasuredTexts → Result Measured LoadFault
+measured_in texts = do
+  shape ← shape_of texts.catalogue
+  sizes ← sizes_of_text shape.names texts.sizes
+  Ok (record { shape = shape; sizes = sizes })
+
+-- these texts in a bundle of any nights, or its first fault
+abbrev pub measured_texts_of : List ℕ → Result MeasuredTexts LoadFault
+measured_texts_of bytes = parts_in nights.Ignored bytes >>= measured_texts_in
+
+-- what the bytes of a bundle have to be planned for, or their first fault
+abbrev pub measured_of : List ℕ → Result Measured LoadFault
+measured_of bytes = measured_texts_of bytes >>= measured_in
+
+-- A plan of least work at costs of a Comp's row and an Inst's row: its list is correct, each Comp of it is from one view, and
+-- it is sorted by the ordered graph; the work is that of the list, and the pair bound; the certificate is accepted. So no
+-- correct strategy costs less, with Comps of any width.
+pub record IsLeastPlan (comp inst : ℕ) (measured : Measured) (work : ℕ) (list : List Expression) (certificate : Certificate) : Type 0 where
+  pub correct : IsCorrect measured.shape.children list
+  pub one_way : IsOneWay list
+  pub sorted : IsSortedAsDesired measured.shape.children (sizes_of measured.sizes) list
+  pub worked : work ≡ work_of measured.shape.children (sizes_of measured.sizes) comp inst list
+  pub bounded : work ≡ pair_bound_of measured.shape.children (sizes_of measured.sizes) comp inst
+  pub accepted : IsJudged measured.shape.children (sizes_of measured.sizes) comp inst work certificate verdict.All
+  pub least : (other : List Expression) → IsCorrect measured.shape.children other → work ≤ work_of measured.shape.children (sizes_of measured.sizes) comp inst other
+
+-- the ordered graph has a cycle
+abbrev pub IsCyclicAsDesired : List (List ℕ) → (ℕ → Size) → Type 0
+IsCyclicAsDesired shape sizes = (decided : List (ℕ × ℕ)) × (cycle : List Expression) × IsOrdered shape sizes decided × IsCycle shape decided cycle
+
+-- what is printed for this, and the status: a plan of least work where the ordered graph has no cycle, else that it has one
+pub data IsPlanned (comp inst : ℕ) (measured : Measured) (text : List ℕ) (status : ℕ) : Type 0 where
+  planned : (work : ℕ) (list : List Expression) (certificate : Certificate) → IsAcyclicAsDesired measured.shape.children (sizes_of measured.sizes)
+      → IsLeastPlan comp inst measured work list certificate
+      → text ≡ plan_text measured.shape.names scope.All work list certificate → status ≡ 0 → IsPlanned comp inst measured text status
+  cyclic : IsCyclicAsDesired measured.shape.children (sizes_of measured.sizes) → text ≡ line (codes "cyclic") → status ≡ 4 → IsPlanned comp inst measured text status
+
+-- what `plan` prints for a bundle's bytes, and the status
+abbrev pub IsPlanOutput : Costs → List ℕ → List ℕ → ℕ → Type 0
+IsPlanOutput costs bytes text status =
+    MatchResult (measured_of bytes) (λ measured. IsPlanned costs.comp costs.inst measured text status) (λ fault. IsFaultShown fault text status)
