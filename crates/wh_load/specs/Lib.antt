@@ -37,6 +37,7 @@ pub mod Reference
 pub mod Seen
 pub mod SizesText
 pub mod StrategyText
+pub mod TableRead
 pub mod TableReadsBack
 pub mod TableText
 pub mod TableWritten
