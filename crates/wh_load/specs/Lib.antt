@@ -37,7 +37,6 @@ pub mod Reference
 pub mod Seen
 pub mod SizesText
 pub mod StrategyText
-pub mod TableRead
 pub mod TableReadsBack
 pub mod TableText
 pub mod TableWritten

@@ -12,7 +12,3 @@ pub mod SinglePlans
 pub mod Texts
 pub mod Told
 pub mod Verdicts
-pub mod NightTold
-pub mod OpenedContents
-pub mod ReadRows
-pub mod StoredCatalog

@@ -29,18 +29,14 @@ abbrev pub command_app : Text → App
 command_app name = with_rule (with_rule (with_rule (new_app name) (cost_rule (codes "comp-cost")))
     (cost_rule (codes "inst-cost"))) input_rule
 
--- `NAME --input FILE`
-abbrev pub input_app : Text → App
-input_app name = with_rule (new_app name) input_rule
-
 -- the words begin with a command, and not with the program's name
 abbrev pub with_commands : App → App
 with_commands a = record a { top = record a.top { no_binary_name = true; subcommand_required = true } }
 
 -- the program, with its commands
 abbrev pub whview_app : App
-whview_app = with_subcommand (with_subcommand (with_subcommand (with_subcommand (with_commands (new_app (codes "whview"))) (command_app (codes "check")).top)
-    (command_app (codes "plan")).top) (command_app (codes "certify")).top) (input_app (codes "night")).top
+whview_app = with_subcommand (with_subcommand (with_subcommand (with_commands (new_app (codes "whview"))) (command_app (codes "check")).top)
+    (command_app (codes "plan")).top) (command_app (codes "certify")).top
 
 -- ---- what they ask for
 
@@ -58,16 +54,11 @@ pub record HasOptions (options : List Row) (costs : Costs) (input : Option (Bor 
   pub inst_cost : costs.inst ≡ cost_of (codes "inst-cost") options
   pub file : option_map (λ name. name.now) input ≡ first_of (codes "input") options
 
--- the file of the options
-abbrev pub IsFile : List Row → Option (Bor Text) → Type 0
-IsFile options input = option_map (λ name. name.now) input ≡ first_of (codes "input") options
-
 -- the command of this name with these options is asked for
 abbrev pub AsksBy : Text → List Row → Asked → Type 0
 AsksBy name options (asked.Check costs input) = (name ≡ codes "check") × HasOptions options costs input
 AsksBy name options (asked.Plan costs input) = (name ≡ codes "plan") × HasOptions options costs input
 AsksBy name options (asked.Certify costs input) = (name ≡ codes "certify") × HasOptions options costs input
-AsksBy name options (asked.Night input) = (name ≡ codes "night") × IsFile options input
 
 -- the command that was found in the words, with its options, is asked for
 abbrev pub IsAsked : Option (Text × List Row) → Asked → Type 0
@@ -79,13 +70,13 @@ IsAsked found a = IsSomeAnd found (λ command. AsksBy command.0 command.1 a)
 abbrev pub TakesCost : Text → List Row → Type 0
 TakesCost name options = IfSome (first_of name options) (Accepts false cost_parser)
 
--- the name is that of one of the commands that have costs
+-- the name is that of one of the commands
 abbrev pub IsCommandName : Text → Type 0
 IsCommandName name = (name ≡ codes "check") ⊎ ((name ≡ codes "plan") ⊎ (name ≡ codes "certify"))
 
 -- the command is one of the program's, and its options for costs are costs
 abbrev pub IsCommand : Text × List Row → Type 0
-IsCommand found = (IsCommandName found.0 × TakesCost (codes "comp-cost") found.1 × TakesCost (codes "inst-cost") found.1) ⊎ (found.0 ≡ codes "night")
+IsCommand found = IsCommandName found.0 × TakesCost (codes "comp-cost") found.1 × TakesCost (codes "inst-cost") found.1
 
 -- there is a command, and it is one of the program's
 abbrev pub NamesCommand : Option (Text × List Row) → Type 0

@@ -35,12 +35,11 @@ pub record AreOnePlan (text : List ℕ) (status : ℕ) (other : List ℕ) (ended
   pub statuses : status ≡ ended
   pub texts : (text ≡ other) ⊎ DifferInList text other
 
--- what two answers of this command have in common; nothing is said of nights, since one may be refused for several reasons
+-- what two answers of this command have in common
 abbrev pub AreOneAnswer : Asked → List ℕ → ℕ → List ℕ → ℕ → Type 0
 AreOneAnswer (asked.Check costs input) text status other ended = AreSame text status other ended
 AreOneAnswer (asked.Plan costs input) text status other ended = AreOnePlan text status other ended
 AreOneAnswer (asked.Certify costs input) text status other ended = AreSame text status other ended
-AreOneAnswer (asked.Night input) text status other ended = Unit {0}
 
 -- the answer of a reader that failed
 pub record IsReadFailure (text : List ℕ) (status : ℕ) : Type 0 where

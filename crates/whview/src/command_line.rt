@@ -42,11 +42,6 @@ pub enum Asked<'a> {
         /// The file of the input; None for standard input.
         input: Option<&'a str>,
     },
-    /// Carry a night out.
-    Night {
-        /// The file of the input; None for standard input.
-        input: Option<&'a str>,
-    },
 }
 
 /// Reads the words that follow the program's name.
@@ -86,9 +81,6 @@ fn asked_of<'a>(matches: &ArgMatches<'a>) -> Asked<'a>
         },
         Some(("certify", options)) => Asked::Certify {
             costs: costs_of(options),
-            input: options.get_str("input"),
-        },
-        Some(("night", options)) => Asked::Night {
             input: options.get_str("input"),
         },
         _ => unreachable!(),

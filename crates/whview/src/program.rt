@@ -10,7 +10,6 @@ ghost use Rattle.whview.specs.Output.{IsCommandOutput, IsHandedOutput, IsInputOu
 use crate::answer::Answer;
 use crate::certification::certification;
 use crate::command_line::{Asked, CommandFault, parse};
-use crate::night::night;
 use crate::planning::planning;
 use crate::verdict::judge;
 use crate::words::{first_line, refuses_input, words_of_line};
@@ -36,7 +35,6 @@ fn command_answer(alloc: Global, asked: &Asked<'_>, bytes: &[u8]) -> Result<Answ
         Asked::Check { costs, .. } => judge(alloc, *costs, bytes),
         Asked::Plan { costs, .. } => planning(alloc, *costs, bytes),
         Asked::Certify { costs, .. } => certification(alloc, *costs, bytes),
-        Asked::Night { .. } => night(alloc, bytes),
     }
 }
 
@@ -45,10 +43,9 @@ fn file_of<'a>(asked: &Asked<'a>) -> Option<&'a str>
     ensures { option_map (λ path. path.now) result ≡ file_of asked.now }
 {
     match asked {
-        Asked::Check { input, .. }
-        | Asked::Plan { input, .. }
-        | Asked::Certify { input, .. }
-        | Asked::Night { input } => *input,
+        Asked::Check { input, .. } | Asked::Plan { input, .. } | Asked::Certify { input, .. } => {
+            *input
+        }
     }
 }
 

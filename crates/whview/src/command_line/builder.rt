@@ -3,7 +3,7 @@
 ghost use Rattle.std.specs.Prelude.{◌≡◌, codes, false, IfOk};
 ghost use Rattle.clap.specs.Words.{app_of, new_app, rule_of, with_subcommand};
 ghost use Rattle.clap.specs.declared.builder.command.Command.TheViews.{out-Command};
-ghost use Rattle.whview.specs.CommandLine.{command_app, cost_rule, input_app, input_rule, whview_app, with_commands};
+ghost use Rattle.whview.specs.CommandLine.{command_app, cost_rule, input_rule, whview_app, with_commands};
 
 use clap::builder::ValueParser;
 use clap::{Arg, Command};
@@ -32,13 +32,7 @@ pub fn whview_command<'a>(alloc: Global) -> Result<Command<'a>, AllocError>
         "certify",
         "Judges a plan by its certificate. Reads the catalogue, the sizes and the plan.",
     )?;
-    let night = input_command(
-        alloc,
-        "night",
-        "Carries a strategy out and shows the new tables. Reads the catalogue, the data, the changes and the strategy.",
-    )?;
-    let with_night = with_certify.subcommand(night)?;
-    Ok(with_night)
+    Ok(with_certify)
 }
 
 /// The program before it has its commands.
@@ -50,7 +44,7 @@ fn bare_command<'a>(alloc: Global) -> Result<Command<'a>, AllocError>
     let named = bare.bin_name("whview")?;
     Ok(
         named
-            .about("Judges, plans and carries out strategies that update the views of a warehouse.")
+            .about("Judges and plans strategies that update the views of a warehouse.")
             .subcommand_required(true),
     )
 }
@@ -88,20 +82,6 @@ fn command<'a>(alloc: Global, name: &'a str, about: &'a str) -> Result<Command<'
     let with_comp = named.arg(comp_cost)?;
     let with_inst = with_comp.arg(inst_cost)?;
     let with_input = with_inst.arg(input_option(alloc))?;
-    Ok(with_input)
-}
-
-/// A command of this name, with an option for the file of the input alone.
-fn input_command<'a>(
-    alloc: Global,
-    name: &'a str,
-    about: &'a str,
-) -> Result<Command<'a>, AllocError>
-    ensures shape { IfOk result (λ c. app_of c ≡ input_app name.entry.now) }
-    ensures local { IfOk result (λ c. (out-Command c).has_globals ≡ false) }
-{
-    let named = Command::new(alloc, name).about(about);
-    let with_input = named.arg(input_option(alloc))?;
     Ok(with_input)
 }
 
