@@ -1,6 +1,7 @@
 pub mod CommonParents
 pub mod Dealing
 pub mod Faultless
+pub mod FewCouples
 pub mod FitRest
 pub mod Levels
 pub mod Lists

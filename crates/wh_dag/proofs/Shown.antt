@@ -1,5 +1,5 @@
 -- A catalogue made of parts shows them.
-use Rattle.std.proofs.Common.{◌≡◌, ℕ, suc, ◌<◌, true, false, not, List, [], ◌∷◌, length, get_or, refl, ap, sym, ◌∙◌, arith, Option, Some, None}
+use Rattle.std.proofs.Common.{◌≡◌, ℕ, suc, ◌<◌, true, false, not, List, [], ◌∷◌, length, get_or, refl, ap, sym, subst, ◌∙◌, arith, Option, Some, None}
 use Rattle.std.specs.Prelude.{is_some, slice_index}
 use Rattle.wh_dag.specs.Shape.{Views, children_of}
 use Rattle.wh_dag.specs.Catalog.{DefinitionOf, columns, CatalogOf, IsCatalog, is_empty}
@@ -101,16 +101,19 @@ aligned : (c : CatalogOf) → IsCatalog c → Aligned c.views.children c.definit
 unfolding children_of
 aligned c is view l = is.derived view l
 
-own_parts : (c : CatalogOf) → IsCatalog c → FitTogether c.views (given_widths c.definitions c.widths) (given_definitions c.definitions)
+pub made_again : (c : CatalogOf) → IsCatalog c → catalog_of c.views (given_widths c.definitions c.widths) (given_definitions c.definitions) ≡ c
+made_again c is =
+    rw (
+      dealt_again c.views.children c.definitions is.each_definition (aligned c is),
+      widths_again c.definitions c.widths (is.each_width ∙ sym is.each_definition) is.defined_columns,
+    )
+    refl
+
+pub own_parts : (c : CatalogOf) → IsCatalog c → FitTogether c.views (given_widths c.definitions c.widths) (given_definitions c.definitions)
 own_parts c is = record {
   each_width = bases_counted c.views.children c.definitions c.widths is.each_definition is.each_width (aligned c is);
   each_definition = derived_counted c.views.children c.definitions is.each_definition (aligned c is);
-  catalog =
-      rw (
-        dealt_again c.views.children c.definitions is.each_definition (aligned c is),
-        widths_again c.definitions c.widths (is.each_width ∙ sym is.each_definition) is.defined_columns,
-      )
-      is;
+  catalog = subst IsCatalog (sym (made_again c is)) is;
 }
 
 -- the parts that a catalogue shows fit together

@@ -29,5 +29,5 @@ pub use fitting::fit_law;
 pub use name::Name;
 pub use output::Output;
 pub use shape::Shape;
-pub use siblings::{Couple, SiblingPair};
+pub use siblings::{Couple, SiblingPair, few_couples_law};
 pub use well_formed::well_formed_law;

@@ -1,5 +1,6 @@
 // Views with a common parent.
-ghost use Rattle.std.specs.Prelude.{◌≡◌, ◌<◌, ◌++◌, IfOk, OnOk, length, filter};
+ghost use Rattle.std.specs.Prelude.{◌≡◌, ◌<◌, ◌≤◌, ◌++◌, ℕ, List, IfOk, OnOk, length, filter};
+ghost use Rattle.wh_dag.specs.Shape.{IsShape};
 ghost use Rattle.wh_dag.specs.Siblings.{is_sibling_pair, is_couple, triples_with, triples_of, pairs_with, sibling_pairs_of, couples_of};
 
 use crate::child_lists::ChildLists;
@@ -123,3 +124,9 @@ pub(crate) fn couples(alloc: Global, shape: &ChildLists) -> Result<Vec<Couple>, 
     }
     Ok(couples)
 }
+
+/// A law of the definitions: a shape has at most 960 couples, since each of at most 64 views is over at most 6, of which
+/// 15 couples can be made.
+pub fn few_couples_law()
+    ensures { (shape : List (List ℕ)) → IsShape shape → length (couples_of shape) ≤ 960 }
+{}
