@@ -4,6 +4,7 @@ pub mod Duties
 pub mod Following
 pub mod Least
 pub mod OneVerdict
+pub mod OneWay
 pub mod PairSums
 pub mod Sums
 pub mod Trees

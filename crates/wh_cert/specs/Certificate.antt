@@ -6,7 +6,7 @@ use Rattle.wh_strategy.specs.Sizes.{Size}
 use Rattle.wh_cert.specs.Bound.{pair_min, pair_bound_of}
 use Rattle.wh_cert.specs.Order.{comes_first}
 use Rattle.wh_cert.specs.Search.{IsAcceptedTree, IsFirstBad}
-use Rattle.wh_cert.specs.Tree.{tree_of}
+use Rattle.wh_cert.specs.Tree.{IsTreeOf, tree_of}
 use Rattle.wh_cert.specs.declared.certificate.Certificate.{Certificate}
 use Rattle.wh_cert.specs.declared.certificate.Certificate.TheVariants.{Pairs, Search}
 use Rattle.wh_cert.specs.declared.certificate.PairMin.{PairMin}
@@ -44,11 +44,12 @@ pub data IsRejected (shape : List (List ℕ)) (sizes : ℕ → Size) (work bound
   wrong_line : DifferFirst lines (lines_of shape sizes) line → IsRejected shape sizes work bound lines line
   other_work : line ≡ 0 → lines ≡ lines_of shape sizes → work ≢ bound → IsRejected shape sizes work bound lines line
 
--- What the verdict on a certificate says, at these costs and this work of the strategy.
+-- What the verdict on a certificate says, at these costs and this work of the strategy. A certificate by a tree is the nodes of one tree
+-- and nothing after them.
 abbrev pub IsJudged : List (List ℕ) → (ℕ → Size) → ℕ → ℕ → ℕ → Certificate → Verdict → Type 0
 IsJudged shape sizes comp inst work (Pairs lines) All = IsAccepted shape sizes work (pair_bound_of shape sizes comp inst) lines
 IsJudged shape sizes comp inst work (Pairs lines) OneWay = ⊥
 IsJudged shape sizes comp inst work (Pairs lines) (Rejected line) = IsRejected shape sizes work (pair_bound_of shape sizes comp inst) lines line
 IsJudged shape sizes comp inst work (Search nodes) All = ⊥
-IsJudged shape sizes comp inst work (Search nodes) OneWay = IsAcceptedTree shape sizes comp inst work (tree_of nodes)
+IsJudged shape sizes comp inst work (Search nodes) OneWay = IsTreeOf nodes (tree_of nodes) × IsAcceptedTree shape sizes comp inst work (tree_of nodes)
 IsJudged shape sizes comp inst work (Search nodes) (Rejected place) = IsFirstBad shape sizes comp inst work (tree_of nodes) place

@@ -48,8 +48,8 @@ fn judge_tree(shape: &Shape, sizes: &Sizes, costs: Costs, correct: &Correct, tre
     ensures judged { IsJudged shape.now.children (sizes_of sizes.now) costs.comp costs.inst (work_of shape.now.children (sizes_of sizes.now) costs.comp costs.inst correct.now.list) (Certificate.Search tree.now) result }
     ensures one_way { result ≡ Verdict.OneWay → (list : List Expression) → IsCorrect shape.now.children list → IsOneWay list → work_of shape.now.children (sizes_of sizes.now) costs.comp costs.inst correct.now.list ≤ work_of shape.now.children (sizes_of sizes.now) costs.comp costs.inst list }
 {
-    // The proof needs what the lists of a shape keep to.
-    let _lists = shape.child_lists();
+    // The proof needs what the lists of a shape and the nodes of a tree keep to.
+    let (_lists, _nodes) = (shape.child_lists(), tree.as_slice());
     let work = work(shape, sizes, costs, correct);
     match first_bad(shape, sizes, costs, work, tree) {
         Some(place) => Verdict::Rejected(place),

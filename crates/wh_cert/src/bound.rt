@@ -105,7 +105,8 @@ fn least_rows(sizes: &Sizes, decided: &[(usize, usize)], children: &[usize]) -> 
 }
 
 /// The decided bound at these sizes and costs, in cost times rows: the pair bound with each decided couple at the value
-/// of its decision, the view that is installed first standing first. Takes no memory.
+/// of its decision, the view that is installed first standing first. A couple that is decided both ways counts by the
+/// order in which its parent names the two. Takes no memory.
 pub fn decided_bound(shape: &Shape, sizes: &Sizes, costs: Costs, decided: &[(usize, usize)]) -> u128
     requires { length sizes.now ≡ length shape.now.children }
     ensures { result ≡ decided_bound_of shape.now.children (sizes_of sizes.now) costs.comp costs.inst decided.now }
