@@ -22,7 +22,7 @@ use Rattle.wh_cert.proofs.Dues.{due}
 use Rattle.wh_cert.proofs.Duties.{members_differ}
 use Rattle.wh_cert.proofs.Least.{pay, pay_all, paid, pay_apart, none_paid, rows_of, work-parts, pay_inst}
 use Rattle.wh_cert.proofs.Sums.{sum_below-zero, sum_below-only, sum_below-swap, sum_below-by, sum_by-zero_at}
-use Rattle.wh_minwork.proofs.OneWay.{single_has, single_own, comp_at, comps_in_order, comps_same}
+use Rattle.wh_cert.proofs.OneWay.{single_has, single_own, comp_at, comps_in_order, comps_same}
 
 sum_below-same : (f g : ℕ → ℕ) (n : ℕ) → ((k : ℕ) → k < n → f k ≡ g k) → sum_below f n ≡ sum_below g n
 unfolding sum_below

@@ -4,7 +4,6 @@ pub mod Edges
 pub mod Exact
 pub mod Inserted
 pub mod Listed
-pub mod OneWay
 pub mod Ordering
 pub mod Placing
 pub mod SiblingViews

@@ -207,7 +207,7 @@ same_decisions shape sizes one other a b u w t =
     (λ s. absurd (not_both_come sizes u w (a.1 u w t) (b.1 w u s)))
     (b.0.all u w (a.0.couples u w t))
 
-edge_moves : (shape : List (List ℕ)) (one other : List (ℕ × ℕ)) → ((u w : ℕ) → decides one u w ≡ true → decides other u w ≡ true) → (x y : Expression) → HasEdge shape one x y → HasEdge shape other x y
+pub edge_moves : (shape : List (List ℕ)) (one other : List (ℕ × ℕ)) → ((u w : ℕ) → decides one u w ≡ true → decides other u w ≡ true) → (x y : Expression) → HasEdge shape one x y → HasEdge shape other x y
 edge_moves shape one other s (Comp v ys) (Inst w) e = e
 edge_moves shape one other s (Comp u xs) (Comp v ys) e = e
 edge_moves shape one other s (Inst u) (Inst w) e = e
@@ -217,7 +217,7 @@ leads_move : (shape : List (List ℕ)) (one other : List (ℕ × ℕ)) → ((u w
 leads_move shape one other s x [] z h = edge_moves shape one other s x z h
 leads_move shape one other s x (y ∷ ys) z h = (h.0, edge_moves shape one other s x y h.1, leads_move shape one other s y ys z h.2)
 
-cycle_moves : (shape : List (List ℕ)) (one other : List (ℕ × ℕ)) → ((u w : ℕ) → decides one u w ≡ true → decides other u w ≡ true) → (cycle : List Expression) → IsCycle shape one cycle → IsCycle shape other cycle
+pub cycle_moves : (shape : List (List ℕ)) (one other : List (ℕ × ℕ)) → ((u w : ℕ) → decides one u w ≡ true → decides other u w ≡ true) → (cycle : List Expression) → IsCycle shape one cycle → IsCycle shape other cycle
 cycle_moves shape one other s [] h = h
 cycle_moves shape one other s (x ∷ xs) h = (h.0, leads_move shape one other s x xs x h.1)
 

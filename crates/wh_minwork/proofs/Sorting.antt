@@ -14,7 +14,7 @@ use Rattle.wh_cert.specs.Bound.{in_order, pair_min, pair_bound_of, decided_value
 use Rattle.wh_cert.specs.Graph.{decides, Leads, IsCycle, DecidesAll, DecidesAsDesired}
 use Rattle.wh_minwork.specs.Sorted.{IsSorted}
 use Rattle.wh_minwork.proofs.Exact.{work_one_way, work_as_desired}
-use Rattle.wh_minwork.proofs.OneWay.{single_has, single_own}
+use Rattle.wh_cert.proofs.OneWay.{single_has, single_own}
 
 -- the strategy installs as it is decided
 abbrev pub Agrees : List Expression → List (ℕ × ℕ) → Type 0

@@ -1,6 +1,6 @@
 //! Decisions: which view of a couple is installed first.
 
-ghost use Rattle.std.specs.Prelude.{◌≡◌, ◌≢◌, ◌<◌, [], ◌∷◌, ◌++◌, false, length, IfOk, OnErr};
+ghost use Rattle.std.specs.Prelude.{◌≡◌, ◌≢◌, ◌<◌, [], ◌∷◌, ◌++◌, false, length, take, IfOk, OnErr};
 ghost use Rattle.wh_strategy.specs.Sizes.{sizes_of};
 ghost use Rattle.wh_cert.specs.Graph.{decides, IsOrdered};
 ghost use Rattle.wh_minwork.specs.Desired.{in_desired_order};
@@ -88,6 +88,13 @@ impl Decided {
     {
         self.couples.push((first, second))?;
         Ok(())
+    }
+
+    /// Keeps the first so many decisions, and takes those after them back.
+    pub fn truncate(&mut self, length: usize)
+        ensures { self.new ≡ take length self.old }
+    {
+        self.couples.truncate(length);
     }
 
     /// Decides by the desired order which of the two is installed first.

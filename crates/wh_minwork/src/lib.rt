@@ -14,4 +14,5 @@ mod unplaced;
 pub use decided::Decided;
 pub use desired::desired_order;
 pub use graph::{Graph, SortFault};
+pub use lines::pair_mins;
 pub use minwork::{MinFault, min_work, sorted_is_a_strategy};

@@ -1,7 +1,6 @@
 //! The lines of the certificate that a plan of least work comes with.
 
 ghost use Rattle.std.specs.Prelude.{◌≡◌, length, IfOk};
-ghost use Rattle.wh_dag.specs.Shape.{IsShape};
 ghost use Rattle.wh_strategy.specs.Sizes.{sizes_of};
 ghost use Rattle.wh_cert.specs.Certificate.{lines_of};
 
@@ -10,12 +9,13 @@ use wh_cert::{PairMins, right_line};
 use wh_dag::Shape;
 use wh_strategy::Sizes;
 
-/// The lines of a certificate by pairs: each sibling pair with its views in the desired order, and its minimum.
-pub(crate) fn pair_mins(alloc: Global, shape: &Shape, sizes: &Sizes) -> Result<PairMins, AllocError>
-    requires same { length sizes.now ≡ length shape.now.children }
-    requires shape { IsShape shape.now.children }
+/// The lines of a certificate by pairs: each sibling pair with its views in the desired order, and its minimum in rows.
+pub fn pair_mins(alloc: Global, shape: &Shape, sizes: &Sizes) -> Result<PairMins, AllocError>
+    requires { length sizes.now ≡ length shape.now.children }
     ensures { IfOk result (λ lines. lines ≡ lines_of shape.now.children (sizes_of sizes.now)) }
 {
+    // The proof needs what the lists of a shape keep to.
+    let _lists = shape.child_lists();
     let pairs = shape.sibling_pairs(alloc)?;
     let mut lines = Vec::new(alloc);
     for pair in &pairs {
