@@ -1,0 +1,138 @@
+-- What the nodes of a search show.
+use Rattle.std.proofs.Common.{◌≡◌, ℕ, ◌+◌, ◌^◌, ◌<◌, ◌≤◌, List, [], ◌∷◌, ◌++◌, refl, sym, ap, ◌∙◌, subst, length, reverse, arith, append_assoc, ⊎_elim, inl, inr}
+use Rattle.std.specs.List.{All}
+use Rattle.std.proofs.Math.Pow.{pow_mono}
+use Rattle.std.proofs.lemmas.List.{reverse-append}
+use Rattle.std.proofs.lemmas.List.Elements.{All-nil, All-cons, All-append}
+use Rattle.wh_dag.specs.Shape.{IsShape}
+use Rattle.wh_dag.specs.Siblings.{couples_of}
+use Rattle.wh_dag.specs.declared.siblings.Couple.{Couple}
+use Rattle.wh_dag.proofs.FewCouples.{few_couples}
+use Rattle.wh_strategy.specs.declared.expression.Expression.{Expression}
+use Rattle.wh_strategy.specs.Rules.{IsCorrect, IsOneWay}
+use Rattle.wh_strategy.specs.Sizes.{Size}
+use Rattle.wh_strategy.specs.Work.{work_of}
+use Rattle.wh_cert.specs.Bound.{decided_bound_of}
+use Rattle.wh_cert.specs.Graph.{IsCycle, DecidesAll}
+use Rattle.wh_cert.specs.Search.{Placed, IsGood, IsGoodNode, IsAcceptedTree, IsOpen, nodes_below}
+use Rattle.wh_cert.specs.Tree.{CaseTree, Bound, Cycle, Branch, preorder, depth, tree_of, IsTreeOf}
+use Rattle.wh_cert.specs.declared.tree.TreeNode.{TreeNode}
+use Rattle.wh_cert.specs.declared.tree.TreeNode.TheVariants as node
+use Rattle.wh_cert.proofs.Preorders.{tree_of-preorder}
+use Rattle.wh_cert.proofs.Trees.{accepted_shows}
+use Rattle.wh_minwork.specs.Sorted.{IsSorted}
+use Rattle.wh_minwork.proofs.Ordering.{edge_moves, cycle_moves}
+use Rattle.wh_minwork.proofs.Sorting.{sorted_is_correct, sorted_is_one_way, sorted_costs_decided}
+use Rattle.wh_prune.specs.declared.fault.PruneFault.{PruneFault}
+use Rattle.wh_prune.specs.declared.fault.PruneFault.TheVariants.{Budget, Memory}
+use Rattle.wh_prune.specs.Plan.{IsSearchReason}
+use Rattle.wh_prune.specs.Searching.{IsExplored, IsHeld, IsStopped, IsWithinLowest}
+use Rattle.wh_prune.proofs.Deciding.{decides-reverse, open-reverse}
+
+-- a sorted list of all couples' graph
+pub held_sorted : (shape : List (List ℕ)) (sizes : ℕ → Size) (comp inst work : ℕ) (ds : List (ℕ × ℕ)) (list : List Expression) → IsShape shape → DecidesAll shape ds → IsSorted shape ds list → work ≡ decided_bound_of shape sizes comp inst ds → IsHeld shape sizes comp inst work list
+held_sorted shape sizes comp inst work ds list sh da so e = record {
+  correct = sorted_is_correct shape ds list sh so da;
+  one_way = sorted_is_one_way shape ds list so;
+  costs = sorted_costs_decided shape sizes comp inst ds list sh so da ∙ sym e;
+}
+
+-- the order of the decisions does not matter
+sorted-reverse : (shape : List (List ℕ)) (ds : List (ℕ × ℕ)) (list : List Expression) → IsSorted shape ds list → IsSorted shape (reverse ds) list
+sorted-reverse shape ds list so = record {
+  nodes = so.nodes;
+  once = so.once;
+  all = so.all;
+  forward = λ p q x y a b e. so.forward p q x y a b (edge_moves shape (reverse ds) ds (λ u w t. sym (decides-reverse ds u w) ∙ t) x y e);
+}
+
+all-reverse : (shape : List (List ℕ)) (ds : List (ℕ × ℕ)) → DecidesAll shape ds → DecidesAll shape (reverse ds)
+all-reverse shape ds da = record {
+  couples = λ u w t. da.couples u w (sym (decides-reverse ds u w) ∙ t);
+  all = λ u w c. ⊎_elim (λ t. inl (decides-reverse ds u w ∙ t)) (λ t. inr (decides-reverse ds w u ∙ t)) (da.all u w c);
+}
+
+bound-reverse : (shape : List (List ℕ)) (sizes : ℕ → Size) (comp inst : ℕ) (ds : List (ℕ × ℕ)) (list : List Expression) → IsShape shape → DecidesAll shape ds → IsSorted shape ds list → decided_bound_of shape sizes comp inst ds ≡ decided_bound_of shape sizes comp inst (reverse ds)
+bound-reverse shape sizes comp inst ds list sh da so =
+    sym (sorted_costs_decided shape sizes comp inst ds list sh so da)
+    ∙ sorted_costs_decided shape sizes comp inst (reverse ds) list sh (sorted-reverse shape ds list so) (all-reverse shape ds da)
+
+-- the last node of a search
+leaf : (shape : List (List ℕ)) (sizes : ℕ → Size) (comp inst best : ℕ) (ds : List (ℕ × ℕ)) (before after : List TreeNode) (tree : CaseTree) (x : TreeNode) → preorder tree ≡ x ∷ [] → depth tree ≡ 1 → nodes_below (reverse ds) tree ≡ record { above = reverse ds; node = x } ∷ [] → after ≡ before ++ x ∷ [] → IsGood shape sizes comp inst best (reverse ds) x → IsExplored shape sizes comp inst best 1 ds before after
+leaf shape sizes comp inst best ds before after tree x one deep below e good = record {
+  tree = tree;
+  nodes = e ∙ ap (λ z. before ++ z) (sym one);
+  within = omega arith;
+  good = rw below (All-cons (IsGoodNode shape sizes comp inst best) (record { above = reverse ds; node = x }) [] good (All-nil (IsGoodNode shape sizes comp inst best)));
+}
+
+pub bound_leaf : (shape : List (List ℕ)) (sizes : ℕ → Size) (comp inst best : ℕ) (ds : List (ℕ × ℕ)) (list : List Expression) (before after : List TreeNode) → IsShape shape → DecidesAll shape ds → IsSorted shape ds list → best ≤ decided_bound_of shape sizes comp inst ds → after ≡ before ++ node.Bound ∷ [] → IsExplored shape sizes comp inst best 1 ds before after
+bound_leaf shape sizes comp inst best ds list before after sh da so l e =
+    leaf shape sizes comp inst best ds before after Bound node.Bound refl refl refl e (let k = bound-reverse shape sizes comp inst ds list sh da so in omega arith)
+
+pub cycle_leaf : (shape : List (List ℕ)) (sizes : ℕ → Size) (comp inst best : ℕ) (ds : List (ℕ × ℕ)) (cycle : List Expression) (before after : List TreeNode) → IsCycle shape ds cycle → after ≡ before ++ node.Cycle cycle ∷ [] → IsExplored shape sizes comp inst best 1 ds before after
+cycle_leaf shape sizes comp inst best ds cycle before after c e =
+    leaf shape sizes comp inst best ds before after (Cycle cycle) (node.Cycle cycle) refl refl refl e (cycle_moves shape ds (reverse ds) (λ u w t. decides-reverse ds u w ∙ t) cycle c)
+
+-- what is good for a work is good for a lower one
+good_lower : (shape : List (List ℕ)) (sizes : ℕ → Size) (comp inst work less : ℕ) → less ≤ work → (p : Placed) → IsGoodNode shape sizes comp inst work p → IsGoodNode shape sizes comp inst less p
+good_lower shape sizes comp inst work less l p h = of p.node h
+  where
+    of : (x : TreeNode) → IsGood shape sizes comp inst work p.above x → IsGood shape sizes comp inst less p.above x
+    of node.Bound g = let k : work ≤ decided_bound_of shape sizes comp inst p.above = g in let m : less ≤ decided_bound_of shape sizes comp inst p.above = omega arith in m
+    of (node.Cycle list) g = g
+    of (node.Branch pair) g = g
+
+-- a branch and the trees below it
+pub fork : (shape : List (List ℕ)) (sizes : ℕ → Size) (comp inst middle best deep : ℕ) (ds : List (ℕ × ℕ)) (c : Couple) (before first second after : List TreeNode) → IsOpen shape ds c → best ≤ middle → first ≡ before ++ node.Branch c ∷ [] → IsExplored shape sizes comp inst middle deep (ds ++ (c.lower, c.higher) ∷ []) first second → IsExplored shape sizes comp inst best deep (ds ++ (c.higher, c.lower) ∷ []) second after → IsExplored shape sizes comp inst best (deep + 1) ds before after
+fork shape sizes comp inst middle best deep ds c before first second after o l e left right =
+    let dl : depth left.tree ≤ deep = left.within in
+    let dr : depth right.tree ≤ deep = right.within in
+    let P : Placed → Type 0 = IsGoodNode shape sizes comp inst best in
+    let on_left : All P (nodes_below ((c.lower, c.higher) ∷ reverse ds) left.tree) =
+    subst (λ z. All P (nodes_below z left.tree)) (reverse-append ds ((c.lower, c.higher) ∷ [])) (λ k d i. good_lower shape sizes comp inst middle best l _ (left.good k d i)) in
+    let on_right : All P (nodes_below ((c.higher, c.lower) ∷ reverse ds) right.tree) =
+    subst (λ z. All P (nodes_below z right.tree)) (reverse-append ds ((c.higher, c.lower) ∷ [])) right.good in
+    record {
+      tree = Branch c left.tree right.tree;
+      nodes = right.nodes ∙ ap (λ z. z ++ preorder right.tree) (left.nodes ∙ ap (λ z. z ++ preorder left.tree) e)
+          ∙ append_assoc (before ++ node.Branch c ∷ []) (preorder left.tree) (preorder right.tree)
+          ∙ append_assoc before (node.Branch c ∷ []) (preorder left.tree ++ preorder right.tree);
+      within = omega arith;
+      good = All-cons P (record { above = reverse ds; node = node.Branch c }) _ (open-reverse shape ds c o) (All-append P _ _ on_left on_right);
+    }
+
+-- a search that began with nothing
+pub accepted : (shape : List (List ℕ)) (sizes : ℕ → Size) (comp inst best deep : ℕ) (nodes : List TreeNode) → IsExplored shape sizes comp inst best deep [] [] nodes → IsAcceptedTree shape sizes comp inst best (tree_of nodes)
+accepted shape sizes comp inst best deep nodes h =
+    subst (λ t. IsAcceptedTree shape sizes comp inst best t) (sym (tree_of-preorder h.tree) ∙ ap tree_of (sym h.nodes)) h.good
+
+pub is_tree : (shape : List (List ℕ)) (sizes : ℕ → Size) (comp inst best : ℕ) (nodes : List TreeNode) → IsShape shape → IsExplored shape sizes comp inst best (length (couples_of shape) + 1) [] [] nodes → IsTreeOf nodes (tree_of nodes)
+is_tree shape sizes comp inst best nodes sh h =
+    let few = few_couples shape sh in
+    let d : depth h.tree ≤ length (couples_of shape) + 1 = h.within in
+    subst (IsTreeOf nodes) (sym (tree_of-preorder h.tree) ∙ ap tree_of (sym h.nodes)) (sym h.nodes, omega arith)
+
+pub least_found : (shape : List (List ℕ)) (sizes : ℕ → Size) (comp inst best deep : ℕ) (nodes : List TreeNode) → IsShape shape → IsExplored shape sizes comp inst best deep [] [] nodes → (list : List Expression) → IsCorrect shape list → IsOneWay list → best ≤ work_of shape sizes comp inst list
+least_found shape sizes comp inst best deep nodes sh h list co ow =
+    accepted_shows shape sizes comp inst best (tree_of nodes) list sh (accepted shape sizes comp inst best deep nodes h) co ow
+
+-- there is a node at least
+pub some_power : (n : ℕ) → 2 ≤ 2 ^ (n + 1)
+some_power n =
+    let a : 2 ^ 1 ≤ 2 ^ (n + 1) = pow_mono {i = 1} {j = n + 1} (omega arith) in
+    omega arith
+
+-- a search that stopped
+pub why_stopped : (shape : List (List ℕ)) (sizes : ℕ → Size) (comp inst budget all best first : ℕ) (list : List Expression) (fault : PruneFault) → IsStopped budget all best fault → all ≡ 2 ^ (length (couples_of shape) + 1) → IsHeld shape sizes comp inst best list → best ≤ first → IsWithinLowest shape sizes comp inst first → IsSearchReason shape sizes comp inst budget fault
+why_stopped shape sizes comp inst budget all best first list Memory stopped e held down lowest = tt
+why_stopped shape sizes comp inst budget all best first list (Budget opened least) stopped e held down lowest =
+    let same : least ≡ best = stopped.1 in
+    let more : budget + 1 < all = stopped.2 in
+    let within : first ≤ work_of shape sizes comp inst lowest.0 = lowest.4 in
+    record {
+      all = stopped.0;
+      known = (list, held.correct, held.one_way, held.costs ∙ sym same);
+      lowest = (lowest.0, lowest.1, lowest.2, lowest.3, omega arith);
+      few = omega arith;
+    }

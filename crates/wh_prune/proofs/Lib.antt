@@ -1,0 +1,4 @@
+pub mod CoupleLists
+pub mod Deciding
+pub mod Exploring
+pub mod LowestFirst

@@ -1,0 +1,35 @@
+use Rattle.std.proofs.Common.{◌≡◌, ap, ◌∙◌, subst, arith}
+use Rattle.wh_strategy.specs.Sizes.{sizes_of}
+use Rattle.wh_strategy.specs.Work.{work_of}
+use Rattle.wh_cert.specs.Bound.{decided_bound_of}
+use Rattle.wh_minwork.specs.Sorted.{IsUnsorted}
+use Rattle.wh_prune.proofs.Deciding.{decides_all}
+use Rattle.wh_prune.proofs.Exploring.{held_sorted}
+use Rattle.wh_prune.proofs.LowestFirst.{no_cycle_lowest, lowest_installs}
+use Rattle.wh_prune.proofs.explore.Search.begin.Goals as goal
+
+pub unreachable-requires : goal.unreachable-requires
+unreachable-requires c =
+    let unsorted = rw (c.of.ensures.children, c.of.ensures.decided) at c.in-Err-Cycle.ensures.err in
+    let cycle = subst (λ z. IsUnsorted c.args.shape.now.children c.in_ok-lowest.lowest z) c.in-Err-Cycle.field-0-is unsorted in
+    no_cycle_lowest c.args.shape.now.children c.in_ok-lowest.lowest c.of.ensures.shape c.in_ok-lowest.ensures.lower c.in-Err-Cycle.field-0-0.items cycle
+
+pub returns-in-Ok-clause-held : goal.returns-in-Ok-clause-held
+returns-in-Ok-clause-held c =
+    let shape = c.args.shape.now.children in
+    let sizes = sizes_of c.args.sizes.now in
+    let so = rw (c.of.ensures.children, c.of.ensures.decided) at c.in-Ok.ensures.sorted in
+    held_sorted shape sizes c.args.costs.comp c.args.costs.inst c.decided_bound.result c.in_ok-lowest.lowest c.in-Ok.list c.of.ensures.shape
+    (decides_all shape c.in_ok-lowest.lowest c.of.ensures.shape c.in_ok-lowest.ensures.all) so
+    (c.decided_bound.ensures ∙ ap (decided_bound_of shape sizes c.args.costs.comp c.args.costs.inst) c.as_slice.ensures.couples)
+
+pub returns-in-Ok-clause-lowest : goal.returns-in-Ok-clause-lowest
+returns-in-Ok-clause-lowest c =
+    let shape = c.args.shape.now.children in
+    let sizes = sizes_of c.args.sizes.now in
+    let so = rw (c.of.ensures.children, c.of.ensures.decided) at c.in-Ok.ensures.sorted in
+    let da = decides_all shape c.in_ok-lowest.lowest c.of.ensures.shape c.in_ok-lowest.ensures.all in
+    let held = held_sorted shape sizes c.args.costs.comp c.args.costs.inst c.decided_bound.result c.in_ok-lowest.lowest c.in-Ok.list c.of.ensures.shape da so
+    (c.decided_bound.ensures ∙ ap (decided_bound_of shape sizes c.args.costs.comp c.args.costs.inst) c.as_slice.ensures.couples) in
+    let same : work_of shape sizes c.args.costs.comp c.args.costs.inst c.in-Ok.list ≡ c.decided_bound.result = held.costs in
+    (c.in-Ok.list, held.correct, held.one_way, lowest_installs shape c.in_ok-lowest.lowest c.in-Ok.list da c.in_ok-lowest.ensures.lower so, omega arith)

@@ -1,0 +1,23 @@
+use Rattle.std.proofs.Common.{◌≡◌, length, ap, ◌∙◌, subst, arith}
+use Rattle.wh_dag.specs.Siblings.{couples_of}
+use Rattle.wh_strategy.specs.Rules.{IsReason}
+use Rattle.wh_strategy.specs.Sizes.{sizes_of}
+use Rattle.wh_strategy.proofs.Agreeing.{refused}
+use Rattle.wh_prune.proofs.Exploring.{why_stopped}
+use Rattle.wh_prune.proofs.search.prune.Goals as goal
+
+pub unreachable-requires : goal.unreachable-requires
+unreachable-requires c =
+    let shape = c.args.shape.now.children in
+    let r = subst (λ z. IsReason shape c.explore.new.self.list z) c.in-Err-Broken.field-0-is c.in-Err-Broken.ensures.err in
+    refused c.in-Err-Broken.field-0-0 shape c.explore.new.self.list c.in-Err-Broken.field-0-1 c.in-Ok.ensures.shape r c.explore.ensures.held.correct
+
+pub returns-in-Err-explore-clause-err : goal.returns-in-Err-explore-clause-err
+returns-in-Err-explore-clause-err c =
+    let shape = c.args.shape.now.children in
+    let sizes = sizes_of c.args.sizes.now in
+    let couples : c.deref-2.result.now ≡ couples_of shape = c.deref-2.ensures.value ∙ c.in_ok-couples.ensures in
+    let none = ap length c.in-Ok.ensures.nodes in
+    let many = ap length couples in
+    why_stopped shape sizes c.args.costs.comp c.args.costs.inst c.args.budget _ c.explore.new.self.best c.in-Ok.search.best c.explore.new.self.list c.in-Err-explore.fault c.in-Err-explore.ensures.err
+    (rw (none, many) (omega arith)) c.explore.ensures.held c.explore.ensures.down c.in-Ok.ensures.lowest

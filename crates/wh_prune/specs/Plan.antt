@@ -1,0 +1,31 @@
+-- What is planned, and why nothing is.
+use Rattle.std.specs.Prelude.{ℕ, List}
+use Rattle.wh_strategy.specs.declared.expression.Expression.{Expression}
+use Rattle.wh_strategy.specs.Sizes.{Size}
+use Rattle.wh_cert.specs.Graph.{IsCycle, IsOrdered}
+use Rattle.wh_cert.specs.declared.certificate.Scope.{Scope}
+use Rattle.wh_cert.specs.declared.certificate.Scope.TheVariants as scope
+use Rattle.wh_cert.specs.declared.certificate.Verdict.{Verdict}
+use Rattle.wh_cert.specs.declared.certificate.Verdict.TheVariants as verdict
+use Rattle.wh_prune.specs.Spent.{IsSpent}
+use Rattle.wh_prune.specs.declared.fault.PruneFault.{PruneFault}
+use Rattle.wh_prune.specs.declared.fault.PruneFault.TheVariants.{Budget, Memory}
+
+-- the verdict that a certificate of this scope is to have
+abbrev pub accepted_for : Scope → Verdict
+accepted_for scope.All = verdict.All
+accepted_for scope.OneWay = verdict.OneWay
+
+-- the ordered graph has a cycle
+abbrev pub IsCyclicAsDesired : List (List ℕ) → (ℕ → Size) → Type 0
+IsCyclicAsDesired shape sizes = (decided : List (ℕ × ℕ)) × (cycle : List Expression) × IsOrdered shape sizes decided × IsCycle shape decided cycle
+
+-- why a search has no plan: its budget was spent, or memory was refused
+abbrev pub IsSearchReason : List (List ℕ) → (ℕ → Size) → ℕ → ℕ → ℕ → PruneFault → Type 0
+IsSearchReason shape sizes comp inst budget (Budget opened best) = IsSpent shape sizes comp inst budget opened best
+IsSearchReason shape sizes comp inst budget Memory = Unit {0}
+
+-- why there is no plan: a search was needed, since the ordered graph has a cycle, and its budget was spent; or memory was refused
+abbrev pub IsPlanReason : List (List ℕ) → (ℕ → Size) → ℕ → ℕ → ℕ → PruneFault → Type 0
+IsPlanReason shape sizes comp inst budget (Budget opened best) = IsCyclicAsDesired shape sizes × IsSpent shape sizes comp inst budget opened best
+IsPlanReason shape sizes comp inst budget Memory = Unit {0}

@@ -1,0 +1,55 @@
+-- Where a search stands, and what it has found.
+use Rattle.std.specs.Prelude.{◌≡◌, ℕ, ◌+◌, ◌<◌, ◌≤◌, List, ◌++◌, map, true, reverse, if◌then◌else◌, nat_lt}
+use Rattle.std.specs.List.{All}
+use Rattle.wh_dag.specs.Siblings.{couples_of}
+use Rattle.wh_dag.specs.declared.siblings.Couple.{Couple}
+use Rattle.wh_strategy.specs.declared.expression.Expression.{Expression}
+use Rattle.wh_strategy.specs.Rules.{IsCorrect, IsOneWay}
+use Rattle.wh_strategy.specs.Sizes.{Size}
+use Rattle.wh_strategy.specs.Work.{work_of}
+use Rattle.wh_cert.specs.Graph.{decides}
+use Rattle.wh_cert.specs.Search.{IsGoodNode, nodes_below}
+use Rattle.wh_cert.specs.Tree.{CaseTree, preorder, depth}
+use Rattle.wh_cert.specs.declared.tree.TreeNode.{TreeNode}
+use Rattle.wh_prune.specs.Spent.{InstallsLowerFirst}
+use Rattle.wh_prune.specs.declared.fault.PruneFault.{PruneFault}
+use Rattle.wh_prune.specs.declared.fault.PruneFault.TheVariants.{Budget, Memory}
+
+-- the couple that a decision is on
+abbrev pub couple_of : ℕ × ℕ → Couple
+couple_of decision =
+    if nat_lt decision.0 decision.1 then record { lower = decision.0; higher = decision.1 }
+    else record { lower = decision.1; higher = decision.0 }
+
+-- of the shape's couples in their order, the first ones are decided, each once, and these are left
+abbrev pub AreLeft : List (List ℕ) → List (ℕ × ℕ) → List Couple → Type 0
+AreLeft shape decided rest = map couple_of decided ++ rest ≡ couples_of shape
+
+-- each decision is to install the view of the lower number first
+abbrev pub DecidesLowerFirst : List (ℕ × ℕ) → Type 0
+DecidesLowerFirst decided = (u w : ℕ) → decides decided u w ≡ true → u < w
+
+-- the list is a one-way strategy of this work
+pub record IsHeld (shape : List (List ℕ)) (sizes : ℕ → Size) (comp inst work : ℕ) (list : List Expression) : Type 0 where
+  pub correct : IsCorrect shape list
+  pub one_way : IsOneWay list
+  pub costs : work_of shape sizes comp inst list ≡ work
+
+-- the work is at most that of a one-way strategy in which the lower number of each couple is installed first
+abbrev pub IsWithinLowest : List (List ℕ) → (ℕ → Size) → ℕ → ℕ → ℕ → Type 0
+IsWithinLowest shape sizes comp inst work =
+    (list : List Expression) × IsCorrect shape list × IsOneWay list × InstallsLowerFirst shape list × (work ≤ work_of shape sizes comp inst list)
+
+-- After the nodes of before come those of a tree, and nothing else. It is at most so deep, and below these decisions, the last
+-- of which is the nearest, each of its nodes is good for a strategy of this work.
+pub record IsExplored (shape : List (List ℕ)) (sizes : ℕ → Size) (comp inst work deep : ℕ) (decided : List (ℕ × ℕ)) (before after : List TreeNode) : Type 0 where
+  pub tree : CaseTree
+  pub nodes : after ≡ before ++ preorder tree
+  pub within : depth tree ≤ deep
+  pub good : All (IsGoodNode shape sizes comp inst work) (nodes_below (reverse decided) tree)
+
+-- Why a search stopped: as many nodes were opened as its budget says, where the whole tree has more, namely one fewer than `all`;
+-- and this is the least work so far. Or memory was refused.
+abbrev pub IsStopped : ℕ → ℕ → ℕ → PruneFault → Type 0
+IsStopped budget all least (Budget opened best) = (opened ≡ budget) × (best ≡ least) × (budget + 1 < all)
+IsStopped budget all least Memory = Unit {0}

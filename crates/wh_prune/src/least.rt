@@ -1,0 +1,83 @@
+//! The plan of a night.
+
+ghost use Rattle.std.specs.Prelude.{◌≡◌, ◌↔◌, ◌^◌, ◌<◌, ◌≤◌, List, length, IfOk, IfErr};
+ghost use Rattle.wh_strategy.specs.declared.expression.Expression.{Expression};
+ghost use Rattle.wh_strategy.specs.Rules.{IsCorrect, IsOneWay};
+ghost use Rattle.wh_strategy.specs.Sizes.{sizes_of};
+ghost use Rattle.wh_strategy.specs.Work.{work_of};
+ghost use Rattle.wh_cert.specs.Bound.{pair_bound_of};
+ghost use Rattle.wh_cert.specs.Certificate.{IsJudged};
+ghost use Rattle.wh_cert.specs.declared.certificate.Scope.{Scope};
+ghost use Rattle.wh_minwork.specs.Plan.{IsAcyclicAsDesired, IsSortedAsDesired};
+ghost use Rattle.wh_prune.specs.Plan.{IsCyclicAsDesired, IsPlanReason, accepted_for};
+
+use crate::fault::PruneFault;
+use crate::search::prune;
+use std::alloc::Global;
+use wh_cert::{Planned, Scope, Verdict, certify};
+use wh_dag::Shape;
+use wh_minwork::{MinFault, min_work};
+use wh_strategy::{Costs, Sizes};
+
+/// The verdict that a certificate of this scope is to have.
+fn accepted_for(scope: Scope) -> Verdict
+    ensures { result ≡ accepted_for scope }
+{
+    match scope {
+        Scope::All => Verdict::All,
+        Scope::OneWay => Verdict::OneWay,
+    }
+}
+
+/// The plan itself, whose certificate is judged once more: what its verdict says is what is known of the plan.
+fn certified(shape: &Shape, sizes: &Sizes, costs: Costs, planned: Planned) -> Planned
+    requires same { length sizes.now ≡ length shape.now.children }
+    requires shape { planned.correct.children ≡ shape.now.children }
+    requires work { planned.work ≡ work_of shape.now.children (sizes_of sizes.now) costs.comp costs.inst planned.correct.list }
+    requires certified { IsJudged shape.now.children (sizes_of sizes.now) costs.comp costs.inst planned.work planned.certificate (accepted_for planned.scope) }
+    ensures itself { result ≡ planned }
+    ensures least_of_all { planned.scope ≡ Scope.All → (list : List Expression) → IsCorrect shape.now.children list → planned.work ≤ work_of shape.now.children (sizes_of sizes.now) costs.comp costs.inst list }
+    ensures least_one_way { (list : List Expression) → IsCorrect shape.now.children list → IsOneWay list → planned.work ≤ work_of shape.now.children (sizes_of sizes.now) costs.comp costs.inst list }
+{
+    let verdict = certify(shape, sizes, costs, &planned.correct, &planned.certificate);
+    if verdict == accepted_for(planned.scope) {
+        planned
+    } else {
+        unreachable!()
+    }
+}
+
+/// A plan of least work: among all correct strategies wherever the ordered graph has no cycle, or a one-way strategy
+/// reaches the pair bound all the same; otherwise among those whose Comps are each from one view.
+pub fn plan(
+    alloc: Global,
+    shape: &Shape,
+    sizes: &Sizes,
+    costs: Costs,
+    budget: u64,
+) -> Result<Planned, PruneFault>
+    requires same { length sizes.now ≡ length shape.now.children }
+    requires some { 1 ≤ budget }
+    requires within { budget < 2 ^ 63 }
+    ensures shape { IfOk result (λ p. p.correct.children ≡ shape.now.children) }
+    ensures correct { IfOk result (λ p. IsCorrect shape.now.children p.correct.list) }
+    ensures one_way { IfOk result (λ p. IsOneWay p.correct.list) }
+    ensures work { IfOk result (λ p. p.work ≡ work_of shape.now.children (sizes_of sizes.now) costs.comp costs.inst p.correct.list) }
+    ensures all { IfOk result (λ p. p.scope ≡ Scope.All ↔ p.work ≡ pair_bound_of shape.now.children (sizes_of sizes.now) costs.comp costs.inst) }
+    ensures certified { IfOk result (λ p. IsJudged shape.now.children (sizes_of sizes.now) costs.comp costs.inst p.work p.certificate (accepted_for p.scope)) }
+    ensures least_of_all { IfOk result (λ p. p.scope ≡ Scope.All → (list : List Expression) → IsCorrect shape.now.children list → p.work ≤ work_of shape.now.children (sizes_of sizes.now) costs.comp costs.inst list) }
+    ensures least_one_way { IfOk result (λ p. (list : List Expression) → IsCorrect shape.now.children list → IsOneWay list → p.work ≤ work_of shape.now.children (sizes_of sizes.now) costs.comp costs.inst list) }
+    ensures acyclic { IfOk result (λ p. IsAcyclicAsDesired shape.now.children (sizes_of sizes.now) → p.scope ≡ Scope.All) }
+    ensures cyclic { IfOk result (λ p. p.scope ≡ Scope.OneWay → IsCyclicAsDesired shape.now.children (sizes_of sizes.now)) }
+    ensures sorted { IfOk result (λ p. IsAcyclicAsDesired shape.now.children (sizes_of sizes.now) → IsSortedAsDesired shape.now.children (sizes_of sizes.now) p.correct.list) }
+    ensures err { IfErr result (IsPlanReason shape.now.children (sizes_of sizes.now) costs.comp costs.inst budget) }
+{
+    match min_work(alloc, shape, sizes, costs) {
+        Ok(planned) => Ok(certified(shape, sizes, costs, planned)),
+        Err(MinFault::Cyclic(_)) => {
+            let planned = prune(alloc, shape, sizes, costs, budget)?;
+            Ok(certified(shape, sizes, costs, planned))
+        }
+        Err(MinFault::Memory) => Err(PruneFault::Memory),
+    }
+}

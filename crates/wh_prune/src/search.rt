@@ -1,0 +1,99 @@
+//! The search: a least one-way strategy, with the tree that says why it is.
+
+ghost use Rattle.std.specs.Prelude.{◌≡◌, ◌↔◌, ◌+◌, ◌^◌, ◌<◌, ◌≤◌, List, [], length, IfOk, IfErr};
+ghost use Rattle.wh_dag.specs.Shape.{IsShape};
+ghost use Rattle.wh_dag.specs.Siblings.{couples_of};
+ghost use Rattle.wh_strategy.specs.declared.expression.Expression.{Expression};
+ghost use Rattle.wh_strategy.specs.Rules.{IsCorrect, IsOneWay};
+ghost use Rattle.wh_strategy.specs.Sizes.{sizes_of};
+ghost use Rattle.wh_strategy.specs.Work.{work_of};
+ghost use Rattle.wh_cert.specs.Bound.{pair_bound_of};
+ghost use Rattle.wh_cert.specs.Certificate.{IsJudged};
+ghost use Rattle.wh_cert.specs.declared.certificate.Scope.{Scope};
+ghost use Rattle.wh_prune.specs.Plan.{IsSearchReason, accepted_for};
+ghost use Rattle.wh_prune.specs.Searching.{IsExplored};
+
+use crate::explore::Search;
+use crate::fault::PruneFault;
+use std::alloc::{AllocError, Global};
+use wh_cert::{Certificate, Planned, Scope, Tree, TreeNode, pair_bound};
+use wh_dag::Shape;
+use wh_minwork::pair_mins;
+use wh_strategy::{CheckFault, Costs, Sizes, check};
+
+/// Why no strategy costs less than this work: where it is the pair bound, that is reason enough, and it holds for all
+/// strategies; else the tree of these nodes is, for the one-way ones.
+fn reason(
+    alloc: Global,
+    shape: &Shape,
+    sizes: &Sizes,
+    costs: Costs,
+    work: u128,
+    nodes: Vec<TreeNode>,
+) -> Result<(Scope, Certificate), AllocError>
+    requires same { length sizes.now ≡ length shape.now.children }
+    requires shape { IsShape shape.now.children }
+    requires explored { IsExplored shape.now.children (sizes_of sizes.now) costs.comp costs.inst work (length (couples_of shape.now.children) + 1) [] [] nodes.items }
+    ensures all { IfOk result (λ r. r.0 ≡ Scope.All ↔ work ≡ pair_bound_of shape.now.children (sizes_of sizes.now) costs.comp costs.inst) }
+    ensures certified { IfOk result (λ r. IsJudged shape.now.children (sizes_of sizes.now) costs.comp costs.inst work r.1 (accepted_for r.0)) }
+    ensures least_of_all { IfOk result (λ r. r.0 ≡ Scope.All → (list : List Expression) → IsCorrect shape.now.children list → work ≤ work_of shape.now.children (sizes_of sizes.now) costs.comp costs.inst list) }
+    ensures least_one_way { IfOk result (λ r. (list : List Expression) → IsCorrect shape.now.children list → IsOneWay list → work ≤ work_of shape.now.children (sizes_of sizes.now) costs.comp costs.inst list) }
+{
+    if work == pair_bound(shape, sizes, costs) {
+        let lines = pair_mins(alloc, shape, sizes)?;
+        return Ok((Scope::All, Certificate::Pairs(lines)));
+    }
+    match Tree::new(nodes) {
+        Some(tree) => Ok((Scope::OneWay, Certificate::Search(tree))),
+        None => unreachable!(),
+    }
+}
+
+/// A strategy of least work among the one-way ones, by opening at most so many nodes of a tree of decisions.
+pub fn prune(
+    alloc: Global,
+    shape: &Shape,
+    sizes: &Sizes,
+    costs: Costs,
+    budget: u64,
+) -> Result<Planned, PruneFault>
+    requires same { length sizes.now ≡ length shape.now.children }
+    requires some { 1 ≤ budget }
+    requires within { budget < 2 ^ 63 }
+    ensures shape { IfOk result (λ p. p.correct.children ≡ shape.now.children) }
+    ensures correct { IfOk result (λ p. IsCorrect shape.now.children p.correct.list) }
+    ensures one_way { IfOk result (λ p. IsOneWay p.correct.list) }
+    ensures work { IfOk result (λ p. p.work ≡ work_of shape.now.children (sizes_of sizes.now) costs.comp costs.inst p.correct.list) }
+    ensures all { IfOk result (λ p. p.scope ≡ Scope.All ↔ p.work ≡ pair_bound_of shape.now.children (sizes_of sizes.now) costs.comp costs.inst) }
+    ensures certified { IfOk result (λ p. IsJudged shape.now.children (sizes_of sizes.now) costs.comp costs.inst p.work p.certificate (accepted_for p.scope)) }
+    ensures least_of_all { IfOk result (λ p. p.scope ≡ Scope.All → (list : List Expression) → IsCorrect shape.now.children list → p.work ≤ work_of shape.now.children (sizes_of sizes.now) costs.comp costs.inst list) }
+    ensures least_one_way { IfOk result (λ p. (list : List Expression) → IsCorrect shape.now.children list → IsOneWay list → p.work ≤ work_of shape.now.children (sizes_of sizes.now) costs.comp costs.inst list) }
+    ensures err { IfErr result (IsSearchReason shape.now.children (sizes_of sizes.now) costs.comp costs.inst budget) }
+{
+    let couples = shape.couples(alloc)?;
+    let mut search = match Search::begin(alloc, shape, sizes, costs, &couples) {
+        Ok(search) => search,
+        Err(fault) => return Err(fault),
+    };
+    match search.explore(alloc, shape, sizes, costs, budget, &couples) {
+        Ok(()) => {}
+        Err(fault) => return Err(fault),
+    }
+    let Search {
+        best: work,
+        list,
+        nodes,
+        ..
+    } = search;
+    let (scope, certificate) = reason(alloc, shape, sizes, costs, work, nodes)?;
+    match check(alloc, shape, list) {
+        Ok(correct) => Ok(Planned {
+            correct,
+            work,
+            scope,
+            certificate,
+        }),
+        Err(CheckFault::Broken { .. }) => unreachable!(),
+        Err(CheckFault::Memory) => Err(PruneFault::Memory),
+    }
+}
