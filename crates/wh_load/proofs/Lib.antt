@@ -1,3 +1,4 @@
+pub mod BegunTrees
 pub mod CatalogueLengths
 pub mod CatalogueNames
 pub mod CatalogueTexts
@@ -5,6 +6,7 @@ pub mod CatalogueViews
 pub mod Cells
 pub mod ColumnsNamed
 pub mod CutLemmas
+pub mod CycleParts
 pub mod DefinitionsFit
 pub mod DictGrowth
 pub mod DictTexts
@@ -21,6 +23,7 @@ pub mod Named
 pub mod NamesText
 pub mod Naturals
 pub mod NightLemmas
+pub mod NodeReadingBack
 pub mod OutputsFit
 pub mod PartsRead
 pub mod PlanLines
@@ -41,4 +44,6 @@ pub mod TableRows
 pub mod TableSums
 pub mod TablesRead
 pub mod TextLemmas
+pub mod TreeGrowths
 pub mod WholeNumbers
+pub mod WholeTrees

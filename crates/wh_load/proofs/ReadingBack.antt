@@ -14,7 +14,7 @@ use Rattle.wh_strategy.specs.declared.expression.Expression.{Expression}
 use Rattle.wh_strategy.specs.declared.expression.Expression.TheVariants.{Comp, Inst}
 use Rattle.wh_load.specs.Line.{is_blank}
 use Rattle.wh_load.specs.Words.{is_word, lines_of, words_of}
-use Rattle.wh_load.specs.ExpressionText.{views_of, words_for, expression_text}
+use Rattle.wh_load.specs.ExpressionText.{expression_of, views_of, words_for, expression_text}
 use Rattle.wh_load.specs.StrategyText.{said_by, said_in, strategy_text}
 use Rattle.wh_load.specs.ReadsBack.{is_plain, IsWithin, ReadsBack}
 use Rattle.wh_load.proofs.Lists.{after, said_together-after}
@@ -88,6 +88,13 @@ pub views_of-names : (names : List (List ℕ)) (views : List ℕ) → AllPairs (
 views_of-names names [] distinct within = refl
 views_of-names names (view ∷ views) distinct within =
     rw (number_of-name names view distinct (within 0 0 (omega arith)), views_of-names names views distinct (λ k d l. within (suc k) d (omega arith))) refl
+
+-- the words that say an expression
+pub expression_of-words : (names : List (List ℕ)) (e : Expression) → AllPairs (λ first second. first ≢ second) names → IsWithin (length names) e → expression_of names (words_for names e) ≡ Some e
+expression_of-words names (Comp target []) distinct within = absurd (omega (arith, within.1))
+expression_of-words names (Comp target (source ∷ sources)) distinct within =
+    rw (number_of-name names target distinct within.0, views_of-names names (source ∷ sources) distinct within.2) refl
+expression_of-words names (Inst target) distinct within = rw (number_of-name names target distinct within) refl
 
 said_by-words : (names : List (List ℕ)) (expression : Expression) → AllPairs (λ first second. first ≢ second) names → IsWithin (length names) expression
     → said_by names (words_for names expression) ≡ Some (expression ∷ [])

@@ -21,6 +21,7 @@ pub mod Line
 pub mod NameForm
 pub mod Names
 pub mod Natural
+pub mod NodeLine
 pub mod Output
 pub mod Pairs
 pub mod PartFault
@@ -37,10 +38,12 @@ pub mod Reference
 pub mod Seen
 pub mod SizesText
 pub mod StrategyText
+pub mod TableRead
 pub mod TableReadsBack
 pub mod TableText
 pub mod TableWritten
 pub mod Text
+pub mod TreeGrowth
 pub mod TreeText
 pub mod Unread
 pub mod WholeNumber

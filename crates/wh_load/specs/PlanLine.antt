@@ -1,18 +1,25 @@
 -- The lines of a plan, each by itself.
-use Rattle.std.specs.Prelude.{ℕ, Bool, false, ◌&&◌, slice_index_or, List, [], ◌∷◌, Option, Some, None, option_map, option_and_then, codes, if◌then◌else◌}
+use Rattle.std.specs.Prelude.{ℕ, Bool, false, List, [], ◌∷◌, Option, Some, None, option_map, option_and_then, codes, if◌then◌else◌}
 use Rattle.std.specs.Option.{option_or}
 use Rattle.std.specs.Str.{bytes_eq}
 use Rattle.wh_dag.specs.Written.{number_of}
 use Rattle.wh_cert.specs.declared.certificate.PairMin.{PairMin}
+use Rattle.wh_cert.specs.declared.certificate.Scope.{Scope}
 use Rattle.wh_cert.specs.declared.certificate.Scope.TheVariants as scope
 use Rattle.wh_load.specs.ExpressionText.{expression_of}
 use Rattle.wh_load.specs.Natural.{natural}
+use Rattle.wh_load.specs.NodeLine.{node_of}
+use Rattle.wh_load.specs.Words.{word_at}
 use Rattle.wh_load.specs.declared.plan.line.PlanLine.{PlanLine}
-use Rattle.wh_load.specs.declared.plan.line.PlanLine.TheVariants.{Scoped, Worked, Listed, Paired}
+use Rattle.wh_load.specs.declared.plan.line.PlanLine.TheVariants.{Scoped, Worked, Listed, Paired, Searched}
 
--- the words have the form `scope all`
+-- the scope of this name
+abbrev pub scope_named : List ℕ → Option Scope
+scope_named word = if bytes_eq word (codes "all") then Some scope.All else (if bytes_eq word (codes "one-way") then Some scope.OneWay else None)
+
+-- the words have the form `scope S`
 abbrev pub is_scope : List (List ℕ) → Bool
-is_scope (first ∷ second ∷ []) = bytes_eq first (codes "scope") && bytes_eq second (codes "all")
+is_scope (first ∷ second ∷ []) = bytes_eq first (codes "scope")
 is_scope _ = false
 
 -- the words have the form `work N`
@@ -25,10 +32,6 @@ abbrev pub is_pair : List (List ℕ) → Bool
 is_pair (first ∷ second ∷ third ∷ fourth ∷ fifth ∷ []) = bytes_eq first (codes "pair")
 is_pair _ = false
 
--- the word at this place, from 0
-abbrev pub word_at : List (List ℕ) → ℕ → List ℕ
-word_at words place = slice_index_or words place []
-
 -- a pair of these, where all are views and a number
 abbrev pub pair_from : Option ℕ → Option ℕ → Option ℕ → Option ℕ → Option PairMin
 pair_from parent first second least =
@@ -39,17 +42,25 @@ abbrev pub pair_in : List (List ℕ) → List (List ℕ) → Option PairMin
 pair_in names words =
     pair_from (number_of names (word_at words 1)) (number_of names (word_at words 2)) (number_of names (word_at words 3)) (natural (word_at words 4))
 
--- what these words say in each of the four forms, if they have it
+-- what these words say in each form, if they have it
 abbrev pub scoped_by : List (List ℕ) → Option PlanLine
-scoped_by words = if is_scope words then Some (Scoped scope.All) else None
+scoped_by words = if is_scope words then option_map Scoped (scope_named (word_at words 1)) else None
 
 abbrev pub worked_by : List (List ℕ) → Option PlanLine
 worked_by words = if is_work words then option_map Worked (natural (word_at words 1)) else None
 
+abbrev pub listed_by : List (List ℕ) → List (List ℕ) → Option PlanLine
+listed_by names words = option_map Listed (expression_of names words)
+
 abbrev pub paired_by : List (List ℕ) → List (List ℕ) → Option PlanLine
 paired_by names words = if is_pair words then option_map Paired (pair_in names words) else None
 
--- what the words of a line say in a plan over views of these names, if they say anything there: no two forms have one first word
-abbrev pub plan_line_of : List (List ℕ) → List (List ℕ) → Option PlanLine
-plan_line_of names words =
-    option_or (scoped_by words) (option_or (worked_by words) (option_or (paired_by names words) (option_map Listed (expression_of names words))))
+-- a node of the tree, if a line of these words says one
+abbrev pub searched_by : List (List ℕ) → List ℕ → List (List ℕ) → Option PlanLine
+searched_by names line words = option_map Searched (node_of names line words)
+
+-- what a line of these words says in a plan over views of these names, if it says anything there: no two forms have one first word
+abbrev pub plan_line_of : List (List ℕ) → List ℕ → List (List ℕ) → Option PlanLine
+plan_line_of names line words =
+    option_or (scoped_by words)
+    (option_or (worked_by words) (option_or (listed_by names words) (option_or (paired_by names words) (searched_by names line words))))

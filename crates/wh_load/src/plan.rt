@@ -1,11 +1,14 @@
 //! A plan as text: its scope, its work, the list of its strategy, and the lines of its certificate.
-ghost use Rattle.std.specs.Prelude.{◌≡◌, ◌⊎◌, ◌++◌, Ok, Err, IfOk, IfErr, OnOk};
+ghost use Rattle.std.specs.Prelude.{◌≡◌, ◌⊎◌, ◌++◌, Ok, Err, IfOk, IfErr, IsTrue, OnOk};
 ghost use Rattle.std.specs.List.{flat_map, join_with_byte};
 ghost use Rattle.wh_load.specs.PlanReadsBack.{PlanReadsBack, TextsDiffer};
-ghost use Rattle.wh_load.specs.PlanText.{certificate_text, line_text, scope_text, pair_words, plan_from, plan_of, plan_text, scope_in, work_in};
+ghost use Rattle.wh_load.specs.TreeGrowth.{BegunTrees, WholeTrees};
+ghost use Rattle.wh_load.specs.PlanText.{certificate_of, certificate_text, has_its_tree, line_text, may_end, pair_words, plan_from, plan_of, plan_text, scope_text, work_in};
 
 mod line;
 mod natural;
+mod node;
+mod places;
 mod said;
 mod tree;
 
@@ -14,10 +17,10 @@ use crate::fault::LoadFault;
 use crate::names::Names;
 use crate::strategy::write_strategy;
 use line::PlanLine;
-use said::said_lines;
+use said::{said_lines, scope_in};
 use std::alloc::{AllocError, Global};
 use tree::append_tree;
-use wh_cert::{Certificate, PairMin, PairMins, Planned, Scope};
+use wh_cert::{Certificate, PairMin, PairMins, Planned, Scope, Tree, TreeNode};
 use wh_strategy::Strategy;
 
 /// What the text of a plan says, none of it judged.
@@ -33,15 +36,6 @@ pub struct Plan {
     pub certificate: Certificate,
 }
 
-fn scope_in(lines: &[PlanLine]) -> Scope
-    ensures { result ≡ scope_in lines.now }
-{
-    match lines {
-        [PlanLine::Scoped(scope), ..] => *scope,
-        _ => Scope::All,
-    }
-}
-
 fn work_in(lines: &[PlanLine]) -> u128
     ensures { result ≡ work_in lines.now }
 {
@@ -51,17 +45,34 @@ fn work_in(lines: &[PlanLine]) -> u128
     }
 }
 
+// The certificate of this scope, of pairs or of the nodes of a tree.
+fn certificate_of(scope: Scope, pairs: Vec<PairMin>, nodes: Vec<TreeNode>) -> Certificate
+    requires { IsTrue (has_its_tree scope nodes.items) }
+    ensures { result ≡ certificate_of scope pairs.items nodes.items }
+{
+    match scope {
+        Scope::All => Certificate::Pairs(PairMins::new(pairs)),
+        Scope::OneWay => match Tree::new(nodes) {
+            Some(tree) => Certificate::Search(tree),
+            None => unreachable!(),
+        },
+    }
+}
+
 fn plan_from(alloc: Global, lines: Vec<PlanLine>) -> Result<Plan, AllocError>
+    requires { IsTrue (may_end lines.items) }
     ensures { IfOk result (λ plan. plan ≡ plan_from lines.items) }
 {
     let scope = scope_in(&lines);
     let work = work_in(&lines);
     let mut list = Vec::new(alloc);
     let mut pairs = Vec::new(alloc);
+    let mut nodes = Vec::new(alloc);
     for line in lines {
         match line {
             PlanLine::Listed(expression) => list.push(expression)?,
             PlanLine::Paired(pair) => pairs.push(pair)?,
+            PlanLine::Searched(node) => nodes.push(node)?,
             PlanLine::Scoped(_) | PlanLine::Worked(_) => {}
         }
     }
@@ -69,14 +80,17 @@ fn plan_from(alloc: Global, lines: Vec<PlanLine>) -> Result<Plan, AllocError>
         scope,
         work,
         strategy: Strategy::new(list),
-        certificate: Certificate::Pairs(PairMins::new(pairs)),
+        certificate: certificate_of(scope, pairs, nodes),
     })
 }
 
-/// The plan that the text is, over these views: `scope all`, `work N`, the lines of a strategy, and a line `pair V U W N`
-/// for each pair of its certificate, where lines of spaces and tabs alone are skipped. The fault is `Plan` with the first
-/// line that may not stand where it does, counted from 1, blank ones included; where the text ends too early, that is the
-/// line after its last. Whether the plan is right is for `certify` to judge.
+/// The plan that the text is, over these views: `scope all` or `scope one-way`, `work N`, the lines of a strategy, and its
+/// certificate. For all, that is a line `pair V U W N` for each pair; for one-way the nodes of a tree at most
+/// [`wh_cert::MAX_DEPTH`] deep, in preorder, each a line `bound`, `cycle E; E; ..` or `branch U W`. Lines of spaces and tabs
+/// alone are skipped.
+///
+/// The fault is `Plan` with the first line that may not stand where it does, counted from 1, blank ones included; where the
+/// text ends too early, that is the line after its last. Whether the plan is right is for `certify` to judge.
 pub fn read_plan(alloc: Global, names: &Names, text: &[u8]) -> Result<Plan, LoadFault>
     ensures ok { IfOk result (λ plan. plan_of names.now text.now ≡ Ok plan) }
     ensures err { IfErr result (λ f. (f ≡ LoadFault.Memory) ⊎ (plan_of names.now text.now ≡ Err f)) }
@@ -143,8 +157,15 @@ fn scope_text(scope: Scope) -> &'static str
     }
 }
 
-/// A law of the definitions: over plain and distinct names, a plan of scope All that was written is read back as it was, and
-/// so no two of them have one text.
+/// A law of the definitions: the nodes that a one-way plan may have so far are exactly those that begin a tree in preorder,
+/// none of them more than [`wh_cert::MAX_DEPTH`] deep, and it may end exactly where they are all of one.
+pub fn tree_lines_law()
+    ensures begun { BegunTrees }
+    ensures whole { WholeTrees }
+{}
+
+/// A law of the definitions: over plain and distinct names, a plan whose certificate fits its scope (for one-way over names
+/// without a semicolon, and with no empty cycle) is read back from its text as it was, and so no two of them have one text.
 pub fn plan_reads_back_law()
     ensures reads_back { PlanReadsBack }
     ensures distinct { TextsDiffer }

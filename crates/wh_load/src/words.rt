@@ -1,6 +1,6 @@
 //! The lines of a text, and the words of a line.
 ghost use Rattle.std.specs.Prelude.{◌≡◌, ◌==◌, ◌<◌, ◌∷◌, length, map, position, IfOk, IfSome};
-ghost use Rattle.wh_load.specs.Words.{is_word, lines_of, words_of};
+ghost use Rattle.wh_load.specs.Words.{is_word, lines_of, word_at, words_of};
 
 use crate::bundle::line::is_blank;
 use std::alloc::{AllocError, Global};
@@ -37,4 +37,14 @@ pub(crate) fn words_of(alloc: Global, line: &[u8]) -> Result<Vec<&[u8]>, AllocEr
     line.split(|byte| is_blank(*byte))
         .filter(|piece| is_word(*piece))
         .collect(alloc)
+}
+
+/// The word at this place, from 0; empty where there is none.
+pub(crate) fn word_at<'a>(words: &[&'a [u8]], place: usize) -> &'a [u8]
+    ensures { result.now ≡ word_at (map (λ word. word.now) words.now) place }
+{
+    match words.get(place) {
+        Some(word) => *word,
+        None => b"",
+    }
 }

@@ -1,12 +1,14 @@
 //! The lines of a plan, each by itself.
 ghost use Rattle.std.specs.Prelude.{◌≡◌, map, IfOk};
-ghost use Rattle.wh_load.specs.PlanLine.{is_pair, is_scope, is_work, pair_from, pair_in, paired_by, plan_line_of, scoped_by, word_at, worked_by};
+ghost use Rattle.wh_load.specs.PlanLine.{is_pair, is_scope, is_work, listed_by, pair_from, pair_in, paired_by, plan_line_of, scope_named, scoped_by, searched_by, worked_by};
 
 use super::natural::natural;
+use super::node::node_of;
 use crate::expression::expression_of;
 use crate::names::Names;
+use crate::words::word_at;
 use std::alloc::{AllocError, Global};
-use wh_cert::{PairMin, Scope};
+use wh_cert::{PairMin, Scope, TreeNode};
 use wh_strategy::Expression;
 
 /// What a line of a plan says.
@@ -18,16 +20,31 @@ pub(crate) enum PlanLine {
     Worked(u128),
     /// An expression of the strategy.
     Listed(Expression),
-    /// A line of the certificate.
+    /// A line of a certificate by pairs.
     Paired(PairMin),
+    /// A node of the tree of a certificate by search.
+    Searched(TreeNode),
 }
 
-// Whether the words have the form `scope all`.
+// The scope of this name.
+fn scope_named(word: &[u8]) -> Option<Scope>
+    ensures { result ≡ scope_named word.now }
+{
+    if word == b"all".as_slice() {
+        Some(Scope::All)
+    } else if word == b"one-way".as_slice() {
+        Some(Scope::OneWay)
+    } else {
+        None
+    }
+}
+
+// Whether the words have the form `scope S`.
 fn is_scope(words: &[&[u8]]) -> bool
     ensures { result ≡ is_scope (map (λ word. word.now) words.now) }
 {
     match words {
-        [first, second] => *first == b"scope".as_slice() && *second == b"all".as_slice(),
+        [first, _] => *first == b"scope".as_slice(),
         _ => false,
     }
 }
@@ -52,23 +69,16 @@ fn is_pair(words: &[&[u8]]) -> bool
     }
 }
 
-// The word at this place, from 0; empty where there is none.
-fn word_at<'a>(words: &[&'a [u8]], place: usize) -> &'a [u8]
-    ensures { result.now ≡ word_at (map (λ word. word.now) words.now) place }
-{
-    match words.get(place) {
-        Some(word) => *word,
-        None => b"",
-    }
-}
-
 fn scoped_by(words: &[&[u8]]) -> Option<PlanLine>
     ensures { result ≡ scoped_by (map (λ word. word.now) words.now) }
 {
     if !is_scope(words) {
         return None;
     }
-    Some(PlanLine::Scoped(Scope::All))
+    match scope_named(word_at(words, 1)) {
+        Some(scope) => Some(PlanLine::Scoped(scope)),
+        None => None,
+    }
 }
 
 fn worked_by(words: &[&[u8]]) -> Option<PlanLine>
@@ -125,25 +135,49 @@ fn paired_by(names: &Names, words: &[&[u8]]) -> Option<PlanLine>
     }
 }
 
-/// What the words of a line say in a plan over these views, or `None` where they say nothing there.
-pub(crate) fn plan_line_of(
-    alloc: Global,
-    names: &Names,
-    words: &[&[u8]],
-) -> Result<Option<PlanLine>, AllocError>
-    ensures { IfOk result (λ line. line ≡ plan_line_of names.now (map (λ word. word.now) words.now)) }
+fn listed_by(alloc: Global, names: &Names, words: &[&[u8]]) -> Result<Option<PlanLine>, AllocError>
+    ensures { IfOk result (λ line. line ≡ listed_by names.now (map (λ word. word.now) words.now)) }
 {
-    if let Some(line) = scoped_by(words) {
-        return Ok(Some(line));
-    }
-    if let Some(line) = worked_by(words) {
-        return Ok(Some(line));
-    }
-    if let Some(line) = paired_by(names, words) {
-        return Ok(Some(line));
-    }
     match expression_of(alloc, names, words)? {
         Some(expression) => Ok(Some(PlanLine::Listed(expression))),
         None => Ok(None),
     }
+}
+
+fn searched_by(
+    alloc: Global,
+    names: &Names,
+    line: &[u8],
+    words: &[&[u8]],
+) -> Result<Option<PlanLine>, AllocError>
+    ensures { IfOk result (λ own. own ≡ searched_by names.now line.now (map (λ word. word.now) words.now)) }
+{
+    match node_of(alloc, names, line, words)? {
+        Some(node) => Ok(Some(PlanLine::Searched(node))),
+        None => Ok(None),
+    }
+}
+
+/// What a line of these words says in a plan over these views, or `None` where it says nothing there.
+pub(crate) fn plan_line_of(
+    alloc: Global,
+    names: &Names,
+    line: &[u8],
+    words: &[&[u8]],
+) -> Result<Option<PlanLine>, AllocError>
+    ensures { IfOk result (λ own. own ≡ plan_line_of names.now line.now (map (λ word. word.now) words.now)) }
+{
+    if let Some(own) = scoped_by(words) {
+        return Ok(Some(own));
+    }
+    if let Some(own) = worked_by(words) {
+        return Ok(Some(own));
+    }
+    if let Some(own) = listed_by(alloc, names, words)? {
+        return Ok(Some(own));
+    }
+    if let Some(own) = paired_by(names, words) {
+        return Ok(Some(own));
+    }
+    searched_by(alloc, names, line, words)
 }
