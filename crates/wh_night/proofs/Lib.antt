@@ -8,3 +8,4 @@ pub mod Storing
 pub mod Refusals
 pub mod Nights
 pub mod FirstRefusals
+pub mod NewValues

@@ -1,5 +1,5 @@
 -- What holds of every correct strategy that is carried out.
-use Rattle.std.specs.Prelude.{◌≡◌, ◌≢◌, ℕ, ◌<◌, ◌^◌, List, length}
+use Rattle.std.specs.Prelude.{◌≡◌, ◌≢◌, ℕ, ◌<◌, ◌^◌, List, [], length}
 use Rattle.wh_dag.specs.Shape.{children_of}
 use Rattle.wh_dag.specs.Catalog.{CatalogOf, IsCatalog}
 use Rattle.wh_strategy.specs.declared.expression.Expression.{Expression}
@@ -9,9 +9,10 @@ use Rattle.wh_strategy.specs.Rules.{IsCorrect}
 use Rattle.wh_row.specs.Bag.{Bag, size}
 use Rattle.wh_maint.specs.declared.fault.MaintFault.TheVariants.{Memory}
 use Rattle.wh_maint.specs.Laws.{changed}
-use Rattle.wh_maint.specs.Size.{operand_rows_of}
+use Rattle.wh_maint.specs.Size.{HaveTooMany, operand_rows_of}
 use Rattle.wh_maint.specs.Definition.{graph_of}
-use Rattle.wh_maint.specs.Contents.{AreBaseTables, AreContents, contents}
+use Rattle.wh_maint.specs.View.{ViewGraph}
+use Rattle.wh_maint.specs.Contents.{AreBaseTables, AreContents, HaveValuesOver, contents}
 use Rattle.wh_night.specs.Carry.{before, change_in, tables_after}
 use Rattle.wh_night.specs.Fit.{AreFitFor}
 use Rattle.wh_night.specs.Steps.{rows_at}
@@ -60,3 +61,17 @@ pub record OneIsRefused (catalog : CatalogOf) (list : List Expression) (tables c
 -- so it is of every list and all tables
 abbrev pub RefusalsAreOne : Type 0
 RefusalsAreOne = (catalog : CatalogOf) (list : List Expression) (tables changes : ℕ → Bag) → OneIsRefused catalog list tables changes
+
+-- each derived view has a value over these tables of its children, of at most 2^56 combined rows
+pub record AreInRange (g : ViewGraph) (tables : ℕ → Bag) : Type 0 where
+  pub few : (v : ℕ) → ¬ (g.children v ≡ []) → ¬ (HaveTooMany (g.children v) tables)
+  pub valued : HaveValuesOver g tables
+
+-- from the contents of a base that has values, a night in which each expression is passed ends in contents that have values
+abbrev pub NewContentsHaveValues : Type 0
+NewContentsHaveValues =
+    (catalog : CatalogOf) (list : List Expression) (tables changes : ℕ → Bag)
+    → IsCatalog catalog → IsCorrect catalog.views.children list
+    → AreBaseTables (graph_of catalog) tables → AreContents (graph_of catalog) tables
+    → AreInRange (graph_of catalog) tables → ArePassedBelow catalog list tables changes (length list)
+    → AreInRange (graph_of catalog) (contents (graph_of catalog) (changed tables changes))

@@ -1,6 +1,6 @@
 //! What holds of every correct strategy, for proofs: these functions do nothing.
 
-ghost use Rattle.wh_night.specs.Laws.{ContentsAreFitForNights, RefusalsAreOne, StepsAreSummands, StrategiesEndInContents};
+ghost use Rattle.wh_night.specs.Laws.{ContentsAreFitForNights, NewContentsHaveValues, RefusalsAreOne, StepsAreSummands, StrategiesEndInContents};
 
 /// Every correct strategy, one-way or not, carried out from the contents of a base, ends in the contents of the base
 /// with its changes.
@@ -23,4 +23,10 @@ pub fn steps_are_summands()
 /// expression is passed.
 pub fn refusals_are_one()
     ensures { RefusalsAreOne }
+{}
+
+/// From the contents of a base whose views have values, a night in which each expression is passed ends in contents whose
+/// views have values.
+pub fn new_contents_have_values()
+    ensures { NewContentsHaveValues }
 {}
