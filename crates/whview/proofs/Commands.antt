@@ -1,9 +1,9 @@
 -- What a parse of the program's words without a fault leaves: one of its commands, with options that it takes.
-use Rattle.std.proofs.Common.{◌≡◌, ◌≢◌, ◌||◌, Bool, codes, true, false, refl, sym, subst, inl, inr, List, [], Option, Some, None}
+use Rattle.std.proofs.Common.{◌≡◌, ◌≢◌, ◌||◌, Bool, codes, true, false, refl, sym, subst, List, [], Option, Some, None}
 use Rattle.std.specs.Prelude.{IfSome}
 use Rattle.std.specs.Str.{bytes_eq}
 use Rattle.std.proofs.lemmas.Slice.Eq.{bytes_eq-Decides}
-use Rattle.clap.specs.Words.{Accepts, Rule, Text, built, fault_of, first_of, new_app, subcommand_of}
+use Rattle.clap.specs.Words.{Accepts, App, Rule, Text, built, fault_of, first_of, new_app, subcommand_of}
 use Rattle.clap.specs.Facts.{parser_of_value}
 use Rattle.clap.specs.Faults.{level_fault}
 use Rattle.clap.specs.Simple.{Shape, built_leaf, inherited}
@@ -13,7 +13,7 @@ use Rattle.clap.specs.Walk.{action_of, answers_to, arg_by_id, nothing_held, rows
 use Rattle.clap.specs.declared.builder.action.ArgAction.TheVariants as action
 use Rattle.clap.specs.declared.builder.value_parser.ValueParser.{ValueParser}
 use Rattle.clap.proofs.ValueTestLemmas.{accepts-Accepts}
-use Rattle.whview.specs.CommandLine.{IsCommand, IsCommandName, NamesCommand, TakesCost, command_app, cost_parser, whview_app, with_commands}
+use Rattle.whview.specs.CommandLine.{IsCommand, NamesCommand, TakesBudget, TakesCosts, budget_parser, check, certify, command_app, cost_parser, night, plan, plan_app, whview_app, with_commands}
 use Rattle.whview.proofs.Entered.{EachCommand, IsNotHelp, entered_command}
 use Rattle.whview.proofs.LeafRows.{AreOptionsOf, IsOptionOf, PassesIn, first_of_good}
 
@@ -31,13 +31,14 @@ not_help word answers named = go (bytes_eq (codes "help") word) (bytes_eq-Decide
     go false same e = cc
 
 -- a command as it is built
-abbrev command_shape : Text → Shape
-command_shape name = built_leaf (inherited (with_commands (new_app (codes "whview"))).top (command_app name).top)
+abbrev command_shape : App → Shape
+command_shape command = built_leaf (inherited (with_commands (new_app (codes "whview"))).top command.top)
 
 option_known : (c : List Rule) (a : Rule) → arg_by_id c a.id ≡ Some a → action_of a ≢ action.Count → a.index ≡ None → a.defaults ≡ [] → IsOptionOf c a
 option_known c a own uncounted unplaced undefaulted = record { own = own; uncounted = uncounted; unplaced = unplaced; undefaulted = undefaulted }
 
-command_options : (name : Text) → AreOptionsOf (command_shape name).rules (command_shape name).rules
+-- its costs, its file and its help
+command_options : (name : Text) → AreOptionsOf (command_shape (command_app name)).rules (command_shape (command_app name)).rules
 command_options name = (
   option_known _ _ refl (λ e. cc) refl refl,
   (
@@ -49,32 +50,59 @@ command_options name = (
   ),
 )
 
--- an option of a command with a cost has a cost
-command_cost : (command name : Text) (a : Rule) → arg_by_id (command_shape command).rules name ≡ Some a → a.ignore_case ≡ false → a.parser ≡ Some cost_parser → (words : List Text)
-    → level_fault (command_shape command) [] nothing_held words false [] ≡ [] → TakesCost name (rows_after (command_shape command).rules [] words)
-command_cost command name a known cased parser words e =
-    IfSome-weaker (first_of name (rows_after (command_shape command).rules [] words)) (PassesIn (command_shape command).rules name) (Accepts false cost_parser)
-    (λ text passes. accepts-Accepts false cost_parser text (cost_passes text (passes a known)))
-    (first_of_good (command_shape command) (command_options command) [] words false [] e name)
-  where
-    cost_passes : (text : Text) → value_passes a text ≡ true → accepts false cost_parser text ≡ true
-    cost_passes text h =
-        let as_cost = subst (λ (p : Option ValueParser). accepts a.ignore_case (parser_of_value p) text ≡ true) parser h in
-        subst (λ (b : Bool). accepts b cost_parser text ≡ true) cased as_cost
+-- its costs, its file, its budget and its help
+plan_options : AreOptionsOf (command_shape plan_app).rules (command_shape plan_app).rules
+plan_options = (
+  option_known _ _ refl (λ e. cc) refl refl,
+  (
+    option_known _ _ refl (λ e. cc) refl refl,
+    (
+      option_known _ _ refl (λ e. cc) refl refl,
+      (
+        option_known _ _ refl (λ e. cc) refl refl,
+        (option_known _ _ refl (λ e. cc) refl refl, tt),
+      ),
+    ),
+  ),
+)
 
-command_costs : (command : Text) → IsCommandName command → (words : List Text) → level_fault (command_shape command) [] nothing_held words false [] ≡ []
-    → IsCommand (command, rows_after (command_shape command).rules [] words)
-command_costs command named words e =
-    (named, command_cost command (codes "comp-cost") _ refl refl refl words e, command_cost command (codes "inst-cost") _ refl refl refl words e)
+-- an option that has a parser has a value that it takes
+option_value : (s : Shape) → AreOptionsOf s.rules s.rules → (name : Text) (p : ValueParser) (a : Rule) → arg_by_id s.rules name ≡ Some a → a.ignore_case ≡ false → a.parser ≡ Some p
+    → (words : List Text) → level_fault s [] nothing_held words false [] ≡ [] → IfSome (first_of name (rows_after s.rules [] words)) (Accepts false p)
+option_value s options name p a known cased parser words e =
+    IfSome-weaker (first_of name (rows_after s.rules [] words)) (PassesIn s.rules name) (Accepts false p)
+    (λ text passes. accepts-Accepts false p text (value_taken text (passes a known)))
+    (first_of_good s options [] words false [] e name)
+  where
+    value_taken : (text : Text) → value_passes a text ≡ true → accepts false p text ≡ true
+    value_taken text h =
+        let by_parser = subst (λ (o : Option ValueParser). accepts a.ignore_case (parser_of_value o) text ≡ true) parser h in
+        subst (λ (b : Bool). accepts b p text ≡ true) cased by_parser
+
+command_costs : (name : Text) (words : List Text) → level_fault (command_shape (command_app name)) [] nothing_held words false [] ≡ []
+    → TakesCosts (rows_after (command_shape (command_app name)).rules [] words)
+command_costs name words e = (
+  option_value (command_shape (command_app name)) (command_options name) (codes "comp-cost") cost_parser _ refl refl refl words e,
+  option_value (command_shape (command_app name)) (command_options name) (codes "inst-cost") cost_parser _ refl refl refl words e,
+)
+
+plan_costs : (words : List Text) → level_fault (command_shape plan_app) [] nothing_held words false [] ≡ [] → TakesCosts (rows_after (command_shape plan_app).rules [] words)
+plan_costs words e = (
+  option_value (command_shape plan_app) plan_options (codes "comp-cost") cost_parser _ refl refl refl words e,
+  option_value (command_shape plan_app) plan_options (codes "inst-cost") cost_parser _ refl refl refl words e,
+)
+
+plan_budget : (words : List Text) → level_fault (command_shape plan_app) [] nothing_held words false [] ≡ [] → TakesBudget (rows_after (command_shape plan_app).rules [] words)
+plan_budget words e = option_value (command_shape plan_app) plan_options (codes "budget") budget_parser _ refl refl refl words e
 
 each_command : EachCommand IsCommand (built whview_app).subs
 each_command = (
-  λ word words answers named e. command_costs (codes "check") (inl refl) words e,
+  λ word words answers named e. check refl (command_costs (codes "check") words e),
   (
-    λ word words answers named e. command_costs (codes "plan") (inr (inl refl)) words e,
+    λ word words answers named e. plan refl (plan_costs words e) (plan_budget words e),
     (
-      λ word words answers named e. command_costs (codes "certify") (inr (inr refl)) words e,
-      (λ word words answers named e. absurd (not_help word answers named), tt),
+      λ word words answers named e. certify refl (command_costs (codes "certify") words e),
+      (λ word words answers named e. night refl, (λ word words answers named e. absurd (not_help word answers named), tt)),
     ),
   ),
 )

@@ -1,7 +1,6 @@
 -- The same words and bytes have one answer at most.
-use Rattle.std.proofs.Common.{◌≡◌, ◌⊎◌, ◌+◌, ℕ, List, [], ◌∷◌, Option, Some, None, Result, Ok, Err, true, false, refl, sym, ap, subst, ◌∙◌, ⊎_elim, inl, inr, arith}
+use Rattle.std.proofs.Common.{◌≡◌, ◌⊎◌, ◌<◌, ℕ, List, [], ◌∷◌, Option, Some, None, Result, Ok, Err, true, false, refl, sym, ap, subst, ◌∙◌, ⊎_elim, inl, inr, arith}
 use Rattle.std.specs.Prelude.{MatchResult, codes}
-use Rattle.std.proofs.lemmas.Bool.{cases_order}
 use Rattle.clap.specs.Words.{IsAmong, Kinds, Row, Text, fault_of, subcommand_of}
 use Rattle.clap.specs.declared.error.kind.ErrorKind.{ErrorKind}
 use Rattle.wh_dag.specs.Shape.{IsShape}
@@ -10,10 +9,6 @@ use Rattle.wh_load.specs.SizesText.{sizes_of_text}
 use Rattle.wh_load.specs.StrategyText.{strategy_of}
 use Rattle.wh_load.specs.declared.fault.LoadFault.{LoadFault}
 use Rattle.wh_strategy.specs.declared.costs.Costs.{Costs}
-use Rattle.wh_strategy.specs.declared.expression.Expression.{Expression}
-use Rattle.wh_strategy.specs.declared.rule.Rule.{Rule}
-use Rattle.wh_strategy.specs.declared.rule.Rule.TheVariants.{S1, S2, S3, S4, S5, S6}
-use Rattle.wh_strategy.specs.Rules.{IsFirstBroken, IsFirstPlace, number_of}
 use Rattle.wh_strategy.specs.Sizes.{sizes_of}
 use Rattle.wh_strategy.specs.Work.{work_of}
 use Rattle.wh_strategy.proofs.Agreeing.{refused}
@@ -23,10 +18,12 @@ use Rattle.wh_cert.specs.declared.certificate.Verdict.TheVariants.{All, OneWay, 
 use Rattle.wh_cert.proofs.OneVerdict.{verdicts_same}
 use Rattle.wh_load.specs.PlanText.{plan_of}
 use Rattle.whview.specs.CertifyOutput.{Claim, IsCertifyOutput, IsJudgement, broken as broken_claim, certified, certified_one_way, claim_in, claim_of, claim_texts_of, other_work, rejected, rejected_text, work_at}
-use Rattle.whview.specs.CheckOutput.{Inputs, IsCheckOutput, IsFaultShown, IsVerdict, broken, broken_text, correct, correct_text, inputs_in, inputs_of, texts_of}
+use Rattle.whview.specs.CheckOutput.{Inputs, IsCheckOutput, IsFaultShown, IsVerdict, broken, correct, correct_text, inputs_in, inputs_of, texts_of}
 use Rattle.whview.specs.CommandLine.{IsAsked, whview_app}
+use Rattle.whview.proofs.SingleFaults.{one_broken, one_shown}
+use Rattle.whview.proofs.SingleNights.{one_night}
 use Rattle.whview.proofs.SinglePlans.{as_planning, one_plan}
-use Rattle.whview.specs.OneAnswer.{AreOneAnswer, AreSame, IsReadFailure, OneCertifyOutput, OneCheckOutput, OneHandedOutput, OneInputOutput}
+use Rattle.whview.specs.OneAnswer.{AreOneAnswer, AreSame, IsReadFailure, OneCertifyOutput, OneCheckOutput, OneHandedOutput, OneInputOutput, one_text}
 use Rattle.whview.specs.Output.{IsCommandOutput, IsHandedOutput, IsRead, IsRefused, ReadsInput, a_file, input_too_long, line_answered, line_names_a_file, line_not_text, line_refused, read_fails, read_too_long, read_within, words_answered, words_refused}
 use Rattle.whview.specs.declared.command_line.Asked.{Asked}
 use Rattle.whview.specs.declared.command_line.Asked.TheVariants as asked
@@ -34,44 +31,13 @@ use Rattle.wh_load.proofs.ShapesRead.{from_step, is_shape, same_Ok}
 
 -- ---- one verdict
 
-one_index : (rule : Rule) (shape : List (List ℕ)) (list : List Expression) (place other : ℕ) → IsFirstPlace rule shape list place → IsFirstPlace rule shape list other → place ≡ other
-one_index rule shape list place other f g =
-    ⊎_elim
-    (λ same. f.counted ∙ ap (λ i. i + 1) same ∙ sym g.counted)
-    (λ apart. ⊎_elim (λ less. absurd (g.first f.index less f.broken)) (λ more. absurd (f.first g.index more g.broken)) apart)
-    (cases_order f.index g.index)
-
-one_rule : (rule other : Rule) → number_of rule ≡ number_of other → rule ≡ other
-one_rule S1 S1 e = refl
-one_rule S2 S2 e = refl
-one_rule S3 S3 e = refl
-one_rule S4 S4 e = refl
-one_rule S5 S5 e = refl
-one_rule S6 S6 e = refl
-one_rule _ _ e = cc
-
-one_number : (shape : List (List ℕ)) (list : List Expression) (rule other : Rule) (place ended : ℕ) → IsFirstBroken shape list rule place → IsFirstBroken shape list other ended → number_of rule ≡ number_of other
-one_number shape list rule other place ended f g =
-    ⊎_elim
-    (λ same. same)
-    (λ apart. ⊎_elim
-    (λ less. absurd (g.kept rule less f.there.index f.there.broken))
-    (λ more. absurd (f.kept other more g.there.index g.there.broken))
-    apart)
-    (cases_order (number_of rule) (number_of other))
-
-one_broken : (shape : List (List ℕ)) (list : List Expression) (rule other : Rule) (place ended : ℕ) → IsFirstBroken shape list rule place → IsFirstBroken shape list other ended → rule ≡ other → broken_text rule place ≡ broken_text other ended
-one_broken shape list rule other place ended f g same =
-    let there = subst (λ r. IsFirstPlace r shape list ended) (sym same) g.there in
-    ap (λ r. broken_text r place) same ∙ ap (broken_text other) (one_index rule shape list place ended f.there there)
-
 one_verdict : (costs : Costs) (inputs : Inputs) (text other : List ℕ) (status ended : ℕ) → IsShape inputs.shape.children
     → IsVerdict costs inputs text status → IsVerdict costs inputs other ended → AreSame text status other ended
 one_verdict costs inputs text other status ended sh (correct is t s) (correct is' u e) = record { texts = t ∙ sym u; statuses = s ∙ sym e }
 one_verdict costs inputs text other status ended sh (correct is t s) (broken rule place f u e) = absurd (refused rule _ _ place sh f is)
 one_verdict costs inputs text other status ended sh (broken rule place f t s) (correct is u e) = absurd (refused rule _ _ place sh f is)
 one_verdict costs inputs text other status ended sh (broken rule place f t s) (broken rule' place' g u e) =
-    record { texts = t ∙ one_broken _ _ rule rule' place place' f g (one_rule rule rule' (one_number _ _ rule rule' place place' f g)) ∙ sym u; statuses = s ∙ sym e }
+    record { texts = t ∙ one_broken _ _ rule rule' place place' f g ∙ sym u; statuses = s ∙ sym e }
 
 -- ---- one output of a check
 
@@ -84,9 +50,6 @@ shape_read bytes inputs e =
     let sizes = from_step (sizes_of_text shape.0.names texts.0.sizes) _ inputs list.2 in
     let same = same_Ok _ _ _ refl sizes.2 in
     subst (λ i. IsShape i.shape.children) same (is_shape texts.0.catalogue shape.0 shape.1)
-
-one_shown : (fault : LoadFault) (text other : List ℕ) (status ended : ℕ) → IsFaultShown fault text status → IsFaultShown fault other ended → AreSame text status other ended
-one_shown fault text other status ended f g = record { texts = f.printed ∙ sym g.printed; statuses = f.ended ∙ sym g.ended }
 
 pub one_check : OneCheckOutput
 one_check costs bytes text other status ended = go (inputs_of bytes) (shape_read bytes)
@@ -102,7 +65,7 @@ one_check costs bytes text other status ended = go (inputs_of bytes) (shape_read
 
 one_judgement : (costs : Costs) (claim : Claim) (text other : List ℕ) (status ended : ℕ) → IsShape claim.shape.children
     → IsJudgement costs claim text status → IsJudgement costs claim other ended → AreSame text status other ended
-one_judgement costs claim text other status ended sh (broken_claim rule place f t s) (broken_claim rule' place' f' t' s') = record { texts = t ∙ one_broken _ _ rule rule' place place' f f' (one_rule rule rule' (one_number _ _ rule rule' place place' f f')) ∙ sym t'; statuses = s ∙ sym s' }
+one_judgement costs claim text other status ended sh (broken_claim rule place f t s) (broken_claim rule' place' f' t' s') = record { texts = t ∙ one_broken _ _ rule rule' place place' f f' ∙ sym t'; statuses = s ∙ sym s' }
 one_judgement costs claim text other status ended sh (broken_claim rule place f t s) (other_work is' n' t' s') = absurd (refused rule _ _ place sh f is')
 one_judgement costs claim text other status ended sh (broken_claim rule place f t s) (certified is' w' j' t' s') = absurd (refused rule _ _ place sh f is')
 one_judgement costs claim text other status ended sh (broken_claim rule place f t s) (certified_one_way is' w' j' t' s') = absurd (refused rule _ _ place sh f is')
@@ -218,6 +181,22 @@ as_check costs other bytes text status e f = go (inputs_of bytes)
     go (Ok inputs) is = as_costs costs other inputs text status e f is
     go (Err fault) is = is
 
+abbrev first_letter : List ℕ → ℕ
+first_letter [] = 0
+first_letter (letter ∷ letters) = letter
+
+begin_apart : (word again : List ℕ) (m n : ℕ) → first_letter word ≡ m → first_letter again ≡ n → m < n → word ≡ again → ⊥
+begin_apart word again m n f g l e = let same : m ≡ n = sym f ∙ ap first_letter e ∙ g in omega arith
+
+check_is_not_night : codes "check" ≡ codes "night" → ⊥
+check_is_not_night e = begin_apart (codes "check") (codes "night") 99 110 refl refl (omega arith) e
+
+plan_is_not_night : codes "plan" ≡ codes "night" → ⊥
+plan_is_not_night e = begin_apart (codes "night") (codes "plan") 110 112 refl refl (omega arith) (sym e)
+
+certify_is_not_night : codes "certify" ≡ codes "night" → ⊥
+certify_is_not_night e = begin_apart (codes "certify") (codes "night") 99 110 refl refl (omega arith) e
+
 -- two commands that the same words ask for print the same
 one_asked : (found : Option (Text × List Row)) (command other : Asked) → IsAsked found command → IsAsked found other
     → (bytes text : List ℕ) (status : ℕ) → IsCommandOutput other bytes text status → IsCommandOutput command bytes text status
@@ -226,47 +205,63 @@ one_asked (Some found) (asked.Check costs input) (asked.Check costs' input') f g
     as_check costs costs' bytes text status (g.1.comp_cost ∙ sym f.1.comp_cost) (g.1.inst_cost ∙ sym f.1.inst_cost) is
 one_asked (Some found) (asked.Certify costs input) (asked.Certify costs' input') f g bytes text status is =
     as_certification costs costs' bytes text status (g.1.comp_cost ∙ sym f.1.comp_cost) (g.1.inst_cost ∙ sym f.1.inst_cost) is
-one_asked (Some found) (asked.Plan costs input) (asked.Plan costs' input') f g bytes text status is =
-    as_planning costs costs' bytes text status (g.1.comp_cost ∙ sym f.1.comp_cost) (g.1.inst_cost ∙ sym f.1.inst_cost) is
-one_asked (Some found) (asked.Check costs input) (asked.Plan costs' input') f g bytes text status is =
+one_asked (Some found) (asked.Plan costs budget input) (asked.Plan costs' budget' input') f g bytes text status is =
+    as_planning costs costs' budget.nodes budget'.nodes bytes text status (g.1.comp_cost ∙ sym f.1.comp_cost) (g.1.inst_cost ∙ sym f.1.inst_cost) (g.2 ∙ sym f.2) is
+one_asked (Some found) (asked.Check costs input) (asked.Plan costs' budget' input') f g bytes text status is =
     let bad : codes "check" ≡ codes "plan" = sym f.0 ∙ g.0 in cc
 one_asked (Some found) (asked.Check costs input) (asked.Certify costs' input') f g bytes text status is =
     let bad : codes "check" ≡ codes "certify" = sym f.0 ∙ g.0 in cc
-one_asked (Some found) (asked.Plan costs input) (asked.Check costs' input') f g bytes text status is =
+one_asked (Some found) (asked.Plan costs budget input) (asked.Check costs' input') f g bytes text status is =
     let bad : codes "plan" ≡ codes "check" = sym f.0 ∙ g.0 in cc
-one_asked (Some found) (asked.Plan costs input) (asked.Certify costs' input') f g bytes text status is =
+one_asked (Some found) (asked.Plan costs budget input) (asked.Certify costs' input') f g bytes text status is =
     let bad : codes "plan" ≡ codes "certify" = sym f.0 ∙ g.0 in cc
 one_asked (Some found) (asked.Certify costs input) (asked.Check costs' input') f g bytes text status is =
     let bad : codes "certify" ≡ codes "check" = sym f.0 ∙ g.0 in cc
-one_asked (Some found) (asked.Certify costs input) (asked.Plan costs' input') f g bytes text status is =
+one_asked (Some found) (asked.Certify costs input) (asked.Plan costs' budget' input') f g bytes text status is =
     let bad : codes "certify" ≡ codes "plan" = sym f.0 ∙ g.0 in cc
+one_asked (Some found) (asked.Night input) (asked.Night input') f g bytes text status is = is
+one_asked (Some found) (asked.Check costs input) (asked.Night input') f g bytes text status is = absurd (check_is_not_night (sym f.0 ∙ g.0))
+one_asked (Some found) (asked.Night input) (asked.Check costs' input') f g bytes text status is = absurd (check_is_not_night (sym g.0 ∙ f.0))
+one_asked (Some found) (asked.Plan costs budget input) (asked.Night input') f g bytes text status is = absurd (plan_is_not_night (sym f.0 ∙ g.0))
+one_asked (Some found) (asked.Night input) (asked.Plan costs' budget' input') f g bytes text status is = absurd (plan_is_not_night (sym g.0 ∙ f.0))
+one_asked (Some found) (asked.Certify costs input) (asked.Night input') f g bytes text status is = absurd (certify_is_not_night (sym f.0 ∙ g.0))
+one_asked (Some found) (asked.Night input) (asked.Certify costs' input') f g bytes text status is = absurd (certify_is_not_night (sym g.0 ∙ f.0))
 
 -- what has one text and one status is one answer
-as_one : (command : Asked) (text other : List ℕ) (status ended : ℕ) → AreSame text status other ended → AreOneAnswer command text status other ended
-as_one (asked.Check costs input) text other status ended same = same
-as_one (asked.Plan costs input) text other status ended same = record { statuses = same.statuses; texts = inl same.texts }
-as_one (asked.Certify costs input) text other status ended same = same
+as_one : (command : Asked) (bytes text other : List ℕ) (status ended : ℕ) → AreSame text status other ended → AreOneAnswer command bytes text status other ended
+as_one (asked.Check costs input) bytes text other status ended same = same
+as_one (asked.Plan costs budget input) bytes text other status ended same = one_text same
+as_one (asked.Certify costs input) bytes text other status ended same = same
+as_one (asked.Night input) bytes text other status ended same = same
 
-one_output : (command : Asked) (bytes text other : List ℕ) (status ended : ℕ) → IsCommandOutput command bytes text status → IsCommandOutput command bytes other ended → AreOneAnswer command text status other ended
+one_output : (command : Asked) (bytes text other : List ℕ) (status ended : ℕ) → IsCommandOutput command bytes text status → IsCommandOutput command bytes other ended → AreOneAnswer command bytes text status other ended
 one_output (asked.Check costs input) bytes text other status ended f g = one_check costs bytes text other status ended f g
-one_output (asked.Plan costs input) bytes text other status ended f g = one_plan costs bytes text other status ended f g
+one_output (asked.Plan costs budget input) bytes text other status ended f g = one_plan costs budget.nodes bytes text other status ended f g
 one_output (asked.Certify costs input) bytes text other status ended f g = one_certification costs bytes text other status ended f g
+one_output (asked.Night input) bytes text other status ended f g = one_night bytes text other status ended f g
 
 -- two commands that the same words ask for read the same
 one_file : (found : Option (Text × List Row)) (command other : Asked) → IsAsked found command → IsAsked found other → ReadsInput command → ReadsInput other
 one_file None command other f g reads = absurd f
 one_file (Some found) (asked.Check costs input) (asked.Check costs' input') f g reads = g.1.file ∙ sym f.1.file ∙ reads
 one_file (Some found) (asked.Certify costs input) (asked.Certify costs' input') f g reads = g.1.file ∙ sym f.1.file ∙ reads
-one_file (Some found) (asked.Plan costs input) (asked.Plan costs' input') f g reads = g.1.file ∙ sym f.1.file ∙ reads
-one_file (Some found) (asked.Check costs input) (asked.Plan costs' input') f g reads = let bad : codes "check" ≡ codes "plan" = sym f.0 ∙ g.0 in cc
-one_file (Some found) (asked.Plan costs input) (asked.Check costs' input') f g reads = let bad : codes "plan" ≡ codes "check" = sym f.0 ∙ g.0 in cc
-one_file (Some found) (asked.Plan costs input) (asked.Certify costs' input') f g reads = let bad : codes "plan" ≡ codes "certify" = sym f.0 ∙ g.0 in cc
-one_file (Some found) (asked.Certify costs input) (asked.Plan costs' input') f g reads = let bad : codes "certify" ≡ codes "plan" = sym f.0 ∙ g.0 in cc
+one_file (Some found) (asked.Plan costs budget input) (asked.Plan costs' budget' input') f g reads = g.1.file ∙ sym f.1.file ∙ reads
+one_file (Some found) (asked.Check costs input) (asked.Plan costs' budget' input') f g reads = let bad : codes "check" ≡ codes "plan" = sym f.0 ∙ g.0 in cc
+one_file (Some found) (asked.Plan costs budget input) (asked.Check costs' input') f g reads = let bad : codes "plan" ≡ codes "check" = sym f.0 ∙ g.0 in cc
+one_file (Some found) (asked.Plan costs budget input) (asked.Certify costs' input') f g reads = let bad : codes "plan" ≡ codes "certify" = sym f.0 ∙ g.0 in cc
+one_file (Some found) (asked.Certify costs input) (asked.Plan costs' budget' input') f g reads = let bad : codes "certify" ≡ codes "plan" = sym f.0 ∙ g.0 in cc
 one_file (Some found) (asked.Check costs input) (asked.Certify costs' input') f g reads = let bad : codes "check" ≡ codes "certify" = sym f.0 ∙ g.0 in cc
 one_file (Some found) (asked.Certify costs input) (asked.Check costs' input') f g reads = let bad : codes "certify" ≡ codes "check" = sym f.0 ∙ g.0 in cc
+one_file (Some found) (asked.Night input) (asked.Night input') f g reads = g.1 ∙ sym f.1 ∙ reads
+one_file (Some found) (asked.Check costs input) (asked.Night input') f g reads = absurd (check_is_not_night (sym f.0 ∙ g.0))
+one_file (Some found) (asked.Night input) (asked.Check costs' input') f g reads = absurd (check_is_not_night (sym g.0 ∙ f.0))
+one_file (Some found) (asked.Plan costs budget input) (asked.Night input') f g reads = absurd (plan_is_not_night (sym f.0 ∙ g.0))
+one_file (Some found) (asked.Night input) (asked.Plan costs' budget' input') f g reads = absurd (plan_is_not_night (sym g.0 ∙ f.0))
+one_file (Some found) (asked.Certify costs input) (asked.Night input') f g reads = absurd (certify_is_not_night (sym f.0 ∙ g.0))
+one_file (Some found) (asked.Night input) (asked.Certify costs' input') f g reads = absurd (certify_is_not_night (sym g.0 ∙ f.0))
 
-one_read : (command : Asked) (bytes text other : List ℕ) (status ended : ℕ) → IsRead command bytes text status → IsRead command bytes other ended → AreOneAnswer command text status other ended
-one_read command bytes text other status ended (read_too_long l f) (read_too_long m g) = as_one command text other status ended (one_shown _ text other status ended f g)
+one_read : (command : Asked) (bytes text other : List ℕ) (status ended : ℕ) → IsRead command bytes text status → IsRead command bytes other ended → AreOneAnswer command bytes text status other ended
+one_read command bytes text other status ended (read_too_long l f) (read_too_long m g) = as_one command bytes text other status ended (one_shown _ text other status ended f g)
 one_read command bytes text other status ended (read_too_long l f) (read_within m g) = let bad : ⊥ = omega arith in absurd bad
 one_read command bytes text other status ended (read_within l f) (read_too_long m g) = let bad : ⊥ = omega arith in absurd bad
 one_read command bytes text other status ended (read_within l f) (read_within m g) = one_output command bytes text other status ended f g

@@ -1,64 +1,156 @@
--- Two plans for the same views, sizes and costs: one work, one certificate, one status.
-use Rattle.std.proofs.Common.{◌≡◌, ◌∙◌, ℕ, List, Result, Ok, Err, ap, inl, inr, subst, sym}
+-- Two answers of `plan` for the same bytes, at the same costs and with the same budget.
+use Rattle.std.proofs.Common.{◌≡◌, ◌∙◌, ◌≤◌, ℕ, List, Result, Ok, Err, ap, refl, subst, sym, arith}
 use Rattle.std.specs.Prelude.{MatchResult}
 use Rattle.wh_cert.specs.Certificate.{IsJudged}
 use Rattle.wh_cert.specs.declared.certificate.Certificate.{Certificate}
 use Rattle.wh_cert.specs.declared.certificate.Certificate.TheVariants.{Pairs, Search}
+use Rattle.wh_cert.specs.declared.certificate.Scope.{Scope}
 use Rattle.wh_cert.specs.declared.certificate.Scope.TheVariants as scope
 use Rattle.wh_cert.specs.declared.certificate.Verdict.TheVariants as verdict
+use Rattle.wh_cert.specs.declared.tree.TreeNode.{TreeNode}
 use Rattle.wh_load.specs.PlanText.{plan_text}
 use Rattle.wh_load.specs.declared.fault.LoadFault.{LoadFault}
+use Rattle.wh_prune.specs.Plan.{IsCyclicAsDesired}
+use Rattle.wh_prune.specs.Spent.{IsSpent}
 use Rattle.wh_strategy.specs.Sizes.{Size, sizes_of}
 use Rattle.wh_strategy.specs.declared.costs.Costs.{Costs}
+use Rattle.wh_strategy.specs.declared.expression.Expression.{Expression}
 use Rattle.whview.specs.CheckOutput.{IsFaultShown}
-use Rattle.whview.specs.OneAnswer.{AreOnePlan, OnePlanOutput}
-use Rattle.whview.specs.PlanOutput.{IsPlanOutput, IsPlanned, Measured, cyclic, measured_of, planned}
+use Rattle.whview.specs.OneAnswer.{AreOnePlan, IsPlanBesideSpent, MaySpend, OnePlanOutput, one_text, plan_and_spent, spent_and_plan, two_of_all, two_one_way, two_spent}
+use Rattle.whview.specs.PlanOutput.{IsLeastPlan, IsPlanOutput, IsPlanned, Measured, measured_of, planned, spent, spent_text}
 
-one_certificate : (shape : List (List ℕ)) (sizes : ℕ → Size) (comp inst work : ℕ) (first second : Certificate)
-    → IsJudged shape sizes comp inst work first verdict.All → IsJudged shape sizes comp inst work second verdict.All → first ≡ second
-one_certificate shape sizes comp inst work (Pairs lines) (Pairs others) j k = ap Pairs (j.right ∙ sym k.right)
-one_certificate shape sizes comp inst work (Pairs lines) (Search nodes) j k = absurd k
-one_certificate shape sizes comp inst work (Search nodes) second j k = absurd j
+-- ---- two plans
 
-one_planned : (comp inst : ℕ) (measured : Measured) (text other : List ℕ) (status ended : ℕ)
-    → IsPlanned comp inst measured text status → IsPlanned comp inst measured other ended → AreOnePlan text status other ended
-one_planned comp inst measured text other status ended (planned work list certificate free least t s) (planned work' list' certificate' free' least' u e) =
-    let shape = measured.shape.children in
-    let sizes = sizes_of measured.sizes in
-    let works : work' ≡ work = least'.bounded ∙ sym least.bounded in
-    let judged = subst (λ w. IsJudged shape sizes comp inst w certificate' verdict.All) works least'.accepted in
-    let certificates : certificate' ≡ certificate = one_certificate shape sizes comp inst work certificate' certificate judged least.accepted in
+-- one is no less than the other, each way, as both are one-way
+one_work : (comp inst : ℕ) (measured : Measured) (work again : ℕ) (found other : Scope) (list other_list : List Expression) (certificate other_certificate : Certificate)
+    → IsLeastPlan comp inst measured work found list certificate → IsLeastPlan comp inst measured again other other_list other_certificate → again ≡ work
+one_work comp inst measured work again found other list other_list certificate other_certificate least least' =
+    let below : work ≤ again = subst (λ w. work ≤ w) (sym least'.worked) (least.least_one_way other_list least'.correct least'.one_way) in
+    let above : again ≤ work = subst (λ w. again ≤ w) (sym least.worked) (least'.least_one_way list least.correct least.one_way) in
+    omega arith
+
+-- a certificate of scope all has the lines of the sibling pairs
+one_certificate : (shape : List (List ℕ)) (sizes : ℕ → Size) (comp inst work again : ℕ) (first second : Certificate)
+    → IsJudged shape sizes comp inst work first verdict.All → IsJudged shape sizes comp inst again second verdict.All → second ≡ first
+one_certificate shape sizes comp inst work again (Pairs lines) (Pairs others) j k = ap Pairs (k.right ∙ sym j.right)
+one_certificate shape sizes comp inst work again (Pairs lines) (Search nodes) j k = absurd k
+one_certificate shape sizes comp inst work again (Search nodes) second j k = absurd j
+
+-- a certificate of scope one-way is a tree
+tree_in : (shape : List (List ℕ)) (sizes : ℕ → Size) (comp inst work : ℕ) (certificate : Certificate)
+    → IsJudged shape sizes comp inst work certificate verdict.OneWay → (nodes : List TreeNode) × (certificate ≡ Search nodes)
+tree_in shape sizes comp inst work (Pairs lines) j = absurd j
+tree_in shape sizes comp inst work (Search nodes) j = (nodes, refl)
+
+-- two plans have one scope: all exactly where their work is the pair bound
+two_plans : (comp inst budget : ℕ) (bytes : List ℕ) (measured : Measured) → measured_of bytes ≡ Ok measured
+    → (work again : ℕ) (found also : Scope) (list other_list : List Expression) (certificate other_certificate : Certificate) (text other : List ℕ) (status ended : ℕ)
+    → IsLeastPlan comp inst measured work found list certificate → IsLeastPlan comp inst measured again also other_list other_certificate
+    → text ≡ plan_text measured.shape.names found work list certificate → other ≡ plan_text measured.shape.names also again other_list other_certificate
+    → status ≡ 0 → ended ≡ 0 → AreOnePlan budget bytes text status other ended
+two_plans comp inst budget bytes measured read work again scope.All scope.All list other_list certificate other_certificate text other status ended least least' t u s e =
+    let works : again ≡ work = one_work comp inst measured work again scope.All scope.All list other_list certificate other_certificate least least' in
+    let certificates : other_certificate ≡ certificate = one_certificate _ _ comp inst work again certificate other_certificate least.accepted least'.accepted in
+    two_of_all measured read
+    (record {
+      work = work;
+      certificate = certificate;
+      list = list;
+      other_list = other_list;
+      printed = t;
+      other_printed = u
+          ∙ ap (λ w. plan_text measured.shape.names scope.All w other_list other_certificate) works
+          ∙ ap (plan_text measured.shape.names scope.All work other_list) certificates;
+    })
+    s e
+two_plans comp inst budget bytes measured read work again scope.OneWay scope.OneWay list other_list certificate other_certificate text other status ended least least' t u s e =
+    let works : again ≡ work = one_work comp inst measured work again scope.OneWay scope.OneWay list other_list certificate other_certificate least least' in
+    let tree = tree_in _ _ comp inst work certificate least.accepted in
+    let other_tree = tree_in _ _ comp inst again other_certificate least'.accepted in
+    two_one_way measured read (least.cyclic refl)
+    (record {
+      work = work;
+      list = list;
+      other_list = other_list;
+      tree = tree.0;
+      other_tree = other_tree.0;
+      printed = t ∙ ap (plan_text measured.shape.names scope.OneWay work list) tree.1;
+      other_printed = u
+          ∙ ap (λ w. plan_text measured.shape.names scope.OneWay w other_list other_certificate) works
+          ∙ ap (plan_text measured.shape.names scope.OneWay work other_list) other_tree.1;
+    })
+    s e
+two_plans comp inst budget bytes measured read work again scope.All scope.OneWay list other_list certificate other_certificate text other status ended least least' t u s e =
+    let works : again ≡ work = one_work comp inst measured work again scope.All scope.OneWay list other_list certificate other_certificate least least' in
+    let bad : scope.OneWay ≡ scope.All = least'.all.1 (works ∙ least.all.0 refl) in
+    cc
+two_plans comp inst budget bytes measured read work again scope.OneWay scope.All list other_list certificate other_certificate text other status ended least least' t u s e =
+    let works : again ≡ work = one_work comp inst measured work again scope.OneWay scope.All list other_list certificate other_certificate least least' in
+    let bad : scope.OneWay ≡ scope.All = least.all.1 (sym works ∙ least'.all.0 refl) in
+    cc
+
+-- ---- a search that spent its budget
+
+may_spend : (comp inst budget opened best : ℕ) (measured : Measured) → IsCyclicAsDesired measured.shape.children (sizes_of measured.sizes)
+    → IsSpent measured.shape.children (sizes_of measured.sizes) comp inst budget opened best → MaySpend budget measured
+may_spend comp inst budget opened best measured cyclic is = record { cyclic = cyclic; few = is.few }
+
+beside_spent : (comp inst budget opened best work : ℕ) (found : Scope) (list : List Expression) (certificate : Certificate) (measured : Measured) (text other : List ℕ)
+    → IsLeastPlan comp inst measured work found list certificate → IsSpent measured.shape.children (sizes_of measured.sizes) comp inst budget opened best
+    → text ≡ plan_text measured.shape.names found work list certificate → other ≡ spent_text opened best
+    → IsPlanBesideSpent measured.shape.names budget text other
+beside_spent comp inst budget opened best work found list certificate measured text other least is t u =
     record {
-      statuses = s ∙ sym e;
-      texts = inr (record {
-        names = measured.shape.names;
-        work = work;
-        certificate = certificate;
-        list = list;
-        other_list = list';
-        printed = t;
-        other_printed = u ∙ ap (λ w. plan_text measured.shape.names scope.All w list' certificate') works ∙ ap (plan_text measured.shape.names scope.All work list') certificates;
-      });
+      work = work;
+      scope = found;
+      list = list;
+      certificate = certificate;
+      best = best;
+      printed = t;
+      other_printed = u ∙ ap (λ n. spent_text n best) is.all;
+      no_less = subst (λ w. work ≤ w) is.known.3 (least.least_one_way is.known.0 is.known.1 is.known.2);
     }
-one_planned comp inst measured text other status ended (planned work list certificate free least t s) (cyclic has u e) = absurd (free has.0 has.2 has.1 has.3)
-one_planned comp inst measured text other status ended (cyclic has t s) (planned work list certificate free least u e) = absurd (free has.0 has.2 has.1 has.3)
-one_planned comp inst measured text other status ended (cyclic has t s) (cyclic has' u e) = record { statuses = s ∙ sym e; texts = inl (t ∙ sym u) }
+
+-- ---- two answers
+
+one_planned : (comp inst budget : ℕ) (bytes : List ℕ) (measured : Measured) (text other : List ℕ) (status ended : ℕ) → measured_of bytes ≡ Ok measured
+    → IsPlanned comp inst budget measured text status → IsPlanned comp inst budget measured other ended → AreOnePlan budget bytes text status other ended
+one_planned comp inst budget bytes measured text other status ended read (planned work found list certificate least t s) (planned again also other_list other_certificate least' u e) =
+    two_plans comp inst budget bytes measured read work again found also list other_list certificate other_certificate text other status ended least least' t u s e
+one_planned comp inst budget bytes measured text other status ended read (planned work found list certificate least t s) (spent opened best cyclic is u e) =
+    plan_and_spent measured read (may_spend comp inst budget opened best measured cyclic is)
+    (beside_spent comp inst budget opened best work found list certificate measured text other least is t u) s e
+one_planned comp inst budget bytes measured text other status ended read (spent opened best cyclic is t s) (planned work found list certificate least u e) =
+    spent_and_plan measured read (may_spend comp inst budget opened best measured cyclic is)
+    (beside_spent comp inst budget opened best work found list certificate measured other text least is u t) s e
+one_planned comp inst budget bytes measured text other status ended read (spent opened best cyclic is t s) (spent opened' best' cyclic' is' u e) =
+    two_spent measured read (may_spend comp inst budget opened best measured cyclic is)
+    (record {
+      best = best;
+      other_best = best';
+      printed = t ∙ ap (λ n. spent_text n best) is.all;
+      other_printed = u ∙ ap (λ n. spent_text n best') is'.all;
+    })
+    s e
 
 pub one_plan : OnePlanOutput
-one_plan costs bytes text other status ended = go (measured_of bytes)
+one_plan costs budget bytes text other status ended = go (measured_of bytes) refl
   where
-    go : (r : Result Measured LoadFault) → MatchResult r (λ measured. IsPlanned costs.comp costs.inst measured text status) (λ fault. IsFaultShown fault text status)
-        → MatchResult r (λ measured. IsPlanned costs.comp costs.inst measured other ended) (λ fault. IsFaultShown fault other ended)
-        → AreOnePlan text status other ended
-    go (Ok measured) f g = one_planned costs.comp costs.inst measured text other status ended f g
-    go (Err fault) f g = record { statuses = f.ended ∙ sym g.ended; texts = inl (f.printed ∙ sym g.printed) }
+    go : (r : Result Measured LoadFault) → measured_of bytes ≡ r
+        → MatchResult r (λ measured. IsPlanned costs.comp costs.inst budget measured text status) (λ fault. IsFaultShown fault text status)
+        → MatchResult r (λ measured. IsPlanned costs.comp costs.inst budget measured other ended) (λ fault. IsFaultShown fault other ended)
+        → AreOnePlan budget bytes text status other ended
+    go (Ok measured) read f g = one_planned costs.comp costs.inst budget bytes measured text other status ended read f g
+    go (Err fault) read f g = one_text (record { texts = f.printed ∙ sym g.printed; statuses = f.ended ∙ sym g.ended })
 
--- a plan asks of the costs their numbers alone
-pub as_planning : (costs other : Costs) (bytes text : List ℕ) (status : ℕ) → other.comp ≡ costs.comp → other.inst ≡ costs.inst
-    → IsPlanOutput other bytes text status → IsPlanOutput costs bytes text status
-as_planning costs other bytes text status e f = go (measured_of bytes)
+-- a plan asks of the costs and the budget their numbers alone
+pub as_planning : (costs other : Costs) (budget more : ℕ) (bytes text : List ℕ) (status : ℕ) → other.comp ≡ costs.comp → other.inst ≡ costs.inst → more ≡ budget
+    → IsPlanOutput other more bytes text status → IsPlanOutput costs budget bytes text status
+as_planning costs other budget more bytes text status e f b = go (measured_of bytes)
   where
-    go : (r : Result Measured LoadFault) → MatchResult r (λ measured. IsPlanned other.comp other.inst measured text status) (λ fault. IsFaultShown fault text status)
-        → MatchResult r (λ measured. IsPlanned costs.comp costs.inst measured text status) (λ fault. IsFaultShown fault text status)
-    go (Ok measured) is = subst (λ i. IsPlanned costs.comp i measured text status) f (subst (λ c. IsPlanned c other.inst measured text status) e is)
+    go : (r : Result Measured LoadFault) → MatchResult r (λ measured. IsPlanned other.comp other.inst more measured text status) (λ fault. IsFaultShown fault text status)
+        → MatchResult r (λ measured. IsPlanned costs.comp costs.inst budget measured text status) (λ fault. IsFaultShown fault text status)
+    go (Ok measured) is =
+        subst (λ n. IsPlanned costs.comp costs.inst n measured text status) b
+        (subst (λ i. IsPlanned costs.comp i more measured text status) f (subst (λ c. IsPlanned c other.inst more measured text status) e is))
     go (Err fault) is = is

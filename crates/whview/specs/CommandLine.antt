@@ -1,5 +1,5 @@
 -- The command line of the program: the words that it takes, and what they ask for.
-use Rattle.std.specs.Prelude.{◌≡◌, ◌⊎◌, ℕ, List, Option, Some, IfSome, IsSomeAnd, codes, false, true, option_map, pos}
+use Rattle.std.specs.Prelude.{◌≡◌, ℕ, List, Option, Some, IfSome, IsSomeAnd, codes, false, true, option_map, pos}
 use Rattle.std.specs.Option.{option_map_or}
 use Rattle.std.specs.Borrow.{Bor}
 use Rattle.std.specs.Str.Parse.{digits_value, without_leading_plus}
@@ -20,6 +20,14 @@ cost_parser = parser.Signed (pos 1) (pos 1000000)
 abbrev pub cost_rule : Text → Rule
 cost_rule name = record (new_rule name) { long = Some name; value_names = 1; parser = Some cost_parser }
 
+-- a whole number from 1 to 2^63 - 1, with or without a plus
+abbrev pub budget_parser : ValueParser
+budget_parser = parser.Signed (pos 1) (pos 9223372036854775807)
+
+-- `--budget N`
+abbrev pub budget_rule : Rule
+budget_rule = record (new_rule (codes "budget")) { long = Some (codes "budget"); value_names = 1; parser = Some budget_parser }
+
 -- `--input FILE`
 abbrev pub input_rule : Rule
 input_rule = record (new_rule (codes "input")) { long = Some (codes "input"); value_names = 1 }
@@ -29,14 +37,22 @@ abbrev pub command_app : Text → App
 command_app name = with_rule (with_rule (with_rule (new_app name) (cost_rule (codes "comp-cost")))
     (cost_rule (codes "inst-cost"))) input_rule
 
+-- `plan` with the same and `--budget N`
+abbrev pub plan_app : App
+plan_app = with_rule (command_app (codes "plan")) budget_rule
+
+-- `NAME --input FILE`
+abbrev pub input_app : Text → App
+input_app name = with_rule (new_app name) input_rule
+
 -- the words begin with a command, and not with the program's name
 abbrev pub with_commands : App → App
 with_commands a = record a { top = record a.top { no_binary_name = true; subcommand_required = true } }
 
 -- the program, with its commands
 abbrev pub whview_app : App
-whview_app = with_subcommand (with_subcommand (with_subcommand (with_commands (new_app (codes "whview"))) (command_app (codes "check")).top)
-    (command_app (codes "plan")).top) (command_app (codes "certify")).top
+whview_app = with_subcommand (with_subcommand (with_subcommand (with_subcommand (with_commands (new_app (codes "whview"))) (command_app (codes "check")).top)
+    plan_app.top) (command_app (codes "certify")).top) (input_app (codes "night")).top
 
 -- ---- what they ask for
 
@@ -48,17 +64,26 @@ number_of text = digits_value 10 (without_leading_plus text)
 abbrev pub cost_of : Text → List Row → ℕ
 cost_of name options = option_map_or number_of (first_of name options) 1
 
+-- the number of nodes that a search may open by the options: 1,000,000 where it is not given
+abbrev pub budget_of : List Row → ℕ
+budget_of options = option_map_or number_of (first_of (codes "budget") options) 1000000
+
 -- a command at the costs of the options, on the file of the options
 pub record HasOptions (options : List Row) (costs : Costs) (input : Option (Bor Text)) : Type 0 where
   pub comp_cost : costs.comp ≡ cost_of (codes "comp-cost") options
   pub inst_cost : costs.inst ≡ cost_of (codes "inst-cost") options
   pub file : option_map (λ name. name.now) input ≡ first_of (codes "input") options
 
+-- the file of the options
+abbrev pub IsFile : List Row → Option (Bor Text) → Type 0
+IsFile options input = option_map (λ name. name.now) input ≡ first_of (codes "input") options
+
 -- the command of this name with these options is asked for
 abbrev pub AsksBy : Text → List Row → Asked → Type 0
 AsksBy name options (asked.Check costs input) = (name ≡ codes "check") × HasOptions options costs input
-AsksBy name options (asked.Plan costs input) = (name ≡ codes "plan") × HasOptions options costs input
+AsksBy name options (asked.Plan costs budget input) = (name ≡ codes "plan") × HasOptions options costs input × (budget.nodes ≡ budget_of options)
 AsksBy name options (asked.Certify costs input) = (name ≡ codes "certify") × HasOptions options costs input
+AsksBy name options (asked.Night input) = (name ≡ codes "night") × IsFile options input
 
 -- the command that was found in the words, with its options, is asked for
 abbrev pub IsAsked : Option (Text × List Row) → Asked → Type 0
@@ -70,13 +95,20 @@ IsAsked found a = IsSomeAnd found (λ command. AsksBy command.0 command.1 a)
 abbrev pub TakesCost : Text → List Row → Type 0
 TakesCost name options = IfSome (first_of name options) (Accepts false cost_parser)
 
--- the name is that of one of the commands
-abbrev pub IsCommandName : Text → Type 0
-IsCommandName name = (name ≡ codes "check") ⊎ ((name ≡ codes "plan") ⊎ (name ≡ codes "certify"))
+-- the option, where it is given, is a number of nodes
+abbrev pub TakesBudget : List Row → Type 0
+TakesBudget options = IfSome (first_of (codes "budget") options) (Accepts false budget_parser)
 
--- the command is one of the program's, and its options for costs are costs
-abbrev pub IsCommand : Text × List Row → Type 0
-IsCommand found = IsCommandName found.0 × TakesCost (codes "comp-cost") found.1 × TakesCost (codes "inst-cost") found.1
+-- the options for costs, where they are given, are costs
+abbrev pub TakesCosts : List Row → Type 0
+TakesCosts options = TakesCost (codes "comp-cost") options × TakesCost (codes "inst-cost") options
+
+-- the command is one of the program's, and its options are such as it takes
+pub data IsCommand (found : Text × List Row) : Type 0 where
+  check : found.0 ≡ codes "check" → TakesCosts found.1 → IsCommand found
+  plan : found.0 ≡ codes "plan" → TakesCosts found.1 → TakesBudget found.1 → IsCommand found
+  certify : found.0 ≡ codes "certify" → TakesCosts found.1 → IsCommand found
+  night : found.0 ≡ codes "night" → IsCommand found
 
 -- there is a command, and it is one of the program's
 abbrev pub NamesCommand : Option (Text × List Row) → Type 0

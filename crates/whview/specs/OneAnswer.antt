@@ -1,17 +1,24 @@
 -- That there is one answer at most: what the texts and statuses that are allowed for the same words and bytes have in common.
-use Rattle.std.specs.Prelude.{◌≡◌, ◌⊎◌, ℕ, List, [], Some, codes}
+use Rattle.std.specs.Prelude.{◌≡◌, ◌⊎◌, ℕ, ◌+◌, ◌^◌, ◌<◌, ◌≤◌, List, [], length, Some, Ok, codes}
 use Rattle.clap.specs.Words.{fault_of, subcommand_of}
 use Rattle.wh_cert.specs.declared.certificate.Certificate.{Certificate}
+use Rattle.wh_cert.specs.declared.certificate.Certificate.TheVariants.{Search}
+use Rattle.wh_cert.specs.declared.certificate.Scope.{Scope}
 use Rattle.wh_cert.specs.declared.certificate.Scope.TheVariants as scope
+use Rattle.wh_cert.specs.declared.tree.TreeNode.{TreeNode}
+use Rattle.wh_dag.specs.Siblings.{couples_of}
 use Rattle.wh_load.specs.PlanText.{plan_text}
+use Rattle.wh_prune.specs.Plan.{IsCyclicAsDesired}
+use Rattle.wh_strategy.specs.Sizes.{sizes_of}
 use Rattle.wh_strategy.specs.declared.costs.Costs.{Costs}
 use Rattle.wh_strategy.specs.declared.expression.Expression.{Expression}
 use Rattle.whview.specs.CertifyOutput.{IsCertifyOutput}
 use Rattle.whview.specs.CheckOutput.{IsCheckOutput, line}
 use Rattle.whview.specs.CommandLine.{IsAsked, whview_app}
-use Rattle.whview.specs.FirstLine.{first_line_of, words_in}
+use Rattle.whview.specs.FirstLine.{after_first_line, first_line_of, words_in}
+use Rattle.whview.specs.NightOutput.{IsNightOutput}
 use Rattle.whview.specs.Output.{IsHandedOutput, IsInputOutput, IsRefused, ReadsInput}
-use Rattle.whview.specs.PlanOutput.{IsPlanOutput}
+use Rattle.whview.specs.PlanOutput.{IsPlanOutput, Measured, measured_of, spent_text}
 use Rattle.whview.specs.declared.command_line.Asked.{Asked}
 use Rattle.whview.specs.declared.command_line.Asked.TheVariants as asked
 
@@ -20,9 +27,8 @@ pub record AreSame (text : List ℕ) (status : ℕ) (other : List ℕ) (ended : 
   pub texts : text ≡ other
   pub statuses : status ≡ ended
 
--- two plans over views of the same names, of one work and one certificate: their lists alone may differ
-pub record DifferInList (text other : List ℕ) : Type 0 where
-  pub names : List (List ℕ)
+-- two plans of scope all have one work and one certificate: their lists alone may differ
+pub record DifferInList (names : List (List ℕ)) (text other : List ℕ) : Type 0 where
   pub work : ℕ
   pub certificate : Certificate
   pub list : List Expression
@@ -30,16 +36,61 @@ pub record DifferInList (text other : List ℕ) : Type 0 where
   pub printed : text ≡ plan_text names scope.All work list certificate
   pub other_printed : other ≡ plan_text names scope.All work other_list certificate
 
--- two answers of `plan` have one status, and one text, unless both are plans that differ in their lists alone
-pub record AreOnePlan (text : List ℕ) (status : ℕ) (other : List ℕ) (ended : ℕ) : Type 0 where
-  pub statuses : status ≡ ended
-  pub texts : (text ≡ other) ⊎ DifferInList text other
+-- two plans of scope one-way have one work: their lists and their trees alone may differ
+pub record DifferInListAndTree (names : List (List ℕ)) (text other : List ℕ) : Type 0 where
+  pub work : ℕ
+  pub list : List Expression
+  pub other_list : List Expression
+  pub tree : List TreeNode
+  pub other_tree : List TreeNode
+  pub printed : text ≡ plan_text names scope.OneWay work list (Search tree)
+  pub other_printed : other ≡ plan_text names scope.OneWay work other_list (Search other_tree)
 
--- what two answers of this command have in common
-abbrev pub AreOneAnswer : Asked → List ℕ → ℕ → List ℕ → ℕ → Type 0
-AreOneAnswer (asked.Check costs input) text status other ended = AreSame text status other ended
-AreOneAnswer (asked.Plan costs input) text status other ended = AreOnePlan text status other ended
-AreOneAnswer (asked.Certify costs input) text status other ended = AreSame text status other ended
+-- two searches that spent the same budget opened as many nodes: the least work that they found alone may differ
+pub record DifferInBest (budget : ℕ) (text other : List ℕ) : Type 0 where
+  pub best : ℕ
+  pub other_best : ℕ
+  pub printed : text ≡ spent_text budget best
+  pub other_printed : other ≡ spent_text budget other_best
+
+-- a plan, and a search that spent its budget: the least work that it found is no less than the plan's
+pub record IsPlanBesideSpent (names : List (List ℕ)) (budget : ℕ) (text other : List ℕ) : Type 0 where
+  pub work : ℕ
+  pub scope : Scope
+  pub list : List Expression
+  pub certificate : Certificate
+  pub best : ℕ
+  pub printed : text ≡ plan_text names scope work list certificate
+  pub other_printed : other ≡ spent_text budget best
+  pub no_less : work ≤ best
+
+-- a search may spend this budget: the ordered graph has a cycle, and the full tree of all couples has more nodes
+pub record MaySpend (budget : ℕ) (measured : Measured) : Type 0 where
+  pub cyclic : IsCyclicAsDesired measured.shape.children (sizes_of measured.sizes)
+  pub few : budget + 1 < 2 ^ (length (couples_of measured.shape.children) + 1)
+
+-- What two answers of `plan` for the same bytes have in common, at the same costs and with the same budget. A fault of the input
+-- has one text. Two plans have one scope and one work, and scope one-way only where the ordered graph has a cycle. That the budget
+-- is spent is answered only where a search may spend it; the other answer is then a plan, or says the same.
+pub data AreOnePlan (budget : ℕ) (bytes text : List ℕ) (status : ℕ) (other : List ℕ) (ended : ℕ) : Type 0 where
+  one_text : AreSame text status other ended → AreOnePlan budget bytes text status other ended
+  two_of_all : (measured : Measured) → measured_of bytes ≡ Ok measured
+      → DifferInList measured.shape.names text other → status ≡ 0 → ended ≡ 0 → AreOnePlan budget bytes text status other ended
+  two_one_way : (measured : Measured) → measured_of bytes ≡ Ok measured → IsCyclicAsDesired measured.shape.children (sizes_of measured.sizes)
+      → DifferInListAndTree measured.shape.names text other → status ≡ 0 → ended ≡ 0 → AreOnePlan budget bytes text status other ended
+  two_spent : (measured : Measured) → measured_of bytes ≡ Ok measured → MaySpend budget measured
+      → DifferInBest budget text other → status ≡ 4 → ended ≡ 4 → AreOnePlan budget bytes text status other ended
+  plan_and_spent : (measured : Measured) → measured_of bytes ≡ Ok measured → MaySpend budget measured
+      → IsPlanBesideSpent measured.shape.names budget text other → status ≡ 0 → ended ≡ 4 → AreOnePlan budget bytes text status other ended
+  spent_and_plan : (measured : Measured) → measured_of bytes ≡ Ok measured → MaySpend budget measured
+      → IsPlanBesideSpent measured.shape.names budget other text → status ≡ 4 → ended ≡ 0 → AreOnePlan budget bytes text status other ended
+
+-- what two answers of this command for the same bytes have in common
+abbrev pub AreOneAnswer : Asked → List ℕ → List ℕ → ℕ → List ℕ → ℕ → Type 0
+AreOneAnswer (asked.Check costs input) bytes text status other ended = AreSame text status other ended
+AreOneAnswer (asked.Plan costs budget input) bytes text status other ended = AreOnePlan budget.nodes bytes text status other ended
+AreOneAnswer (asked.Certify costs input) bytes text status other ended = AreSame text status other ended
+AreOneAnswer (asked.Night input) bytes text status other ended = AreSame text status other ended
 
 -- the answer of a reader that failed
 pub record IsReadFailure (text : List ℕ) (status : ℕ) : Type 0 where
@@ -58,12 +109,18 @@ OneCertifyOutput =
     (costs : Costs) (bytes text other : List ℕ) (status ended : ℕ) →
     IsCertifyOutput costs bytes text status → IsCertifyOutput costs bytes other ended → AreSame text status other ended
 
--- all plans for the same bytes at the same costs are one, but for the lists: their work, their certificate and their status
--- are the same
+-- all answers of `plan` for the same bytes, at the same costs and with the same budget, are one, but for the lists of plans, the
+-- trees of one-way ones, and what a budget comes to
 abbrev pub OnePlanOutput : Type 0
 OnePlanOutput =
-    (costs : Costs) (bytes text other : List ℕ) (status ended : ℕ) →
-    IsPlanOutput costs bytes text status → IsPlanOutput costs bytes other ended → AreOnePlan text status other ended
+    (costs : Costs) (budget : ℕ) (bytes text other : List ℕ) (status ended : ℕ) →
+    IsPlanOutput costs budget bytes text status → IsPlanOutput costs budget bytes other ended → AreOnePlan budget bytes text status other ended
+
+-- all nights of the same bytes have one text and one status
+abbrev pub OneNightOutput : Type 0
+OneNightOutput =
+    (bytes text other : List ℕ) (status ended : ℕ) →
+    IsNightOutput bytes text status → IsNightOutput bytes other ended → AreSame text status other ended
 
 -- words that were handed in, that `clap` takes and that name no file have one answer for the same bytes, unless the reader
 -- fails
@@ -72,7 +129,7 @@ OneHandedOutput =
     (words : List (List ℕ)) (command : Asked) (bytes text other : List ℕ) (status ended : ℕ) →
     fault_of whview_app words ≡ [] → IsAsked (subcommand_of whview_app words) command → ReadsInput command →
     IsHandedOutput words (Some bytes) text status → IsHandedOutput words (Some bytes) other ended →
-    AreOneAnswer command text status other ended ⊎ (IsReadFailure text status ⊎ IsReadFailure other ended)
+    AreOneAnswer command bytes text status other ended ⊎ (IsReadFailure text status ⊎ IsReadFailure other ended)
 
 -- an input whose first line gives the words has one answer, unless `clap` refuses these words or answers them with help:
 -- that of the command that they ask for, or one text and one status
@@ -81,5 +138,5 @@ OneInputOutput =
     (input text other : List ℕ) (status ended : ℕ) →
     IsInputOutput input text status → IsInputOutput input other ended →
     AreSame text status other ended
-    ⊎ (((command : Asked) × IsAsked (subcommand_of whview_app (words_in (first_line_of input))) command × AreOneAnswer command text status other ended)
+    ⊎ (((command : Asked) × IsAsked (subcommand_of whview_app (words_in (first_line_of input))) command × AreOneAnswer command (after_first_line input) text status other ended)
     ⊎ (IsRefused (words_in (first_line_of input)) status × IsRefused (words_in (first_line_of input)) ended))

@@ -10,6 +10,7 @@ use Rattle.whview.specs.CheckOutput.{IsCheckOutput, IsFaultShown, line}
 use Rattle.whview.specs.CommandFault.{status_of_kind}
 use Rattle.whview.specs.CommandLine.{IsAsked, whview_app}
 use Rattle.whview.specs.FirstLine.{first_line_of, after_first_line, words_in, names_input}
+use Rattle.whview.specs.NightOutput.{IsNightOutput}
 use Rattle.whview.specs.PlanOutput.{IsPlanOutput}
 use Rattle.whview.specs.declared.answer.Answer.{Answer}
 use Rattle.whview.specs.declared.command_line.Asked.{Asked}
@@ -18,14 +19,16 @@ use Rattle.whview.specs.declared.command_line.Asked.TheVariants as asked
 -- what a command prints for the bytes of a bundle, and the status
 abbrev pub IsCommandOutput : Asked → List ℕ → List ℕ → ℕ → Type 0
 IsCommandOutput (asked.Check costs input) bytes text status = IsCheckOutput costs bytes text status
-IsCommandOutput (asked.Plan costs input) bytes text status = IsPlanOutput costs bytes text status
+IsCommandOutput (asked.Plan costs budget input) bytes text status = IsPlanOutput costs budget.nodes bytes text status
 IsCommandOutput (asked.Certify costs input) bytes text status = IsCertifyOutput costs bytes text status
+IsCommandOutput (asked.Night input) bytes text status = IsNightOutput bytes text status
 
 -- the file that the command reads in place of the program's reader
 abbrev pub file_of : Asked → Option (List ℕ)
 file_of (asked.Check costs input) = option_map (λ path. path.now) input
-file_of (asked.Plan costs input) = option_map (λ path. path.now) input
+file_of (asked.Plan costs budget input) = option_map (λ path. path.now) input
 file_of (asked.Certify costs input) = option_map (λ path. path.now) input
+file_of (asked.Night input) = option_map (λ path. path.now) input
 
 -- the command reads the program's reader
 abbrev pub ReadsInput : Asked → Type 0

@@ -1,12 +1,11 @@
 -- What `plan` prints for the bytes of a bundle, and the status that it ends with.
-use Rattle.std.specs.Prelude.{◌≡◌, ◌≤◌, ℕ, List, Result, Ok, codes, MatchResult}
+use Rattle.std.specs.Prelude.{◌≡◌, ◌↔◌, ◌≤◌, ◌++◌, ℕ, List, Result, Ok, codes, decimal, MatchResult}
 use Rattle.wh_dag.specs.Shape.{Views}
 use Rattle.wh_cert.specs.Bound.{pair_bound_of}
 use Rattle.wh_cert.specs.Certificate.{IsJudged}
-use Rattle.wh_cert.specs.Graph.{IsCycle, IsOrdered}
 use Rattle.wh_cert.specs.declared.certificate.Certificate.{Certificate}
-use Rattle.wh_cert.specs.declared.certificate.Scope.TheVariants as scope
-use Rattle.wh_cert.specs.declared.certificate.Verdict.TheVariants as verdict
+use Rattle.wh_cert.specs.declared.certificate.Scope.{Scope}
+use Rattle.wh_cert.specs.declared.certificate.Scope.TheVariants.{All, OneWay}
 use Rattle.wh_load.specs.Catalogue.{◌>>=◌, shape_of}
 use Rattle.wh_load.specs.PlanText.{plan_text}
 use Rattle.wh_load.specs.SizesText.{sizes_of_text}
@@ -15,11 +14,13 @@ use Rattle.wh_load.specs.declared.bundle.heading.Heading.TheVariants as heading
 use Rattle.wh_load.specs.declared.bundle.part.Part.{Part}
 use Rattle.wh_load.specs.declared.fault.LoadFault.{LoadFault}
 use Rattle.wh_minwork.specs.Plan.{IsAcyclicAsDesired, IsSortedAsDesired}
+use Rattle.wh_prune.specs.Plan.{IsCyclicAsDesired, accepted_for}
+use Rattle.wh_prune.specs.Spent.{IsSpent}
 use Rattle.wh_strategy.specs.declared.costs.Costs.{Costs}
 use Rattle.wh_strategy.specs.declared.expression.Expression.{Expression}
 use Rattle.wh_strategy.specs.declared.sizes.SizeRow.{SizeRow}
 use Rattle.wh_strategy.specs.Rules.{IsCorrect, IsOneWay}
-use Rattle.wh_strategy.specs.Sizes.{Size, sizes_of}
+use Rattle.wh_strategy.specs.Sizes.{sizes_of}
 use Rattle.wh_strategy.specs.Work.{work_of}
 use Rattle.whview.specs.CheckOutput.{IsFaultShown, line, parts_in, text_in}
 
@@ -55,30 +56,36 @@ measured_texts_of bytes = parts_in nights.Ignored bytes >>= measured_texts_in
 abbrev pub measured_of : List ℕ → Result Measured LoadFault
 measured_of bytes = measured_texts_of bytes >>= measured_in
 
--- A plan of least work at costs of a Comp's row and an Inst's row: its list is correct, each Comp of it is from one view, and
--- it is sorted by the ordered graph; the work is that of the list, and the pair bound; the certificate is accepted. So no
--- correct strategy costs less, with Comps of any width.
-pub record IsLeastPlan (comp inst : ℕ) (measured : Measured) (work : ℕ) (list : List Expression) (certificate : Certificate) : Type 0 where
+-- A plan of least work at costs of a Comp's row and an Inst's row: its list is correct, each Comp of it is from one view, the work
+-- is that of the list, and the certificate is accepted for its scope. The scope is All exactly where the work is the pair bound,
+-- and so wherever the ordered graph has no cycle, by which the list is then sorted. Under scope All no correct strategy costs
+-- less, with Comps of any width; in any case no one-way strategy does.
+pub record IsLeastPlan (comp inst : ℕ) (measured : Measured) (work : ℕ) (scope : Scope) (list : List Expression) (certificate : Certificate) : Type 0 where
   pub correct : IsCorrect measured.shape.children list
   pub one_way : IsOneWay list
-  pub sorted : IsSortedAsDesired measured.shape.children (sizes_of measured.sizes) list
   pub worked : work ≡ work_of measured.shape.children (sizes_of measured.sizes) comp inst list
-  pub bounded : work ≡ pair_bound_of measured.shape.children (sizes_of measured.sizes) comp inst
-  pub accepted : IsJudged measured.shape.children (sizes_of measured.sizes) comp inst work certificate verdict.All
-  pub least : (other : List Expression) → IsCorrect measured.shape.children other → work ≤ work_of measured.shape.children (sizes_of measured.sizes) comp inst other
+  pub all : scope ≡ All ↔ work ≡ pair_bound_of measured.shape.children (sizes_of measured.sizes) comp inst
+  pub accepted : IsJudged measured.shape.children (sizes_of measured.sizes) comp inst work certificate (accepted_for scope)
+  pub least_of_all : scope ≡ All → (other : List Expression) → IsCorrect measured.shape.children other → work ≤ work_of measured.shape.children (sizes_of measured.sizes) comp inst other
+  pub least_one_way : (other : List Expression) → IsCorrect measured.shape.children other → IsOneWay other → work ≤ work_of measured.shape.children (sizes_of measured.sizes) comp inst other
+  pub acyclic : IsAcyclicAsDesired measured.shape.children (sizes_of measured.sizes) → scope ≡ All
+  pub cyclic : scope ≡ OneWay → IsCyclicAsDesired measured.shape.children (sizes_of measured.sizes)
+  pub sorted : IsAcyclicAsDesired measured.shape.children (sizes_of measured.sizes) → IsSortedAsDesired measured.shape.children (sizes_of measured.sizes) list
 
--- the ordered graph has a cycle
-abbrev pub IsCyclicAsDesired : List (List ℕ) → (ℕ → Size) → Type 0
-IsCyclicAsDesired shape sizes = (decided : List (ℕ × ℕ)) × (cycle : List Expression) × IsOrdered shape sizes decided × IsCycle shape decided cycle
+-- a search whose budget is spent: how many nodes were opened, and the least work that was found
+abbrev pub spent_text : ℕ → ℕ → List ℕ
+spent_text opened best = line (codes "budget opened " ++ decimal opened ++ codes " best " ++ decimal best)
 
--- what is printed for this, and the status: a plan of least work where the ordered graph has no cycle, else that it has one
-pub data IsPlanned (comp inst : ℕ) (measured : Measured) (text : List ℕ) (status : ℕ) : Type 0 where
-  planned : (work : ℕ) (list : List Expression) (certificate : Certificate) → IsAcyclicAsDesired measured.shape.children (sizes_of measured.sizes)
-      → IsLeastPlan comp inst measured work list certificate
-      → text ≡ plan_text measured.shape.names scope.All work list certificate → status ≡ 0 → IsPlanned comp inst measured text status
-  cyclic : IsCyclicAsDesired measured.shape.children (sizes_of measured.sizes) → text ≡ line (codes "cyclic") → status ≡ 4 → IsPlanned comp inst measured text status
+-- What is printed for this, and the status: a plan of least work, or that the search for one has spent its budget, which takes an
+-- ordered graph with a cycle.
+pub data IsPlanned (comp inst budget : ℕ) (measured : Measured) (text : List ℕ) (status : ℕ) : Type 0 where
+  planned : (work : ℕ) (scope : Scope) (list : List Expression) (certificate : Certificate) → IsLeastPlan comp inst measured work scope list certificate
+      → text ≡ plan_text measured.shape.names scope work list certificate → status ≡ 0 → IsPlanned comp inst budget measured text status
+  spent : (opened best : ℕ) → IsCyclicAsDesired measured.shape.children (sizes_of measured.sizes)
+      → IsSpent measured.shape.children (sizes_of measured.sizes) comp inst budget opened best
+      → text ≡ spent_text opened best → status ≡ 4 → IsPlanned comp inst budget measured text status
 
 -- what `plan` prints for a bundle's bytes, and the status
-abbrev pub IsPlanOutput : Costs → List ℕ → List ℕ → ℕ → Type 0
-IsPlanOutput costs bytes text status =
-    MatchResult (measured_of bytes) (λ measured. IsPlanned costs.comp costs.inst measured text status) (λ fault. IsFaultShown fault text status)
+abbrev pub IsPlanOutput : Costs → ℕ → List ℕ → List ℕ → ℕ → Type 0
+IsPlanOutput costs budget bytes text status =
+    MatchResult (measured_of bytes) (λ measured. IsPlanned costs.comp costs.inst budget measured text status) (λ fault. IsFaultShown fault text status)

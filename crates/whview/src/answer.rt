@@ -5,6 +5,7 @@ ghost use Rattle.wh_load.specs.FaultText.{fault_text};
 ghost use Rattle.wh_load.specs.PlanText.{plan_text};
 ghost use Rattle.whview.specs.CertifyOutput.{certified_text, certified_one_way_text, rejected_text};
 ghost use Rattle.whview.specs.CheckOutput.{IsFaultShown, correct_text, broken_text, line};
+ghost use Rattle.whview.specs.PlanOutput.{spent_text};
 
 use std::alloc::{AllocError, Global};
 use wh_cert::Planned;
@@ -92,6 +93,18 @@ impl Answer {
         let mut text = Vec::new(alloc);
         write_plan(alloc, &mut text, &names, planned)?;
         Ok(Answer { text, status: 0 })
+    }
+
+    /// The answer for a search whose budget is spent: how many nodes were opened, and the least work that was found.
+    pub fn spent(alloc: Global, opened: u64, best: u128) -> Result<Answer, AllocError>
+        ensures text { IfOk result (λ a. a.text.items ≡ spent_text opened best) }
+        ensures status { IfOk result (λ a. a.status ≡ 4) }
+    {
+        let text = format!(in alloc; "budget opened {opened} best {best}\n")?;
+        Ok(Answer {
+            text: text.into_bytes(),
+            status: 4,
+        })
     }
 
     /// The answer for a fault of the input.

@@ -4,11 +4,13 @@ ghost use Rattle.std.specs.Prelude.{◌≡◌, ◌≤◌, [], true, codes, IfErr
 ghost use Rattle.clap.specs.Walk.{texts};
 ghost use Rattle.clap.specs.Words.{fault_of, found_of, rows_of, subcommand_of, subcommand_rows_of, takes};
 ghost use Rattle.whview.specs.CommandFault.{FailsAs};
-ghost use Rattle.whview.specs.CommandLine.{IsAsked, NamesCommand, TakesCost, cost_of, whview_app};
+ghost use Rattle.whview.specs.CommandLine.{IsAsked, NamesCommand, TakesBudget, TakesCost, budget_of, cost_of, whview_app};
 
 mod builder;
 mod fault;
+mod notes;
 
+use crate::budget::Budget;
 use builder::whview_command;
 use clap::ArgMatches;
 pub use fault::CommandFault;
@@ -17,6 +19,9 @@ use wh_strategy::Costs;
 
 /// What a row costs where its option is not given.
 const DEFAULT_COST: u64 = 1;
+
+/// How many nodes a search may open where the option is not given.
+const DEFAULT_BUDGET: u64 = 1_000_000;
 
 /// A command with its options, as the words of a command line ask for it.
 #[derive(Debug, Clone, Copy, PartialEq, Eq)]
@@ -32,6 +37,8 @@ pub enum Asked<'a> {
     Plan {
         /// What a row costs.
         costs: Costs,
+        /// How many nodes a search may open.
+        budget: Budget,
         /// The file of the input; None for standard input.
         input: Option<&'a str>,
     },
@@ -39,6 +46,11 @@ pub enum Asked<'a> {
     Certify {
         /// What a row costs.
         costs: Costs,
+        /// The file of the input; None for standard input.
+        input: Option<&'a str>,
+    },
+    /// Carry a night out.
+    Night {
         /// The file of the input; None for standard input.
         input: Option<&'a str>,
     },
@@ -77,10 +89,14 @@ fn asked_of<'a>(matches: &ArgMatches<'a>) -> Asked<'a>
         },
         Some(("plan", options)) => Asked::Plan {
             costs: costs_of(options),
+            budget: budget_of(options),
             input: options.get_str("input"),
         },
         Some(("certify", options)) => Asked::Certify {
             costs: costs_of(options),
+            input: options.get_str("input"),
+        },
+        Some(("night", options)) => Asked::Night {
             input: options.get_str("input"),
         },
         _ => unreachable!(),
@@ -113,5 +129,21 @@ fn cost(options: &ArgMatches<'_>, name: &str) -> u64
             Err(_) => unreachable!(),
         },
         None => DEFAULT_COST,
+    }
+}
+
+/// How many nodes a search may open by the option that `clap` has taken, or by the default.
+fn budget_of(options: &ArgMatches<'_>) -> Budget
+    requires { TakesBudget (rows_of (found_of options.now)) }
+    ensures { result.nodes ≡ budget_of (rows_of (found_of options.now)) }
+{
+    match options.get_str("budget") {
+        Some(text) => match text.parse() {
+            Ok(nodes) => Budget { nodes },
+            Err(_) => unreachable!(),
+        },
+        None => Budget {
+            nodes: DEFAULT_BUDGET,
+        },
     }
 }

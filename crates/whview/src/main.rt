@@ -1,14 +1,16 @@
-//! The program `whview`: judges strategies of a warehouse's night, plans one of least work, and judges the certificates of
-//! plans.
+//! The program `whview`: judges strategies of a warehouse's night, plans one of least work, judges the certificates of
+//! plans, and carries a night out.
 //!
 //! [`run`] is the whole program over a reader and a writer. Its words ask for a command, the reader has a bundle, and what
 //! is written is the command's answer, built whole.
 #![tactic(auto)]
 
 mod answer;
+mod budget;
 mod certification;
 mod command_line;
 mod laws;
+mod night;
 mod planning;
 mod program;
 mod reading;

@@ -5,12 +5,13 @@ ghost use Rattle.whview.specs.PlanOutput.{IsPlanOutput, IsPlanned, measured_in, 
 ghost use Rattle.whview.specs.Shown.{shown_measured};
 
 use crate::answer::Answer;
+use crate::budget::Budget;
 use crate::reading::{bundle_of, text_of};
 use std::alloc::{AllocError, Global};
 use std::borrow::CowSlice;
 use wh_dag::Shape;
 use wh_load::{Bundle, Heading, LoadFault, Nights, read_shape, read_sizes};
-use wh_minwork::{MinFault, min_work};
+use wh_prune::{PruneFault, plan};
 use wh_strategy::{Costs, Sizes};
 
 /// What is planned for, as it was read.
@@ -64,24 +65,34 @@ fn read_measured(alloc: Global, bytes: &[u8]) -> Result<Measured, LoadFault>
     measured_in(alloc, &texts)
 }
 
-/// The answer for views of these sizes: a plan of least work, or that the ordered graph has a cycle.
-fn least_plan(alloc: Global, costs: Costs, measured: Measured) -> Result<Answer, AllocError>
-    ensures { IfOk result (λ a. IsPlanned costs.comp costs.inst (record { shape = measured.shape; sizes = measured.sizes }) a.text.items a.status) }
+/// The answer for views of these sizes: a plan of least work, or that the budget of the search for one is spent.
+fn least_plan(
+    alloc: Global,
+    costs: Costs,
+    budget: Budget,
+    measured: Measured,
+) -> Result<Answer, AllocError>
+    ensures { IfOk result (λ a. IsPlanned costs.comp costs.inst budget.nodes (record { shape = measured.shape; sizes = measured.sizes }) a.text.items a.status) }
 {
     let Measured { shape, sizes } = measured;
-    match min_work(alloc, &shape, &sizes, costs) {
+    match plan(alloc, &shape, &sizes, costs, budget.nodes) {
         Ok(planned) => Answer::planned(alloc, &shape, &planned),
-        Err(MinFault::Cyclic(_)) => Answer::of(alloc, "cyclic\n", 4),
-        Err(MinFault::Memory) => Err(AllocError),
+        Err(PruneFault::Budget { opened, best }) => Answer::spent(alloc, opened, best),
+        Err(PruneFault::Memory) => Err(AllocError),
     }
 }
 
-/// What `plan` answers for the bytes of a bundle.
-pub fn planning(alloc: Global, costs: Costs, bytes: &[u8]) -> Result<Answer, AllocError>
-    ensures { IfOk result (λ a. IsPlanOutput costs bytes.now a.text.items a.status) }
+/// What `plan` answers for the bytes of a bundle, at these costs; a search opens at most so many nodes as the budget says.
+pub fn planning(
+    alloc: Global,
+    costs: Costs,
+    budget: Budget,
+    bytes: &[u8],
+) -> Result<Answer, AllocError>
+    ensures { IfOk result (λ a. IsPlanOutput costs budget.nodes bytes.now a.text.items a.status) }
 {
     match read_measured(alloc, bytes) {
-        Ok(measured) => least_plan(alloc, costs, measured),
+        Ok(measured) => least_plan(alloc, costs, budget, measured),
         Err(LoadFault::Memory) => Err(AllocError),
         Err(fault) => Answer::fault(alloc, &fault),
     }

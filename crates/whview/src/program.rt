@@ -10,6 +10,7 @@ ghost use Rattle.whview.specs.Output.{IsCommandOutput, IsHandedOutput, IsInputOu
 use crate::answer::Answer;
 use crate::certification::certification;
 use crate::command_line::{Asked, CommandFault, parse};
+use crate::night::night;
 use crate::planning::planning;
 use crate::verdict::judge;
 use crate::words::{first_line, refuses_input, words_of_line};
@@ -33,8 +34,9 @@ fn command_answer(alloc: Global, asked: &Asked<'_>, bytes: &[u8]) -> Result<Answ
 {
     match asked {
         Asked::Check { costs, .. } => judge(alloc, *costs, bytes),
-        Asked::Plan { costs, .. } => planning(alloc, *costs, bytes),
+        Asked::Plan { costs, budget, .. } => planning(alloc, *costs, *budget, bytes),
         Asked::Certify { costs, .. } => certification(alloc, *costs, bytes),
+        Asked::Night { .. } => night(alloc, bytes),
     }
 }
 
@@ -43,9 +45,10 @@ fn file_of<'a>(asked: &Asked<'a>) -> Option<&'a str>
     ensures { option_map (λ path. path.now) result ≡ file_of asked.now }
 {
     match asked {
-        Asked::Check { input, .. } | Asked::Plan { input, .. } | Asked::Certify { input, .. } => {
-            *input
-        }
+        Asked::Check { input, .. }
+        | Asked::Plan { input, .. }
+        | Asked::Certify { input, .. }
+        | Asked::Night { input } => *input,
     }
 }
 
@@ -177,8 +180,8 @@ fn tell<W: Write>(out: &mut W, answer: Result<Answer, AllocError>) -> u8
 /// The program: reads the input, or the file that the words name, and writes its whole text. The words are those of the
 /// command line, without the program's name; where there are none, the first line of the input gives them.
 ///
-/// Answers the status: 0 done, 1 a negative verdict, 2 the command line, 3 a fault of the input, 4 memory or a cycle that a
-/// plan would need a search for, 5 the output.
+/// Answers the status: 0 done, 1 a negative verdict or a night that is refused, 2 the command line, 3 a fault of the input,
+/// 4 memory or a budget that is spent, 5 the output.
 pub fn run<'a, F: Files, R: Read, W: Write>(
     files: &F,
     alloc: Global,

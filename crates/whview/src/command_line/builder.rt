@@ -3,8 +3,9 @@
 ghost use Rattle.std.specs.Prelude.{◌≡◌, codes, false, IfOk};
 ghost use Rattle.clap.specs.Words.{app_of, new_app, rule_of, with_subcommand};
 ghost use Rattle.clap.specs.declared.builder.command.Command.TheViews.{out-Command};
-ghost use Rattle.whview.specs.CommandLine.{command_app, cost_rule, input_rule, whview_app, with_commands};
+ghost use Rattle.whview.specs.CommandLine.{budget_rule, command_app, cost_rule, input_app, input_rule, plan_app, whview_app, with_commands};
 
+use super::notes;
 use clap::builder::ValueParser;
 use clap::{Arg, Command};
 use std::alloc::{AllocError, Global};
@@ -19,20 +20,24 @@ pub fn whview_command<'a>(alloc: Global) -> Result<Command<'a>, AllocError>
         whview,
         "check",
         "Judges a strategy and gives its work. Reads the catalogue, the strategy and the sizes.",
+        notes::CHECK,
     )?;
-    let with_plan = with_command(
-        alloc,
-        with_check,
-        "plan",
-        "Plans a strategy of least work and says why none costs less. Reads the catalogue and the sizes.",
-    )?;
+    let with_plan = with_check.subcommand(plan_command(alloc)?)?;
     let with_certify = with_command(
         alloc,
         with_plan,
         "certify",
         "Judges a plan by its certificate. Reads the catalogue, the sizes and the plan.",
+        notes::CERTIFY,
     )?;
-    Ok(with_certify)
+    let night = input_command(
+        alloc,
+        "night",
+        "Carries a strategy out and shows the new tables. Reads the catalogue, the data, the changes and the strategy.",
+        notes::NIGHT,
+    )?;
+    let with_night = with_certify.subcommand(night)?;
+    Ok(with_night)
 }
 
 /// The program before it has its commands.
@@ -44,7 +49,8 @@ fn bare_command<'a>(alloc: Global) -> Result<Command<'a>, AllocError>
     let named = bare.bin_name("whview")?;
     Ok(
         named
-            .about("Judges and plans strategies that update the views of a warehouse.")
+            .about("Judges, plans and carries out strategies that update the views of a warehouse.")
+            .after_help(notes::PROGRAM)
             .subcommand_required(true),
     )
 }
@@ -55,16 +61,22 @@ fn with_command<'a>(
     whview: Command<'a>,
     name: &'a str,
     about: &'a str,
+    notes: &'a str,
 ) -> Result<Command<'a>, AllocError>
     ensures { IfOk result (λ c. app_of c ≡ with_subcommand (app_of whview.entry) (command_app name.entry.now).top) }
 {
-    let command = command(alloc, name, about)?;
+    let command = command(alloc, name, about, notes)?;
     let with_command = whview.subcommand(command)?;
     Ok(with_command)
 }
 
 /// A command of this name, with an option for each cost and for the file of the input.
-fn command<'a>(alloc: Global, name: &'a str, about: &'a str) -> Result<Command<'a>, AllocError>
+fn command<'a>(
+    alloc: Global,
+    name: &'a str,
+    about: &'a str,
+    notes: &'a str,
+) -> Result<Command<'a>, AllocError>
     ensures shape { IfOk result (λ c. app_of c ≡ command_app name.entry.now) }
     ensures local { IfOk result (λ c. (out-Command c).has_globals ≡ false) }
 {
@@ -78,10 +90,40 @@ fn command<'a>(alloc: Global, name: &'a str, about: &'a str) -> Result<Command<'
         "inst-cost",
         "The cost of a row that an Inst writes, 1 to 1,000,000 [default: 1]",
     );
-    let named = Command::new(alloc, name).about(about);
+    let named = Command::new(alloc, name).about(about).after_help(notes);
     let with_comp = named.arg(comp_cost)?;
     let with_inst = with_comp.arg(inst_cost)?;
     let with_input = with_inst.arg(input_option(alloc))?;
+    Ok(with_input)
+}
+
+/// The command that plans, with an option for its budget besides.
+fn plan_command<'a>(alloc: Global) -> Result<Command<'a>, AllocError>
+    ensures shape { IfOk result (λ c. app_of c ≡ plan_app) }
+    ensures local { IfOk result (λ c. (out-Command c).has_globals ≡ false) }
+{
+    let plan = command(
+        alloc,
+        "plan",
+        "Plans a strategy of least work and says why none costs less. Reads the catalogue and the sizes.",
+        notes::PLAN,
+    )?;
+    let with_budget = plan.arg(budget_option(alloc))?;
+    Ok(with_budget)
+}
+
+/// A command of this name, with an option for the file of the input alone.
+fn input_command<'a>(
+    alloc: Global,
+    name: &'a str,
+    about: &'a str,
+    notes: &'a str,
+) -> Result<Command<'a>, AllocError>
+    ensures shape { IfOk result (λ c. app_of c ≡ input_app name.entry.now) }
+    ensures local { IfOk result (λ c. (out-Command c).has_globals ≡ false) }
+{
+    let named = Command::new(alloc, name).about(about).after_help(notes);
+    let with_input = named.arg(input_option(alloc))?;
     Ok(with_input)
 }
 
@@ -94,6 +136,19 @@ fn cost_option<'a>(alloc: Global, name: &'a str, help: &'a str) -> Arg<'a>
         .value_name("N")
         .help(help)
         .value_parser(ValueParser::Signed(1, 1_000_000))
+}
+
+fn budget_option<'a>(alloc: Global) -> Arg<'a>
+    ensures rule { rule_of result ≡ budget_rule }
+    ensures local { result.global ≡ false }
+{
+    Arg::new(alloc, "budget")
+        .long("budget")
+        .value_name("N")
+        .help(
+            "How many nodes a search may open, 1 to 9,223,372,036,854,775,807 [default: 1,000,000]",
+        )
+        .value_parser(ValueParser::Signed(1, 9_223_372_036_854_775_807))
 }
 
 fn input_option<'a>(alloc: Global) -> Arg<'a>

@@ -115,12 +115,80 @@ fn a_certification_has_its_costs_and_its_file(rt: HostRuntime) {
 fn a_plan_has_its_costs_and_its_file(rt: HostRuntime) {
     let words = ["plan", "--input=f", "--comp-cost", "2", "--inst-cost", "3"];
     match parse(rt.alloc(), words.as_slice()) {
-        Ok(Asked::Plan { costs, input }) => {
+        Ok(
+            Asked::Plan {
+                costs,
+                budget,
+                input,
+            },
+        ) => {
             assert_eq!(&rt; (costs.comp, costs.inst), (2, 3));
+            assert_eq!(&rt; budget.nodes, 1_000_000);
             assert!(&rt; input == Some("f"));
         }
         Ok(asked) => panic!(&rt; "{asked:?}"),
         Err(fault) => panic!(&rt; "{fault:?}"),
+    }
+}
+
+/// The line is a plan whose search may open so many nodes.
+fn plans_within(rt: &impl Abort, alloc: Global, line: &str, nodes: u64) {
+    let words = words_of_line(alloc, line).expect(rt, "words");
+    match parse(alloc, words.as_slice()) {
+        Ok(Asked::Plan { budget, .. }) => assert_eq!(rt; budget.nodes, nodes, "{line}"),
+        Ok(asked) => panic!(rt; "{line}: {asked:?}"),
+        Err(fault) => panic!(rt; "{line}: {fault:?}"),
+    }
+}
+
+#[test]
+fn a_plan_has_its_budget(rt: HostRuntime) {
+    plans_within(&rt, rt.alloc(), "plan", 1_000_000);
+    plans_within(&rt, rt.alloc(), "plan --comp-cost 7", 1_000_000);
+    plans_within(&rt, rt.alloc(), "plan --budget 1", 1);
+    plans_within(&rt, rt.alloc(), "plan --budget=+2 --comp-cost=7", 2);
+    plans_within(&rt, rt.alloc(), "plan --inst-cost 7 --budget 005", 5);
+    plans_within(
+        &rt,
+        rt.alloc(),
+        "plan --budget 9223372036854775807",
+        9_223_372_036_854_775_807,
+    );
+}
+
+#[test]
+fn a_budget_is_a_number_from_1_to_2_to_the_63_less_1(rt: HostRuntime) {
+    for budget in [
+        "0",
+        "9223372036854775808",
+        "18446744073709551615",
+        "99999999999999999999",
+        "-1",
+        "+",
+        "1.0",
+        "1_000",
+        "all",
+    ] {
+        let line = format!(in rt.alloc(); "plan --budget={budget}").expect(&rt, "a line");
+        ends(&rt, rt.alloc(), line.as_str(), 2);
+        let line = format!(in rt.alloc(); "plan --budget {budget}").expect(&rt, "a line");
+        ends(&rt, rt.alloc(), line.as_str(), 2);
+    }
+}
+
+#[test]
+fn a_night_has_its_file(rt: HostRuntime) {
+    for (words, file) in [
+        (["night", "--input", "f"].as_slice(), Some("f")),
+        (["night", "--input=f"].as_slice(), Some("f")),
+        (["night"].as_slice(), None),
+        (["night", "--"].as_slice(), None),
+    ] {
+        match parse(rt.alloc(), words) {
+            Ok(Asked::Night { input }) => assert!(&rt; input == file),
+            Ok(asked) => panic!(&rt; "{asked:?}"),
+            Err(fault) => panic!(&rt; "{fault:?}"),
+        }
     }
 }
 
@@ -166,7 +234,14 @@ fn other_words_are_refused(rt: HostRuntime) {
         "check --comp-cost 2 --comp-cost 2",
         "check --comp 2",
         "check --budget 2",
-        "plan --budget 2",
+        "certify --budget 2",
+        "plan --budget",
+        "plan --budget 2 --budget 2",
+        "night --comp-cost 2",
+        "night --inst-cost 2",
+        "night --budget 2",
+        "night x",
+        "nights",
         "check -c",
         "-V",
         "--version",
@@ -196,7 +271,9 @@ fn help_that_is_asked_for_ends_with_0(rt: HostRuntime) {
         "help",
         "help check",
         "help plan",
+        "help night",
         "help help",
+        "night --help",
         "check -h",
         "check --help",
     ] {
@@ -204,7 +281,8 @@ fn help_that_is_asked_for_ends_with_0(rt: HostRuntime) {
     }
 }
 
-const PROGRAM_HELP: &str = "Judges and plans strategies that update the views of a warehouse.
+const PROGRAM_HELP: &str =
+    "Judges, plans and carries out strategies that update the views of a warehouse.
 
 Usage: whview <COMMAND>
 
@@ -212,10 +290,13 @@ Commands:
   check    Judges a strategy and gives its work. Reads the catalogue, the strategy and the sizes.
   plan     Plans a strategy of least work and says why none costs less. Reads the catalogue and the sizes.
   certify  Judges a plan by its certificate. Reads the catalogue, the sizes and the plan.
+  night    Carries a strategy out and shows the new tables. Reads the catalogue, the data, the changes and the strategy.
   help     Print this message or the help of the given subcommand(s)
 
 Options:
   -h, --help  Print help
+
+Where no words are given, the first line of standard input has them, without --input.
 ";
 
 const CHECK_HELP: &str =
@@ -228,6 +309,17 @@ Options:
       --inst-cost <N>  The cost of a row that an Inst writes, 1 to 1,000,000 [default: 1]
       --input <FILE>   The file to read [default: standard input]
   -h, --help           Print help
+
+Ends with:
+  0  the strategy is correct
+  1  it breaks a rule
+  2  these words are not taken
+  3  the input has a fault
+  4  memory was refused
+  5  the output failed
+
+Example:
+  whview check --comp-cost 2 --input bundle.txt
 ";
 
 const PLAN_HELP: &str =
@@ -239,7 +331,62 @@ Options:
       --comp-cost <N>  The cost of a row that a Comp reads, 1 to 1,000,000 [default: 1]
       --inst-cost <N>  The cost of a row that an Inst writes, 1 to 1,000,000 [default: 1]
       --input <FILE>   The file to read [default: standard input]
+      --budget <N>     How many nodes a search may open, 1 to 9,223,372,036,854,775,807 [default: 1,000,000]
   -h, --help           Print help
+
+Ends with:
+  0  there is a plan
+  2  these words are not taken
+  3  the input has a fault
+  4  the budget is spent, or memory was refused
+  5  the output failed
+
+Example:
+  whview plan --budget 5000 --input bundle.txt
+";
+
+const CERTIFY_HELP: &str =
+    "Judges a plan by its certificate. Reads the catalogue, the sizes and the plan.
+
+Usage: whview certify [OPTIONS]
+
+Options:
+      --comp-cost <N>  The cost of a row that a Comp reads, 1 to 1,000,000 [default: 1]
+      --inst-cost <N>  The cost of a row that an Inst writes, 1 to 1,000,000 [default: 1]
+      --input <FILE>   The file to read [default: standard input]
+  -h, --help           Print help
+
+Ends with:
+  0  the plan is certified
+  1  it is rejected, or its strategy breaks a rule
+  2  these words are not taken
+  3  the input has a fault
+  4  memory was refused
+  5  the output failed
+
+Example:
+  whview certify --input bundle.txt
+";
+
+const NIGHT_HELP: &str =
+    "Carries a strategy out and shows the new tables. Reads the catalogue, the data, the changes and the strategy.
+
+Usage: whview night [OPTIONS]
+
+Options:
+      --input <FILE>  The file to read [default: standard input]
+  -h, --help          Print help
+
+Ends with:
+  0  the night is carried out
+  1  it is refused, or the strategy breaks a rule
+  2  these words are not taken
+  3  the input has a fault
+  4  memory was refused
+  5  the output failed
+
+Example:
+  whview night --input bundle.txt
 ";
 
 #[test]
@@ -249,10 +396,12 @@ fn help_names_each_command_and_option(rt: HostRuntime) {
     shows(&rt, rt.alloc(), "check --help", 0, CHECK_HELP);
     shows(&rt, rt.alloc(), "help check", 0, CHECK_HELP);
     shows(&rt, rt.alloc(), "plan --help", 0, PLAN_HELP);
+    shows(&rt, rt.alloc(), "certify --help", 0, CERTIFY_HELP);
+    shows(&rt, rt.alloc(), "night --help", 0, NIGHT_HELP);
 }
 
 const NO_COMMAND: &str = "error: 'whview' requires a subcommand but one was not provided
-  [subcommands: check, plan, certify, help]
+  [subcommands: check, plan, certify, night, help]
 
 Usage: whview <COMMAND>
 
@@ -264,10 +413,25 @@ const COST_OF_0: &str = "error: invalid value '0' for '--comp-cost <N>': 0 is no
 For more information, try '--help'.
 ";
 
+const BUDGET_OF_0: &str =
+    "error: invalid value '0' for '--budget <N>': 0 is not in 1..9223372036854775807
+
+For more information, try '--help'.
+";
+
+const NIGHT_WITH_COSTS: &str = "error: unexpected argument '--comp-cost' found
+
+Usage: whview night [OPTIONS]
+
+For more information, try '--help'.
+";
+
 #[test]
 fn a_fault_says_what_is_wrong(rt: HostRuntime) {
     shows(&rt, rt.alloc(), "", 2, NO_COMMAND);
     shows(&rt, rt.alloc(), "check --comp-cost 0", 2, COST_OF_0);
+    shows(&rt, rt.alloc(), "plan --budget 0", 2, BUDGET_OF_0);
+    shows(&rt, rt.alloc(), "night --comp-cost 2", 2, NIGHT_WITH_COSTS);
 }
 
 #[test]

@@ -61,6 +61,73 @@ V1,80,60,40
 V2,200,190,30
 ";
 
+const ONE_WAY_PLAN: &[u8] = b"scope one-way
+work 490
+comp V1 from B
+comp V2 from B
+inst B
+comp V1 from C
+comp V2 from V1
+inst C
+inst V1
+inst V2
+branch B C
+branch B V1
+bound
+cycle inst V1; comp V2 from B; inst B; comp V1 from C
+branch B V1
+bound
+bound
+";
+
+const NIGHT: &[u8] = b"@catalogue
+[[view]]
+name = \"a\"
+columns = [\"x\", \"y\"]
+[[view]]
+name = \"b\"
+columns = [\"y\", \"z\"]
+[[view]]
+name = \"v\"
+over = [\"a\", \"b\"]
+join = [[\"a.y\", \"b.y\"]]
+keep = [[\"x\", \"a.x\"], [\"z\", \"b.z\"]]
+@data a
+x,y
+1,10
+2,10
+@data b
+y,z
+10,5
+@changes a
+#,x,y
+-1,2,10
+1,3,10
+@changes b
+#,y,z
+-1,10,5
+1,10,6
+@strategy
+comp v from a
+inst a
+comp v from b
+inst b
+inst v
+";
+
+const CARRIED: &[u8] = b"comp v from a: 3
+inst a: 2
+comp v from b: 4
+inst b: 2
+inst v: 4
+work 15
+version 1
+view v
+#,x,z
+1,1,6
+1,3,6
+";
+
 /// Gives a text a byte at a time, and fails at the read of this number, counted from 0.
 #[derive(Drop)]
 struct Dripping<'a> {
@@ -191,12 +258,44 @@ fn a_plan_has_its_scope_work_list_and_pairs(rt: HostRuntime) {
 // V1 shrinks more than B, and B more than C: V1's Inst is to come before V2's Comp from B, that before B's Inst, that before
 // V1's Comp from C, and that before V1's Inst.
 #[test]
-fn a_plan_where_the_ordered_graph_has_a_cycle_ends_with_4(rt: HostRuntime) {
+fn a_plan_where_the_ordered_graph_has_a_cycle_has_a_tree(rt: HostRuntime) {
     let input = Padded {
         text: CYCLIC,
         lines: 0,
     };
-    prints(&rt, rt.alloc(), &["plan"], input, b"cyclic\n", 4);
+    prints(&rt, rt.alloc(), &["plan"], input, ONE_WAY_PLAN, 0);
+}
+
+#[test]
+fn a_search_that_spends_its_budget_ends_with_4(rt: HostRuntime) {
+    let input = Padded {
+        text: CYCLIC,
+        lines: 0,
+    };
+    let words = ["plan", "--budget", "1"];
+    let spent = b"budget opened 1 best 490\n";
+    prints(&rt, rt.alloc(), &words, input, spent, 4);
+}
+
+#[test]
+fn a_night_has_its_steps_and_its_tables(rt: HostRuntime) {
+    let input = Padded {
+        text: NIGHT,
+        lines: 0,
+    };
+    prints(&rt, rt.alloc(), &["night"], input, CARRIED, 0);
+}
+
+#[test]
+fn a_command_line_in_the_input_asks_for_a_night(rt: HostRuntime) {
+    let mut bundle = Vec::new(rt.alloc());
+    bundle.extend_from_slice(b"night\n").expect(&rt, "a line");
+    bundle.extend_from_slice(NIGHT).expect(&rt, "a bundle");
+    let input = Padded {
+        text: bundle.as_slice(),
+        lines: 0,
+    };
+    prints(&rt, rt.alloc(), &[], input, CARRIED, 0);
 }
 
 #[test]

@@ -6,7 +6,7 @@ use Rattle.clap.specs.declared.parser.matches.ArgMatches.TheViews.{out-ArgMatche
 use Rattle.clap.proofs.WalkLemmas.{first_value-rows}
 use Rattle.whview.specs.CommandLine.{AsksBy, IsAsked}
 use Rattle.whview.specs.declared.command_line.Asked.{Asked}
-use Rattle.whview.specs.declared.command_line.Asked.TheVariants.{Certify, Check, Plan}
+use Rattle.whview.specs.declared.command_line.Asked.TheVariants.{Certify, Check, Night, Plan}
 use Rattle.whview.proofs.command_line.asked_of.Goals as goal
 
 fused : {X Y Z : Type 0} (f : Y → Z) (g : X → Y) (o : Option X) → option_map (λ x. f (g x)) o ≡ option_map f (option_map g o)
@@ -43,7 +43,7 @@ returns-in-Some-plan-default c =
     let options = c.in-Some-plan-default.options.now in
     let costs = c.costs_of-in-Some-plan-default in
     let file = c.get_str-in-Some-plan-default in
-    asked_by (subcommand_rows_of c.args.matches.now) (codes "plan") (rows_of (found_of options)) (Plan costs.result file.result)
+    asked_by (subcommand_rows_of c.args.matches.now) (codes "plan") (rows_of (found_of options)) (Plan costs.result c.budget_of.result file.result)
     (ap Some (sym c.in-Some-plan-default.is-plan) ∙ c.in-Some-plan-default.ensures.name ∙ named c.args.matches.now) c.in-Some-plan-default.ensures.rows (
       refl,
       record {
@@ -51,6 +51,7 @@ returns-in-Some-plan-default c =
         inst_cost = costs.ensures.inst;
         file = file.ensures ∙ first_value-rows (found_of options) (codes "input");
       },
+      c.budget_of.ensures,
     )
 
 pub returns-in-Some-certify-default : goal.returns-in-Some-certify-default
@@ -67,3 +68,11 @@ returns-in-Some-certify-default c =
         file = file.ensures ∙ first_value-rows (found_of options) (codes "input");
       },
     )
+
+pub returns-in-Some-night-default : goal.returns-in-Some-night-default
+returns-in-Some-night-default c =
+    let options = c.in-Some-night-default.options.now in
+    let file = c.get_str-in-Some-night-default in
+    asked_by (subcommand_rows_of c.args.matches.now) (codes "night") (rows_of (found_of options)) (Night file.result)
+    (ap Some (sym c.in-Some-night-default.is-night) ∙ c.in-Some-night-default.ensures.name ∙ named c.args.matches.now) c.in-Some-night-default.ensures.rows
+    (refl, file.ensures ∙ first_value-rows (found_of options) (codes "input"))

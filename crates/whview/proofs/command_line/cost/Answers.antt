@@ -3,12 +3,12 @@ use Rattle.std.specs.Option.{option_map_or}
 use Rattle.clap.specs.Words.{Text, found_of}
 use Rattle.clap.proofs.WalkLemmas.{first_value-rows}
 use Rattle.whview.specs.CommandLine.{number_of}
-use Rattle.whview.proofs.CostTexts.{found_cost}
+use Rattle.whview.proofs.NumberTexts.{found_number}
 use Rattle.whview.proofs.command_line.cost.Goals as goal
 
 pub unreachable-requires : goal.unreachable-requires
 unreachable-requires c =
-    let is = found_cost (found_of c.args.options.now) c.args.name.now c.in-Some.text.now c.requires c.in-Some.ensures in
+    let is = found_number 1000000 (found_of c.args.options.now) c.args.name.now c.in-Some.text.now c.requires c.in-Some.ensures in
     c.in-Err.ensures.value.0 (is.numeral, omega (arith, is.most))
 
 pub returns-in-Ok-clause-value : goal.returns-in-Ok-clause-value
@@ -17,12 +17,12 @@ returns-in-Ok-clause-value c =
 
 pub returns-in-Ok-clause-least : goal.returns-in-Ok-clause-least
 returns-in-Ok-clause-least c =
-    let is = found_cost (found_of c.args.options.now) c.args.name.now c.in-Some.text.now c.requires c.in-Some.ensures in
+    let is = found_number 1000000 (found_of c.args.options.now) c.args.name.now c.in-Some.text.now c.requires c.in-Some.ensures in
     omega (arith, is.least, c.in-Ok.ensures.value.0.1)
 
 pub returns-in-Ok-clause-most : goal.returns-in-Ok-clause-most
 returns-in-Ok-clause-most c =
-    let is = found_cost (found_of c.args.options.now) c.args.name.now c.in-Some.text.now c.requires c.in-Some.ensures in
+    let is = found_number 1000000 (found_of c.args.options.now) c.args.name.now c.in-Some.text.now c.requires c.in-Some.ensures in
     omega (arith, is.most, c.in-Ok.ensures.value.0.1)
 
 pub returns-in-None-clause-value : goal.returns-in-None-clause-value

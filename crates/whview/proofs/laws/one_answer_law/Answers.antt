@@ -1,4 +1,5 @@
 use Rattle.whview.proofs.SingleAnswers.{one_certification, one_check, one_handed, one_line}
+use Rattle.whview.proofs.SingleNights.{one_night}
 use Rattle.whview.proofs.SinglePlans.{one_plan}
 use Rattle.whview.proofs.laws.one_answer_law.Goals as goal
 
@@ -10,6 +11,9 @@ returns-clause-plan c = one_plan
 
 pub returns-clause-certify : goal.returns-clause-certify
 returns-clause-certify c = one_certification
+
+pub returns-clause-night : goal.returns-clause-night
+returns-clause-night c = one_night
 
 pub returns-clause-handed : goal.returns-clause-handed
 returns-clause-handed c = one_handed

@@ -1,0 +1,186 @@
+-- The same bytes have one answer of `night`.
+use Rattle.std.proofs.Common.{◌≡◌, ◌≢◌, ◌∙◌, ◌+◌, ◌++◌, ◌<◌, ◌≤◌, ℕ, List, [], ◌∷◌, Result, Ok, Err, ap, arith, length, refl, subst, sym, ⊎_elim}
+use Rattle.std.specs.Prelude.{MatchResult, codes}
+use Rattle.std.proofs.lemmas.Bool.{cases_lt}
+use Rattle.std.proofs.lemmas.List.{ext_get_or, length-map, same_lists}
+use Rattle.std.proofs.lemmas.Option.{get_or_from_slice_get}
+use Rattle.wh_dag.specs.Catalog.{CatalogOf}
+use Rattle.wh_dag.specs.Shape.{IsShape}
+use Rattle.wh_dag.specs.Written.{name_of}
+use Rattle.wh_load.proofs.DefinitionsFit.{are-definitions}
+use Rattle.wh_load.proofs.ShapesRead.{from_step, same_Ok}
+use Rattle.wh_load.specs.Catalogue.{shape_of}
+use Rattle.wh_load.specs.Definitions.{ViewOf, definitions_of}
+use Rattle.wh_load.specs.FormulaKinds.{Texts}
+use Rattle.wh_load.specs.StrategyText.{strategy_of}
+use Rattle.wh_load.specs.TableText.{or_fault}
+use Rattle.wh_load.specs.declared.bundle.fault.Nights.TheVariants as nights
+use Rattle.wh_load.specs.declared.bundle.heading.Heading.TheVariants as heading
+use Rattle.wh_load.specs.declared.bundle.part.Part.{Part}
+use Rattle.wh_load.specs.declared.fault.LoadFault.{LoadFault}
+use Rattle.wh_maint.specs.Comp.{bag_at}
+use Rattle.wh_maint.specs.Contents.{contents}
+use Rattle.wh_maint.specs.Definition.{graph_of}
+use Rattle.wh_maint.specs.declared.fault.MaintFault.{MaintFault}
+use Rattle.wh_maint.specs.declared.fault.MaintFault.TheVariants.{Absent, Large, Memory, Range}
+use Rattle.wh_night.proofs.FirstRefusals.{refusals_are_one}
+use Rattle.wh_night.proofs.Prefixes.{there}
+use Rattle.wh_night.specs.Carry.{tables_after}
+use Rattle.wh_night.specs.Refused.{IsNightFault}
+use Rattle.wh_night.specs.Steps.{AreSteps}
+use Rattle.wh_night.specs.declared.report.CarryFault.{CarryFault}
+use Rattle.wh_row.specs.Bag.{Bag, empty}
+use Rattle.wh_strategy.proofs.Agreeing.{refused as not_correct}
+use Rattle.wh_strategy.specs.declared.expression.Expression.{Expression}
+use Rattle.whview.proofs.SingleFaults.{one_broken, one_shown}
+use Rattle.whview.specs.CheckOutput.{IsFaultShown, parts_in, text_in}
+use Rattle.whview.specs.GivenNight.{Night, Opening, TableRows, ChangeRows, catalog_in, first_stray, night_in, night_of, opening_in, rows_after}
+use Rattle.whview.specs.NightOutput.{AreOpened, IsCarriedOut, IsNightTold, broken, carried, carried_text, graph_in, left_text, no_contents, refused, refused_text, report_text, view_text, views_text}
+use Rattle.whview.specs.OneAnswer.{AreSame, OneNightOutput}
+use Rattle.whview.specs.OpenedNight.{HasNoContents, HasValueOver, IsValueFault}
+
+-- ---- one reason why there are no contents
+
+no_value : (catalog : CatalogOf) (tables : ℕ → Bag) (view : ℕ) (fault : MaintFault) → IsValueFault catalog tables view fault → HasValueOver catalog tables view → ⊥
+no_value catalog tables view (Large v) why has = has.few why.1
+no_value catalog tables view (Range v) why has = why.2 has.valued
+no_value catalog tables view (Absent v row) why has = why
+no_value catalog tables view Memory why has = why
+
+one_value_fault : (catalog : CatalogOf) (tables : ℕ → Bag) (view : ℕ) (fault other : MaintFault) → IsValueFault catalog tables view fault → IsValueFault catalog tables view other → fault ≡ other
+one_value_fault catalog tables view (Large v) (Large w) a b = ap Large (a.0 ∙ sym b.0)
+one_value_fault catalog tables view (Large v) (Range w) a b = absurd (b.1 a.1)
+one_value_fault catalog tables view (Range v) (Large w) a b = absurd (a.1 b.1)
+one_value_fault catalog tables view (Range v) (Range w) a b = ap Range (a.0 ∙ sym b.0)
+one_value_fault catalog tables view (Absent v row) other a b = absurd a
+one_value_fault catalog tables view fault (Absent v row) a b = absurd b
+one_value_fault catalog tables view Memory other a b = absurd a
+one_value_fault catalog tables view fault Memory a b = absurd b
+
+one_lack : (catalog : CatalogOf) (base : ℕ → Bag) (fault other : MaintFault) → HasNoContents catalog base fault → HasNoContents catalog base other → fault ≡ other
+one_lack catalog base fault other a b =
+    let tables = contents (graph_of catalog) base in
+    ⊎_elim
+    (λ l. absurd (no_value catalog tables a.view fault a.why (b.before a.view l a.derived)))
+    (λ m. ⊎_elim
+    (λ l. absurd (no_value catalog tables b.view other b.why (a.before b.view l b.derived)))
+    (λ k.
+    let e : a.view ≡ b.view = omega (arith, m, k) in
+    one_value_fault catalog tables b.view fault other (subst (λ v. IsValueFault catalog tables v fault) e a.why) b.why)
+    (cases_lt b.view a.view))
+    (cases_lt a.view b.view)
+
+-- contents that are opened lack nothing
+not_opened : (night : Night) (fault : MaintFault) (old : List Bag) → HasNoContents (catalog_in night) (bag_at night.opening.tables) fault → AreOpened night old → ⊥
+not_opened night fault old h a = no_value (catalog_in night) _ h.view fault h.why (a.valued h.view h.there h.derived)
+
+-- ---- one opening, one list of steps, one text of the tables
+
+one_opening : (night : Night) (old other : List Bag) → AreOpened night old → AreOpened night other → old ≡ other
+one_opening night old other a b =
+    ext_get_or empty old other (a.each ∙ sym b.each) (λ v l. (let within : v < length night.shape.children = omega (arith, l, a.each) in a.opened v within ∙ sym (b.opened v within)))
+
+one_report : (shape : List (List ℕ)) (list : List Expression) (old new : ℕ → Bag) (steps others : List (Expression × ℕ)) → AreSteps shape list old new steps → AreSteps shape list old new others → steps ≡ others
+one_report shape list old new steps others a b =
+    same_lists steps others (a.each ∙ sym b.each) (λ place d l.
+    (let e = there list place (omega (arith, l, a.each)) in
+    get_or_from_slice_get steps place _ d (a.rows place e.0 e.1) ∙ sym (get_or_from_slice_get others place _ d (b.rows place e.0 e.1))))
+
+-- the text of the tables asks for those of its views alone
+one_text_of_tables : (texts : Texts) (names : List (List ℕ)) (number : ℕ) (views : List ViewOf) (tables others : ℕ → Bag)
+    → ((k : ℕ) → number ≤ k → k < number + length views → tables k ≡ others k) → views_text texts names number views tables ≡ views_text texts names number views others
+one_text_of_tables texts names number [] tables others same = refl
+one_text_of_tables texts names number (view ∷ views) tables others same =
+    ap (λ t. view_text texts (name_of names number) view t ++ views_text texts names (number + 1) views tables) (same number (omega arith) (omega arith))
+    ∙ ap (λ rest. view_text texts (name_of names number) view (others number) ++ rest)
+    (one_text_of_tables texts names (number + 1) views tables others (λ k l m. same k (omega (arith, l)) (omega (arith, m))))
+
+one_carried : (night : Night) (old new other_old other_new : List Bag) (steps others : List (Expression × ℕ)) → length night.opening.views ≡ length night.shape.children
+    → IsCarriedOut night old new steps → IsCarriedOut night other_old other_new others → carried_text night steps (bag_at new) ≡ carried_text night others (bag_at other_new)
+one_carried night old new other_old other_new steps others each a b =
+    let opened : other_old ≡ old = one_opening night other_old old b.opened a.opened in
+    let reported = subst (λ bags. AreSteps night.shape.children night.opening.list (bag_at bags)
+    (tables_after (graph_in night) (bag_at night.opening.changes) night.opening.list (bag_at bags)) others) opened b.reported in
+    ap (λ s. report_text night.shape.names s ++ views_text night.opening.texts night.shape.names 0 night.opening.views (bag_at new))
+    (one_report night.shape.children night.opening.list (bag_at old) (tables_after (graph_in night) (bag_at night.opening.changes) night.opening.list (bag_at old)) steps others a.reported reported)
+    ∙ ap (λ t. report_text night.shape.names others ++ t)
+    (one_text_of_tables night.opening.texts night.shape.names 0 night.opening.views (bag_at new) (bag_at other_new)
+    (λ k l m. (let within : k < length night.shape.children = omega (arith, m, each) in a.contents k within ∙ sym (b.contents k within))))
+
+-- ---- one refusal
+
+one_refusal : (night : Night) (old other_old : List Bag) (fault other : CarryFault) → AreOpened night old → AreOpened night other_old → fault.fault ≢ Memory → other.fault ≢ Memory
+    → IsNightFault (catalog_in night) night.opening.list (bag_at old) (bag_at night.opening.changes) fault
+    → IsNightFault (catalog_in night) night.opening.list (bag_at other_old) (bag_at night.opening.changes) other → fault ≡ other
+one_refusal night old other_old fault other a b m n f g =
+    let opened : other_old ≡ old = one_opening night other_old old b a in
+    (refusals_are_one (catalog_in night) night.opening.list (bag_at old) (bag_at night.opening.changes)).one fault other f
+    (subst (λ bags. IsNightFault (catalog_in night) night.opening.list (bag_at bags) (bag_at night.opening.changes) other) opened g) m n
+
+-- what is carried out is not refused
+not_refused : (night : Night) (old new other_old : List Bag) (steps : List (Expression × ℕ)) (fault : CarryFault) → IsCarriedOut night old new steps → AreOpened night other_old → fault.fault ≢ Memory
+    → IsNightFault (catalog_in night) night.opening.list (bag_at other_old) (bag_at night.opening.changes) fault → ⊥
+not_refused night old new other_old steps fault a b m f =
+    let opened : other_old ≡ old = one_opening night other_old old b a.opened in
+    m ((refusals_are_one (catalog_in night) night.opening.list (bag_at old) (bag_at night.opening.changes)).none a.allowed a.passed fault
+    (subst (λ bags. IsNightFault (catalog_in night) night.opening.list (bag_at bags) (bag_at night.opening.changes) fault) opened f))
+
+-- ---- one answer
+
+-- a night that was read has a shape, and as many views
+record IsReadNight (night : Night) : Type 0 where
+  shape : IsShape night.shape.children
+  each : length night.opening.views ≡ length night.shape.children
+
+one_told : (night : Night) (text other : List ℕ) (status ended : ℕ) → IsReadNight night → IsNightTold night text status → IsNightTold night other ended → AreSame text status other ended
+one_told night text other status ended is (broken rule place f t s) (broken rule' place' f' t' s') = record { texts = t ∙ one_broken _ _ rule rule' place place' f f' ∙ sym t'; statuses = s ∙ sym s' }
+one_told night text other status ended is (broken rule place f t s) (no_contents fault' ok' h' t' s') = absurd (not_correct rule _ _ place is.shape f ok')
+one_told night text other status ended is (broken rule place f t s) (refused old' fault' ok' o' m' h' t' s') = absurd (not_correct rule _ _ place is.shape f ok')
+one_told night text other status ended is (broken rule place f t s) (carried old' new' steps' ok' c' t' s') = absurd (not_correct rule _ _ place is.shape f ok')
+one_told night text other status ended is (no_contents fault ok h t s) (broken rule' place' f' t' s') = absurd (not_correct rule' _ _ place' is.shape f' ok)
+one_told night text other status ended is (no_contents fault ok h t s) (no_contents fault' ok' h' t' s') =
+    record { texts = t ∙ ap (refused_text night.shape.names) (one_lack (catalog_in night) (bag_at night.opening.tables) fault fault' h h') ∙ sym t'; statuses = s ∙ sym s' }
+one_told night text other status ended is (no_contents fault ok h t s) (refused old' fault' ok' o' m' h' t' s') = absurd (not_opened night fault old' h o')
+one_told night text other status ended is (no_contents fault ok h t s) (carried old' new' steps' ok' c' t' s') = absurd (not_opened night fault old' h c'.opened)
+one_told night text other status ended is (refused old fault ok o m h t s) (broken rule' place' f' t' s') = absurd (not_correct rule' _ _ place' is.shape f' ok)
+one_told night text other status ended is (refused old fault ok o m h t s) (no_contents fault' ok' h' t' s') = absurd (not_opened night fault' old h' o)
+one_told night text other status ended is (refused old fault ok o m h t s) (refused old' fault' ok' o' m' h' t' s') =
+    record { texts = t ∙ ap (left_text night.shape.names) (one_refusal night old old' fault fault' o o' m m' h h') ∙ sym t'; statuses = s ∙ sym s' }
+one_told night text other status ended is (refused old fault ok o m h t s) (carried old' new' steps' ok' c' t' s') = absurd (not_refused night old' new' old steps' fault c' o m h)
+one_told night text other status ended is (carried old new steps ok c t s) (broken rule' place' f' t' s') = absurd (not_correct rule' _ _ place' is.shape f' ok)
+one_told night text other status ended is (carried old new steps ok c t s) (no_contents fault' ok' h' t' s') = absurd (not_opened night fault' old h' c.opened)
+one_told night text other status ended is (carried old new steps ok c t s) (refused old' fault' ok' o' m' h' t' s') = absurd (not_refused night old new old' steps fault' c o' m' h')
+one_told night text other status ended is (carried old new steps ok c t s) (carried old' new' steps' ok' c' t' s') =
+    record { texts = t ∙ one_carried night old new old' new' steps steps' is.each c c' ∙ sym t'; statuses = s ∙ sym s' }
+
+-- its views are those that were read
+opened_views : (parts : List Part) (names : List (List ℕ)) (views : List ViewOf) (texts : Texts) (strategy : List ℕ) (opening : Opening) → opening_in parts names views texts strategy ≡ Ok opening → opening.views ≡ views
+opened_views parts names views texts strategy opening e =
+    let tables = from_step (or_fault (first_stray names views parts) (rows_after TableRows parts names [] views texts)) _ opening e in
+    let changes = from_step (rows_after ChangeRows parts names [] views tables.0.1) _ opening tables.2 in
+    let list = from_step (strategy_of names strategy) _ opening changes.2 in
+    ap (λ o. o.views) (sym (same_Ok _ _ _ refl list.2))
+
+read_night : (bytes : List ℕ) (night : Night) → night_of bytes ≡ Ok night → IsReadNight night
+read_night bytes night e =
+    let parts = from_step (parts_in nights.First bytes) night_in night e in
+    let catalogue = from_step (text_in parts.0 heading.Catalogue (codes "catalogue")) _ night parts.2 in
+    let strategy = from_step (text_in parts.0 heading.Strategy (codes "strategy")) _ night catalogue.2 in
+    let shape = from_step (shape_of catalogue.0) _ night strategy.2 in
+    let written = from_step (definitions_of shape.0 catalogue.0 []) _ night shape.2 in
+    let opening = from_step (opening_in parts.0 shape.0.names written.0.0 written.0.1 strategy.0) _ night written.2 in
+    let same = same_Ok _ _ _ refl opening.2 in
+    let definitions = are-definitions catalogue.0 shape.0 [] written.0.1 written.0.0 shape.1 written.1 in
+    let views = opened_views parts.0 shape.0.names written.0.0 written.0.1 strategy.0 opening.0 opening.1 in
+    let each = sym (length-map written.0.0 (λ view. length view.columns)) ∙ definitions.catalog.each_width in
+    subst IsReadNight same (record { shape = definitions.catalog.shape; each = ap (λ vs. length vs) views ∙ each })
+
+pub one_night : OneNightOutput
+one_night bytes text other status ended = go (night_of bytes) (read_night bytes)
+  where
+    go : (r : Result Night LoadFault) → ((night : Night) → r ≡ Ok night → IsReadNight night)
+        → MatchResult r (λ night. IsNightTold night text status) (λ fault. IsFaultShown fault text status)
+        → MatchResult r (λ night. IsNightTold night other ended) (λ fault. IsFaultShown fault other ended)
+        → AreSame text status other ended
+    go (Ok night) read f g = one_told night text other status ended (read night refl) f g
+    go (Err fault) read f g = one_shown fault text other status ended f g

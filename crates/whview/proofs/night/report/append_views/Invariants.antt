@@ -1,0 +1,10 @@
+use Rattle.std.proofs.Common.{◌≡◌, ◌++◌, drop, map}
+use Rattle.wh_load.specs.Definitions.{shown_view}
+use Rattle.wh_maint.specs.Comp.{bag_at}
+use Rattle.whview.specs.NightOutput.{views_text}
+use Rattle.whview.proofs.night.report.append_views.Given as goal
+
+abbrev pub invariant-loop-view : goal.invariant-loop-view
+invariant-loop-view l =
+    l.initial.out.items ++ views_text l.texts l.shape.names 0 (map shown_view l.views) (bag_at l.tables)
+    ≡ l.out.items ++ views_text l.texts l.shape.names l.view (map shown_view (drop l.view l.views)) (bag_at l.tables)

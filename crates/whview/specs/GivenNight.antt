@@ -1,0 +1,147 @@
+-- What a night is given by the bytes of a bundle.
+use Rattle.std.specs.Prelude.{◌≡◌, ◌++◌, ℕ, List, [], ◌∷◌, length, Bool, true, false, Option, Some, None, slice_get, option_and_then, Result, Ok, codes, if◌then◌else◌}
+use Rattle.std.specs.Option.{option_or}
+use Rattle.wh_dag.specs.Catalog.{CatalogOf, DefinitionOf}
+use Rattle.wh_dag.specs.Shape.{Views}
+use Rattle.wh_dag.specs.Written.{name_of, number_of}
+use Rattle.wh_row.specs.Bag.{Bag, HasWidth, IsTable, empty}
+use Rattle.wh_load.specs.Catalogue.{◌>>=◌, shape_of}
+use Rattle.wh_load.specs.Columns.{NamedKind}
+use Rattle.wh_load.specs.Definitions.{ViewOf, definitions_of}
+use Rattle.wh_load.specs.Find.{found}
+use Rattle.wh_load.specs.FormulaKinds.{Texts}
+use Rattle.wh_load.specs.ReadCatalog.{catalog_of}
+use Rattle.wh_load.specs.StrategyText.{strategy_of}
+use Rattle.wh_load.specs.TableRead.{changes_give, table_gives}
+use Rattle.wh_load.specs.TableText.{or_fault}
+use Rattle.wh_load.specs.Text.{text_of}
+use Rattle.wh_load.specs.declared.bundle.fault.Nights.TheVariants as nights
+use Rattle.wh_load.specs.declared.bundle.heading.Heading.{Heading}
+use Rattle.wh_load.specs.declared.bundle.heading.Heading.TheVariants as heading
+use Rattle.wh_load.specs.declared.bundle.part.Part.{Part}
+use Rattle.wh_load.specs.declared.fault.LoadFault.{LoadFault}
+use Rattle.wh_load.specs.declared.fault.LoadFault.TheVariants as fault
+use Rattle.wh_strategy.specs.declared.expression.Expression.{Expression}
+use Rattle.whview.specs.CheckOutput.{parts_in, text_in}
+
+-- what a night begins from: the base views' tables and changes, which are empty for derived views, the texts that their cells
+-- stand for, and the strategy
+pub record Opening : Type 0 where
+  pub views : List ViewOf
+  pub texts : Texts
+  pub tables : List Bag
+  pub changes : List Bag
+  pub list : List Expression
+
+-- a shape, and what a night over it begins from
+pub record Night : Type 0 where
+  pub shape : Views
+  pub opening : Opening
+
+-- the catalogue of its views
+abbrev pub catalog_in : Night → CatalogOf
+catalog_in night = catalog_of night.shape night.opening.views
+
+-- ---- rows of no base view
+
+-- it is a base view
+abbrev pub is_base_view : Option ViewOf → Bool
+is_base_view None = false
+is_base_view (Some view) = is_undefined view.definition
+  where
+    is_undefined : Option DefinitionOf → Bool
+    is_undefined None = true
+    is_undefined (Some definition) = false
+
+-- the word is the name of a base view
+abbrev pub is_base_name : List (List ℕ) → List ViewOf → List ℕ → Bool
+is_base_name names views word = is_base_view (option_and_then (slice_get views) (number_of names word))
+
+-- whether a part of this heading may stand there: data and changes are of base views
+abbrev pub fits_base : List (List ℕ) → List ViewOf → Heading → Bool
+fits_base names views (heading.Data name) = is_base_name names views name
+fits_base names views (heading.Changes name) = is_base_name names views name
+fits_base names views _ = true
+
+-- the first word of such a heading
+abbrev pub rows_word : Heading → List ℕ
+rows_word (heading.Data name) = codes "data"
+rows_word _ = codes "changes"
+
+-- the first part with rows of no base view is a fault
+abbrev pub first_stray : List (List ℕ) → List ViewOf → List Part → Option LoadFault
+first_stray names views [] = None
+first_stray names views (part ∷ rest) = if fits_base names views part.heading then first_stray names views rest else Some (fault.Part (rows_word part.heading))
+
+-- ---- tables and changes
+
+-- the rows of a base view: its table, or its changes in the night
+pub data Rows : Type 0 where
+  TableRows : Rows
+  ChangeRows : Rows
+
+-- the heading of the part that has these rows of this view
+abbrev pub rows_heading : Rows → List ℕ → Heading
+rows_heading TableRows name = heading.Data name
+rows_heading ChangeRows name = heading.Changes name
+
+-- what the text of such a part gives
+abbrev pub rows_given : Rows → List NamedKind → Texts → List ℕ → Result (Bag × Texts) LoadFault
+rows_given TableRows columns texts text = table_gives columns texts text
+rows_given ChangeRows columns texts text = changes_give columns texts text
+
+-- what a part writes, and no rows where there is none
+abbrev pub rows_written : Rows → List NamedKind → Option Part → Texts → Result (Bag × Texts) LoadFault
+rows_written kind columns None texts = Ok (empty, texts)
+rows_written kind columns (Some part) texts = rows_given kind columns texts (text_of part)
+
+-- the rows of a view: of a base view those of its part, of a derived view none
+abbrev pub rows_of : Rows → List Part → List ℕ → ViewOf → Texts → Result (Bag × Texts) LoadFault
+rows_of kind parts name view texts = of_definition view.definition
+  where
+    of_definition : Option DefinitionOf → Result (Bag × Texts) LoadFault
+    of_definition None = rows_written kind view.columns (found (rows_heading kind name) 0 parts) texts
+    of_definition (Some definition) = Ok (empty, texts)
+
+-- after the rows of the views before, those of these, in the order of the views; or the first fault
+abbrev pub rows_after : Rows → List Part → List (List ℕ) → List Bag → List ViewOf → Texts → Result (List Bag × Texts) LoadFault
+rows_after kind parts names before [] texts = Ok (before, texts)
+rows_after kind parts names before (view ∷ rest) texts = do
+  own ← rows_of kind parts (name_of names (length before)) view texts
+  rows_after kind parts names (before ++ own.0 ∷ []) rest own.1
+
+-- tables have no negative count
+abbrev pub IsTableIfTable : Rows → Bag → Type 0
+IsTableIfTable TableRows bag = IsTable bag
+IsTableIfTable ChangeRows bag = Unit {0}
+
+-- there are rows of each of these views, of its columns
+abbrev pub AreReadRows : Rows → List ViewOf → List Bag → Type 0
+AreReadRows kind [] [] = Unit {0}
+AreReadRows kind [] (bag ∷ bags) = ⊥
+AreReadRows kind (view ∷ views) [] = ⊥
+AreReadRows kind (view ∷ views) (bag ∷ bags) = (HasWidth bag (length view.columns) × IsTableIfTable kind bag) × AreReadRows kind views bags
+
+-- ---- all of it
+
+-- what a night over these views begins from, or its first fault: rows of no base view, then the data, the changes, the strategy
+abbrev pub opening_in : List Part → List (List ℕ) → List ViewOf → Texts → List ℕ → Result Opening LoadFault
+opening_in parts names views texts strategy = do
+  tables ← or_fault (first_stray names views parts) (rows_after TableRows parts names [] views texts)
+  changes ← rows_after ChangeRows parts names [] views tables.1
+  list ← strategy_of names strategy
+  Ok (record { views = views; texts = changes.1; tables = tables.0; changes = changes.0; list = list })
+
+-- what the parts of a bundle say, or their first fault: a part that is missing, the catalogue's, then what the night begins from
+abbrev pub night_in : List Part → Result Night LoadFault
+night_in parts = do
+  catalogue ← text_in parts heading.Catalogue (codes "catalogue")
+  strategy ← text_in parts heading.Strategy (codes "strategy")
+  shape ← shape_of catalogue
+  written ← definitions_of shape catalogue []
+  opening ← opening_in parts shape.names written.0 written.1 strategy
+  Ok (record { shape = shape; opening = opening })
+
+-- what the bytes of a bundle of one night say, or their first fault
+abbrev pub night_of : List ℕ → Result Night LoadFault
+night_of bytes = parts_in nights.First bytes >>= night_in

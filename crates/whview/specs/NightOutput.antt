@@ -1,0 +1,122 @@
+-- What `night` prints for the bytes of a bundle, and the status that it ends with.
+use Rattle.std.specs.Prelude.{◌≡◌, ◌≢◌, ◌<◌, ◌+◌, ◌++◌, ℕ, List, [], ◌∷◌, length, Option, Some, None, codes, decimal, cond, flat_map, sum_by, MatchResult}
+use Rattle.wh_dag.specs.Catalog.{DefinitionOf}
+use Rattle.wh_dag.specs.Written.{name_of}
+use Rattle.wh_row.specs.Bag.{Bag}
+use Rattle.wh_load.specs.Definitions.{ViewOf}
+use Rattle.wh_load.specs.ExpressionText.{expression_text}
+use Rattle.wh_load.specs.FormulaKinds.{Texts}
+use Rattle.wh_load.specs.TableWritten.{table_text}
+use Rattle.wh_maint.specs.Comp.{bag_at}
+use Rattle.wh_maint.specs.Contents.{contents}
+use Rattle.wh_maint.specs.Definition.{graph_of}
+use Rattle.wh_maint.specs.Laws.{changed}
+use Rattle.wh_maint.specs.Size.{capped}
+use Rattle.wh_maint.specs.View.{ViewGraph}
+use Rattle.wh_maint.specs.declared.fault.MaintFault.{MaintFault}
+use Rattle.wh_maint.specs.declared.fault.MaintFault.TheVariants.{Absent, Large, Memory, Range}
+use Rattle.wh_night.specs.Carry.{tables_after}
+use Rattle.wh_night.specs.Refused.{AreAllowedBelow, ArePassedBelow, IsNightFault}
+use Rattle.wh_night.specs.Steps.{AreSteps}
+use Rattle.wh_night.specs.declared.report.CarryFault.{CarryFault}
+use Rattle.wh_strategy.specs.Rules.{IsCorrect, IsFirstBroken}
+use Rattle.wh_strategy.specs.declared.expression.Expression.{Expression}
+use Rattle.wh_strategy.specs.declared.rule.Rule.{Rule}
+use Rattle.whview.specs.CheckOutput.{IsFaultShown, broken_text, line}
+use Rattle.whview.specs.GivenNight.{Night, catalog_in, night_of}
+use Rattle.whview.specs.OpenedNight.{HasNoContents, HaveContentsBelow}
+
+-- ---- texts
+
+-- an expression and its rows
+abbrev pub step_text : List (List ℕ) → Expression × ℕ → List ℕ
+step_text names step = line (expression_text names step.0 ++ codes ": " ++ decimal step.1)
+
+-- the rows of all steps together, or 2^128 - 1 in place of more
+abbrev pub work_in : List (Expression × ℕ) → ℕ
+work_in steps = capped (sum_by (λ step. step.1) steps)
+
+-- the steps, their work and the new version
+abbrev pub report_text : List (List ℕ) → List (Expression × ℕ) → List ℕ
+report_text names steps = flat_map (step_text names) steps ++ line (codes "work " ++ decimal (work_in steps)) ++ line (codes "version " ++ decimal 1)
+
+-- the table of a derived view under its name; of a base view nothing
+abbrev pub view_text : Texts → List ℕ → ViewOf → Bag → List ℕ
+view_text texts name view table = of_definition view.definition
+  where
+    of_definition : Option DefinitionOf → List ℕ
+    of_definition None = []
+    of_definition (Some definition) = line (codes "view " ++ name) ++ table_text view.columns texts table
+
+-- the tables of the derived views, in the order of their numbers, the first view having this number
+abbrev pub views_text : Texts → List (List ℕ) → ℕ → List ViewOf → (ℕ → Bag) → List ℕ
+views_text texts names number [] tables = []
+views_text texts names number (view ∷ views) tables = view_text texts (name_of names number) view (tables number) ++ views_text texts names (number + 1) views tables
+
+-- a night that was carried out, in these steps and to these tables
+abbrev pub carried_text : Night → List (Expression × ℕ) → (ℕ → Bag) → List ℕ
+carried_text night steps tables = report_text night.shape.names steps ++ views_text night.opening.texts night.shape.names 0 night.opening.views tables
+
+-- what is refused, and of which view
+abbrev pub refused_text : List (List ℕ) → MaintFault → List ℕ
+refused_text names (Large view) = line (codes "refused large " ++ name_of names view)
+refused_text names (Range view) = line (codes "refused range " ++ name_of names view)
+refused_text names (Absent view row) = line (codes "refused absent " ++ name_of names view)
+refused_text names Memory = line (codes "memory")
+
+-- a night that was refused: whether its first expression had begun
+abbrev pub left_text : List (List ℕ) → CarryFault → List ℕ
+left_text names refused = refused_text names refused.fault ++ cond refused.started (line (codes "left given-up")) (line (codes "left untouched"))
+
+-- ---- contents
+
+-- the views of a night
+abbrev pub graph_in : Night → ViewGraph
+graph_in night = graph_of (catalog_in night)
+
+-- the contents of the base that was read
+abbrev pub old_contents : Night → ℕ → Bag
+old_contents night = contents (graph_in night) (bag_at night.opening.tables)
+
+-- the contents of the base with its changes
+abbrev pub new_contents : Night → ℕ → Bag
+new_contents night = contents (graph_in night) (changed (bag_at night.opening.tables) (bag_at night.opening.changes))
+
+-- these lists are the contents of the base that was read
+pub record AreOpened (night : Night) (tables : List Bag) : Type 0 where
+  pub each : length tables ≡ length night.shape.children
+  pub opened : (view : ℕ) → view < length night.shape.children → bag_at tables view ≡ old_contents night view
+  pub valued : HaveContentsBelow (catalog_in night) (bag_at night.opening.tables) (length night.shape.children)
+
+-- The strategy, carried out from the contents of the base that was read, makes these tables in these steps, and nothing in it
+-- is refused. The tables are the contents of the base with its changes, whatever the strategy is, and each derived view has a
+-- value there.
+pub record IsCarriedOut (night : Night) (old new : List Bag) (steps : List (Expression × ℕ)) : Type 0 where
+  pub opened : AreOpened night old
+  pub allowed : AreAllowedBelow (catalog_in night) (bag_at old) (bag_at night.opening.changes) (length night.shape.children)
+  pub passed : ArePassedBelow (catalog_in night) night.opening.list (bag_at old) (bag_at night.opening.changes) (length night.opening.list)
+  pub carried : (view : ℕ) → view < length night.shape.children
+      → bag_at new view ≡ tables_after (graph_in night) (bag_at night.opening.changes) night.opening.list (bag_at old) view
+  pub contents : (view : ℕ) → view < length night.shape.children → bag_at new view ≡ new_contents night view
+  pub valued : HaveContentsBelow (catalog_in night) (changed (bag_at night.opening.tables) (bag_at night.opening.changes)) (length night.shape.children)
+  pub reported : AreSteps night.shape.children night.opening.list (bag_at old)
+      (tables_after (graph_in night) (bag_at night.opening.changes) night.opening.list (bag_at old)) steps
+
+-- ---- what is printed
+
+-- What is printed of a night, and the status. A night is refused for the first reason that its base changes, and then its
+-- expressions, meet; want of memory is told as such and is none of these.
+pub data IsNightTold (night : Night) (text : List ℕ) (status : ℕ) : Type 0 where
+  broken : (rule : Rule) (place : ℕ) → IsFirstBroken night.shape.children night.opening.list rule place → text ≡ broken_text rule place → status ≡ 1 → IsNightTold night text status
+  no_contents : (fault : MaintFault) → IsCorrect night.shape.children night.opening.list → HasNoContents (catalog_in night) (bag_at night.opening.tables) fault
+      → text ≡ refused_text night.shape.names fault → status ≡ 1 → IsNightTold night text status
+  refused : (old : List Bag) (fault : CarryFault) → IsCorrect night.shape.children night.opening.list → AreOpened night old → fault.fault ≢ Memory
+      → IsNightFault (catalog_in night) night.opening.list (bag_at old) (bag_at night.opening.changes) fault
+      → text ≡ left_text night.shape.names fault → status ≡ 1 → IsNightTold night text status
+  carried : (old new : List Bag) (steps : List (Expression × ℕ)) → IsCorrect night.shape.children night.opening.list → IsCarriedOut night old new steps
+      → text ≡ carried_text night steps (bag_at new) → status ≡ 0 → IsNightTold night text status
+
+-- what `night` prints for a bundle's bytes, and the status
+abbrev pub IsNightOutput : List ℕ → List ℕ → ℕ → Type 0
+IsNightOutput bytes text status =
+    MatchResult (night_of bytes) (λ night. IsNightTold night text status) (λ fault. IsFaultShown fault text status)

@@ -1,0 +1,12 @@
+//! How long a search may go on.
+
+ghost use Rattle.std.specs.Prelude.{◌≤◌, ◌<◌, ◌^◌};
+
+/// How many nodes a search may open, 1 to 2^63 - 1.
+#[derive(Debug, Clone, Copy, PartialEq, Eq)]
+pub struct Budget {
+    /// The number of nodes.
+    pub nodes: u64,
+    ghost least: { 1 ≤ nodes },
+    ghost most: { nodes < 2 ^ 63 },
+}

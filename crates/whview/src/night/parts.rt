@@ -1,0 +1,214 @@
+//! The parts of a bundle that a night is given, read.
+
+ghost use Rattle.std.specs.Prelude.{◌≡◌, ◌⊎◌, [], length, map, None, Some, Ok, Err, IfOk, IfErr, OnOk};
+ghost use Rattle.wh_load.specs.Definitions.{shown_view};
+ghost use Rattle.whview.specs.GivenNight.{TableRows, ChangeRows, AreReadRows, first_stray, fits_base, is_base_name, night_in, night_of, opening_in, rows_after, rows_of, rows_word};
+ghost use Rattle.whview.specs.ShownNight.{shown_night, shown_opening, IsFitNight};
+
+use super::given::{Given, Opening};
+use crate::reading::{bundle_of, text_of};
+use std::alloc::{AllocError, Global};
+use wh_dag::Shape;
+use wh_load::{
+    Bundle, Dict, Heading, LoadFault, Names, Nights, Part, Piece, Word, Written, WrittenView,
+    read_changes, read_definitions, read_shape, read_strategy, read_table,
+};
+use wh_row::Bag;
+
+/// Whether this word is the name of a base view.
+fn is_base_name(names: &Names, views: &[WrittenView], word: &[u8]) -> bool
+    ensures { result ≡ is_base_name names.now (map shown_view views.now) word.now }
+{
+    let Some(number) = names.number(word) else {
+        return false;
+    };
+    match views.get(number) {
+        Some(view) => view.definition.is_none(),
+        None => false,
+    }
+}
+
+/// Whether a part has rows of a base view, or no rows.
+fn fits_base(names: &Names, views: &[WrittenView], part: &Part<'_>) -> bool
+    ensures { result ≡ fits_base names.now (map shown_view views.now) part.now.heading }
+{
+    match &part.heading {
+        Heading::Data(name) => is_base_name(names, views, name.as_slice()),
+        Heading::Changes(name) => is_base_name(names, views, name.as_slice()),
+        _ => true,
+    }
+}
+
+/// The fault of a part whose rows are of no base view.
+fn stray_part(alloc: Global, part: &Part<'_>) -> LoadFault
+    ensures { (result ≡ LoadFault.Memory) ⊎ (result ≡ LoadFault.Part (rows_word part.now.heading)) }
+{
+    let word = match &part.heading {
+        Heading::Data(_) => Word::new(alloc, b"data"),
+        _ => Word::new(alloc, b"changes"),
+    };
+    match word {
+        Ok(word) => LoadFault::Part(word),
+        Err(AllocError) => LoadFault::Memory,
+    }
+}
+
+/// Looks for the first part whose rows are of no base view.
+fn only_base_parts(
+    alloc: Global,
+    bundle: &Bundle<'_>,
+    names: &Names,
+    views: &[WrittenView],
+) -> Result<(), LoadFault>
+    ensures ok { OnOk result (first_stray names.now (map shown_view views.now) bundle.now ≡ None) }
+    ensures err { IfErr result (λ f. (f ≡ LoadFault.Memory) ⊎ (first_stray names.now (map shown_view views.now) bundle.now ≡ Some f)) }
+{
+    for part in bundle.parts() {
+        if !fits_base(names, views, part) {
+            return Err(stray_part(alloc, part));
+        }
+    }
+    Ok(())
+}
+
+/// The table of a view: of a base view what its part writes, and no rows where there is none.
+fn table_of(
+    alloc: Global,
+    bundle: &Bundle<'_>,
+    name: &[u8],
+    view: &WrittenView,
+    texts: &mut Dict,
+) -> Result<Bag, LoadFault>
+    ensures ok { IfOk result (λ bag. rows_of TableRows bundle.now name.now (shown_view view.now) texts.old ≡ Ok (bag, texts.new)) }
+    ensures err { IfErr result (λ f. (f ≡ LoadFault.Memory) ⊎ (rows_of TableRows bundle.now name.now (shown_view view.now) texts.old ≡ Err f)) }
+{
+    if view.definition.is_some() {
+        return Ok(Bag::new(alloc));
+    }
+    match bundle.find(&Heading::Data(Piece::new(name)), 0) {
+        Some(part) => {
+            let text = part.text(alloc)?;
+            read_table(alloc, &view.columns, &text, texts)
+        }
+        None => Ok(Bag::new(alloc)),
+    }
+}
+
+/// The changes of a view: of a base view what its part writes, and none where there is none.
+fn changes_of(
+    alloc: Global,
+    bundle: &Bundle<'_>,
+    name: &[u8],
+    view: &WrittenView,
+    texts: &mut Dict,
+) -> Result<Bag, LoadFault>
+    ensures ok { IfOk result (λ bag. rows_of ChangeRows bundle.now name.now (shown_view view.now) texts.old ≡ Ok (bag, texts.new)) }
+    ensures err { IfErr result (λ f. (f ≡ LoadFault.Memory) ⊎ (rows_of ChangeRows bundle.now name.now (shown_view view.now) texts.old ≡ Err f)) }
+{
+    if view.definition.is_some() {
+        return Ok(Bag::new(alloc));
+    }
+    match bundle.find(&Heading::Changes(Piece::new(name)), 0) {
+        Some(part) => {
+            let text = part.text(alloc)?;
+            read_changes(alloc, &view.columns, &text, texts)
+        }
+        None => Ok(Bag::new(alloc)),
+    }
+}
+
+fn tables_in(
+    alloc: Global,
+    bundle: &Bundle<'_>,
+    shape: &Shape,
+    views: &[WrittenView],
+    texts: &mut Dict,
+) -> Result<Vec<Bag>, LoadFault>
+    requires { length views.now ≡ length shape.now.children }
+    ensures ok { IfOk result (λ rows. rows_after TableRows bundle.now shape.now.names [] (map shown_view views.now) texts.old ≡ Ok (rows.items, texts.new)) }
+    ensures err { IfErr result (λ f. (f ≡ LoadFault.Memory) ⊎ (rows_after TableRows bundle.now shape.now.names [] (map shown_view views.now) texts.old ≡ Err f)) }
+{
+    let mut tables = Vec::new(alloc);
+    for view in views {
+        let name = shape.name(tables.len()).as_bytes();
+        let own = table_of(alloc, bundle, name, view, texts)?;
+        tables.push(own)?;
+    }
+    Ok(tables)
+}
+
+fn changes_in(
+    alloc: Global,
+    bundle: &Bundle<'_>,
+    shape: &Shape,
+    views: &[WrittenView],
+    texts: &mut Dict,
+) -> Result<Vec<Bag>, LoadFault>
+    requires { length views.now ≡ length shape.now.children }
+    ensures ok { IfOk result (λ rows. rows_after ChangeRows bundle.now shape.now.names [] (map shown_view views.now) texts.old ≡ Ok (rows.items, texts.new)) }
+    ensures err { IfErr result (λ f. (f ≡ LoadFault.Memory) ⊎ (rows_after ChangeRows bundle.now shape.now.names [] (map shown_view views.now) texts.old ≡ Err f)) }
+{
+    let mut changes = Vec::new(alloc);
+    for view in views {
+        let name = shape.name(changes.len()).as_bytes();
+        let own = changes_of(alloc, bundle, name, view, texts)?;
+        changes.push(own)?;
+    }
+    Ok(changes)
+}
+
+/// What a night over these views begins from.
+fn opening_in(
+    alloc: Global,
+    bundle: &Bundle<'_>,
+    shape: &Shape,
+    views: Vec<WrittenView>,
+    texts: Dict,
+    strategy: &[u8],
+) -> Result<Opening, LoadFault>
+    requires { length views.items ≡ length shape.now.children }
+    ensures ok { IfOk result (λ o. opening_in bundle.now shape.now.names (map shown_view views.items) texts strategy.now ≡ Ok (shown_opening o)) }
+    ensures views { IfOk result (λ o. o.views ≡ views) }
+    ensures tables { IfOk result (λ o. AreReadRows TableRows (map shown_view views.items) o.tables.items) }
+    ensures changes { IfOk result (λ o. AreReadRows ChangeRows (map shown_view views.items) o.changes.items) }
+    ensures err { IfErr result (λ f. (f ≡ LoadFault.Memory) ⊎ (opening_in bundle.now shape.now.names (map shown_view views.items) texts strategy.now ≡ Err f)) }
+{
+    let mut texts = texts;
+    let names = Names::of(alloc, shape)?;
+    only_base_parts(alloc, bundle, &names, &views)?;
+    let tables = tables_in(alloc, bundle, shape, &views, &mut texts)?;
+    let changes = changes_in(alloc, bundle, shape, &views, &mut texts)?;
+    let strategy = read_strategy(alloc, &names, strategy)?;
+    Ok(Opening {
+        views,
+        texts,
+        tables,
+        changes,
+        strategy,
+    })
+}
+
+fn given_in(alloc: Global, bundle: &Bundle<'_>) -> Result<Given, LoadFault>
+    ensures ok { IfOk result (λ g. night_in bundle.now ≡ Ok (shown_night g)) }
+    ensures fit { IfOk result IsFitNight }
+    ensures err { IfErr result (λ f. (f ≡ LoadFault.Memory) ⊎ (night_in bundle.now ≡ Err f)) }
+{
+    let catalogue = text_of(alloc, bundle, &Heading::Catalogue, b"catalogue")?;
+    let strategy = text_of(alloc, bundle, &Heading::Strategy, b"strategy")?;
+    let shape = read_shape(alloc, &catalogue)?;
+    let mut texts = Dict::new(alloc);
+    let written = read_definitions(alloc, &catalogue, &shape, &mut texts)?;
+    let Written { views } = written;
+    let opening = opening_in(alloc, bundle, &shape, views, texts, &strategy)?;
+    Ok(Given { shape, opening })
+}
+
+/// Reads what the night of a bundle is given.
+pub(crate) fn read_given(alloc: Global, bytes: &[u8]) -> Result<Given, LoadFault>
+    ensures ok { IfOk result (λ g. night_of bytes.now ≡ Ok (shown_night g)) }
+    ensures fit { IfOk result IsFitNight }
+    ensures err { IfErr result (λ f. (f ≡ LoadFault.Memory) ⊎ (night_of bytes.now ≡ Err f)) }
+{
+    let bundle = bundle_of(alloc, bytes, Nights::First)?;
+    given_in(alloc, &bundle)
+}

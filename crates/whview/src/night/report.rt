@@ -1,0 +1,209 @@
+//! What is printed of a night.
+
+ghost use Rattle.std.specs.Prelude.{◌≡◌, ◌≢◌, ◌<◌, ◌++◌, ℕ, codes, decimal, drop, flat_map, length, map, sum_by, IfOk, OnOk};
+ghost use Rattle.wh_dag.specs.Written.{name_of};
+ghost use Rattle.wh_load.specs.Definitions.{shown_view};
+ghost use Rattle.wh_maint.specs.Comp.{bag_at};
+ghost use Rattle.whview.specs.CheckOutput.{line};
+ghost use Rattle.whview.specs.NightOutput.{left_text, refused_text, report_text, step_text, view_text, views_text, work_in};
+
+use crate::answer::Answer;
+use std::alloc::{AllocError, Global};
+use wh_dag::Shape;
+use wh_load::{Dict, Names, WrittenView, write_expression, write_table};
+use wh_maint::MaintFault;
+use wh_night::{Carried, CarryFault, Report};
+use wh_row::Bag;
+use wh_strategy::Expression;
+
+/// Appends a line of this text and number.
+fn append_line(
+    alloc: Global,
+    out: &mut Vec<u8>,
+    text: &[u8],
+    number: u128,
+) -> Result<(), AllocError>
+    ensures { OnOk result (out.new.items ≡ out.old.items ++ line (text.now ++ decimal number)) }
+{
+    let digits = format!(in alloc; "{number}\n")?;
+    out.extend_from_slice(text)?;
+    out.extend_from_slice(digits.as_bytes())
+}
+
+/// Appends an expression and its rows.
+fn append_step(
+    alloc: Global,
+    out: &mut Vec<u8>,
+    names: &Names,
+    expression: &Expression,
+    rows: u128,
+) -> Result<(), AllocError>
+    ensures { OnOk result (out.new.items ≡ out.old.items ++ step_text names.now (expression.now, rows)) }
+{
+    write_expression(out, names, expression)?;
+    append_line(alloc, out, b": ", rows)
+}
+
+fn append_steps(
+    alloc: Global,
+    out: &mut Vec<u8>,
+    names: &Names,
+    steps: &[(Expression, u128)],
+) -> Result<(), AllocError>
+    ensures { OnOk result (out.new.items ≡ out.old.items ++ flat_map (step_text names.now) steps.now) }
+{
+    for (expression, rows) in steps {
+        append_step(alloc, out, names, expression, *rows)?;
+    }
+    Ok(())
+}
+
+/// The rows of all steps together, or 2^128 - 1 where they are more.
+fn work_of(steps: &[(Expression, u128)]) -> u128
+    ensures { result ≡ work_in steps.now }
+{
+    let mut work = 0u128;
+    for (_, rows) in steps {
+        work = work.saturating_add(*rows);
+    }
+    work
+}
+
+fn append_report(
+    alloc: Global,
+    out: &mut Vec<u8>,
+    names: &Names,
+    report: &Report,
+) -> Result<(), AllocError>
+    requires { report.now.version ≡ 1 }
+    ensures { OnOk result (out.new.items ≡ out.old.items ++ report_text names.now report.now.steps.items) }
+{
+    append_steps(alloc, out, names, &report.steps)?;
+    append_line(alloc, out, b"work ", work_of(&report.steps))?;
+    append_line(alloc, out, b"version ", u128::from(report.version))
+}
+
+/// Appends the table of a derived view under its name; nothing of a base view.
+fn append_view(
+    out: &mut Vec<u8>,
+    name: &str,
+    view: &WrittenView,
+    texts: &Dict,
+    table: &Bag,
+) -> Result<(), AllocError>
+    ensures { OnOk result (out.new.items ≡ out.old.items ++ view_text texts.now name.now (shown_view view.now) table.now) }
+{
+    if view.definition.is_none() {
+        return Ok(());
+    }
+    out.extend_from_slice(b"view ")?;
+    out.extend_from_slice(name.as_bytes())?;
+    out.push(b'\n')?;
+    write_table(out, &view.columns, table, texts)
+}
+
+fn append_views(
+    out: &mut Vec<u8>,
+    shape: &Shape,
+    views: &[WrittenView],
+    texts: &Dict,
+    tables: &[Bag],
+) -> Result<(), AllocError>
+    requires views { length views.now ≡ length shape.now.children }
+    requires tables { length tables.now ≡ length shape.now.children }
+    ensures { OnOk result (out.new.items ≡ out.old.items ++ views_text texts.now shape.now.names 0 (map shown_view views.now) (bag_at tables.now)) }
+{
+    for view in 0..shape.len() {
+        append_view(out, shape.name(view), &views[view], texts, &tables[view])?;
+    }
+    Ok(())
+}
+
+/// The answer for a night that was carried out.
+pub(crate) fn carried_answer(
+    alloc: Global,
+    shape: &Shape,
+    views: &[WrittenView],
+    texts: &Dict,
+    carried: &Carried,
+) -> Result<Answer, AllocError>
+    requires version { carried.now.report.version ≡ 1 }
+    requires views { length views.now ≡ length shape.now.children }
+    requires tables { length carried.now.tables.items ≡ length shape.now.children }
+    ensures text { IfOk result (λ a. a.text.items ≡ report_text shape.now.names carried.now.report.steps.items
+        ++ views_text texts.now shape.now.names 0 (map shown_view views.now) (bag_at carried.now.tables.items)) }
+    ensures status { IfOk result (λ a. a.status ≡ 0) }
+{
+    let names = Names::of(alloc, shape)?;
+    let mut text = Vec::new(alloc);
+    append_report(alloc, &mut text, &names, &carried.report)?;
+    append_views(&mut text, shape, views, texts, &carried.tables)?;
+    Ok(Answer { text, status: 0 })
+}
+
+/// The name of the view; a number that is no view's has none.
+fn name_of_view<'a>(shape: &'a Shape, view: usize) -> &'a str
+    ensures { result.now ≡ name_of shape.now.names view }
+{
+    if view < shape.len() {
+        shape.name(view)
+    } else {
+        ""
+    }
+}
+
+/// The line that names why a night or its opening contents are refused. Want of memory has none.
+fn cause_line(alloc: Global, shape: &Shape, fault: &MaintFault) -> Result<Vec<u8>, AllocError>
+    ensures told { IfOk result (λ text. fault.now ≢ MaintFault.Memory) }
+    ensures text { IfOk result (λ text. text.items ≡ refused_text shape.now.names fault.now) }
+{
+    let text = match fault {
+        MaintFault::Large(view) => format!(in alloc;
+            "refused large {}\n",
+            name_of_view(shape, *view)
+        )?,
+        MaintFault::Range(view) => format!(in alloc;
+            "refused range {}\n",
+            name_of_view(shape, *view)
+        )?,
+        MaintFault::Absent(view, _) => format!(in alloc;
+            "refused absent {}\n",
+            name_of_view(shape, *view)
+        )?,
+        MaintFault::Memory => return Err(AllocError),
+    };
+    Ok(text.into_bytes())
+}
+
+/// The answer for a base that has no contents.
+pub(crate) fn no_contents(
+    alloc: Global,
+    shape: &Shape,
+    fault: &MaintFault,
+) -> Result<Answer, AllocError>
+    ensures told { IfOk result (λ a. fault.now ≢ MaintFault.Memory) }
+    ensures text { IfOk result (λ a. a.text.items ≡ refused_text shape.now.names fault.now) }
+    ensures status { IfOk result (λ a. a.status ≡ 1) }
+{
+    let text = cause_line(alloc, shape, fault)?;
+    Ok(Answer { text, status: 1 })
+}
+
+/// The answer for a night that was refused.
+pub(crate) fn refused_answer(
+    alloc: Global,
+    shape: &Shape,
+    refused: &CarryFault,
+) -> Result<Answer, AllocError>
+    ensures told { IfOk result (λ a. refused.now.fault ≢ MaintFault.Memory) }
+    ensures text { IfOk result (λ a. a.text.items ≡ left_text shape.now.names refused.now) }
+    ensures status { IfOk result (λ a. a.status ≡ 1) }
+{
+    let mut text = cause_line(alloc, shape, &refused.fault)?;
+    if refused.started {
+        text.extend_from_slice(b"left given-up\n")?;
+    } else {
+        text.extend_from_slice(b"left untouched\n")?;
+    }
+    Ok(Answer { text, status: 1 })
+}
