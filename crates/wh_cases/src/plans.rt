@@ -4,5 +4,6 @@ mod catalogues;
 mod certificates;
 mod given;
 mod least;
+mod searched;
 mod shapes;
 mod strategies;

@@ -2,4 +2,5 @@
 
 mod given;
 mod limits;
+mod texts;
 mod verdicts;

@@ -5,21 +5,29 @@ use std::process::Abort;
 use wh_dag::{Shape, ShapeFault};
 use wh_strategy::{Expression, OutOfRange, SizeRow, Sizes, Sources, Strategy};
 
-pub static TWO_BASES: [(&str, &str); 3] = [("A", ""), ("B", ""), ("V", "A B")];
+pub(crate) static TWO_BASES: [(&str, &str); 3] = [("A", ""), ("B", ""), ("V", "A B")];
 
-pub static TWO_BASES_SIZES: [(u64, u64, u64); 3] = [(10, 12, 4), (100, 70, 30), (50, 44, 6)];
+pub(crate) static TWO_BASES_SIZES: [(u64, u64, u64); 3] = [(10, 12, 4), (100, 70, 30), (50, 44, 6)];
 
 /// B and C, V1 over both, V2 over B and V1.
-pub static CYCLIC: [(&str, &str); 4] = [("B", ""), ("C", ""), ("V1", "B C"), ("V2", "B V1")];
+pub(crate) static CYCLIC: [(&str, &str); 4] = [("B", ""), ("C", ""), ("V1", "B C"), ("V2", "B V1")];
 
-pub static CYCLIC_SIZES: [(u64, u64, u64); 4] = [
+pub(crate) static CYCLIC_SIZES: [(u64, u64, u64); 4] = [
     (100, 90, 20),
     (50, 55, 5),
     (80, 60, 40),
     (200, 190, 30),
 ];
 
-pub static SIX: [(&str, &str); 7] = [
+/// C shrinks as much as B.
+pub(crate) static TIED_SIZES: [(u64, u64, u64); 4] = [
+    (100, 90, 20),
+    (50, 40, 10),
+    (80, 60, 40),
+    (200, 190, 30),
+];
+
+pub(crate) static SIX: [(&str, &str); 7] = [
     ("A1", ""),
     ("A2", ""),
     ("A3", ""),
@@ -30,7 +38,7 @@ pub static SIX: [(&str, &str); 7] = [
 ];
 
 /// Six bases of 10 rows of which one changes.
-pub static SIX_SIZES: [(u64, u64, u64); 7] = [
+pub(crate) static SIX_SIZES: [(u64, u64, u64); 7] = [
     (10, 10, 1),
     (10, 10, 1),
     (10, 10, 1),
@@ -41,7 +49,11 @@ pub static SIX_SIZES: [(u64, u64, u64); 7] = [
 ];
 
 /// The shape of these views, each by its name and the names of its children: none for a base view.
-pub fn shaped(rt: &impl Abort, alloc: Global, rows: &[(&str, &str)]) -> Result<Shape, ShapeFault> {
+pub(crate) fn shaped(
+    rt: &impl Abort,
+    alloc: Global,
+    rows: &[(&str, &str)],
+) -> Result<Shape, ShapeFault> {
     let mut names = Vec::new(alloc);
     let mut over = Vec::new(alloc);
     for (name, own) in rows {
@@ -57,7 +69,7 @@ pub fn shaped(rt: &impl Abort, alloc: Global, rows: &[(&str, &str)]) -> Result<S
 }
 
 /// Sizes from rows of pre, post and change.
-pub fn sized(
+pub(crate) fn sized(
     alloc: Global,
     rows: &[(u64, u64, u64)],
 ) -> Result<Result<Sizes, OutOfRange>, AllocError> {
@@ -83,7 +95,7 @@ fn view(shape: &Shape, name: &str) -> usize {
 }
 
 /// The list that `V<A+B B` writes: a Comp of V from A and B, and an Inst of B.
-pub fn listed(alloc: Global, shape: &Shape, steps: &str) -> Result<Strategy, AllocError> {
+pub(crate) fn listed(alloc: Global, shape: &Shape, steps: &str) -> Result<Strategy, AllocError> {
     let mut list = Vec::new(alloc);
     for step in steps.split_whitespace() {
         let step = match step.split_once('<') {
@@ -111,7 +123,11 @@ fn name(shape: &Shape, view: usize) -> &str {
 }
 
 /// The text of which [`listed`] makes this list.
-pub fn written(alloc: Global, shape: &Shape, list: &[Expression]) -> Result<String, AllocError> {
+pub(crate) fn written(
+    alloc: Global,
+    shape: &Shape,
+    list: &[Expression],
+) -> Result<String, AllocError> {
     let mut text = String::new(alloc);
     for expression in list {
         if !text.is_empty() {

@@ -1,7 +1,8 @@
 //! Plans of least work: which list is found, and which cycle.
 
 use crate::plans::given::{
-    CYCLIC, CYCLIC_SIZES, SIX, SIX_SIZES, TWO_BASES, TWO_BASES_SIZES, shaped, sized, written,
+    CYCLIC, CYCLIC_SIZES, SIX, SIX_SIZES, TIED_SIZES, TWO_BASES, TWO_BASES_SIZES, shaped, sized,
+    written,
 };
 use std::alloc::{AllocError, Global};
 use std::process::Abort;
@@ -10,14 +11,6 @@ use wh_cert::{Certificate, PairMin, Planned, Scope};
 use wh_dag::Shape;
 use wh_minwork::{Decided, Graph, MinFault, SortFault, desired_order, min_work};
 use wh_strategy::Costs;
-
-/// C shrinks as much as B.
-static TIED_SIZES: [(u64, u64, u64); 4] = [
-    (100, 90, 20),
-    (50, 40, 10),
-    (80, 60, 40),
-    (200, 190, 30),
-];
 
 /// What MinWork answers in words: the list, the work and the lines of the certificate, or the cycle.
 fn planned(

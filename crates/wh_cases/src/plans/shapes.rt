@@ -18,7 +18,11 @@ fn children(alloc: Global, names: &str) -> Result<Option<Vec<String>>, AllocErro
 }
 
 /// The shape of these views, each by its name and its children.
-pub fn read(rt: &impl Abort, alloc: Global, rows: &[(&str, &str)]) -> Result<Shape, ShapeFault> {
+pub(crate) fn read(
+    rt: &impl Abort,
+    alloc: Global,
+    rows: &[(&str, &str)],
+) -> Result<Shape, ShapeFault> {
     let mut names = Vec::new(alloc);
     let mut over = Vec::new(alloc);
     for (name, own) in rows {

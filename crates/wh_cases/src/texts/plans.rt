@@ -1,8 +1,8 @@
-// Plans of scope all, over bases A and B and V over both.
+// Plans over bases A and B and V over both.
 
 use crate::texts::cases::{Reads, agree, fault_line, text_of, two_children, two_children_names};
 use std::alloc::{AllocError, Global};
-use wh_cert::{Certificate, Planned, Scope};
+use wh_cert::{Certificate, Planned, Scope, TreeNode};
 use wh_dag::Shape;
 use wh_load::{Names, Plan, read_plan, read_sizes, write_plan, write_strategy};
 use wh_minwork::min_work;
@@ -18,7 +18,8 @@ inst V
 pair V B A 80
 ";
 
-// What is read: the scope, the work, the list, and each pair by the numbers of its views.
+// What is read: the scope, the work, the list, and each pair or node by the numbers of its views, a cycle's expressions
+// below it.
 const PLANS: &str = "all 154
 comp V from B
 inst B
@@ -60,6 +61,48 @@ pair 2 1 0 340282366920938463463374607431768211455
 scope all
 work 0
 pair V B A 340282366920938463463374607431768211455
+====
+one-way 490
+bound
+----
+scope one-way
+work 490
+bound
+====
+one-way 0
+comp V from A B
+branch 2 2
+cycle
+comp V from B A
+inst A
+cycle
+inst B
+inst V
+inst A
+----
+
+\tscope one-way
+work 00
+comp V from A B
+
+ branch  V V\t
+cycle \tcomp V from B A ;inst A
+
+cycle inst B;inst V; inst\tA====
+one-way 7
+branch 1 0
+branch 0 1
+bound
+bound
+bound
+----
+scope one-way
+work 7
+branch B A
+branch A B
+bound
+bound
+bound
 ";
 
 // Plans that are cut, doubled or in another order. A plan that ends too early names the line after its last, blank lines
@@ -122,10 +165,182 @@ scope all
 comp V from B
 work 154
 ====
-9 fault plan 1
+9 fault plan 3
 ----
 scope one-way
 work 490
+====
+9 fault plan 5
+----
+scope one-way
+work 490
+inst V
+
+====
+9 fault plan 3
+----
+scope one-way
+work 490
+pair V B A 80
+bound
+====
+9 fault plan 4
+----
+scope one-way
+work 490
+bound
+inst V
+====
+9 fault plan 4
+----
+scope one-way
+work 490
+branch A B
+inst V
+bound
+bound
+====
+9 fault plan 5
+----
+scope one-way
+work 490
+bound
+
+bound
+====
+9 fault plan 5
+----
+scope one-way
+work 490
+cycle inst A
+\t
+pair V B A 80
+====
+9 fault plan 6
+----
+scope one-way
+work 490
+branch A B
+bound
+bound
+foo
+====
+9 fault plan 5
+----
+scope one-way
+work 490
+branch A B
+bound
+====
+9 fault plan 3
+----
+scope one-way
+work 490
+cycle
+====
+9 fault plan 3
+----
+scope one-way
+work 490
+cycle inst A;
+====
+9 fault plan 3
+----
+scope one-way
+work 490
+cycle ; inst A
+====
+9 fault plan 3
+----
+scope one-way
+work 490
+cycle inst A;; inst B
+====
+9 fault plan 3
+----
+scope one-way
+work 490
+cycle; inst A
+====
+9 fault plan 3
+----
+scope one-way
+work 490
+cycle inst A, inst B
+====
+9 fault plan 3
+----
+scope one-way
+work 490
+cycle inst Q
+====
+9 fault plan 3
+----
+scope one-way
+work 490
+cycle inst A; comp V from
+====
+9 fault plan 3
+----
+scope one-way
+work 490
+bound A
+====
+9 fault plan 3
+----
+scope one-way
+work 490
+branch A
+====
+9 fault plan 3
+----
+scope one-way
+work 490
+branch A B V
+====
+9 fault plan 3
+----
+scope one-way
+work 490
+branch A Q
+====
+9 fault plan 3
+----
+scope one-way
+work 490
+branch Q A
+====
+9 fault plan 2
+----
+scope one-way
+bound
+====
+9 fault plan 1
+----
+bound
+====
+9 fault plan 1
+----
+scope one way
+work 1
+====
+9 fault plan 1
+----
+scope oneway
+work 1
+====
+9 fault plan 3
+----
+scope all
+work 1
+cycle inst A
+====
+9 fault plan 4
+----
+scope all
+work 1
+pair V B A 80
+branch A B
 ====
 9 fault plan 1
 ----
@@ -225,13 +440,43 @@ fn plan_lines(alloc: Global, names: &Names, plan: &Plan) -> Result<String, Alloc
     write_strategy(&mut list, names, &plan.strategy)?;
     let list = text_of(alloc, &list)?;
     let mut text = format!(in alloc; "{scope} {work}\n{list}")?;
-    if let Certificate::Pairs(pairs) = &plan.certificate {
-        for pair in pairs.as_slice() {
-            let (parent, first, second, least) = (pair.parent, pair.first, pair.second, pair.least);
-            text.push_str(format!(in alloc; "pair {parent} {first} {second} {least}\n")?.as_str())?;
+    match &plan.certificate {
+        Certificate::Pairs(pairs) => {
+            for pair in pairs.as_slice() {
+                let (parent, first, second, least) = (
+                    pair.parent,
+                    pair.first,
+                    pair.second,
+                    pair.least,
+                );
+                text.push_str(format!(in alloc;
+                    "pair {parent} {first} {second} {least}\n"
+                )?.as_str())?;
+            }
+        }
+        Certificate::Search(tree) => {
+            for node in tree.as_slice() {
+                text.push_str(node_line(alloc, names, node)?.as_str())?;
+            }
         }
     }
     Ok(text)
+}
+
+fn node_line(alloc: Global, names: &Names, node: &TreeNode) -> Result<String, AllocError> {
+    match node {
+        TreeNode::Bound => String::from_str(alloc, "bound\n"),
+        TreeNode::Branch(couple) => {
+            let (lower, higher) = (couple.lower, couple.higher);
+            Ok(format!(in alloc; "branch {lower} {higher}\n")?)
+        }
+        TreeNode::Cycle(list) => {
+            let mut text = Vec::new(alloc);
+            write_strategy(&mut text, names, list)?;
+            let text = text_of(alloc, &text)?;
+            Ok(format!(in alloc; "cycle\n{text}")?)
+        }
+    }
 }
 
 /// What a plan says, or the fault.

@@ -6,14 +6,15 @@ use std::test::Fail;
 use wh_cert::{Certificate, Tree, TreeNode, Verdict, certify};
 use wh_dag::Couple;
 use wh_load::{Names, read_shape, read_sizes, read_strategy};
-use wh_strategy::{Costs, check};
+use wh_strategy::{Costs, Strategy, check};
 
 static CATALOGUE: &str =
     "view = [{ name = \"B\" }, { name = \"C\" }, { name = \"V1\", over = [\"B\", \"C\"] }, { name = \"V2\", over = [\"B\", \"V1\"] }]";
 
 static SIZES: &str = "view,pre,post,change\nB,100,90,20\nC,50,55,5\nV1,80,60,40\nV2,200,190,30\n";
 
-static STRATEGY: &str =
+/// The list, of work 490 at costs of 1.
+pub(crate) static STRATEGY: &str =
     "comp V1 from B\ncomp V2 from B\ninst B\ncomp V1 from C\ncomp V2 from V1\ninst C\ninst V1\ninst V2\n";
 
 /// A node of a tree over the views B, C, V1 and V2, which are 0 to 3.
@@ -44,14 +45,29 @@ fn nodes(alloc: Global, names: &Names, steps: &[Step]) -> Result<Vec<TreeNode>, 
 
 /// The verdict on the strategy with the tree of these nodes, at costs of 1.
 pub(crate) fn verdict(rt: &impl Abort, alloc: Global, steps: &[Step]) -> Result<Verdict, Fail> {
+    let names = the_names(alloc)?;
+    let list = read_strategy(alloc, &names, STRATEGY.as_bytes())?;
+    let tree = Tree::new(nodes(alloc, &names, steps)?).expect(rt, "the nodes of a tree");
+    judged(rt, alloc, list, &Certificate::Search(tree))
+}
+
+/// The names B, C, V1 and V2.
+pub(crate) fn the_names(alloc: Global) -> Result<Names, Fail> {
+    let shape = read_shape(alloc, CATALOGUE.as_bytes())?;
+    Ok(Names::of(alloc, &shape)?)
+}
+
+/// The verdict on a list with this certificate, at costs of 1.
+pub(crate) fn judged(
+    rt: &impl Abort,
+    alloc: Global,
+    list: Strategy,
+    certificate: &Certificate,
+) -> Result<Verdict, Fail> {
     let shape = read_shape(alloc, CATALOGUE.as_bytes())?;
     let sizes = read_sizes(alloc, &shape, SIZES.as_bytes())?;
-    let names = Names::of(alloc, &shape)?;
-    let list = read_strategy(alloc, &names, STRATEGY.as_bytes())?;
     let correct = check(alloc, &shape, list)?;
     let costs = Costs::new(1, 1).expect(rt, "costs of 1");
-    let tree = Tree::new(nodes(alloc, &names, steps)?).expect(rt, "the nodes of a tree");
-    let certificate = Certificate::Search(tree);
     assert!(rt; correct.is_of(&shape) && sizes.len() == shape.len());
-    Ok(certify(&shape, &sizes, costs, &correct, &certificate))
+    Ok(certify(&shape, &sizes, costs, &correct, certificate))
 }
