@@ -4,17 +4,16 @@
 use std::io::Read;
 use std::time::Instant;
 
-#[derive(Clone, Copy, PartialEq)]
-enum S {
-    StartRecord,
-    StartField,
-    InField,
-    InQuoted,
-    InDoubleEsc,
-    CRLF,
-    EndRecord,
+// The states of the machine, and all of them in the order of their numbers.
+macro_rules! states {
+    ($($state:ident),*) => {
+        #[derive(Clone, Copy)]
+        enum S { $($state),* }
+        use S::*;
+        const STATES: &[S] = &[$($state),*];
+    };
 }
-use S::*;
+states!(StartRecord, StartField, InField, InQuoted, InDoubleEsc, CRLF, EndRecord);
 // classes: 0 other, 1 comma, 2 quote, 3 CR, 4 LF
 fn step(s: S, c: u8) -> (S, bool, bool) {
     // next, emits, ends field
@@ -37,18 +36,9 @@ fn step(s: S, c: u8) -> (S, bool, bool) {
     }
 }
 struct Machine {
-    table: [[(u8, u8); 5]; 7],
+    table: [[(u8, u8); 5]; STATES.len()],
     class: [u8; 256],
 }
-const STATES: [S; 7] = [
-    StartRecord,
-    StartField,
-    InField,
-    InQuoted,
-    InDoubleEsc,
-    CRLF,
-    EndRecord,
-];
 impl Machine {
     fn new() -> Machine {
         let mut class = [0u8; 256];
@@ -56,14 +46,11 @@ impl Machine {
         class[b'"' as usize] = 2;
         class[b'\r' as usize] = 3;
         class[b'\n' as usize] = 4;
-        let mut table = [[(0u8, 0u8); 5]; 7];
+        let mut table = [[(0u8, 0u8); 5]; STATES.len()];
         for (i, s) in STATES.iter().enumerate() {
             for c in 0..5 {
                 let (n, e, f) = step(*s, c as u8);
-                table[i][c] = (
-                    STATES.iter().position(|x| *x == n).unwrap() as u8,
-                    e as u8 | (f as u8) << 1,
-                );
+                table[i][c] = (n as u8, e as u8 | (f as u8) << 1);
             }
         }
         Machine { table, class }
@@ -98,7 +85,7 @@ impl<R: Read> Reader<R> {
     fn read(&mut self, rec: &mut Record) -> bool {
         rec.len = 0;
         rec.fields = 0;
-        let mut state = if self.state == 6 { 0 } else { self.state };
+        let mut state = if self.state == EndRecord as u8 { StartRecord as u8 } else { self.state };
         loop {
             if self.at == self.filled {
                 self.filled = self.rdr.read(&mut self.buf[..]).unwrap();
@@ -129,7 +116,7 @@ impl<R: Read> Reader<R> {
                     rec.fields += 1;
                 }
                 state = next;
-                if next == 6 || next == 5 {
+                if next == EndRecord as u8 || next == CRLF as u8 {
                     self.state = next;
                     return true;
                 }
