@@ -1,5 +1,5 @@
 -- A summary's table is tested row by row: what is left to be tested, where these groups were seen.
-use Rattle.std.proofs.Common.{◌≡◌, ◌≢◌, ◌↔◌, ℕ, suc, refl, sym, ap, ◌∙◌, subst, ℤ, pos, negsuc, zero, Bool, true, false, ◌||◌, List, [], ◌∷◌, ⊎_elim, arith}
+use Rattle.std.proofs.Common.{◌≡◌, ◌≢◌, ◌↔◌, ℕ, sym, ap, ◌∙◌, subst, ℤ, pos, Bool, true, false, ◌||◌, [], ◌∷◌, ⊎_elim, arith}
 use Rattle.std.specs.List.{AllByRecursion, list_any}
 use Rattle.std.proofs.lemmas.Bool.{cases_Bool, or_cases, or_left, or_right, or_parts, both_ways, false≢true, false_from_ne_true}
 use Rattle.wh_row.specs.Row.{Row, is_row}
@@ -12,7 +12,7 @@ use Rattle.wh_row.proofs.BagLaws.{same_row, itself, each_entry, from_entry, risi
 use Rattle.wh_maint.specs.Summary.{group_of, is_nonzero}
 use Rattle.wh_maint.specs.Fit.{IsSummaryTable, IsSummaryRow}
 use Rattle.wh_maint.specs.Finishing.{has_group}
-use Rattle.wh_maint.proofs.OldGroups.{Apart, AreIn, apart_from}
+use Rattle.wh_maint.proofs.OldGroups.{Apart, apart_from}
 
 pub record RowsAreApart (sums : ℕ) (es : Counted) (seen : Bag) : Type 0 where
   pub rows : AllByRecursion (λ (e : Row × ℤ). IsSummaryRow sums e.0 e.1) es

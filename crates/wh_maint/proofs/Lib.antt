@@ -27,6 +27,7 @@ pub mod OldRows
 mod OneRow
 mod PartSums
 pub mod Products
+pub mod RuledOut
 pub mod SizeBounds
 mod SourceTests
 mod Standing

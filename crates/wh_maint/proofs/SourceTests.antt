@@ -1,5 +1,5 @@
 -- Tests of the sources of a Comp.
-use Rattle.std.proofs.Common.{◌≡◌, ◌↔◌, ℕ, ◌≤◌, Bool, length, arith, refl, sym, ap, ◌∙◌, subst, true, false, eqb, List, [], ◌∷◌, ⊎_elim}
+use Rattle.std.proofs.Common.{◌≡◌, ◌↔◌, ℕ, ◌≤◌, Bool, length, arith, refl, sym, ap, ◌∙◌, subst, true, false, List, [], ◌∷◌, ⊎_elim}
 use Rattle.std.specs.Prelude.{◌==◌}
 use Rattle.std.proofs.lemmas.Bool.{and_parts, and_from, or_cases, eqb-true, false≢true, not_from_false, cases_Bool, both_ways, not_from_true}
 use Rattle.wh_dag.specs.Shape.{has, Distinct}
