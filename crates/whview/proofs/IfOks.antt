@@ -9,10 +9,6 @@ pub if_ok_both : {T E : Type 0} (r : Result T E) (P P' Q : T → Type 0) → IfO
 if_ok_both (Ok x) P P' Q p p' f = f x p p'
 if_ok_both (Err e) P P' Q p p' f = tt
 
-pub if_ok_any : {T E : Type 0} (r : Result T E) (Q : T → Type 0) → ((x : T) → Q x) → IfOk r Q
-if_ok_any (Ok x) Q f = f x
-if_ok_any (Err e) Q f = tt
-
 pub if_ok_three : {T E : Type 0} (r : Result T E) (P P' P'' Q : T → Type 0) → IfOk r P → IfOk r P' → IfOk r P'' → ((x : T) → P x → P' x → P'' x → Q x) → IfOk r Q
 if_ok_three (Ok x) P P' P'' Q p p' p'' f = f x p p' p''
 if_ok_three (Err e) P P' P'' Q p p' p'' f = tt

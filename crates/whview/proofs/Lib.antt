@@ -13,6 +13,9 @@ pub mod SinglePlans
 pub mod Texts
 pub mod Told
 pub mod Verdicts
+pub mod NamesRead
+pub mod PlansCertified
+pub mod SmallWorks
 pub mod NightTold
 pub mod OpenedContents
 pub mod ReadRows

@@ -1,5 +1,5 @@
 -- The same words and bytes have one answer at most.
-use Rattle.std.proofs.Common.{◌≡◌, ◌⊎◌, ◌<◌, ℕ, List, [], ◌∷◌, Option, Some, None, Result, Ok, Err, true, false, refl, sym, ap, subst, ◌∙◌, ⊎_elim, inl, inr, arith}
+use Rattle.std.proofs.Common.{◌≡◌, ◌⊎◌, ◌<◌, ◌≤◌, ℕ, List, [], ◌∷◌, Option, Some, None, Result, Ok, Err, true, false, refl, sym, ap, subst, ◌∙◌, ⊎_elim, inl, inr, arith}
 use Rattle.std.specs.Prelude.{MatchResult, codes}
 use Rattle.clap.specs.Words.{IsAmong, Kinds, Row, Text, fault_of, subcommand_of}
 use Rattle.clap.specs.declared.error.kind.ErrorKind.{ErrorKind}
@@ -9,6 +9,7 @@ use Rattle.wh_load.specs.SizesText.{sizes_of_text}
 use Rattle.wh_load.specs.StrategyText.{strategy_of}
 use Rattle.wh_load.specs.declared.fault.LoadFault.{LoadFault}
 use Rattle.wh_strategy.specs.declared.costs.Costs.{Costs}
+use Rattle.wh_strategy.specs.declared.expression.Expression.{Expression}
 use Rattle.wh_strategy.specs.Sizes.{sizes_of}
 use Rattle.wh_strategy.specs.Work.{work_of}
 use Rattle.wh_strategy.proofs.Agreeing.{refused}
@@ -17,7 +18,7 @@ use Rattle.wh_cert.specs.declared.certificate.Verdict.{Verdict}
 use Rattle.wh_cert.specs.declared.certificate.Verdict.TheVariants.{All, OneWay, Rejected}
 use Rattle.wh_cert.proofs.OneVerdict.{verdicts_same}
 use Rattle.wh_load.specs.PlanText.{plan_of}
-use Rattle.whview.specs.CertifyOutput.{Claim, IsCertifyOutput, IsJudgement, broken as broken_claim, certified, certified_one_way, claim_in, claim_of, claim_texts_of, other_work, rejected, rejected_text, work_at}
+use Rattle.whview.specs.CertifyOutput.{Claim, IsCertifyOutput, IsJudgement, IsLeastOfAll, IsLeastOneWay, broken as broken_claim, certified, certified_one_way, claim_in, claim_of, claim_texts_of, other_work, rejected, rejected_text, work_at}
 use Rattle.whview.specs.CheckOutput.{Inputs, IsCheckOutput, IsFaultShown, IsVerdict, broken, correct, correct_text, inputs_in, inputs_of, texts_of}
 use Rattle.whview.specs.CommandLine.{IsAsked, whview_app}
 use Rattle.whview.proofs.SingleFaults.{one_broken, one_shown}
@@ -67,43 +68,43 @@ one_judgement : (costs : Costs) (claim : Claim) (text other : List ℕ) (status 
     → IsJudgement costs claim text status → IsJudgement costs claim other ended → AreSame text status other ended
 one_judgement costs claim text other status ended sh (broken_claim rule place f t s) (broken_claim rule' place' f' t' s') = record { texts = t ∙ one_broken _ _ rule rule' place place' f f' ∙ sym t'; statuses = s ∙ sym s' }
 one_judgement costs claim text other status ended sh (broken_claim rule place f t s) (other_work is' n' t' s') = absurd (refused rule _ _ place sh f is')
-one_judgement costs claim text other status ended sh (broken_claim rule place f t s) (certified is' w' j' t' s') = absurd (refused rule _ _ place sh f is')
-one_judgement costs claim text other status ended sh (broken_claim rule place f t s) (certified_one_way is' w' j' t' s') = absurd (refused rule _ _ place sh f is')
+one_judgement costs claim text other status ended sh (broken_claim rule place f t s) (certified is' w' j' l' t' s') = absurd (refused rule _ _ place sh f is')
+one_judgement costs claim text other status ended sh (broken_claim rule place f t s) (certified_one_way is' w' j' l' t' s') = absurd (refused rule _ _ place sh f is')
 one_judgement costs claim text other status ended sh (broken_claim rule place f t s) (rejected place' is' w' j' t' s') = absurd (refused rule _ _ place sh f is')
 one_judgement costs claim text other status ended sh (other_work is n t s) (broken_claim rule' place' f' t' s') = absurd (refused rule' _ _ place' sh f' is)
 one_judgement costs claim text other status ended sh (other_work is n t s) (other_work is' n' t' s') = record { texts = t ∙ sym t'; statuses = s ∙ sym s' }
-one_judgement costs claim text other status ended sh (other_work is n t s) (certified is' w' j' t' s') = absurd (n w')
-one_judgement costs claim text other status ended sh (other_work is n t s) (certified_one_way is' w' j' t' s') = absurd (n w')
+one_judgement costs claim text other status ended sh (other_work is n t s) (certified is' w' j' l' t' s') = absurd (n w')
+one_judgement costs claim text other status ended sh (other_work is n t s) (certified_one_way is' w' j' l' t' s') = absurd (n w')
 one_judgement costs claim text other status ended sh (other_work is n t s) (rejected place' is' w' j' t' s') = absurd (n w')
-one_judgement costs claim text other status ended sh (certified is w j t s) (broken_claim rule' place' f' t' s') = absurd (refused rule' _ _ place' sh f' is)
-one_judgement costs claim text other status ended sh (certified is w j t s) (other_work is' n' t' s') = absurd (n' w)
-one_judgement costs claim text other status ended sh (certified is w j t s) (certified is' w' j' t' s') = record { texts = t ∙ sym t'; statuses = s ∙ sym s' }
-one_judgement costs claim text other status ended sh (certified is w j t s) (certified_one_way is' w' j' t' s') =
+one_judgement costs claim text other status ended sh (certified is w j l t s) (broken_claim rule' place' f' t' s') = absurd (refused rule' _ _ place' sh f' is)
+one_judgement costs claim text other status ended sh (certified is w j l t s) (other_work is' n' t' s') = absurd (n' w)
+one_judgement costs claim text other status ended sh (certified is w j l t s) (certified is' w' j' l' t' s') = record { texts = t ∙ sym t'; statuses = s ∙ sym s' }
+one_judgement costs claim text other status ended sh (certified is w j l t s) (certified_one_way is' w' j' l' t' s') =
     let same : All ≡ OneWay = verdicts_same _ _ _ _ _ claim.plan.certificate All OneWay j j' in
     let bad : ⊥ = cc in
     absurd bad
-one_judgement costs claim text other status ended sh (certified is w j t s) (rejected place' is' w' j' t' s') =
+one_judgement costs claim text other status ended sh (certified is w j l t s) (rejected place' is' w' j' t' s') =
     let same : All ≡ Rejected place' = verdicts_same _ _ _ _ _ claim.plan.certificate All (Rejected place') j j' in
     let bad : ⊥ = cc in
     absurd bad
-one_judgement costs claim text other status ended sh (certified_one_way is w j t s) (broken_claim rule' place' f' t' s') = absurd (refused rule' _ _ place' sh f' is)
-one_judgement costs claim text other status ended sh (certified_one_way is w j t s) (other_work is' n' t' s') = absurd (n' w)
-one_judgement costs claim text other status ended sh (certified_one_way is w j t s) (certified is' w' j' t' s') =
+one_judgement costs claim text other status ended sh (certified_one_way is w j l t s) (broken_claim rule' place' f' t' s') = absurd (refused rule' _ _ place' sh f' is)
+one_judgement costs claim text other status ended sh (certified_one_way is w j l t s) (other_work is' n' t' s') = absurd (n' w)
+one_judgement costs claim text other status ended sh (certified_one_way is w j l t s) (certified is' w' j' l' t' s') =
     let same : OneWay ≡ All = verdicts_same _ _ _ _ _ claim.plan.certificate OneWay All j j' in
     let bad : ⊥ = cc in
     absurd bad
-one_judgement costs claim text other status ended sh (certified_one_way is w j t s) (certified_one_way is' w' j' t' s') = record { texts = t ∙ sym t'; statuses = s ∙ sym s' }
-one_judgement costs claim text other status ended sh (certified_one_way is w j t s) (rejected place' is' w' j' t' s') =
+one_judgement costs claim text other status ended sh (certified_one_way is w j l t s) (certified_one_way is' w' j' l' t' s') = record { texts = t ∙ sym t'; statuses = s ∙ sym s' }
+one_judgement costs claim text other status ended sh (certified_one_way is w j l t s) (rejected place' is' w' j' t' s') =
     let same : OneWay ≡ Rejected place' = verdicts_same _ _ _ _ _ claim.plan.certificate OneWay (Rejected place') j j' in
     let bad : ⊥ = cc in
     absurd bad
 one_judgement costs claim text other status ended sh (rejected place is w j t s) (broken_claim rule' place' f' t' s') = absurd (refused rule' _ _ place' sh f' is)
 one_judgement costs claim text other status ended sh (rejected place is w j t s) (other_work is' n' t' s') = absurd (n' w)
-one_judgement costs claim text other status ended sh (rejected place is w j t s) (certified is' w' j' t' s') =
+one_judgement costs claim text other status ended sh (rejected place is w j t s) (certified is' w' j' l' t' s') =
     let same : Rejected place ≡ All = verdicts_same _ _ _ _ _ claim.plan.certificate (Rejected place) All j j' in
     let bad : ⊥ = cc in
     absurd bad
-one_judgement costs claim text other status ended sh (rejected place is w j t s) (certified_one_way is' w' j' t' s') =
+one_judgement costs claim text other status ended sh (rejected place is w j t s) (certified_one_way is' w' j' l' t' s') =
     let same : Rejected place ≡ OneWay = verdicts_same _ _ _ _ _ claim.plan.certificate (Rejected place) OneWay j j' in
     let bad : ⊥ = cc in
     absurd bad
@@ -135,10 +136,14 @@ one_certification costs bytes text other status ended = go (claim_of bytes) (cla
 -- ---- one command
 
 -- the same work at the same numbers
+same_work_of : (costs other : Costs) (claim : Claim) (list : List Expression) → other.comp ≡ costs.comp → other.inst ≡ costs.inst
+    → work_of claim.shape.children (sizes_of claim.sizes) other.comp other.inst list ≡ work_of claim.shape.children (sizes_of claim.sizes) costs.comp costs.inst list
+same_work_of costs other claim list e f =
+    ap (λ c. work_of claim.shape.children (sizes_of claim.sizes) c other.inst list) e
+    ∙ ap (λ i. work_of claim.shape.children (sizes_of claim.sizes) costs.comp i list) f
+
 same_work : (costs other : Costs) (claim : Claim) → other.comp ≡ costs.comp → other.inst ≡ costs.inst → work_at other claim ≡ work_at costs claim
-same_work costs other claim e f =
-    ap (λ c. work_of claim.shape.children (sizes_of claim.sizes) c other.inst claim.plan.strategy) e
-    ∙ ap (λ i. work_of claim.shape.children (sizes_of claim.sizes) costs.comp i claim.plan.strategy) f
+same_work costs other claim e f = same_work_of costs other claim claim.plan.strategy e f
 
 judged_at : (costs other : Costs) (claim : Claim) (verdict : Verdict) → other.comp ≡ costs.comp → other.inst ≡ costs.inst
     → IsJudged claim.shape.children (sizes_of claim.sizes) other.comp other.inst (work_at other claim) claim.plan.certificate verdict
@@ -148,12 +153,18 @@ judged_at costs other claim verdict e f j =
     (subst (λ i. IsJudged claim.shape.children (sizes_of claim.sizes) costs.comp i (work_at other claim) claim.plan.certificate verdict) f
     (subst (λ c. IsJudged claim.shape.children (sizes_of claim.sizes) c other.inst (work_at other claim) claim.plan.certificate verdict) e j))
 
+least_at : (costs other : Costs) (claim : Claim) → other.comp ≡ costs.comp → other.inst ≡ costs.inst → IsLeastOfAll other claim → IsLeastOfAll costs claim
+least_at costs other claim e f least list is = subst (λ work. claim.plan.work ≤ work) (same_work_of costs other claim list e f) (least list is)
+
+least_one_way_at : (costs other : Costs) (claim : Claim) → other.comp ≡ costs.comp → other.inst ≡ costs.inst → IsLeastOneWay other claim → IsLeastOneWay costs claim
+least_one_way_at costs other claim e f least list is one_way = subst (λ work. claim.plan.work ≤ work) (same_work_of costs other claim list e f) (least list is one_way)
+
 judgement_at : (costs other : Costs) (claim : Claim) (text : List ℕ) (status : ℕ) → other.comp ≡ costs.comp → other.inst ≡ costs.inst
     → IsJudgement other claim text status → IsJudgement costs claim text status
 judgement_at costs other claim text status e f (broken_claim rule place is t s) = broken_claim rule place is t s
 judgement_at costs other claim text status e f (other_work is n t s) = other_work is (λ w. n (same_work costs other claim e f ∙ w)) t s
-judgement_at costs other claim text status e f (certified is w j t s) = certified is (sym (same_work costs other claim e f) ∙ w) (judged_at costs other claim All e f j) t s
-judgement_at costs other claim text status e f (certified_one_way is w j t s) = certified_one_way is (sym (same_work costs other claim e f) ∙ w) (judged_at costs other claim OneWay e f j) t s
+judgement_at costs other claim text status e f (certified is w j l t s) = certified is (sym (same_work costs other claim e f) ∙ w) (judged_at costs other claim All e f j) (least_at costs other claim e f l) t s
+judgement_at costs other claim text status e f (certified_one_way is w j l t s) = certified_one_way is (sym (same_work costs other claim e f) ∙ w) (judged_at costs other claim OneWay e f j) (least_one_way_at costs other claim e f l) t s
 judgement_at costs other claim text status e f (rejected place is w j t s) = rejected place is (sym (same_work costs other claim e f) ∙ w) (judged_at costs other claim (Rejected place) e f j) t s
 
 as_certification : (costs other : Costs) (bytes text : List ℕ) (status : ℕ) → other.comp ≡ costs.comp → other.inst ≡ costs.inst
@@ -284,9 +295,10 @@ not_refused words status taken is = none_refused _ is.kind taken is.found
 handed : (words : List (List ℕ)) (command : Asked) (bytes text : List ℕ) (status : ℕ) → fault_of whview_app words ≡ [] → IsAsked (subcommand_of whview_app words) command → ReadsInput command
     → IsHandedOutput words (Some bytes) text status → IsReadFailure text status ⊎ IsRead command bytes text status
 handed words command bytes text status taken is reads (words_refused refusal) = absurd (not_refused words status taken refusal)
-handed words command bytes text status taken is reads (read_fails printed ended) = inl (record { printed = printed; ended = ended })
-handed words command bytes text status taken is reads (a_file other t is' file) = absurd (file (one_file _ command other is is' reads))
-handed words command bytes text status taken is reads (words_answered other t is' r read) = inr (as_read _ command other is is' bytes text status read)
+handed words command bytes text status taken is reads (read_fails other t is' printed ended) = inl (record { printed = printed; ended = ended })
+handed words command bytes text status taken is reads (a_file other t is' file answer) = absurd (file (one_file _ command other is is' reads))
+handed words command bytes text status taken is reads (words_answered other t is' r holds) =
+    inr (as_read _ command other is is' bytes text status (subst (λ read. IsRead other read text status) holds.1 holds.2))
 
 pub one_handed : OneHandedOutput
 one_handed words command bytes text other status ended taken is reads f g =

@@ -1,5 +1,5 @@
 -- What `certify` prints for the bytes of a bundle, and the status that it ends with.
-use Rattle.std.specs.Prelude.{◌≡◌, ◌≢◌, ◌++◌, ℕ, List, Result, Ok, codes, decimal, MatchResult}
+use Rattle.std.specs.Prelude.{◌≡◌, ◌≢◌, ◌≤◌, ◌++◌, ℕ, List, Result, Ok, codes, decimal, MatchResult}
 use Rattle.wh_dag.specs.Shape.{Views}
 use Rattle.wh_cert.specs.Certificate.{IsJudged}
 use Rattle.wh_cert.specs.declared.certificate.Verdict.TheVariants as verdict
@@ -12,9 +12,10 @@ use Rattle.wh_load.specs.declared.bundle.part.Part.{Part}
 use Rattle.wh_load.specs.declared.fault.LoadFault.{LoadFault}
 use Rattle.wh_load.specs.declared.plan.Plan.{Plan}
 use Rattle.wh_strategy.specs.declared.costs.Costs.{Costs}
+use Rattle.wh_strategy.specs.declared.expression.Expression.{Expression}
 use Rattle.wh_strategy.specs.declared.rule.Rule.{Rule}
 use Rattle.wh_strategy.specs.declared.sizes.SizeRow.{SizeRow}
-use Rattle.wh_strategy.specs.Rules.{IsCorrect, IsFirstBroken}
+use Rattle.wh_strategy.specs.Rules.{IsCorrect, IsFirstBroken, IsOneWay}
 use Rattle.wh_strategy.specs.Sizes.{sizes_of}
 use Rattle.wh_strategy.specs.Work.{work_of}
 use Rattle.whview.specs.CheckOutput.{IsFaultShown, broken_text, line, parts_in, text_in}
@@ -59,6 +60,18 @@ claim_of bytes = claim_texts_of bytes >>= claim_in
 abbrev pub work_at : Costs → Claim → ℕ
 work_at costs claim = work_of claim.shape.children (sizes_of claim.sizes) costs.comp costs.inst claim.plan.strategy
 
+-- no correct strategy costs less than the plan's work
+abbrev pub IsLeastOfAll : Costs → Claim → Type 0
+IsLeastOfAll costs claim =
+    (other : List Expression) → IsCorrect claim.shape.children other
+    → claim.plan.work ≤ work_of claim.shape.children (sizes_of claim.sizes) costs.comp costs.inst other
+
+-- no correct one-way strategy does
+abbrev pub IsLeastOneWay : Costs → Claim → Type 0
+IsLeastOneWay costs claim =
+    (other : List Expression) → IsCorrect claim.shape.children other → IsOneWay other
+    → claim.plan.work ≤ work_of claim.shape.children (sizes_of claim.sizes) costs.comp costs.inst other
+
 -- what is printed of a plan of this work that is certified against all strategies
 abbrev pub certified_text : ℕ → List ℕ
 certified_text work = line (codes "certified all work " ++ decimal work)
@@ -71,16 +84,17 @@ certified_one_way_text work = line (codes "certified one-way work " ++ decimal w
 abbrev pub rejected_text : ℕ → List ℕ
 rejected_text place = line (codes "rejected at " ++ decimal place)
 
--- what is printed of a claim, and the status: the first rule that the list breaks; else that its work is another one; else the verdict on its certificate
+-- What is printed of a claim, and the status: the first rule that the list breaks; else that its work is another one; else the
+-- verdict on its certificate. Where it is certified, no strategy of its scope costs less.
 pub data IsJudgement (costs : Costs) (claim : Claim) (text : List ℕ) (status : ℕ) : Type 0 where
   broken : (rule : Rule) (place : ℕ) → IsFirstBroken claim.shape.children claim.plan.strategy rule place → text ≡ broken_text rule place → status ≡ 1 → IsJudgement costs claim text status
   other_work : IsCorrect claim.shape.children claim.plan.strategy → work_at costs claim ≢ claim.plan.work → text ≡ line (codes "rejected work") → status ≡ 1 → IsJudgement costs claim text status
   certified : IsCorrect claim.shape.children claim.plan.strategy → work_at costs claim ≡ claim.plan.work
       → IsJudged claim.shape.children (sizes_of claim.sizes) costs.comp costs.inst (work_at costs claim) claim.plan.certificate verdict.All
-      → text ≡ certified_text claim.plan.work → status ≡ 0 → IsJudgement costs claim text status
+      → IsLeastOfAll costs claim → text ≡ certified_text claim.plan.work → status ≡ 0 → IsJudgement costs claim text status
   certified_one_way : IsCorrect claim.shape.children claim.plan.strategy → work_at costs claim ≡ claim.plan.work
       → IsJudged claim.shape.children (sizes_of claim.sizes) costs.comp costs.inst (work_at costs claim) claim.plan.certificate verdict.OneWay
-      → text ≡ certified_one_way_text claim.plan.work → status ≡ 0 → IsJudgement costs claim text status
+      → IsLeastOneWay costs claim → text ≡ certified_one_way_text claim.plan.work → status ≡ 0 → IsJudgement costs claim text status
   rejected : (place : ℕ) → IsCorrect claim.shape.children claim.plan.strategy → work_at costs claim ≡ claim.plan.work
       → IsJudged claim.shape.children (sizes_of claim.sizes) costs.comp costs.inst (work_at costs claim) claim.plan.certificate (verdict.Rejected place)
       → text ≡ rejected_text place → status ≡ 1 → IsJudgement costs claim text status

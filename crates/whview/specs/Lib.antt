@@ -8,6 +8,7 @@ pub mod NightOutput
 pub mod OneAnswer
 pub mod OpenedNight
 pub mod Output
+pub mod PlanCertified
 pub mod PlanOutput
 pub mod Shown
 pub mod ShownNight

@@ -54,12 +54,16 @@ pub data IsRead (command : Asked) (bytes text : List ℕ) (status : ℕ) : Type 
   read_too_long : 67108864 < length bytes → IsFaultShown fault.TooLong text status → IsRead command bytes text status
   read_within : length bytes ≤ 67108864 → IsCommandOutput command bytes text status → IsRead command bytes text status
 
--- what it prints for words that were handed in, and these bytes
-pub data IsHandedOutput (words : List (List ℕ)) (bytes : Option (List ℕ)) (text : List ℕ) (status : ℕ) : Type 0 where
-  words_refused : IsRefused words status → IsHandedOutput words bytes text status
-  read_fails : text ≡ line (codes "fault read") → status ≡ 3 → IsHandedOutput words bytes text status
-  a_file : (command : Asked) → fault_of whview_app words ≡ [] → IsAsked (subcommand_of whview_app words) command → (ReadsInput command → ⊥) → IsHandedOutput words bytes text status
-  words_answered : (command : Asked) → fault_of whview_app words ≡ [] → IsAsked (subcommand_of whview_app words) command → ReadsInput command → IfSome bytes (λ input. IsRead command input text status) → IsHandedOutput words bytes text status
+-- this holds of the bytes of a reader; of some bytes, where none are known of it
+abbrev pub HoldsOfBytes : Option (List ℕ) → (List ℕ → Type 0) → Type 0
+HoldsOfBytes known P = (bytes : List ℕ) × IfSome known (λ all. bytes ≡ all) × P bytes
+
+-- what it prints for words that were handed in, where these bytes are known of the reader; of a file none are known
+pub data IsHandedOutput (words : List (List ℕ)) (known : Option (List ℕ)) (text : List ℕ) (status : ℕ) : Type 0 where
+  words_refused : IsRefused words status → IsHandedOutput words known text status
+  read_fails : (command : Asked) → fault_of whview_app words ≡ [] → IsAsked (subcommand_of whview_app words) command → text ≡ line (codes "fault read") → status ≡ 3 → IsHandedOutput words known text status
+  a_file : (command : Asked) → fault_of whview_app words ≡ [] → IsAsked (subcommand_of whview_app words) command → (ReadsInput command → ⊥) → HoldsOfBytes None (λ bytes. IsRead command bytes text status) → IsHandedOutput words known text status
+  words_answered : (command : Asked) → fault_of whview_app words ≡ [] → IsAsked (subcommand_of whview_app words) command → ReadsInput command → HoldsOfBytes known (λ bytes. IsRead command bytes text status) → IsHandedOutput words known text status
 
 -- what it prints for an input whose first line gives the words, and the status
 pub data IsInputOutput (input text : List ℕ) (status : ℕ) : Type 0 where

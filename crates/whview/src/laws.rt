@@ -1,6 +1,7 @@
 //! Laws of what the program prints.
 
 ghost use Rattle.whview.specs.OneAnswer.{OneCertifyOutput, OneCheckOutput, OneHandedOutput, OneInputOutput, OneNightOutput, OnePlanOutput};
+ghost use Rattle.whview.specs.PlanCertified.{LeastPlanIsCertified, PrintedPlanIsCertified, PrintedPlanIsReadBack};
 
 /// A law of the definitions: the same words and bytes have one text and one status at most, but for plans. Two plans have one
 /// scope and one work; under scope all their certificate is one too, so that their lists alone may differ, and under scope
@@ -14,4 +15,12 @@ pub fn one_answer_law()
     ensures night { OneNightOutput }
     ensures handed { OneHandedOutput }
     ensures in_line { OneInputOutput }
+{}
+
+/// A law of the definitions: what `plan` prints of a plan is the text of that plan, which `certify` reads back as it was and
+/// certifies at the same costs, against all strategies or against one-way ones, as its scope says.
+pub fn a_printed_plan_is_certified()
+    ensures read_back { PrintedPlanIsReadBack }
+    ensures certified { LeastPlanIsCertified }
+    ensures printed { PrintedPlanIsCertified }
 {}

@@ -1,11 +1,11 @@
 //! The whole program over a reader and a writer.
 
-ghost use Rattle.std.specs.Prelude.{◌≡◌, ◌≢◌, ◌≤◌, ◌⊎◌, ℕ, List, [], Some, None, codes, length, map, option_map, IfOk, IfErr, IfSome};
+ghost use Rattle.std.specs.Prelude.{◌≡◌, ◌≢◌, ◌≤◌, ◌⊎◌, ℕ, List, [], Some, None, codes, length, map, option_map, IfOk};
 ghost use Rattle.std.specs.Io.KnownBytes.{Appends};
 ghost use Rattle.clap.specs.Walk.{texts};
 ghost use Rattle.whview.specs.CheckOutput.{line};
 ghost use Rattle.whview.specs.CommandFault.{status_of};
-ghost use Rattle.whview.specs.Output.{IsCommandOutput, IsHandedOutput, IsInputOutput, IsMemoryTold, IsRead, IsTold, ReadsInput, file_of};
+ghost use Rattle.whview.specs.Output.{HoldsOfBytes, IsCommandOutput, IsHandedOutput, IsInputOutput, IsMemoryTold, IsRead, IsTold, ReadsInput, file_of};
 
 use crate::answer::Answer;
 use crate::certification::certification;
@@ -59,7 +59,7 @@ fn read_answer<R: Read>(
     input: &mut R,
 ) -> Result<Answer, AllocError>
     ensures { IfOk result (λ a. ((a.text.items ≡ line (codes "fault read")) × (a.status ≡ 3))
-        ⊎ IfSome (R.remaining input.old) (λ bytes. IsRead asked.now bytes a.text.items a.status)) }
+        ⊎ HoldsOfBytes (R.remaining input.old) (λ bytes. IsRead asked.now bytes a.text.items a.status)) }
 {
     match read_all(input, alloc, LIMIT) {
         Ok(bytes) => command_answer(alloc, asked, &bytes),
@@ -69,13 +69,16 @@ fn read_answer<R: Read>(
     }
 }
 
-/// What a command answers for a file. What it holds no contract can say.
+/// What a command answers for a file. What it holds no contract can say, so the answer is the one to some bytes.
 fn file_answer<F: Files>(
     files: &F,
     alloc: Global,
     asked: &Asked<'_>,
     path: &str,
-) -> Result<Answer, AllocError> {
+) -> Result<Answer, AllocError>
+    ensures { IfOk result (λ a. ((a.text.items ≡ line (codes "fault read")) × (a.status ≡ 3))
+        ⊎ HoldsOfBytes None (λ bytes. IsRead asked.now bytes a.text.items a.status)) }
+{
     match fs::open(files, path) {
         Ok(mut file) => read_answer(alloc, asked, &mut file),
         Err(_) => Answer::fault(alloc, &LoadFault::Read),
@@ -137,7 +140,7 @@ fn line_answer(alloc: Global, input: &[u8]) -> Result<Answer, AllocError>
 /// What the program answers where it is handed no words.
 fn input_answer<R: Read>(alloc: Global, input: &mut R) -> Result<Answer, AllocError>
     ensures { IfOk result (λ a. ((a.text.items ≡ line (codes "fault read")) × (a.status ≡ 3))
-        ⊎ IfSome (R.remaining input.old) (λ bytes. IsInputOutput bytes a.text.items a.status)) }
+        ⊎ HoldsOfBytes (R.remaining input.old) (λ bytes. IsInputOutput bytes a.text.items a.status)) }
 {
     match read_all(input, alloc, LIMIT) {
         Ok(bytes) => line_answer(alloc, &bytes),
@@ -194,7 +197,7 @@ pub fn run<'a, F: Files, R: Read, W: Write>(
         × (IsMemoryTold text result ⊎ IsHandedOutput (texts words.now) (R.remaining input.old) text result) }
 
     ensures in_line { words.now ≡ [] → result ≢ 5 → (text : List ℕ) × Appends (W.contents out.old) (W.contents out.new) text
-        × (IsMemoryTold text result ⊎ (((text ≡ line (codes "fault read")) × (result ≡ 3)) ⊎ IfSome (R.remaining input.old) (λ bytes. IsInputOutput bytes text result))) }
+        × (IsMemoryTold text result ⊎ (((text ≡ line (codes "fault read")) × (result ≡ 3)) ⊎ HoldsOfBytes (R.remaining input.old) (λ bytes. IsInputOutput bytes text result))) }
 {
     if words.is_empty() {
         let answer = input_answer(alloc, input);

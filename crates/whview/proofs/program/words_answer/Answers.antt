@@ -1,12 +1,12 @@
 use Rattle.clap.specs.Walk.{texts}
-use Rattle.whview.proofs.IfOks.{if_ok, if_ok_both, if_ok_any}
+use Rattle.whview.proofs.IfOks.{if_ok, if_ok_both}
 use Rattle.whview.specs.Output.{words_refused}
 use Rattle.whview.proofs.Outputs.{refused_as, from_file, from_reader}
 use Rattle.whview.proofs.program.words_answer.Goals as goal
 
 pub returns-in-Some : goal.returns-in-Some
 returns-in-Some g c =
-    if_ok_any c.file_answer.result _ (λ a. from_file (texts c.args.words.now) _ a.text.items a.status c.in-Ok.asked c.in-Some.path.now c.in-Ok.ensures.fails c.in-Ok.ensures.asked c.in-Some.ensures)
+    if_ok c.file_answer.result _ _ c.file_answer.ensures (λ a read. from_file (texts c.args.words.now) _ a.text.items a.status c.in-Ok.asked c.in-Some.path.now c.in-Ok.ensures.fails c.in-Ok.ensures.asked c.in-Some.ensures read)
 
 pub returns-in-None : goal.returns-in-None
 returns-in-None g c =

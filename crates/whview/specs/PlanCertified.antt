@@ -1,0 +1,51 @@
+-- What `plan` prints, read back and certified.
+use Rattle.std.specs.Prelude.{◌≡◌, ℕ, List, Ok}
+use Rattle.wh_cert.specs.declared.certificate.Certificate.{Certificate}
+use Rattle.wh_cert.specs.declared.certificate.Scope.{Scope}
+use Rattle.wh_cert.specs.declared.certificate.Scope.TheVariants.{All, OneWay}
+use Rattle.wh_load.specs.PlanText.{plan_of, plan_text}
+use Rattle.wh_load.specs.declared.plan.Plan.{Plan}
+use Rattle.wh_strategy.specs.declared.costs.Costs.{Costs}
+use Rattle.wh_strategy.specs.declared.expression.Expression.{Expression}
+use Rattle.whview.specs.CertifyOutput.{Claim, ClaimTexts, IsCertifyOutput, IsJudgement, certified_one_way_text, certified_text, claim_texts_of}
+use Rattle.whview.specs.PlanOutput.{IsLeastPlan, Measured, MeasuredTexts, measured_in, measured_of, measured_texts_of}
+
+-- the plan of this scope, work, list and certificate
+abbrev pub plan_with : Scope → ℕ → List Expression → Certificate → Plan
+plan_with scope work list certificate = record { scope = scope; work = work; strategy = list; certificate = certificate }
+
+-- this plan for these views and sizes
+abbrev pub claim_with : Measured → Plan → Claim
+claim_with measured plan = record { shape = measured.shape; sizes = measured.sizes; plan = plan }
+
+-- what `certify` prints of a plan of this scope and work that it accepts
+abbrev pub accepted_text : Scope → ℕ → List ℕ
+accepted_text All work = certified_text work
+accepted_text OneWay work = certified_one_way_text work
+
+-- the text of a plan of least work for what the bytes of a bundle say is read back as that plan
+abbrev pub PrintedPlanIsReadBack : Type 0
+PrintedPlanIsReadBack =
+    (costs : Costs) (bytes : List ℕ) (measured : Measured) (work : ℕ) (scope : Scope) (list : List Expression) (certificate : Certificate) →
+    measured_of bytes ≡ Ok measured → IsLeastPlan costs.comp costs.inst measured work scope list certificate →
+    plan_of measured.shape.names (plan_text measured.shape.names scope work list certificate) ≡ Ok (plan_with scope work list certificate)
+
+-- and such a plan for these views and sizes is certified at the same costs
+abbrev pub LeastPlanIsCertified : Type 0
+LeastPlanIsCertified =
+    (costs : Costs) (measured : Measured) (work : ℕ) (scope : Scope) (list : List Expression) (certificate : Certificate) →
+    IsLeastPlan costs.comp costs.inst measured work scope list certificate →
+    IsJudgement costs (claim_with measured (plan_with scope work list certificate)) (accepted_text scope work) 0
+
+-- these texts, and this one of a plan
+abbrev pub texts_with : MeasuredTexts → List ℕ → ClaimTexts
+texts_with texts plan = record { catalogue = texts.catalogue; sizes = texts.sizes; plan = plan }
+
+-- so `certify` says of a bundle with the texts of catalogue and sizes that a plan was printed for, and with what was printed as
+-- its plan, that it is certified at the same costs
+abbrev pub PrintedPlanIsCertified : Type 0
+PrintedPlanIsCertified =
+    (costs : Costs) (bytes bundle : List ℕ) (texts : MeasuredTexts) (measured : Measured) (work : ℕ) (scope : Scope) (list : List Expression) (certificate : Certificate) →
+    measured_texts_of bytes ≡ Ok texts → measured_in texts ≡ Ok measured → IsLeastPlan costs.comp costs.inst measured work scope list certificate →
+    claim_texts_of bundle ≡ Ok (texts_with texts (plan_text measured.shape.names scope work list certificate)) →
+    IsCertifyOutput costs bundle (accepted_text scope work) 0
