@@ -72,8 +72,7 @@ impl Expr {
         requires right { depth right < MAX_DEPTH }
         ensures { IfOk result (λ sum. sum ≡ Add left right) }
     {
-        let left = Box::new(alloc, left)?;
-        let right = Box::new(alloc, right)?;
+        let (left, right) = boxed(alloc, left, right)?;
         Ok(Expr {
             node: ExprNode::Add(left, right),
         })
@@ -85,8 +84,7 @@ impl Expr {
         requires right { depth right < MAX_DEPTH }
         ensures { IfOk result (λ difference. difference ≡ Sub left right) }
     {
-        let left = Box::new(alloc, left)?;
-        let right = Box::new(alloc, right)?;
+        let (left, right) = boxed(alloc, left, right)?;
         Ok(Expr {
             node: ExprNode::Sub(left, right),
         })
@@ -98,8 +96,7 @@ impl Expr {
         requires right { depth right < MAX_DEPTH }
         ensures { IfOk result (λ product. product ≡ Mul left right) }
     {
-        let left = Box::new(alloc, left)?;
-        let right = Box::new(alloc, right)?;
+        let (left, right) = boxed(alloc, left, right)?;
         Ok(Expr {
             node: ExprNode::Mul(left, right),
         })
@@ -155,4 +152,13 @@ impl Expr {
             ExprNode::Mul(left, right) => Expr::mul(alloc, left.copy(alloc)?, right.copy(alloc)?),
         }
     }
+}
+
+/// Both sides of an operation, each in its box.
+fn boxed(alloc: Global, left: Expr, right: Expr) -> Result<(Box<Expr>, Box<Expr>), AllocError>
+    ensures { IfOk result (λ sides. (sides.0.value ≡ left) × (sides.1.value ≡ right)) }
+{
+    let left = Box::new(alloc, left)?;
+    let right = Box::new(alloc, right)?;
+    Ok((left, right))
 }

@@ -1,6 +1,12 @@
 pub mod Ring
 pub mod WeighLaws
+pub mod RowLaws
+pub mod CountLaws
+pub mod BagWeights
+pub mod WrittenLaws
+pub mod OneRow
 pub mod BagLaws
+mod Machine
 mod StoredLaws
 mod FlatLaws
 mod RoomLaws

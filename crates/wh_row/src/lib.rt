@@ -7,6 +7,7 @@
 #![tactic(auto)]
 
 mod bag;
+mod entries;
 mod fault;
 mod laws;
 mod records;
