@@ -4,11 +4,10 @@ use Rattle.std.specs.Prelude.{◌||◌}
 use Rattle.std.specs.List.{count_by, flat_map, range_with_len}
 use Rattle.std.proofs.lemmas.List.Sums.{length-filter, sum_by-append, sum_by-cons}
 use Rattle.std.proofs.lemmas.List.Concat.{flat_map_single}
-use Rattle.std.proofs.lemmas.Bool.{cases_lt, ltb-true, eqb-true, or_left, or_right, or_cases}
+use Rattle.std.proofs.lemmas.Bool.{cases_lt, ltb-true, eqb-true, or_left, or_right, or_cases, and_parts, and_from}
 use Rattle.wh_dag.specs.Shape.{IsShape, has, children_of}
 use Rattle.wh_dag.specs.Siblings.{have_parent, is_couple, pairs_with, pairs_below, each_below, couples_of}
 use Rattle.wh_dag.specs.declared.siblings.Couple.{Couple}
-use Rattle.wh_dag.proofs.Within.{both_of, of_both}
 
 -- what one test lets through, the other two together do
 cond_either : (a b c : Bool) → (a ≡ true → (b ≡ true) ⊎ (c ≡ true)) → cond a 1 0 ≤ cond b 1 0 + cond c 1 0
@@ -79,7 +78,7 @@ row_once a b lower n =
     subst (λ l. count_by (is_of a b) l ≤ 1) (flat_map_single made (range_with_len 0 n))
     (counted_once (is_of a b) (λ higher. made higher ∷ []) b
     (λ k. cond_one (is_of a b (made k)))
-    (λ k ne. cond_zero (is_of a b (made k)) (λ e. ne (sym (eqb-true b k (both_of (a == lower) (b == k) e).1)))) 0 n).0
+    (λ k ne. cond_zero (is_of a b (made k)) (λ e. ne (sym (eqb-true b k (and_parts (a == lower) (b == k) e).1)))) 0 n).0
   where
     cond_one : (t : Bool) → 0 + cond t 1 0 ≤ 1
     cond_one true = omega arith
@@ -98,7 +97,7 @@ pair_once a b n =
     count_row : (a b lower : ℕ) → lower ≢ a → (xs : List ℕ) → count_by (is_of a b) (map (λ higher. record { lower = lower; higher = higher }) xs) ≤ 0
     count_row a b lower ne [] = omega arith
     count_row a b lower ne (k ∷ xs) =
-        let here : cond ((a == lower) && (b == k)) 1 0 ≤ 0 = cond_none ((a == lower) && (b == k)) (λ e. ne (sym (eqb-true a lower (both_of (a == lower) (b == k) e).0))) in
+        let here : cond ((a == lower) && (b == k)) 1 0 ≤ 0 = cond_none ((a == lower) && (b == k)) (λ e. ne (sym (eqb-true a lower (and_parts (a == lower) (b == k) e).0))) in
         let rest : count_by (is_of a b) (map (λ higher. record { lower = lower; higher = higher }) xs) ≤ 0 = count_row a b lower ne xs in
         omega (arith, count_cons (is_of a b) (record { lower = lower; higher = k }) (map (λ higher. record { lower = lower; higher = higher }) xs))
 
@@ -119,19 +118,19 @@ is_pair_with_one x y couple =
 either_part : (lt a b p q r s : Bool) → (lt && ((a && (p || q)) || (b && (r || s)))) ≡ true →
     ((lt && ((a && p) || (b && r))) ≡ true) ⊎ ((lt && ((a && q) || (b && s))) ≡ true)
 either_part lt a b p q r s h =
-    let t = both_of lt ((a && (p || q)) || (b && (r || s))) h in
+    let t = and_parts lt ((a && (p || q)) || (b && (r || s))) h in
     ⊎_elim
     (λ e.
-    let ab = both_of a (p || q) e in
+    let ab = and_parts a (p || q) e in
     ⊎_elim
-    (λ f. inl (of_both lt ((a && p) || (b && r)) t.0 (or_left (a && p) (b && r) (of_both a p ab.0 f))))
-    (λ f. inr (of_both lt ((a && q) || (b && s)) t.0 (or_left (a && q) (b && s) (of_both a q ab.0 f))))
+    (λ f. inl (and_from lt ((a && p) || (b && r)) t.0 (or_left (a && p) (b && r) (and_from a p ab.0 f))))
+    (λ f. inr (and_from lt ((a && q) || (b && s)) t.0 (or_left (a && q) (b && s) (and_from a q ab.0 f))))
     (or_cases p q ab.1))
     (λ e.
-    let ab = both_of b (r || s) e in
+    let ab = and_parts b (r || s) e in
     ⊎_elim
-    (λ f. inl (of_both lt ((a && p) || (b && r)) t.0 (or_right (a && p) (b && r) (of_both b r ab.0 f))))
-    (λ f. inr (of_both lt ((a && q) || (b && s)) t.0 (or_right (a && q) (b && s) (of_both b s ab.0 f))))
+    (λ f. inl (and_from lt ((a && p) || (b && r)) t.0 (or_right (a && p) (b && r) (and_from b r ab.0 f))))
+    (λ f. inr (and_from lt ((a && q) || (b && s)) t.0 (or_right (a && q) (b && s) (and_from b s ab.0 f))))
     (or_cases r s ab.1))
     (or_cases (a && (p || q)) (b && (r || s)) t.1)
 
@@ -152,11 +151,11 @@ one_once x y n =
   where
     in_order : (x y l h : ℕ) → x < y → (nat_lt l h && (((x == l) && (y == h)) || ((x == h) && (y == l)))) ≡ true → ((x == l) && (y == h)) ≡ true
     in_order x y l h below e =
-        let t = both_of (nat_lt l h) (((x == l) && (y == h)) || ((x == h) && (y == l))) e in
+        let t = and_parts (nat_lt l h) (((x == l) && (y == h)) || ((x == h) && (y == l))) e in
         let lt : l < h = ltb-true l h t.0 in
         ⊎_elim (λ f. f)
         (λ f.
-        let b = both_of (x == h) (y == l) f in
+        let b = and_parts (x == h) (y == l) f in
         let xh : x ≡ h = eqb-true x h b.0 in
         let yl : y ≡ l = eqb-true y l b.1 in
         absurd (omega arith))
@@ -164,17 +163,17 @@ one_once x y n =
 
     turned : (x y l h : ℕ) → y ≤ x → (nat_lt l h && (((x == l) && (y == h)) || ((x == h) && (y == l)))) ≡ true → ((y == l) && (x == h)) ≡ true
     turned x y l h above e =
-        let t = both_of (nat_lt l h) (((x == l) && (y == h)) || ((x == h) && (y == l))) e in
+        let t = and_parts (nat_lt l h) (((x == l) && (y == h)) || ((x == h) && (y == l))) e in
         let lt : l < h = ltb-true l h t.0 in
         ⊎_elim
         (λ f.
-        let b = both_of (x == l) (y == h) f in
+        let b = and_parts (x == l) (y == h) f in
         let xl : x ≡ l = eqb-true x l b.0 in
         let yh : y ≡ h = eqb-true y h b.1 in
         absurd (omega arith))
         (λ f.
-        let b = both_of (x == h) (y == l) f in
-        of_both (y == l) (x == h) b.1 b.0)
+        let b = and_parts (x == h) (y == l) f in
+        and_from (y == l) (x == h) b.1 b.0)
         (or_cases ((x == l) && (y == h)) ((x == h) && (y == l)) t.1)
 
 -- with a number there are as many pairs as others, or fewer
@@ -186,9 +185,9 @@ with_few x [] n =
     none : (lt a b : Bool) → (lt && ((a && false) || (b && false))) ≡ true → ⊥
     none lt a b h =
         ⊎_elim
-        (λ e. let bad : false ≡ true = (both_of a false e).1 in cc)
-        (λ e. let bad : false ≡ true = (both_of b false e).1 in cc)
-        (or_cases (a && false) (b && false) (both_of lt ((a && false) || (b && false)) h).1)
+        (λ e. let bad : false ≡ true = (and_parts a false e).1 in cc)
+        (λ e. let bad : false ≡ true = (and_parts b false e).1 in cc)
+        (or_cases (a && false) (b && false) (and_parts lt ((a && false) || (b && false)) h).1)
 with_few x (y ∷ us) n =
     let one : count_by (is_pair_with_one x y) (pairs_below n) ≤ 1 = one_once x y n in
     let rest : count_by (is_pair_with x us) (pairs_below n) ≤ length us = with_few x us n in
@@ -205,9 +204,9 @@ pairs_among (suc k) = k + pairs_among k
 one_more : (x l h : ℕ) (p q : Bool) → (nat_lt l h && (((x == l) || p) && ((x == h) || q))) ≡ true →
     ((nat_lt l h && (p && q)) ≡ true) ⊎ ((nat_lt l h && (((x == l) && q) || ((x == h) && p))) ≡ true)
 one_more x l h p q e =
-    let t = both_of (nat_lt l h) (((x == l) || p) && ((x == h) || q)) e in
+    let t = and_parts (nat_lt l h) (((x == l) || p) && ((x == h) || q)) e in
     let lt : l < h = ltb-true l h t.0 in
-    let b = both_of ((x == l) || p) ((x == h) || q) t.1 in
+    let b = and_parts ((x == l) || p) ((x == h) || q) t.1 in
     ⊎_elim
     (λ f.
     ⊎_elim
@@ -215,12 +214,12 @@ one_more x l h p q e =
     let xl : x ≡ l = eqb-true x l f in
     let xh : x ≡ h = eqb-true x h g in
     absurd (omega arith))
-    (λ g. inr (of_both (nat_lt l h) (((x == l) && q) || ((x == h) && p)) t.0 (or_left ((x == l) && q) ((x == h) && p) (of_both (x == l) q f g))))
+    (λ g. inr (and_from (nat_lt l h) (((x == l) && q) || ((x == h) && p)) t.0 (or_left ((x == l) && q) ((x == h) && p) (and_from (x == l) q f g))))
     (or_cases (x == h) q b.1))
     (λ f.
     ⊎_elim
-    (λ g. inr (of_both (nat_lt l h) (((x == l) && q) || ((x == h) && p)) t.0 (or_right ((x == l) && q) ((x == h) && p) (of_both (x == h) p g f))))
-    (λ g. inl (of_both (nat_lt l h) (p && q) t.0 (of_both p q f g)))
+    (λ g. inr (and_from (nat_lt l h) (((x == l) && q) || ((x == h) && p)) t.0 (or_right ((x == l) && q) ((x == h) && p) (and_from (x == h) p g f))))
+    (λ g. inl (and_from (nat_lt l h) (p && q) t.0 (and_from p q f g)))
     (or_cases (x == h) q b.1))
     (or_cases (x == l) p b.0)
 
@@ -228,7 +227,7 @@ own_few : (own : List ℕ) (n : ℕ) → count_by (is_pair_of own) (pairs_below 
 unfolding has pairs_among
 own_few [] n =
     count_none (is_pair_of [])
-    (λ c e. let bad : false ≡ true = (both_of false false (both_of (nat_lt c.lower c.higher) (false && false) e).1).0 in cc) (pairs_below n)
+    (λ c e. let bad : false ≡ true = (and_parts false false (and_parts (nat_lt c.lower c.higher) (false && false) e).1).0 in cc) (pairs_below n)
 own_few (x ∷ us) n =
     let with : count_by (is_pair_with x us) (pairs_below n) ≤ length us = with_few x us n in
     let rest : count_by (is_pair_of us) (pairs_below n) ≤ pairs_among (length us) = own_few us n in
@@ -253,7 +252,7 @@ shape_few : (shape : List (List ℕ)) (n : ℕ) → ((v : ℕ) → length (get_o
 unfolding have_parent
 shape_few [] n few =
     let none : count_by (is_couple []) (pairs_below n) ≤ 0 =
-    count_none (is_couple []) (λ c e. let bad : false ≡ true = (both_of (nat_lt c.lower c.higher) false e).1 in cc) (pairs_below n) in
+    count_none (is_couple []) (λ c e. let bad : false ≡ true = (and_parts (nat_lt c.lower c.higher) false e).1 in cc) (pairs_below n) in
     omega arith
 shape_few (own ∷ shape) n few =
     let six : pairs_among (length own) ≤ 15 = six_make (length own) (few 0) in
@@ -266,8 +265,8 @@ shape_few (own ∷ shape) n few =
   where
     either_parent : (lt p q : Bool) → (lt && (p || q)) ≡ true → ((lt && p) ≡ true) ⊎ ((lt && q) ≡ true)
     either_parent lt p q e =
-        let t = both_of lt (p || q) e in
-        ⊎_elim (λ f. inl (of_both lt p t.0 f)) (λ f. inr (of_both lt q t.0 f)) (or_cases p q t.1)
+        let t = and_parts lt (p || q) e in
+        ⊎_elim (λ f. inl (and_from lt p t.0 f)) (λ f. inr (and_from lt q t.0 f)) (or_cases p q t.1)
 
 pub few_couples : (shape : List (List ℕ)) → IsShape shape → length (couples_of shape) ≤ 960
 unfolding couples_of children_of

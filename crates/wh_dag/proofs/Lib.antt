@@ -6,8 +6,11 @@ pub mod FitRest
 pub mod Levels
 pub mod Lists
 pub mod Made
+pub mod Members
+pub mod PartSums
 pub mod Remaining
 pub mod Shown
 pub mod SiblingLists
+pub mod Sums
 pub mod Texts
 pub mod Within

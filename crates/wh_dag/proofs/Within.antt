@@ -3,7 +3,7 @@ use Rattle.std.proofs.Common.{◌≡◌, ℕ, ◌<◌, ◌≤◌, ◌↔◌, ◌
 use Rattle.std.specs.List.{list_all}
 use Rattle.std.specs.declared.alloc.Global.{Global}
 use Rattle.std.proofs.lemmas.List.Elements.{All-cons, All-tail, All-map}
-use Rattle.std.proofs.lemmas.Bool.{lt-ltb, ltb-true, le-leb, leb-true, both_ways}
+use Rattle.std.proofs.lemmas.Bool.{lt-ltb, ltb-true, le-leb, leb-true, both_ways, and_parts, and_from}
 use Rattle.std.proofs.lemmas.Bool.Decides.{Decides-eqb}
 use Rattle.wh_formula.specs.Expr.{fits}
 use Rattle.wh_formula.specs.Filter.{FilterOf}
@@ -13,20 +13,12 @@ use Rattle.wh_dag.specs.Output.{exprs_of, IsOver, OfOneWidth}
 use Rattle.wh_dag.specs.declared.output.Output.{Output}
 use Rattle.wh_dag.specs.declared.output.Output.TheVariants.{Keep, Sums}
 
-pub both_of : (a b : Bool) → (a && b) ≡ true → (a ≡ true) × (b ≡ true)
-both_of true b h = (refl, h)
-both_of false b h = cc
-
-pub of_both : (a b : Bool) → a ≡ true → b ≡ true → (a && b) ≡ true
-of_both true b h k = k
-of_both false b h k = cc
-
 -- an answer at the end of `a && b`, where a holds and where it does not
 pub when_true : {P : Type 0} (a b : Bool) → a ≡ true → (IsTrue (a && b) ↔ P) → IsTrue b ↔ P
-when_true a b e h = (λ t. h.0 (of_both a b e t), λ p. (both_of a b (h.1 p)).1)
+when_true a b e h = (λ t. h.0 (and_from a b e t), λ p. (and_parts a b (h.1 p)).1)
 
 pub when_false : {P : Type 0} (a b : Bool) → a ≡ false → (IsTrue (a && b) ↔ P) → IsTrue a ↔ P
-when_false a b e h = (λ t. absurd (both_ways a e t), λ p. (both_of a b (h.1 p)).0)
+when_false a b e h = (λ t. absurd (both_ways a e t), λ p. (and_parts a b (h.1 p)).0)
 
 -- a test of all members tells what a test of one tells, of each
 pub tested : {X : Type 0} (test : X → Bool) (P : X → Type 0) → ((x : X) → IsTrue (test x) ↔ P x) → (xs : List X) →
@@ -34,9 +26,9 @@ pub tested : {X : Type 0} (test : X → Bool) (P : X → Type 0) → ((x : X) �
 tested test P h [] = (λ t k d l. absurd (omega arith), λ all. refl)
 tested test P h (x ∷ xs) = (
   λ t.
-      let b = both_of (test x) (list_all test xs) t in
+      let b = and_parts (test x) (list_all test xs) t in
       All-cons P x xs ((h x).0 b.0) ((tested test P h xs).0 b.1),
-  λ all. of_both (test x) (list_all test xs) ((h x).1 (all 0 x (omega arith))) ((tested test P h xs).1 (All-tail P x xs all)),
+  λ all. and_from (test x) (list_all test xs) ((h x).1 (all 0 x (omega arith))) ((tested test P h xs).1 (All-tail P x xs all)),
 )
 
 from_map : {X Y : Type 0} (P : Y → Type 0) (f : X → Y) (xs : List X) → All P (map f xs) → All (λ x. P (f x)) xs
@@ -51,18 +43,18 @@ both_lower : (width : ℕ) (pair : ℕ × ℕ) →
     IsTrue (nat_lt pair.0 width && nat_lt pair.1 width) ↔ ((pair.0 < width) × (pair.1 < width))
 both_lower width pair = (
   λ t.
-      let b = both_of _ _ t in
+      let b = and_parts _ _ t in
       (ltb-true pair.0 width b.0, ltb-true pair.1 width b.1),
-  λ p. of_both _ _ (lt-ltb pair.0 width p.0) (lt-ltb pair.1 width p.1),
+  λ p. and_from _ _ (lt-ltb pair.0 width p.0) (lt-ltb pair.1 width p.1),
 )
 
 of_width : (width : ℕ) (c : CombinerOf) →
     IsTrue ((c.width == width) && fits width c.expr) ↔ ((c.width ≡ width) × IsTrue (fits width c.expr))
 of_width width c = (
   λ t.
-      let b = both_of _ _ t in
+      let b = and_parts _ _ t in
       ((Decides-eqb c.width width).0 b.0, b.1),
-  λ p. of_both _ _ ((Decides-eqb c.width width).1 p.0) p.1,
+  λ p. and_from _ _ ((Decides-eqb c.width width).1 p.0) p.1,
 )
 
 pub places_within : (width : ℕ) (places : List ℕ) →
@@ -99,9 +91,9 @@ summed_over width group sums =
     let each = combiners_over width sums.items in
     let places = places_within width group.items in (
       λ t.
-          let b = both_of _ _ t in
+          let b = and_parts _ _ t in
           record { combiners = (each.0 b.1).0; places = (places.0 b.0, (each.0 b.1).1) },
-      λ over. of_both _ _ (places.1 over.places.0) (each.1 (over.combiners, over.places.1)),
+      λ over. and_from _ _ (places.1 over.places.0) (each.1 (over.combiners, over.places.1)),
     )
 
 -- parts are of one width where the places of the join lie in it and the output is over it

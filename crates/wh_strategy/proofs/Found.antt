@@ -9,14 +9,7 @@ use Rattle.wh_dag.specs.Shape.{has, children_of}
 use Rattle.wh_strategy.specs.declared.expression.Expression.{Expression}
 use Rattle.wh_strategy.specs.declared.expression.Expression.TheVariants.{Comp, Inst}
 use Rattle.wh_strategy.specs.Expression.{At, is_inst, is_new}
-
-pub has-head : (x : ℕ) (xs : List ℕ) → has (x ∷ xs) x ≡ true
-unfolding has
-has-head x xs = or_left _ _ (eq-eqb x x refl)
-
-pub has-tail : (x y : ℕ) (xs : List ℕ) → has xs y ≡ true → has (x ∷ xs) y ≡ true
-unfolding has
-has-tail x y xs h = or_right _ _ h
+pub use Rattle.wh_dag.proofs.Members.{has-head, has-tail}
 
 -- only a view has children
 pub has_within : (shape : List (List ℕ)) (v u : ℕ) → has (children_of shape v) u ≡ true → v < length shape

@@ -1,11 +1,9 @@
 pub mod Agreeing
-pub mod Charges
 pub mod CorrectLists
 pub mod Failing
 pub mod Found
 pub mod Lacking
 pub mod Marks
-pub mod Members
 pub mod Passing
 pub mod PlaceCosts
 pub mod RuleOrder

@@ -11,9 +11,8 @@ use Rattle.wh_strategy.specs.Rules.{IsCorrect}
 use Rattle.wh_strategy.specs.Sizes.{Size}
 use Rattle.wh_strategy.specs.Sums.{parts}
 use Rattle.wh_strategy.specs.Work.{state, term, read_of, comp_rows, inst_rows, cost_at}
-use Rattle.wh_strategy.proofs.Found.{has-head, has-tail}
-use Rattle.wh_strategy.proofs.Members.{length-le_members}
-use Rattle.wh_strategy.proofs.SumsBelow.{sum_by-swap}
+use Rattle.wh_dag.proofs.Members.{has-head, has-tail, length-le_members}
+use Rattle.wh_dag.proofs.Sums.{sum_by-swap}
 
 has_at : (xs : List ℕ) (k u : ℕ) → slice_get xs k ≡ Some u → has xs u ≡ true
 has_at [] k u at = absurd (none-some u at)

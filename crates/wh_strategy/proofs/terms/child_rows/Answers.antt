@@ -1,6 +1,6 @@
 use Rattle.std.proofs.Common.{◌≡◌, true, false}
 use Rattle.wh_dag.specs.Shape.{has}
-use Rattle.wh_strategy.proofs.Charges.{charged_within, charged_without}
+use Rattle.wh_dag.proofs.PartSums.{charged_within, charged_without}
 use Rattle.wh_strategy.proofs.terms.child_rows.Goals as goal
 
 pub returns-then-has_view-clause-value : goal.returns-then-has_view-clause-value
