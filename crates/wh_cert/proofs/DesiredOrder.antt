@@ -1,17 +1,9 @@
 -- The desired order: its two cases, of two views one comes first, and the order that a pair's minimum is of.
-use Rattle.std.proofs.Common.{◌≡◌, ℕ, ◌+◌, ◌<◌, Bool, true, false, refl, sym, ◌&&◌, ◌⊎◌, inl, inr, ⊎_elim, arith}
-use Rattle.std.proofs.lemmas.Bool.{false≢true, or_left, or_right, or_cases, cases_order, eqb-true, eq-eqb, ltb-true, lt-ltb}
+use Rattle.std.proofs.Common.{◌≡◌, ℕ, ◌+◌, ◌<◌, sym, ◌⊎◌, inl, inr, ⊎_elim, arith}
+use Rattle.std.proofs.lemmas.Bool.{or_left, or_right, or_cases, cases_order, eqb-true, eq-eqb, ltb-true, lt-ltb, and_parts, and_from}
 use Rattle.wh_strategy.specs.Sizes.{Size}
 use Rattle.wh_cert.specs.Bound.{in_order, pair_min}
 use Rattle.wh_cert.specs.Order.{comes_first, ComesFirst}
-
-both_of : (a b : Bool) → (a && b) ≡ true → (a ≡ true) × (b ≡ true)
-both_of true b e = (refl, e)
-both_of false b e = absurd (false≢true e)
-
-both_hold : (a b : Bool) → a ≡ true → b ≡ true → (a && b) ≡ true
-both_hold true b e f = f
-both_hold false b e f = absurd (false≢true e)
 
 -- it grows less, or they grow the same and it has the lower number
 pub comes_cases : (sizes : ℕ → Size) (u w : ℕ) → ComesFirst sizes u w → ((sizes u).post + (sizes w).pre < (sizes w).post + (sizes u).pre) ⊎ (((sizes u).post + (sizes w).pre ≡ (sizes w).post + (sizes u).pre) × (u < w))
@@ -19,7 +11,7 @@ unfolding comes_first
 comes_cases sizes u w h =
     ⊎_elim
     (λ e. inl (ltb-true _ _ e))
-    (λ e. let b = both_of _ _ e in inr (eqb-true _ _ b.0, ltb-true _ _ b.1))
+    (λ e. let b = and_parts _ _ e in inr (eqb-true _ _ b.0, ltb-true _ _ b.1))
     (or_cases _ _ h)
 
 pub comes_less : (sizes : ℕ → Size) (u w : ℕ) → (sizes u).post + (sizes w).pre < (sizes w).post + (sizes u).pre → ComesFirst sizes u w
@@ -28,7 +20,7 @@ comes_less sizes u w l = or_left _ _ (lt-ltb _ _ l)
 
 pub comes_tie : (sizes : ℕ → Size) (u w : ℕ) → (sizes u).post + (sizes w).pre ≡ (sizes w).post + (sizes u).pre → u < w → ComesFirst sizes u w
 unfolding comes_first
-comes_tie sizes u w e l = or_right _ _ (both_hold _ _ (eq-eqb _ _ e) (lt-ltb u w l))
+comes_tie sizes u w e l = or_right _ _ (and_from _ _ (eq-eqb _ _ e) (lt-ltb u w l))
 
 -- of two views one comes first
 pub one_comes : (sizes : ℕ → Size) (u w : ℕ) → (u ≡ w → ⊥) → ComesFirst sizes u w ⊎ ComesFirst sizes w u

@@ -1,34 +1,11 @@
 -- What one Comp charges a child is at least what the child owes for each member of the Comp.
-use Rattle.std.proofs.Common.{◌≡◌, ℕ, ◌+◌, ◌≤◌, List, [], ◌∷◌, ◌++◌, Bool, true, false, cond, eqb, refl, sym, ap, ◌∙◌, subst, ◌||◌, ⊎_elim, arith}
-use Rattle.std.specs.Prelude.{map}
+use Rattle.std.proofs.Common.{◌≡◌, ℕ, ◌+◌, ◌≤◌, List, [], ◌∷◌, Bool, true, false, cond, eqb, sym, ap, ◌∙◌, subst, ⊎_elim, arith}
 use Rattle.std.specs.List.{sum_by}
-use Rattle.std.proofs.lemmas.List.Sums.{sum_by-cons, sum_by-append}
+use Rattle.std.proofs.lemmas.List.Sums.{sum_by-cons}
 use Rattle.std.proofs.lemmas.Bool.{cases_Bool, eqb-true, false≢true, or_parts}
 use Rattle.wh_dag.specs.Shape.{has, Distinct}
 use Rattle.wh_strategy.specs.Sums.{parts}
-use Rattle.wh_strategy.proofs.Charges.{charged, charged-hit, charged-miss}
-
-has-miss : (y u : ℕ) (ys : List ℕ) → eqb y u ≡ false → has (y ∷ ys) u ≡ has ys u
-unfolding has
-has-miss y u ys e = ap (λ b. b || has ys u) e
-
-sum_by-map : {X Y : Type 0} (f : Y → ℕ) (h : X → Y) (xs : List X) → sum_by f (map h xs) ≡ sum_by (λ x. f (h x)) xs
-sum_by-map f h [] = refl
-sum_by-map f h (x ∷ xs) =
-    let a = sum_by-cons f (h x) (map h xs) in
-    let b = sum_by-cons (λ y. f (h y)) x xs in
-    let r = sum_by-map f h xs in
-    omega arith
-
--- a number for each part of a list, where it gets one member more
-parts_more : (c y : ℕ) (ys : List ℕ) → sum_by (λ p. c) (parts (y ∷ ys)) ≡ c + (sum_by (λ p. c) (parts ys) + sum_by (λ p. c) (parts ys))
-unfolding parts
-parts_more c y ys =
-    let f : List ℕ → ℕ = λ p. c in
-    let a = sum_by-cons f (y ∷ []) (parts ys ++ map (λ p. y ∷ p) (parts ys)) in
-    let b = sum_by-append f (parts ys) (map (λ p. y ∷ p) (parts ys)) in
-    let d = sum_by-map f (λ p. y ∷ p) (parts ys) in
-    omega arith
+use Rattle.wh_dag.proofs.PartSums.{charged, charged-hit, charged-miss, has-miss, sum_by-parts}
 
 -- what u is to be charged for w: its change for itself, for another of its Comp change and state, else its state
 abbrev pub due : Bool → ℕ → ℕ → ℕ → ℕ → ℕ
@@ -62,7 +39,7 @@ due_beside c s u (y ∷ ys) h =
     let b = sum_by-cons (due true c s u) y ys in
     let d = due-other true c s u y both.0 in
     let r = due_beside c s u ys both.1 in
-    let m = parts_more c y ys in
+    let m = sum_by-parts (λ p. c) y ys in
     omega arith
 
 charged_once : (c s u : ℕ) (ys : List ℕ) → has ys u ≡ true → c ≤ charged c s u ys

@@ -15,7 +15,7 @@ use Rattle.wh_strategy.specs.Rules.{IsCorrect}
 use Rattle.wh_strategy.specs.Sizes.{Size, AreSizes, sizes_of}
 use Rattle.wh_strategy.specs.Sums.{sum_below, parts}
 use Rattle.wh_strategy.specs.Work.{state, comp_rows, inst_rows, work_of}
-use Rattle.wh_strategy.proofs.Charges.{charge, charged}
+use Rattle.wh_dag.proofs.PartSums.{charge, charged}
 use Rattle.wh_strategy.proofs.Found.{new_after, old_before}
 use Rattle.wh_strategy.proofs.SumsBelow.{sum_by-same, sum_by-swap}
 use Rattle.wh_cert.specs.Bound.{in_order, pair_min, rows_by, sum_pairs, pair_bound_of}

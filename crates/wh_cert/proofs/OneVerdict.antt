@@ -93,7 +93,7 @@ verdicts_same shape sizes comp inst work (Pairs lines) (Rejected line) (Rejected
 verdicts_same shape sizes comp inst work (Search nodes) All other a b = absurd a
 verdicts_same shape sizes comp inst work (Search nodes) OneWay All a b = absurd b
 verdicts_same shape sizes comp inst work (Search nodes) OneWay OneWay a b = refl
-verdicts_same shape sizes comp inst work (Search nodes) OneWay (Rejected place) a b = absurd (not_accepted shape sizes comp inst work (tree_of nodes) place a.1 b)
+verdicts_same shape sizes comp inst work (Search nodes) OneWay (Rejected place) a b = absurd (not_accepted shape sizes comp inst work (tree_of nodes) place a.1 b.1)
 verdicts_same shape sizes comp inst work (Search nodes) (Rejected place) All a b = absurd b
-verdicts_same shape sizes comp inst work (Search nodes) (Rejected place) OneWay a b = absurd (not_accepted shape sizes comp inst work (tree_of nodes) place b.1 a)
-verdicts_same shape sizes comp inst work (Search nodes) (Rejected place) (Rejected place') a b = ap Rejected (one_node shape sizes comp inst work (tree_of nodes) place place' a b)
+verdicts_same shape sizes comp inst work (Search nodes) (Rejected place) OneWay a b = absurd (not_accepted shape sizes comp inst work (tree_of nodes) place b.1 a.1)
+verdicts_same shape sizes comp inst work (Search nodes) (Rejected place) (Rejected place') a b = ap Rejected (one_node shape sizes comp inst work (tree_of nodes) place place' a.1 b.1)

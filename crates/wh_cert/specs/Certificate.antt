@@ -45,11 +45,11 @@ pub data IsRejected (shape : List (List ℕ)) (sizes : ℕ → Size) (work bound
   other_work : line ≡ 0 → lines ≡ lines_of shape sizes → work ≢ bound → IsRejected shape sizes work bound lines line
 
 -- What the verdict on a certificate says, at these costs and this work of the strategy. A certificate by a tree is the nodes of one tree
--- and nothing after them.
+-- and nothing after them: what is no such tree gets no verdict.
 abbrev pub IsJudged : List (List ℕ) → (ℕ → Size) → ℕ → ℕ → ℕ → Certificate → Verdict → Type 0
 IsJudged shape sizes comp inst work (Pairs lines) All = IsAccepted shape sizes work (pair_bound_of shape sizes comp inst) lines
 IsJudged shape sizes comp inst work (Pairs lines) OneWay = ⊥
 IsJudged shape sizes comp inst work (Pairs lines) (Rejected line) = IsRejected shape sizes work (pair_bound_of shape sizes comp inst) lines line
 IsJudged shape sizes comp inst work (Search nodes) All = ⊥
 IsJudged shape sizes comp inst work (Search nodes) OneWay = IsTreeOf nodes (tree_of nodes) × IsAcceptedTree shape sizes comp inst work (tree_of nodes)
-IsJudged shape sizes comp inst work (Search nodes) (Rejected place) = IsFirstBad shape sizes comp inst work (tree_of nodes) place
+IsJudged shape sizes comp inst work (Search nodes) (Rejected place) = IsTreeOf nodes (tree_of nodes) × IsFirstBad shape sizes comp inst work (tree_of nodes) place

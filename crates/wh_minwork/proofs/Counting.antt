@@ -29,6 +29,10 @@ is_one b n h t = h ∙ cond-true b 1 0 t
 pub is_none : (b : Bool) (n : ℕ) → n ≡ one_if b → b ≡ false → n ≡ 0
 is_none b n h f = h ∙ cond-false b 1 0 f
 
+pub at_most_one : (b : Bool) (n : ℕ) → n ≡ one_if b → n ≤ 1
+at_most_one true n h = let k : n ≡ 1 = h in omega arith
+at_most_one false n h = let k : n ≡ 0 = h in omega arith
+
 pub times_append : (e : Node) (xs ys : List Node) → times e (xs ++ ys) ≡ times e xs + times e ys
 unfolding times
 times_append e [] ys = omega arith

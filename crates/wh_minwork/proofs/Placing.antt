@@ -2,11 +2,11 @@
 use Rattle.std.proofs.Common.{◌≡◌, ℕ, zero, suc, ◌+◌, ◌<◌, ◌≤◌, List, [], ◌∷◌, ◌++◌, true, false, sym, ◌∙◌, subst, length, map, get_or, slice_get, Some, ⊎_elim, arith}
 use Rattle.std.specs.List.{list_any, remove, All}
 use Rattle.std.proofs.lemmas.Option.{none-some}
-use Rattle.std.proofs.lemmas.Bool.{cases_eq, cases_Bool, both_ways, true_from_ne_false}
+use Rattle.std.proofs.lemmas.Bool.{cases_eq, both_ways, true_from_ne_false}
 use Rattle.wh_cert.specs.Graph.{IsNode, HasEdge}
 use Rattle.wh_minwork.specs.Sorted.{IsSorted}
 use Rattle.wh_minwork.specs.Nodes.{one_if, expression_of, is_node, leads, times, AreNodes, AreStuck}
-use Rattle.wh_minwork.proofs.Counting.{is_one, is_none, times_push, times_remove, times_get, found, twice, not_any, get_within, get_left, get_pushed, get_mapped, get_map, get_value}
+use Rattle.wh_minwork.proofs.Counting.{is_one, is_none, at_most_one, times_push, times_remove, times_get, found, twice, not_any, get_within, get_left, get_pushed, get_mapped, get_map, get_value}
 use Rattle.wh_minwork.proofs.Edges.{expression_same, node_of, node_is, edge_leads}
 use Rattle.wh_minwork.specs.declared.node.Node.{Node}
 
@@ -56,8 +56,12 @@ part_more shape decided placed rest i y h l r b = record {
 plus_none : (n : ℕ) → n ≡ n + 0
 plus_none n = omega arith
 
-pub part_done : (shape : List (List ℕ)) (decided : List (ℕ × ℕ)) (placed : List Node) → IsPart shape decided placed [] → IsSorted shape decided (map expression_of placed)
+-- no node is left
+all_placed : (shape : List (List ℕ)) (decided : List (ℕ × ℕ)) (placed : List Node) → IsPart shape decided placed [] → (e : Node) → times e placed ≡ one_if (is_node shape e)
 unfolding times
+all_placed shape decided placed h e = plus_none _ ∙ h.each e
+
+pub part_done : (shape : List (List ℕ)) (decided : List (ℕ × ℕ)) (placed : List Node) → IsPart shape decided placed [] → IsSorted shape decided (map expression_of placed)
 part_done shape decided placed h = record {
   nodes = λ p e at. let n = get_mapped expression_of placed p e at in subst (λ z. IsNode shape z) n.2 (node_is shape n.0 (stands p n.0 n.1));
   once = λ p q e a b.
@@ -79,30 +83,33 @@ part_done shape decided placed h = record {
       omega arith;
 }
   where
+    each : (n : Node) → times n placed ≡ one_if (is_node shape n)
+    each n = all_placed shape decided placed h n
+
     few : (n : Node) → times n placed ≤ 1
-    few n =
-        ⊎_elim
-        (λ t. let k : times n placed ≡ 1 = is_one (is_node shape n) _ (plus_none _ ∙ h.each n) t in omega arith)
-        (λ t. let k : times n placed ≡ 0 = is_none (is_node shape n) _ (plus_none _ ∙ h.each n) t in omega arith)
-        (cases_Bool (is_node shape n))
+    few n = at_most_one (is_node shape n) _ (each n)
 
     stands : (p : ℕ) (n : Node) → slice_get placed p ≡ Some n → is_node shape n ≡ true
     stands p n at =
         let s = times_get n placed p at in
-        true_from_ne_false (is_node shape n) (λ f. let k : times n placed ≡ 0 = is_none (is_node shape n) _ (plus_none _ ∙ h.each n) f in omega arith)
+        true_from_ne_false (is_node shape n) (λ f. let k : times n placed ≡ 0 = is_none (is_node shape n) _ (each n) f in omega arith)
 
     place : (n : Node) → is_node shape n ≡ true → (p : ℕ) × (slice_get placed p ≡ Some n)
     place n t =
-        let k : times n placed ≡ 1 = is_one (is_node shape n) _ (plus_none _ ∙ h.each n) t in
+        let k : times n placed ≡ 1 = is_one (is_node shape n) _ (each n) t in
         found n placed (omega arith)
 
 -- nothing is ready: the rest is stuck
 pub part_stuck : (shape : List (List ℕ)) (decided : List (ℕ × ℕ)) (placed rest : List Node) → IsPart shape decided placed rest → All (λ y. list_any (λ x. leads shape decided x y) rest ≡ true) rest → AreStuck shape decided rest
 part_stuck shape decided placed rest h b = record {
   nodes = λ e l. true_from_ne_false (is_node shape e) (λ f. let k : times e placed + times e rest ≡ 0 = is_none (is_node shape e) _ (h.each e) f in omega arith);
+  few = few;
   led = blocked;
 }
   where
+    few : (e : Node) → times e rest ≤ 1
+    few e = let k : times e placed + times e rest ≤ 1 = at_most_one (is_node shape e) _ (h.each e) in omega arith
+
     blocked : (e : Node) → 1 ≤ times e rest → list_any (λ x. leads shape decided x e) rest ≡ true
     blocked e l =
         let at = found e rest l in

@@ -1,13 +1,15 @@
 -- A walk back along edges, which ends where it meets itself, is a cycle.
-use Rattle.std.proofs.Common.{◌≡◌, ◌≢◌, ℕ, zero, suc, ◌+◌, ◌<◌, List, [], ◌∷◌, true, refl, sym, ap, ◌∙◌, subst, length, map, take, get_or, slice_get, add-one, Some, arith}
+use Rattle.std.proofs.Common.{◌≡◌, ◌≢◌, ℕ, zero, suc, ◌+◌, ◌<◌, ◌≤◌, List, [], ◌∷◌, true, refl, sym, ap, ◌∙◌, subst, length, map, take, get_or, slice_get, add-one, Some, arith}
 use Rattle.std.specs.List.{list_any, remove, All}
 use Rattle.std.proofs.lemmas.Option.{none-some, same_Some}
 use Rattle.std.proofs.lemmas.List.{take-map}
 use Rattle.wh_strategy.specs.declared.expression.Expression.{Expression}
+use Rattle.wh_strategy.specs.Expression.{At}
 use Rattle.wh_cert.specs.Graph.{IsNode, HasEdge, Leads, IsCycle}
 use Rattle.wh_minwork.specs.Nodes.{expression_of, leads, one, times, AreStuck}
-use Rattle.wh_minwork.proofs.Counting.{one_itself, times_remove, times_get, times_none, get_map, get_value, get_some}
-use Rattle.wh_minwork.proofs.Edges.{node_is, leads_edge}
+use Rattle.wh_minwork.specs.Sorted.{IsSimpleCycle}
+use Rattle.wh_minwork.proofs.Counting.{one_itself, times_remove, times_get, times_none, twice, get_map, get_mapped, get_value, get_some}
+use Rattle.wh_minwork.proofs.Edges.{expression_same, node_is, leads_edge}
 use Rattle.wh_minwork.specs.declared.node.Node.{Node}
 
 -- a walk back along edges, the last node first
@@ -102,8 +104,26 @@ search_meets shape decided stuck next walk left h a b =
     let n = times_none next walk b in
     omega arith
 
+get_taken : (xs : List Node) (k p : ℕ) (x : Node) → slice_get (take k xs) p ≡ Some x → slice_get xs p ≡ Some x
+get_taken [] zero p x at = at
+get_taken [] (suc k) p x at = at
+get_taken (y ∷ ys) zero zero x at = absurd (none-some x at)
+get_taken (y ∷ ys) zero (suc p) x at = absurd (none-some x at)
+get_taken (y ∷ ys) (suc k) zero x at = at
+get_taken (y ∷ ys) (suc k) (suc p) x at = get_taken ys k p x at
+
+-- no node stands twice in a walk
+walked_once : (shape : List (List ℕ)) (decided : List (ℕ × ℕ)) (stuck : List Node) (next : Node) (walk left : List Node) (k : ℕ) → AreStuck shape decided stuck → IsSearch shape decided stuck next walk left → (p q : ℕ) (e : Expression) → At (map expression_of (take k walk)) p e → At (map expression_of (take k walk)) q e → p ≡ q
+walked_once shape decided stuck next walk left k s h p q e a b =
+    let n = get_mapped expression_of (take k walk) p e a in
+    let m = get_mapped expression_of (take k walk) q e b in
+    let same : m.0 ≡ n.0 = expression_same m.0 n.0 (m.2 ∙ sym n.2) in
+    let parted : times n.0 walk + times n.0 left ≡ times n.0 stuck = h.parted n.0 in
+    let few : times n.0 stuck ≤ 1 = s.few n.0 in
+    twice n.0 walk p q (get_taken walk k p n.0 n.1) (subst (λ z. slice_get walk q ≡ Some z) same (get_taken walk k q m.0 m.1)) (omega arith)
+
 -- where the walk has met the next node, the walk up to it is a cycle
-pub search_closes : (shape : List (List ℕ)) (decided : List (ℕ × ℕ)) (stuck : List Node) (next : Node) (walk left : List Node) (j : ℕ) → IsSearch shape decided stuck next walk left → j < length walk → get_or walk j next ≡ next → IsCycle shape decided (map expression_of (take (j + 1) walk))
+search_closes : (shape : List (List ℕ)) (decided : List (ℕ × ℕ)) (stuck : List Node) (next : Node) (walk left : List Node) (j : ℕ) → IsSearch shape decided stuck next walk left → j < length walk → get_or walk j next ≡ next → IsCycle shape decided (map expression_of (take (j + 1) walk))
 search_closes shape decided stuck next walk left j h l is =
     let y = get_some walk j l in
     let same : y.0 ≡ next = sym (get_value walk j y.0 next y.1) ∙ is in
@@ -112,3 +132,9 @@ search_closes shape decided stuck next walk left j h l is =
     let c = walk_closes shape decided (expression_of h.last) (map expression_of h.behind) j (expression_of next) h.walked at (leads_edge shape decided next h.last h.back) in
     subst (λ z. IsCycle shape decided (map expression_of z)) (sym (ap (λ z. take (j + 1) z) h.front ∙ take_front h.last h.behind j))
     (subst (λ z. IsCycle shape decided (expression_of h.last ∷ z)) (take-map expression_of j h.behind) c)
+
+pub simple_cycle : (shape : List (List ℕ)) (decided : List (ℕ × ℕ)) (stuck : List Node) (next : Node) (walk left : List Node) (j : ℕ) → AreStuck shape decided stuck → IsSearch shape decided stuck next walk left → j < length walk → get_or walk j next ≡ next → IsSimpleCycle shape decided (map expression_of (take (j + 1) walk))
+simple_cycle shape decided stuck next walk left j s h l is = record {
+  cycle = search_closes shape decided stuck next walk left j h l is;
+  once = walked_once shape decided stuck next walk left (j + 1) s h;
+}

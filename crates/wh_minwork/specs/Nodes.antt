@@ -49,9 +49,10 @@ times e (x ∷ xs) = one x e + times e xs
 pub record AreNodes (shape : List (List ℕ)) (nodes : List Node) : Type 0 where
   pub each : (e : Node) → times e nodes ≡ one_if (is_node shape e)
 
--- these are nodes, and each of them is led to by one of them
+-- these are nodes, none twice, and each of them is led to by one of them
 pub record AreStuck (shape : List (List ℕ)) (decided : List (ℕ × ℕ)) (stuck : List Node) : Type 0 where
   pub nodes : (e : Node) → 1 ≤ times e stuck → is_node shape e ≡ true
+  pub few : (e : Node) → times e stuck ≤ 1
   pub led : (e : Node) → 1 ≤ times e stuck → list_any (λ x. leads shape decided x e) stuck ≡ true
 
 -- how many nodes of the list lead to this one

@@ -2,8 +2,8 @@
 use Rattle.std.specs.Prelude.{ℕ, List}
 use Rattle.wh_strategy.specs.declared.expression.Expression.{Expression}
 use Rattle.wh_strategy.specs.Sizes.{Size}
-use Rattle.wh_cert.specs.Graph.{IsCycle, IsOrdered}
-use Rattle.wh_minwork.specs.Sorted.{IsSorted, IsAcyclic}
+use Rattle.wh_cert.specs.Graph.{IsOrdered}
+use Rattle.wh_minwork.specs.Sorted.{IsSorted, IsAcyclic, IsSimpleCycle}
 use Rattle.wh_minwork.specs.declared.minwork.MinFault.{MinFault}
 use Rattle.wh_minwork.specs.declared.minwork.MinFault.TheVariants.{Cyclic, Memory}
 
@@ -15,7 +15,7 @@ IsSortedAsDesired shape sizes list = (decided : List (ℕ × ℕ)) × IsOrdered 
 abbrev pub IsAcyclicAsDesired : List (List ℕ) → (ℕ → Size) → Type 0
 IsAcyclicAsDesired shape sizes = (decided : List (ℕ × ℕ)) → IsOrdered shape sizes decided → IsAcyclic shape decided
 
--- why there is no plan: a cycle of the ordered graph, or want of memory
+-- why there is no plan: a simple cycle of the ordered graph, or want of memory
 abbrev pub IsMinReason : List (List ℕ) → (ℕ → Size) → MinFault → Type 0
-IsMinReason shape sizes (Cyclic cycle) = (decided : List (ℕ × ℕ)) × IsOrdered shape sizes decided × IsCycle shape decided cycle.items
+IsMinReason shape sizes (Cyclic cycle) = (decided : List (ℕ × ℕ)) × IsOrdered shape sizes decided × IsSimpleCycle shape decided cycle.items
 IsMinReason shape sizes Memory = Unit {0}

@@ -17,7 +17,12 @@ pub record IsSorted (shape : List (List ℕ)) (decided : List (ℕ × ℕ)) (lis
 abbrev pub IsAcyclic : List (List ℕ) → List (ℕ × ℕ) → Type 0
 IsAcyclic shape decided = (cycle : List Expression) → IsCycle shape decided cycle → ⊥
 
--- why a graph was not sorted: a cycle of it, or want of memory
+-- a simple cycle: a cycle in which no expression stands twice
+pub record IsSimpleCycle (shape : List (List ℕ)) (decided : List (ℕ × ℕ)) (list : List Expression) : Type 0 where
+  pub cycle : IsCycle shape decided list
+  pub once : (p q : ℕ) (e : Expression) → At list p e → At list q e → p ≡ q
+
+-- why a graph was not sorted: a simple cycle of it, or want of memory
 abbrev pub IsUnsorted : List (List ℕ) → List (ℕ × ℕ) → SortFault → Type 0
-IsUnsorted shape decided (Cycle cycle) = IsCycle shape decided cycle.items
+IsUnsorted shape decided (Cycle cycle) = IsSimpleCycle shape decided cycle.items
 IsUnsorted shape decided Memory = Unit {0}

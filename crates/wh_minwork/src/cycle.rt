@@ -2,8 +2,8 @@
 
 ghost use Rattle.std.specs.Prelude.{◌≡◌, ◌≢◌, ◌<◌, ℕ, length, map, true, false, Some, slice_get, slice_index_or, IfOk, MatchOption, All};
 ghost use Rattle.std.specs.List.{list_any};
-ghost use Rattle.wh_cert.specs.Graph.{IsCycle};
 ghost use Rattle.wh_minwork.specs.Nodes.{leads, expression_of, AreStuck};
+ghost use Rattle.wh_minwork.specs.Sorted.{IsSimpleCycle};
 ghost use Rattle.wh_minwork.specs.declared.node.Node.{Node};
 
 use crate::graph::Graph;
@@ -39,7 +39,7 @@ fn predecessor(graph: &Graph, stuck: &[Node], node: Node) -> Node
 pub(crate) fn cycle(alloc: Global, graph: &Graph, stuck: &[Node]) -> Result<Vec<Node>, AllocError>
     requires some { 0 < length stuck.now }
     requires stuck { AreStuck graph.now.children graph.now.decided stuck.now }
-    ensures { IfOk result (λ walk. IsCycle graph.now.children graph.now.decided (map expression_of walk.items)) }
+    ensures { IfOk result (λ walk. IsSimpleCycle graph.now.children graph.now.decided (map expression_of walk.items)) }
 {
     let mut left = stuck.to_vec(alloc)?;
     let mut last = left.remove(0);

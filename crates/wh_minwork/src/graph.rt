@@ -17,8 +17,9 @@ use wh_strategy::{Expression, Strategy};
 /// Why a graph was not sorted.
 #[derive(Debug, Drop)]
 pub enum SortFault {
-    /// A cycle of the graph: each expression has an edge to the next, and the last one to the first. From the smallest
-    /// expression that could not be placed it is found by going back, each time to the smallest that leads there.
+    /// A cycle of the graph: each expression has an edge to the next, and the last one to the first; none stands twice.
+    /// From the smallest expression that could not be placed it is found by going back, each time to the smallest that
+    /// leads there.
     Cycle(Vec<Expression>),
     /// Memory was refused.
     Memory,

@@ -13,9 +13,13 @@ use Rattle.wh_strategy.specs.Rules.{IsCorrect, IsOneWay}
 use Rattle.wh_strategy.specs.Sizes.{Size}
 use Rattle.wh_strategy.specs.Work.{work_of}
 use Rattle.wh_cert.specs.Bound.{decided_bound_of}
+use Rattle.wh_cert.specs.Certificate.{IsJudged}
 use Rattle.wh_cert.specs.Graph.{IsCycle, DecidesAll}
 use Rattle.wh_cert.specs.Search.{Placed, IsGood, IsGoodNode, IsAcceptedTree, IsOpen, nodes_below}
 use Rattle.wh_cert.specs.Tree.{CaseTree, Bound, Cycle, Branch, preorder, depth, tree_of, IsTreeOf}
+use Rattle.wh_cert.specs.declared.certificate.Certificate.{Certificate}
+use Rattle.wh_cert.specs.declared.certificate.Certificate.TheVariants.{Pairs, Search}
+use Rattle.wh_cert.specs.declared.certificate.Verdict.TheVariants.{All as AllStrategies}
 use Rattle.wh_cert.specs.declared.tree.TreeNode.{TreeNode}
 use Rattle.wh_cert.specs.declared.tree.TreeNode.TheVariants as node
 use Rattle.wh_cert.proofs.Preorders.{tree_of-preorder}
@@ -25,8 +29,9 @@ use Rattle.wh_minwork.proofs.Ordering.{edge_moves, cycle_moves}
 use Rattle.wh_minwork.proofs.Sorting.{sorted_is_correct, sorted_is_one_way, sorted_costs_decided}
 use Rattle.wh_prune.specs.declared.fault.PruneFault.{PruneFault}
 use Rattle.wh_prune.specs.declared.fault.PruneFault.TheVariants.{Budget, Memory}
-use Rattle.wh_prune.specs.Plan.{IsSearchReason}
-use Rattle.wh_prune.specs.Searching.{IsExplored, IsHeld, IsStopped, IsWithinLowest}
+use Rattle.wh_prune.specs.Plan.{IsSearchReason, IsWithinBudget}
+use Rattle.wh_prune.specs.Searching.{IsExplored, IsHeld, IsStopped}
+use Rattle.wh_prune.specs.Spent.{IsWithinLowest}
 use Rattle.wh_prune.proofs.Deciding.{decides-reverse, open-reverse}
 
 -- a sorted list of all couples' graph
@@ -136,3 +141,8 @@ why_stopped shape sizes comp inst budget all best first list (Budget opened leas
       lowest = (lowest.0, lowest.1, lowest.2, lowest.3, omega arith);
       few = omega arith;
     }
+
+-- what is accepted for all strategies has no tree
+pub all_within : (shape : List (List ℕ)) (sizes : ℕ → Size) (comp inst work budget : ℕ) (certificate : Certificate) → IsJudged shape sizes comp inst work certificate AllStrategies → IsWithinBudget budget certificate
+all_within shape sizes comp inst work budget (Pairs lines) judged = tt
+all_within shape sizes comp inst work budget (Search nodes) judged = absurd judged

@@ -1,8 +1,10 @@
 -- What is planned, and why nothing is.
-use Rattle.std.specs.Prelude.{ℕ, List}
+use Rattle.std.specs.Prelude.{ℕ, ◌≤◌, List, length}
 use Rattle.wh_strategy.specs.declared.expression.Expression.{Expression}
 use Rattle.wh_strategy.specs.Sizes.{Size}
 use Rattle.wh_cert.specs.Graph.{IsCycle, IsOrdered}
+use Rattle.wh_cert.specs.declared.certificate.Certificate.{Certificate}
+use Rattle.wh_cert.specs.declared.certificate.Certificate.TheVariants.{Pairs, Search}
 use Rattle.wh_cert.specs.declared.certificate.Scope.{Scope}
 use Rattle.wh_cert.specs.declared.certificate.Scope.TheVariants as scope
 use Rattle.wh_cert.specs.declared.certificate.Verdict.{Verdict}
@@ -15,6 +17,11 @@ use Rattle.wh_prune.specs.declared.fault.PruneFault.TheVariants.{Budget, Memory}
 abbrev pub accepted_for : Scope → Verdict
 accepted_for scope.All = verdict.All
 accepted_for scope.OneWay = verdict.OneWay
+
+-- a tree has no more nodes than the budget says
+abbrev pub IsWithinBudget : ℕ → Certificate → Type 0
+IsWithinBudget budget (Pairs lines) = Unit {0}
+IsWithinBudget budget (Search nodes) = length nodes ≤ budget
 
 -- the ordered graph has a cycle
 abbrev pub IsCyclicAsDesired : List (List ℕ) → (ℕ → Size) → Type 0

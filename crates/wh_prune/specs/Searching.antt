@@ -11,7 +11,6 @@ use Rattle.wh_cert.specs.Graph.{decides}
 use Rattle.wh_cert.specs.Search.{IsGoodNode, nodes_below}
 use Rattle.wh_cert.specs.Tree.{CaseTree, preorder, depth}
 use Rattle.wh_cert.specs.declared.tree.TreeNode.{TreeNode}
-use Rattle.wh_prune.specs.Spent.{InstallsLowerFirst}
 use Rattle.wh_prune.specs.declared.fault.PruneFault.{PruneFault}
 use Rattle.wh_prune.specs.declared.fault.PruneFault.TheVariants.{Budget, Memory}
 
@@ -34,11 +33,6 @@ pub record IsHeld (shape : List (List ℕ)) (sizes : ℕ → Size) (comp inst wo
   pub correct : IsCorrect shape list
   pub one_way : IsOneWay list
   pub costs : work_of shape sizes comp inst list ≡ work
-
--- the work is at most that of a one-way strategy in which the lower number of each couple is installed first
-abbrev pub IsWithinLowest : List (List ℕ) → (ℕ → Size) → ℕ → ℕ → ℕ → Type 0
-IsWithinLowest shape sizes comp inst work =
-    (list : List Expression) × IsCorrect shape list × IsOneWay list × InstallsLowerFirst shape list × (work ≤ work_of shape sizes comp inst list)
 
 -- After the nodes of before come those of a tree, and nothing else. It is at most so deep, and below these decisions, the last
 -- of which is the nearest, each of its nodes is good for a strategy of this work.

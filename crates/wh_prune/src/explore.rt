@@ -1,10 +1,11 @@
 //! The full tree of decisions on the couples, explored in preorder.
 
-ghost use Rattle.std.specs.Prelude.{◌≡◌, ◌+◌, ◌^◌, ◌≤◌, [], length, IfOk, IfErr, OnOk};
+ghost use Rattle.std.specs.Prelude.{◌≡◌, ◌+◌, ◌^◌, ◌≤◌, ℕ, List, [], length, IfOk, IfErr, OnOk};
 ghost use Rattle.wh_dag.specs.Shape.{IsShape};
 ghost use Rattle.wh_dag.specs.Siblings.{couples_of};
-ghost use Rattle.wh_strategy.specs.Sizes.{sizes_of};
-ghost use Rattle.wh_prune.specs.Searching.{AreLeft, DecidesLowerFirst, IsExplored, IsHeld, IsStopped, IsWithinLowest};
+ghost use Rattle.wh_strategy.specs.Sizes.{Size, sizes_of};
+ghost use Rattle.wh_prune.specs.Searching.{AreLeft, DecidesLowerFirst, IsExplored, IsHeld, IsStopped};
+ghost use Rattle.wh_prune.specs.Spent.{IsWithinLowest};
 
 use crate::fault::PruneFault;
 use std::alloc::{AllocError, Global};
@@ -69,6 +70,20 @@ impl Search {
         }
     }
 
+    /// Keeps a strategy of this work where it costs less than the one that was kept.
+    fn keep_less(&mut self, list: Strategy, work: u128)
+        ensures held { (shape : List (List ℕ)) (sizes : ℕ → Size) (comp inst : ℕ) → IsHeld shape sizes comp inst self.old.best self.old.list → IsHeld shape sizes comp inst work list → IsHeld shape sizes comp inst self.new.best self.new.list }
+        ensures down { self.new.best ≤ self.old.best }
+        ensures least { self.new.best ≤ work }
+        ensures kept { self.new.decided ≡ self.old.decided }
+        ensures nodes { self.new.nodes.items ≡ self.old.nodes.items }
+    {
+        if work < self.best {
+            self.best = work;
+            self.list = list;
+        }
+    }
+
     /// Opens a node below which no couple is left: a cycle, or a strategy, which is kept where it costs less.
     fn settle(
         &mut self,
@@ -89,12 +104,9 @@ impl Search {
     {
         match Graph::of(shape, &self.decided).sorted(alloc) {
             Ok(list) => {
-                let work = decided_bound(shape, sizes, costs, self.decided.as_slice());
-                if work < self.best {
-                    self.best = work;
-                    self.list = list;
-                }
                 self.nodes.push(TreeNode::Bound)?;
+                let work = decided_bound(shape, sizes, costs, self.decided.as_slice());
+                self.keep_less(list, work);
             }
             Err(SortFault::Cycle(cycle)) => {
                 self.nodes.push(TreeNode::Cycle(Strategy::new(cycle)))?;

@@ -1,6 +1,6 @@
 //! The search: a least one-way strategy, with the tree that says why it is.
 
-ghost use Rattle.std.specs.Prelude.{◌≡◌, ◌↔◌, ◌+◌, ◌^◌, ◌<◌, ◌≤◌, List, [], length, IfOk, IfErr};
+ghost use Rattle.std.specs.Prelude.{◌≡◌, ◌↔◌, ◌+◌, ◌≤◌, ℕ, List, [], length, IfOk, IfErr};
 ghost use Rattle.wh_dag.specs.Shape.{IsShape};
 ghost use Rattle.wh_dag.specs.Siblings.{couples_of};
 ghost use Rattle.wh_strategy.specs.declared.expression.Expression.{Expression};
@@ -10,7 +10,7 @@ ghost use Rattle.wh_strategy.specs.Work.{work_of};
 ghost use Rattle.wh_cert.specs.Bound.{pair_bound_of};
 ghost use Rattle.wh_cert.specs.Certificate.{IsJudged};
 ghost use Rattle.wh_cert.specs.declared.certificate.Scope.{Scope};
-ghost use Rattle.wh_prune.specs.Plan.{IsSearchReason, accepted_for};
+ghost use Rattle.wh_prune.specs.Plan.{IsSearchReason, IsWithinBudget, accepted_for};
 ghost use Rattle.wh_prune.specs.Searching.{IsExplored};
 
 use crate::explore::Search;
@@ -36,6 +36,7 @@ fn reason(
     requires explored { IsExplored shape.now.children (sizes_of sizes.now) costs.comp costs.inst work (length (couples_of shape.now.children) + 1) [] [] nodes.items }
     ensures all { IfOk result (λ r. r.0 ≡ Scope.All ↔ work ≡ pair_bound_of shape.now.children (sizes_of sizes.now) costs.comp costs.inst) }
     ensures certified { IfOk result (λ r. IsJudged shape.now.children (sizes_of sizes.now) costs.comp costs.inst work r.1 (accepted_for r.0)) }
+    ensures within { IfOk result (λ r. (budget : ℕ) → length nodes.items ≤ budget → IsWithinBudget budget r.1) }
     ensures least_of_all { IfOk result (λ r. r.0 ≡ Scope.All → (list : List Expression) → IsCorrect shape.now.children list → work ≤ work_of shape.now.children (sizes_of sizes.now) costs.comp costs.inst list) }
     ensures least_one_way { IfOk result (λ r. (list : List Expression) → IsCorrect shape.now.children list → IsOneWay list → work ≤ work_of shape.now.children (sizes_of sizes.now) costs.comp costs.inst list) }
 {
@@ -49,7 +50,7 @@ fn reason(
     }
 }
 
-/// A strategy of least work among the one-way ones, by opening at most so many nodes of a tree of decisions.
+/// A strategy of least work among the one-way ones, by opening at most `budget` nodes of a tree of decisions.
 pub fn prune(
     alloc: Global,
     shape: &Shape,
@@ -58,14 +59,13 @@ pub fn prune(
     budget: u64,
 ) -> Result<Planned, PruneFault>
     requires same { length sizes.now ≡ length shape.now.children }
-    requires some { 1 ≤ budget }
-    requires within { budget < 2 ^ 63 }
     ensures shape { IfOk result (λ p. p.correct.children ≡ shape.now.children) }
     ensures correct { IfOk result (λ p. IsCorrect shape.now.children p.correct.list) }
     ensures one_way { IfOk result (λ p. IsOneWay p.correct.list) }
     ensures work { IfOk result (λ p. p.work ≡ work_of shape.now.children (sizes_of sizes.now) costs.comp costs.inst p.correct.list) }
     ensures all { IfOk result (λ p. p.scope ≡ Scope.All ↔ p.work ≡ pair_bound_of shape.now.children (sizes_of sizes.now) costs.comp costs.inst) }
     ensures certified { IfOk result (λ p. IsJudged shape.now.children (sizes_of sizes.now) costs.comp costs.inst p.work p.certificate (accepted_for p.scope)) }
+    ensures within { IfOk result (λ p. IsWithinBudget budget p.certificate) }
     ensures least_of_all { IfOk result (λ p. p.scope ≡ Scope.All → (list : List Expression) → IsCorrect shape.now.children list → p.work ≤ work_of shape.now.children (sizes_of sizes.now) costs.comp costs.inst list) }
     ensures least_one_way { IfOk result (λ p. (list : List Expression) → IsCorrect shape.now.children list → IsOneWay list → p.work ≤ work_of shape.now.children (sizes_of sizes.now) costs.comp costs.inst list) }
     ensures err { IfErr result (IsSearchReason shape.now.children (sizes_of sizes.now) costs.comp costs.inst budget) }

@@ -1,5 +1,5 @@
 use Rattle.std.proofs.Common.{◌≡◌, ap, ◌∙◌, get_or}
-use Rattle.wh_minwork.proofs.Walking.{led_first, led_next, search_start, search_more, search_meets, search_closes}
+use Rattle.wh_minwork.proofs.Walking.{led_first, led_next, search_start, search_more, search_meets, simple_cycle}
 use Rattle.wh_minwork.proofs.cycle.cycle.Goals as goal
 
 pub predecessor-next-requires : goal.predecessor-next-requires
@@ -36,4 +36,4 @@ pub returns : goal.returns
 returns c =
     let e = rw c.deref-2.ensures.value at c.in-Some-place_of.ensures in
     rw c.truncate.ensures.items
-    (search_closes c.args.graph.now.children c.args.graph.now.decided c.args.stuck.now c.loop-i.next c.loop-i.walk.items c.loop-i.left.items c.in-Some-place_of.j c.loop-i.invariant e.0 e.1)
+    (simple_cycle c.args.graph.now.children c.args.graph.now.decided c.args.stuck.now c.loop-i.next c.loop-i.walk.items c.loop-i.left.items c.in-Some-place_of.j c.requires.stuck c.loop-i.invariant e.0 e.1)

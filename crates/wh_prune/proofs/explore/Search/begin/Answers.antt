@@ -12,7 +12,7 @@ pub unreachable-requires : goal.unreachable-requires
 unreachable-requires c =
     let unsorted = rw (c.of.ensures.children, c.of.ensures.decided) at c.in-Err-Cycle.ensures.err in
     let cycle = subst (λ z. IsUnsorted c.args.shape.now.children c.in_ok-lowest.lowest z) c.in-Err-Cycle.field-0-is unsorted in
-    no_cycle_lowest c.args.shape.now.children c.in_ok-lowest.lowest c.of.ensures.shape c.in_ok-lowest.ensures.lower c.in-Err-Cycle.field-0-0.items cycle
+    no_cycle_lowest c.args.shape.now.children c.in_ok-lowest.lowest c.of.ensures.shape c.in_ok-lowest.ensures.lower c.in-Err-Cycle.field-0-0.items cycle.cycle
 
 pub returns-in-Ok-clause-held : goal.returns-in-Ok-clause-held
 returns-in-Ok-clause-held c =
