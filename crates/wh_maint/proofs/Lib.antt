@@ -2,7 +2,6 @@ mod Apart
 pub mod BagLemmas
 mod BothSums
 mod Caps
-mod Charges
 mod Children
 mod CountsChecked
 pub mod Differences
@@ -17,7 +16,6 @@ mod GroupSteps
 mod Lacking
 mod MadeRows
 mod Matched
-mod Members
 pub mod MetRows
 mod NewGroups
 mod NewRows
@@ -25,7 +23,6 @@ pub mod NoNegative
 mod OldGroups
 pub mod OldRows
 mod OneRow
-mod PartSums
 pub mod Products
 pub mod RuledOut
 pub mod SizeBounds

@@ -34,11 +34,11 @@ IsInstallFault view table change (Range v) = ⊥
 IsInstallFault view table change Memory = SumFits table change
 IsInstallFault view table change (Absent v row) = ⊥
 
--- of a view that is to be finished: a touched group's new count leaves i64, else a new sum of one does; memory may be refused at any time
+-- of a view that is to be finished: a touched group's new count leaves i64, else a new sum of one does; memory is wanted once the counts are known to fit
 abbrev pub IsFinishFault : ℕ → Kind → Bag → (ℕ → Bag) → MaintFault → Type 0
 IsFinishFault view kind table pending (Large v) = (v ≡ view) × ¬ (NewCountsFit kind table pending)
 IsFinishFault view kind table pending (Range v) = (v ≡ view) × NewCountsFit kind table pending × ¬ (ChangeHasValue kind table pending)
-IsFinishFault view kind table pending Memory = Unit {0}
+IsFinishFault view kind table pending Memory = NewCountsFit kind table pending
 IsFinishFault view kind table pending (Absent v row) = ⊥
 
 -- each row's sums in both bags together are an i128

@@ -38,6 +38,8 @@ pub fn finish<F: RowTest, G: RowValue>(
     ensures change { IfOk result (λ change. change ≡ change_of (kind_in catalog.now view) table.now (bag_at pending.now.columns)) }
     ensures counts { OnOk result (NewCountsFit (kind_in catalog.now view) table.now (bag_at pending.now.columns)) }
     ensures sums { OnOk result (ChangeHasValue (kind_in catalog.now view) table.now (bag_at pending.now.columns)) }
+
+    // Large comes before Range and Memory.
     ensures refused { IfErr result (IsFinishFault view (kind_in catalog.now view) table.now (bag_at pending.now.columns)) }
 {
     match catalog.derived(view).output() {

@@ -178,6 +178,9 @@ module _ (catalog : CatalogOf) (list : List Expression) (tables changes : ℕ �
   other : {P : Type 0} (f : MaintFault) → (f ≡ Memory) ⊎ P → f ≢ Memory → P
   other f h m = ⊎_elim (λ e. absurd (m e)) (λ p. p) h
 
+  of_base : (f : MaintFault) → IsNightFault catalog list tables changes (record { fault = f; started = false }) → f ≢ Memory → IsBaseFault catalog tables changes f
+  of_base f h m = ⊎_elim (λ e. absurd (m e.0)) (λ p. p) h
+
   base_allowed : AreAllowedBelow catalog tables changes (length catalog.views.children) → (f : MaintFault) → IsBaseFault catalog tables changes f → f ≡ Memory
   base_allowed all f a = let may = all a.view a.there a.base in change_allowed a.view (tables a.view) (changes a.view) may.0 may.1 f a.refused
 
@@ -188,14 +191,14 @@ module _ (catalog : CatalogOf) (list : List Expression) (tables changes : ℕ �
   one_night : (f g : MaintFault) (t u : Bool) → IsNightFault catalog list tables changes (record { fault = f; started = t }) → IsNightFault catalog list tables changes (record { fault = g; started = u })
       → f ≢ Memory → g ≢ Memory → (f ≡ g) × (t ≡ u)
   one_night f g true true a b m n = (one_in_list f g (other f a.1 m) (other g b.1 n) m n, refl)
-  one_night f g true false a b m n = absurd (n (base_allowed a.0 g (other g b n)))
-  one_night f g false true a b m n = absurd (m (base_allowed b.0 f (other f a m)))
-  one_night f g false false a b m n = (one_base f g (other f a m) (other g b n) m n, refl)
+  one_night f g true false a b m n = absurd (n (base_allowed a.0 g (of_base g b n)))
+  one_night f g false true a b m n = absurd (m (base_allowed b.0 f (of_base f a m)))
+  one_night f g false false a b m n = (one_base f g (of_base f a m) (of_base g b n) m n, refl)
 
   no_night : AreAllowedBelow catalog tables changes (length catalog.views.children) → ArePassedBelow catalog list tables changes (length list)
       → (f : MaintFault) (t : Bool) → IsNightFault catalog list tables changes (record { fault = f; started = t }) → f ≡ Memory
   no_night allowed passed f true a = ⊎_elim (λ e. e) (list_passed passed f) a.1
-  no_night allowed passed f false a = ⊎_elim (λ e. e) (base_allowed allowed f) a
+  no_night allowed passed f false a = ⊎_elim (λ e. e.0) (base_allowed allowed f) a
 
 pub refusals_are_one : RefusalsAreOne
 refusals_are_one = λ catalog list tables changes. record {

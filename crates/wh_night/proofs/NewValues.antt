@@ -1,5 +1,5 @@
 -- A night whose expressions are passed ends in contents that have values.
-use Rattle.std.proofs.Common.{◌≡◌, ℕ, zero, suc, ◌+◌, ◌*◌, ◌^◌, ◌<◌, ◌≤◌, refl, sym, ap, subst, ◌∙◌, ℤ, pos, negsuc, ◌+ℤ◌, ◌*ℤ◌, true, false, cond, eqb, ◌&&◌, ◌||◌, List, [], ◌∷◌, map, length, take, ⊎_elim, arith}
+use Rattle.std.proofs.Common.{◌≡◌, ℕ, zero, suc, ◌+◌, ◌^◌, ◌<◌, ◌≤◌, refl, sym, ap, subst, ◌∙◌, ℤ, pos, negsuc, ◌+ℤ◌, ◌*ℤ◌, true, false, cond, eqb, ◌&&◌, ◌||◌, List, [], ◌∷◌, map, length, take, ⊎_elim, arith}
 use Rattle.std.specs.Prelude.{◌≤ℤ◌, FitsSigned, unsigned_abs}
 use Rattle.std.specs.Int.{w64}
 use Rattle.std.specs.List.{AllByRecursion}

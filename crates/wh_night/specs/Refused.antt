@@ -101,12 +101,12 @@ pub record IsBaseFault (catalog : CatalogOf) (tables changes : ℕ → Bag) (fau
   pub before : AreAllowedBelow catalog tables changes view
   pub refused : IsChangeFault view (tables view) (changes view) fault
 
--- why a night is refused, before it has started or in it; memory may be refused at any time
+-- why a night is refused, before it has started or in it; memory may be refused for the row that a base change lacks, and at any time once all base changes are allowed
 abbrev pub IsNightFault : CatalogOf → List Expression → (ℕ → Bag) → (ℕ → Bag) → CarryFault → Type 0
 IsNightFault catalog list tables changes refused =
     cond refused.started
     (AreAllowedBelow catalog tables changes (length catalog.views.children) × ((refused.fault ≡ Memory) ⊎ IsListFault catalog list tables changes refused.fault))
-    ((refused.fault ≡ Memory) ⊎ IsBaseFault catalog tables changes refused.fault)
+    (((refused.fault ≡ Memory) × AreAllowedBelow catalog tables changes (length catalog.views.children)) ⊎ IsBaseFault catalog tables changes refused.fault)
 
 -- ---- over what the code keeps
 

@@ -90,7 +90,7 @@ fn base_changes<F: RowTest, G: RowValue>(
     requires tables { AreBags catalog.now tables.now }
     requires changes { AreBags catalog.now changes.now }
     ensures allowed { OnOk result (AreAllowedBelow catalog.now (bag_at tables.now) (bag_at changes.now) (length catalog.now.views.children)) }
-    ensures refused { IfErr result (λ fault. (fault ≡ MaintFault.Memory) ⊎ IsBaseFault catalog.now (bag_at tables.now) (bag_at changes.now) fault) }
+    ensures refused { IfErr result (IsBaseFault catalog.now (bag_at tables.now) (bag_at changes.now)) }
 {
     for view in 0..catalog.shape().len() {
         if catalog.is_base(view) {

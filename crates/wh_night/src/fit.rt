@@ -1,10 +1,9 @@
 //! Whether tables are fit for a night.
 
-ghost use Rattle.std.specs.Prelude.{◌↔◌, IsTrue, IfOk};
+ghost use Rattle.std.specs.Prelude.{◌↔◌, ◌<◌, length, IsTrue, IfOk};
 ghost use Rattle.wh_maint.specs.Asked.{AreBags};
 ghost use Rattle.wh_maint.specs.Finishing.{kind_in};
 ghost use Rattle.wh_maint.specs.Fit.{IsFitTable};
-ghost use Rattle.std.specs.Prelude.{◌<◌, length};
 ghost use Rattle.wh_night.specs.Fit.{AreFitTables};
 
 use std::alloc::{AllocError, Global};

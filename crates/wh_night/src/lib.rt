@@ -13,6 +13,7 @@ mod state;
 pub use carrying::carry;
 pub use fit::are_fit;
 pub use laws::{
-    contents_are_fit_for_nights, refusals_are_one, steps_are_summands, strategies_end_in_contents,
+    contents_are_fit_for_nights, new_contents_have_values, refusals_are_one, steps_are_summands,
+    strategies_end_in_contents,
 };
 pub use report::{Carried, CarryFault, Report};
