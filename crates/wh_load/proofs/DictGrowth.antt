@@ -1,13 +1,12 @@
 -- A dictionary that grows keeps its numbers.
-use Rattle.std.proofs.Common.{◌≡◌, ℕ, Bool, true, false, List, [], ◌∷◌, ◌++◌, ◌⊎◌, inl, inr, refl, sym, ap, ◌∙◌, append_assoc, take, length}
+use Rattle.std.proofs.Common.{◌≡◌, ℕ, Bool, true, false, List, [], ◌∷◌, ◌++◌, ◌⊎◌, inl, inr, refl, sym, ap, ◌∙◌, append_assoc}
 use Rattle.std.specs.List.{list_any, position_or_len}
 use Rattle.std.specs.Str.{bytes_eq}
-use Rattle.std.proofs.Math.Seq.{take-append_seam}
 use Rattle.std.proofs.lemmas.Bool.{cases_Bool}
 use Rattle.std.proofs.lemmas.List.{append-nil}
 use Rattle.std.proofs.lemmas.List.Folds.{list_any-append}
 use Rattle.std.proofs.lemmas.Slice.Eq.{bytes_eq-Decides}
-use Rattle.wh_load.specs.Dict.{BeginsWith, number_of_text, with_text, with_texts}
+use Rattle.wh_load.specs.Dict.{BeginsWith, Grows, number_of_text, with_text, with_texts}
 
 pub with_texts-append : (texts xs ys : List (List ℕ)) → with_texts texts (xs ++ ys) ≡ with_texts (with_texts texts xs) ys
 unfolding with_texts
@@ -64,10 +63,6 @@ unfolding with_texts
 begins-texts texts [] = begins-same texts
 begins-texts texts (text ∷ more) = begins-trans texts (with_text texts text) _ (begins-text texts text) (begins-texts (with_text texts text) more)
 
--- what is left of a list that begins with these, cut to their number
-pub begins-cut : (xs ys : List (List ℕ)) → BeginsWith xs ys → take (length xs) ys ≡ xs
-begins-cut xs ys b = ap (take (length xs)) b.parts ∙ take-append_seam xs b.more
-
 -- a text that has a number keeps it
 pub number-begins : (texts all : List (List ℕ)) (text : List ℕ) → BeginsWith texts all → list_any (bytes_eq text) texts ≡ true → number_of_text all text ≡ number_of_text texts text
 number-begins texts all text b found = ap (λ t. number_of_text t text) b.parts ∙ position-found (bytes_eq text) texts b.more found
@@ -75,3 +70,11 @@ number-begins texts all text b found = ap (λ t. number_of_text t text) b.parts 
 -- the number that a text gets is its number from then on
 pub number-kept : (texts more : List (List ℕ)) (text : List ℕ) → number_of_text (with_texts (with_text texts text) more) text ≡ number_of_text texts text
 number-kept texts more text = number-begins (with_text texts text) (with_texts (with_text texts text) more) text (begins-texts (with_text texts text) more) (has-text texts text) ∙ number-own texts text
+
+-- a list that grew begins with what it was
+pub grown-begins : (texts after : List (List ℕ)) → Grows texts after → BeginsWith texts after
+grown-begins texts after grows = grows texts (begins-same texts)
+
+-- a text more
+pub grows-text : (texts : List (List ℕ)) (text : List ℕ) → Grows texts (with_text texts text)
+grows-text texts text first begins = begins-trans first texts (with_text texts text) begins (begins-text texts text)

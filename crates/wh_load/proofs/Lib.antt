@@ -17,7 +17,6 @@ pub mod FormulaSteps
 pub mod FormulasFit
 pub mod JoinSteps
 pub mod LineLemmas
-pub mod Lines
 pub mod Lists
 pub mod Named
 pub mod NamesText

@@ -1,8 +1,10 @@
 -- A list that was written is read back.
-use Rattle.std.proofs.Common.{◌≡◌, ◌≢◌, ℕ, ◌+◌, ◌<◌, ◌==◌, ◌||◌, Bool, true, false, not, suc, zero, List, [], ◌∷◌, ◌++◌, length, map, get_or, Some, Ok, refl, ap, sym, ◌∙◌, arith}
+use Rattle.std.proofs.Common.{◌≡◌, ◌≢◌, ℕ, ◌+◌, ◌-◌, ◌<◌, ◌==◌, ◌||◌, Bool, true, false, not, suc, zero, List, [], ◌∷◌, ◌++◌, length, map, take, drop, get_or, nat_eq, if◌then◌else◌, length-append, Some, Ok, refl, ap, sym, ◌∙◌, arith}
 use Rattle.std.specs.Prelude.{AllPairs}
-use Rattle.std.specs.List.{All, list_all, join_with_byte, position_or_len}
+use Rattle.std.specs.Cmp.Lexicographic.{pointwise}
+use Rattle.std.specs.List.{All, ends_with, list_all, join_with_byte, position_or_len}
 use Rattle.std.specs.Str.{bytes_eq}
+use Rattle.std.proofs.Math.Seq.{take-append_seam, drop-append_seam}
 use Rattle.std.proofs.lemmas.Bool.{and_parts, lt-ltb, false_from_ne_true}
 use Rattle.std.proofs.lemmas.List.{append-nil, append_assoc}
 use Rattle.std.proofs.lemmas.List.Folds.{list_all-append}
@@ -12,7 +14,7 @@ use Rattle.std.proofs.lemmas.Slice.Eq.{bytes_eq-Decides}
 use Rattle.wh_dag.specs.Written.{name_of, number_of}
 use Rattle.wh_strategy.specs.declared.expression.Expression.{Expression}
 use Rattle.wh_strategy.specs.declared.expression.Expression.TheVariants.{Comp, Inst}
-use Rattle.wh_load.specs.Line.{is_blank}
+use Rattle.wh_load.specs.Line.{is_blank, whole_lines, without_lf}
 use Rattle.wh_load.specs.Words.{is_word, lines_of, words_of}
 use Rattle.wh_load.specs.ExpressionText.{expression_of, views_of, words_for, expression_text}
 use Rattle.wh_load.specs.StrategyText.{said_by, said_in, strategy_text}
@@ -52,15 +54,27 @@ inner_join (word ∷ next ∷ words) h =
     (inner_join (next ∷ words) parts.1)
 
 -- a line that ends at its LF, above other bytes
-pub lines_of-line : (line below : List ℕ) → list_all is_inner line ≡ true → lines_of (line ++ 10 ∷ below) ≡ line ∷ lines_of below
-lines_of-line [] below h = refl
-lines_of-line (b ∷ bs) below h =
+whole_lines-line : (line below : List ℕ) → list_all is_inner line ≡ true → whole_lines (line ++ 10 ∷ below) ≡ (line ++ 10 ∷ []) ∷ whole_lines below
+whole_lines-line [] below h = refl
+whole_lines-line (b ∷ bs) below h =
     let parts = and_parts (is_inner b) (list_all is_inner bs) h in
-    rw (not_10 (b == 10) parts.0, lines_of-line bs below parts.1) refl
+    rw (not_10 (b == 10) parts.0, whole_lines-line bs below parts.1) refl
   where
     not_10 : (t : Bool) → not t ≡ true → t ≡ false
     not_10 true e = cc
     not_10 false e = refl
+
+-- a line without the LF at its end
+without_lf-line : (line : List ℕ) → without_lf (line ++ 10 ∷ []) ≡ line
+without_lf-line line =
+    let whole = line ++ 10 ∷ [] in
+    let one : length whole - length {A = ℕ} (10 ∷ []) ≡ length line = omega (arith, length-append line (10 ∷ [])) in
+    let before : length whole - 1 ≡ length line = omega (arith, length-append line (10 ∷ [])) in
+    let ends : ends_with nat_eq whole (10 ∷ []) ≡ true = ap (λ k. pointwise nat_eq (10 ∷ []) (drop k whole)) one ∙ ap (pointwise nat_eq (10 ∷ [])) (drop-append_seam line (10 ∷ [])) in
+    ap (λ t. if t then take (length whole - 1) whole else whole) ends ∙ ap (λ k. take k whole) before ∙ take-append_seam line (10 ∷ [])
+
+pub lines_of-line : (line below : List ℕ) → list_all is_inner line ≡ true → lines_of (line ++ 10 ∷ below) ≡ line ∷ lines_of below
+lines_of-line line below h = ap (map without_lf) (whole_lines-line line below h) ∙ ap (λ first. first ∷ lines_of below) (without_lf-line line)
 
 -- words with a space between each two
 pub words_of-join : (words : List (List ℕ)) → list_all is_plain words ≡ true → words_of (join_with_byte 32 words) ≡ words

@@ -25,3 +25,7 @@ text_of_cell texts (negsuc number) = None
 pub record BeginsWith (first : List (List ℕ)) (texts : List (List ℕ)) : Type 0 where
   pub more : List (List ℕ)
   pub parts : texts ≡ first ++ more
+
+-- the texts after begin with all that these begin with: each text keeps its number
+abbrev pub Grows : List (List ℕ) → List (List ℕ) → Type 0
+Grows texts after = (first : List (List ℕ)) → BeginsWith first texts → BeginsWith first after

@@ -1,12 +1,11 @@
 -- The lines of a text, and the words of a line.
-use Rattle.std.specs.Prelude.{◌==◌, ℕ, Bool, not, List, [], ◌∷◌, length, filter, slice_index_or, if◌then◌else◌}
-use Rattle.std.specs.List.{onto_first, slice_split}
-use Rattle.wh_load.specs.Line.{is_blank}
+use Rattle.std.specs.Prelude.{◌==◌, ℕ, Bool, not, List, [], length, map, filter, slice_index_or}
+use Rattle.std.specs.List.{slice_split}
+use Rattle.wh_load.specs.Line.{is_blank, whole_lines, without_lf}
 
--- the lines of a text, cut at LF; what stands after the last LF is a line where it is not empty
+-- the lines of a text, each without the LF that ends it
 abbrev pub lines_of : List ℕ → List (List ℕ)
-lines_of [] = []
-lines_of (b ∷ bs) = if b == 10 then [] ∷ lines_of bs else onto_first b (lines_of bs)
+lines_of text = map without_lf (whole_lines text)
 
 -- a piece between two blanks is a word where it is not empty
 abbrev pub is_word : List ℕ → Bool

@@ -1,7 +1,8 @@
 //! The columns of a catalogue's views, and what its derived views are made of.
-ghost use Rattle.std.specs.Prelude.{◌≡◌, ◌⊎◌, [], length, map, Ok, Err, IfOk, IfErr};
+ghost use Rattle.std.specs.Prelude.{◌≡◌, ◌⊎◌, [], length, map, Ok, Err, IfOk, IfErr, OnErr};
 ghost use Rattle.toml.specs.View.{view};
 ghost use Rattle.wh_load.specs.Catalogue.{shape_of};
+ghost use Rattle.wh_load.specs.Dict.{BeginsWith, Grows};
 ghost use Rattle.wh_load.specs.Definitions.{definitions_of, shown_view, views_after};
 ghost use Rattle.wh_load.specs.ReadCatalog.{AreDefinitions, DefinitionsFit};
 
@@ -40,6 +41,7 @@ fn views_after(
     requires { length tables.now ≡ length shape.now.children }
     ensures ok { IfOk result (λ views. views_after shape.now [] (map view tables.now) texts.old ≡ Ok (map shown_view views.items, texts.new)) }
     ensures err { IfErr result (λ f. (f ≡ LoadFault.Memory) ⊎ (views_after shape.now [] (map view tables.now) texts.old ≡ Err f)) }
+    ensures grows { Grows texts.old texts.new }
 {
     let mut views = Vec::new(alloc);
     for table in tables {
@@ -49,11 +51,32 @@ fn views_after(
     Ok(views)
 }
 
+// What the text gives; where it has a fault, some of its texts may have got numbers.
+fn read_views(
+    alloc: Global,
+    text: &[u8],
+    shape: &Shape,
+    texts: &mut Dict,
+) -> Result<Written, LoadFault>
+    requires { shape_of text.now ≡ Ok shape.now }
+    ensures ok { IfOk result (λ written. definitions_of shape.now text.now texts.old ≡ Ok (map shown_view written.views.items, texts.new)) }
+    ensures fit { IfOk result (λ written. AreDefinitions shape.now (map shown_view written.views.items)) }
+    ensures err { IfErr result (λ f. (f ≡ LoadFault.Memory) ⊎ (definitions_of shape.now text.now texts.old ≡ Err f)) }
+    ensures begins { BeginsWith texts.old texts.new }
+{
+    let document = document(alloc, text)?;
+    let Some(tables) = views_of(&document) else {
+        return Err(LoadFault::Key(Key::View));
+    };
+    let views = views_after(alloc, shape, texts, tables)?;
+    Ok(Written { views })
+}
+
 /// Reads the views of a catalogue whose shape was read: their columns, and how each derived view is defined, with
 /// formulas in place of closures. Texts in formulas get numbers in the order of the views and, within a view, of `where`,
 /// then `keep`, from left to right. The fault is the first one, view by view and key by key in the order `columns`, or
 /// `join`, `where`, `keep`, `group`, `count`, `sum`: the form of the whole key (Key), then Column, then Kind. Memory may
-/// come at any point. After an Err the dictionary may have more texts than before.
+/// come at any point. After an Err the dictionary is as before.
 ///
 /// What is read makes a catalogue over the shape: each view has 1 to 64 columns of distinct names, and each derived view
 /// is defined over its combined rows, in which each place that the definition reads lies.
@@ -67,13 +90,14 @@ pub fn read_definitions(
     ensures ok { IfOk result (λ written. definitions_of shape.now text.now texts.old ≡ Ok (map shown_view written.views.items, texts.new)) }
     ensures fit { IfOk result (λ written. AreDefinitions shape.now (map shown_view written.views.items)) }
     ensures err { IfErr result (λ f. (f ≡ LoadFault.Memory) ⊎ (definitions_of shape.now text.now texts.old ≡ Err f)) }
+    ensures kept { OnErr result (texts.new ≡ texts.old) }
 {
-    let document = document(alloc, text)?;
-    let Some(tables) = views_of(&document) else {
-        return Err(LoadFault::Key(Key::View));
-    };
-    let views = views_after(alloc, shape, texts, tables)?;
-    Ok(Written { views })
+    let before = texts.len();
+    let outcome = read_views(alloc, text, shape, texts);
+    if outcome.is_err() {
+        texts.truncate(before);
+    }
+    outcome
 }
 
 /// A law of the definitions: what is read of a catalogue's text is a catalogue over its shape, where each place that a

@@ -1,5 +1,5 @@
 //! Expressions as words.
-ghost use Rattle.std.specs.Prelude.{◌≡◌, ◌<◌, ◌++◌, ◌∷◌, length, map, flat_map, option_map, IfOk, IsTrue, OnOk};
+ghost use Rattle.std.specs.Prelude.{◌≡◌, ◌<◌, ◌++◌, ◌∷◌, length, map, flat_map, option_map, IfOk, IsTrue, OnOk, OnErr};
 ghost use Rattle.wh_dag.specs.Written.{name_of};
 ghost use Rattle.wh_load.specs.ExpressionText.{views_of, is_comp, is_inst, comp_of, inst_of, expression_of, expression_text};
 
@@ -102,9 +102,8 @@ fn append_sources(out: &mut Vec<u8>, names: &Names, sources: &[usize]) -> Result
     Ok(())
 }
 
-/// Appends the expression as it is written, `comp V from U ..` or `inst V`, with one space between words and no LF. A
-/// number that is no view's is written as an empty name. Where memory fails, a part of the text may have been appended.
-pub fn write_expression(
+/// Appends the expression as [`write_expression`] does, but where memory fails a part of it may have been appended.
+pub(crate) fn append_expression(
     out: &mut Vec<u8>,
     names: &Names,
     expression: &Expression,
@@ -123,4 +122,19 @@ pub fn write_expression(
             append_name(out, names, *target)
         }
     }
+}
+
+/// Appends the expression as it is written, `comp V from U ..` or `inst V`, with one space between words and no LF. A
+/// number that is no view's is written as an empty name. Where memory fails, nothing is appended.
+pub fn write_expression(
+    out: &mut Vec<u8>,
+    names: &Names,
+    expression: &Expression,
+) -> Result<(), AllocError>
+    ensures ok { OnOk result (out.new.items ≡ out.old.items ++ expression_text names.now expression.now) }
+    ensures err { OnErr result (out.new.items ≡ out.old.items) }
+{
+    let mut text = Vec::new(*out.allocator());
+    append_expression(&mut text, names, expression)?;
+    out.extend_from_slice(&text)
 }

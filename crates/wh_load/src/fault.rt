@@ -1,5 +1,5 @@
 //! What is wrong with an input.
-ghost use Rattle.std.specs.Prelude.{◌≡◌, ◌++◌, OnOk, decimal};
+ghost use Rattle.std.specs.Prelude.{◌≡◌, ◌++◌, OnOk, OnErr, decimal};
 ghost use Rattle.wh_load.specs.FaultText.{key_text, fault_number, fault_text, shape_text};
 
 pub use crate::bundle::word::Word;
@@ -129,9 +129,10 @@ impl LoadFault {
     }
 
     /// Appends the line that the program prints for the fault, without the LF, which the caller adds. A word stands as it
-    /// was written, so the line need not be UTF-8. Where memory fails, a part of the line may have been appended.
+    /// was written, so the line need not be UTF-8. Where memory fails, nothing is appended.
     pub fn append_text(&self, alloc: Global, out: &mut Vec<u8>) -> Result<(), AllocError>
-        ensures { OnOk result (out.new.items ≡ out.old.items ++ fault_text self.now) }
+        ensures ok { OnOk result (out.new.items ≡ out.old.items ++ fault_text self.now) }
+        ensures kept { OnErr result (out.new.items ≡ out.old.items) }
     {
         match self {
             LoadFault::Toml => append(out, b"fault toml", b""),
@@ -155,10 +156,16 @@ impl LoadFault {
 }
 
 fn append(out: &mut Vec<u8>, front: &[u8], word: &[u8]) -> Result<(), AllocError>
-    ensures { OnOk result (out.new.items ≡ out.old.items ++ (front.now ++ word.now)) }
+    ensures ok { OnOk result (out.new.items ≡ out.old.items ++ (front.now ++ word.now)) }
+    ensures kept { OnErr result (out.new.items ≡ out.old.items) }
 {
+    let before = out.len();
     out.extend_from_slice(front)?;
-    out.extend_from_slice(word)
+    let outcome = out.extend_from_slice(word);
+    if outcome.is_err() {
+        out.truncate(before);
+    }
+    outcome
 }
 
 fn append_number(
@@ -167,48 +174,34 @@ fn append_number(
     front: &[u8],
     number: usize,
 ) -> Result<(), AllocError>
-    ensures { OnOk result (out.new.items ≡ out.old.items ++ (front.now ++ decimal number)) }
+    ensures ok { OnOk result (out.new.items ≡ out.old.items ++ (front.now ++ decimal number)) }
+    ensures kept { OnErr result (out.new.items ≡ out.old.items) }
 {
     let digits = format!(in alloc; "{number}")?;
     append(out, front, digits.as_bytes())
 }
 
-fn append_shape(out: &mut Vec<u8>, fault: &ShapeFault) -> Result<(), AllocError>
-    ensures { OnOk result (out.new.items ≡ out.old.items ++ shape_text fault.now) }
+// What the line of a shape's fault begins with, and the name that it ends with.
+fn shape_words(fault: &ShapeFault) -> (&[u8], &[u8])
+    ensures { result.0.now ++ result.1.now ≡ shape_text fault.now }
 {
     match fault {
-        ShapeFault::Duplicate { name, .. } => append(
-            out,
-            b"fault shape duplicate ",
-            name.as_str().as_bytes(),
-        ),
-        ShapeFault::Unknown { child, .. } => append(
-            out,
-            b"fault shape unknown ",
-            child.as_str().as_bytes(),
-        ),
-        ShapeFault::Forward { child, .. } => append(
-            out,
-            b"fault shape forward ",
-            child.as_str().as_bytes(),
-        ),
-        ShapeFault::Repeated { child, .. } => append(
-            out,
-            b"fault shape repeated ",
-            child.as_str().as_bytes(),
-        ),
-        ShapeFault::TooMany { name, .. } => append(
-            out,
-            b"fault shape toomany ",
-            name.as_str().as_bytes(),
-        ),
-        ShapeFault::EmptyOver { name, .. } => append(
-            out,
-            b"fault shape empty ",
-            name.as_str().as_bytes(),
-        ),
-        ShapeFault::Memory => append(out, b"memory", b""),
+        ShapeFault::Duplicate { name, .. } => (b"fault shape duplicate ", name.as_str().as_bytes()),
+        ShapeFault::Unknown { child, .. } => (b"fault shape unknown ", child.as_str().as_bytes()),
+        ShapeFault::Forward { child, .. } => (b"fault shape forward ", child.as_str().as_bytes()),
+        ShapeFault::Repeated { child, .. } => (b"fault shape repeated ", child.as_str().as_bytes()),
+        ShapeFault::TooMany { name, .. } => (b"fault shape toomany ", name.as_str().as_bytes()),
+        ShapeFault::EmptyOver { name, .. } => (b"fault shape empty ", name.as_str().as_bytes()),
+        ShapeFault::Memory => (b"memory", b""),
     }
+}
+
+fn append_shape(out: &mut Vec<u8>, fault: &ShapeFault) -> Result<(), AllocError>
+    ensures ok { OnOk result (out.new.items ≡ out.old.items ++ shape_text fault.now) }
+    ensures kept { OnErr result (out.new.items ≡ out.old.items) }
+{
+    let (front, name) = shape_words(fault);
+    append(out, front, name)
 }
 
 impl From<AllocError> for LoadFault {

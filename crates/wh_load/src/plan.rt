@@ -1,5 +1,5 @@
 //! A plan as text: its scope, its work, the list of its strategy, and the lines of its certificate.
-ghost use Rattle.std.specs.Prelude.{◌≡◌, ◌⊎◌, ◌++◌, Ok, Err, IfOk, IfErr, IsTrue, OnOk};
+ghost use Rattle.std.specs.Prelude.{◌≡◌, ◌⊎◌, ◌++◌, Ok, Err, IfOk, IfErr, IsTrue, OnOk, OnErr};
 ghost use Rattle.std.specs.List.{flat_map, join_with_byte};
 ghost use Rattle.wh_load.specs.PlanReadsBack.{PlanReadsBack, TextsDiffer};
 ghost use Rattle.wh_load.specs.TreeGrowth.{BegunTrees, WholeTrees};
@@ -15,7 +15,7 @@ mod tree;
 use crate::expression::append_name;
 use crate::fault::LoadFault;
 use crate::names::Names;
-use crate::strategy::write_strategy;
+use crate::strategy::append_strategy;
 use line::PlanLine;
 use said::{said_lines, scope_in};
 use std::alloc::{AllocError, Global};
@@ -171,21 +171,24 @@ pub fn plan_reads_back_law()
     ensures distinct { TextsDiffer }
 {}
 
-/// Appends the plan as it is written. A number that is no view's is written as an empty name. Where memory fails, a part
-/// of the text may have been appended.
+/// Appends the plan as it is written. A number that is no view's is written as an empty name. Where memory fails, nothing
+/// is appended.
 pub fn write_plan(
     alloc: Global,
     out: &mut Vec<u8>,
     names: &Names,
     planned: &Planned,
 ) -> Result<(), AllocError>
-    ensures { OnOk result (out.new.items ≡ out.old.items
+    ensures ok { OnOk result (out.new.items ≡ out.old.items
         ++ plan_text names.now planned.now.scope planned.now.work planned.now.correct.list planned.now.certificate) }
+    ensures err { OnErr result (out.new.items ≡ out.old.items) }
 {
     let scope = scope_text(planned.scope);
     let work = planned.work;
     let head = format!(in alloc; "scope {scope}\nwork {work}\n")?;
-    out.extend_from_slice(head.as_bytes())?;
-    write_strategy(out, names, planned.correct.strategy())?;
-    append_certificate(alloc, out, names, &planned.certificate)
+    let mut text = Vec::new(alloc);
+    text.extend_from_slice(head.as_bytes())?;
+    append_strategy(&mut text, names, planned.correct.strategy())?;
+    append_certificate(alloc, &mut text, names, &planned.certificate)?;
+    out.extend_from_slice(&text)
 }

@@ -1,10 +1,10 @@
 //! A strategy as text: an expression a line.
-ghost use Rattle.std.specs.Prelude.{◌≡◌, ◌⊎◌, ◌++◌, List, Some, None, Ok, Err, IfOk, IfErr, OnOk};
+ghost use Rattle.std.specs.Prelude.{◌≡◌, ◌⊎◌, ◌++◌, List, Some, None, Ok, Err, IfOk, IfErr, OnOk, OnErr};
 ghost use Rattle.wh_load.specs.Words.{words_of};
 ghost use Rattle.wh_load.specs.ReadsBack.{ReadsBack};
 ghost use Rattle.wh_load.specs.StrategyText.{said_by, strategy_of, strategy_text};
 
-use crate::expression::{expression_of, write_expression};
+use crate::expression::{append_expression, expression_of};
 use crate::fault::LoadFault;
 use crate::names::Names;
 use crate::words::{first_line, words_of};
@@ -52,9 +52,8 @@ pub fn read_strategy(alloc: Global, names: &Names, text: &[u8]) -> Result<Strate
     Ok(Strategy::new(list))
 }
 
-/// Appends the list as it is written, a line for each expression. Where memory fails, a part of the text may have been
-/// appended.
-pub fn write_strategy(
+/// Appends the list as [`write_strategy`] does, but where memory fails a part of it may have been appended.
+pub(crate) fn append_strategy(
     out: &mut Vec<u8>,
     names: &Names,
     strategy: &Strategy,
@@ -62,10 +61,24 @@ pub fn write_strategy(
     ensures { OnOk result (out.new.items ≡ out.old.items ++ strategy_text names.now strategy.now) }
 {
     for expression in strategy.as_slice() {
-        write_expression(out, names, expression)?;
+        append_expression(out, names, expression)?;
         out.push(b'\n')?;
     }
     Ok(())
+}
+
+/// Appends the list as it is written, a line for each expression. Where memory fails, nothing is appended.
+pub fn write_strategy(
+    out: &mut Vec<u8>,
+    names: &Names,
+    strategy: &Strategy,
+) -> Result<(), AllocError>
+    ensures ok { OnOk result (out.new.items ≡ out.old.items ++ strategy_text names.now strategy.now) }
+    ensures err { OnErr result (out.new.items ≡ out.old.items) }
+{
+    let mut text = Vec::new(*out.allocator());
+    append_strategy(&mut text, names, strategy)?;
+    out.extend_from_slice(&text)
 }
 
 /// A law of the definitions: over plain and distinct names, a list that was written is read back as it was.

@@ -1,16 +1,9 @@
 //! The lines of a text, and the words of a line.
-ghost use Rattle.std.specs.Prelude.{◌≡◌, ◌==◌, ◌<◌, ◌∷◌, length, map, position, IfOk, IfSome};
+ghost use Rattle.std.specs.Prelude.{◌≡◌, ◌<◌, ◌∷◌, length, map, IfOk};
 ghost use Rattle.wh_load.specs.Words.{is_word, lines_of, word_at, words_of};
 
-use crate::bundle::line::is_blank;
+use crate::bundle::line::{self, is_blank};
 use std::alloc::{AllocError, Global};
-
-fn find_line_feed(text: &[u8]) -> Option<usize>
-    ensures place { result ≡ position (λ b. b == 10) text.now }
-    ensures within { IfSome result (λ i. i < length text.now) }
-{
-    text.iter().position(|byte| *byte == b'\n')
-}
 
 /// The first line without its LF, and the text below it.
 pub(crate) fn first_line(text: &[u8]) -> (&[u8], &[u8])
@@ -18,10 +11,8 @@ pub(crate) fn first_line(text: &[u8]) -> (&[u8], &[u8])
     ensures lines { lines_of text.now ≡ result.0.now ∷ lines_of result.1.now }
     ensures shorter { length result.1.now < length text.now }
 {
-    match find_line_feed(text) {
-        Some(end) => (&text[..end], &text[end + 1..]),
-        None => (text, &text[text.len()..]),
-    }
+    let (whole, below) = line::first_line(text);
+    (line::without_lf(whole), below)
 }
 
 fn is_word(piece: &[u8]) -> bool

@@ -1,6 +1,7 @@
 // The predicate that the rows of a derived view meet.
 ghost use Rattle.std.specs.Prelude.{◌≡◌, ◌⊎◌, Ok, Err, IfOk, IfErr};
 ghost use Rattle.toml.specs.View.{view};
+ghost use Rattle.wh_load.specs.Dict.{Grows};
 ghost use Rattle.wh_load.specs.Filter.{filter_of, filter_written};
 
 use super::column_names::column_fault;
@@ -20,6 +21,7 @@ fn filter_written(
 ) -> Result<Pred, LoadFault>
     ensures ok { IfOk result (λ pred. filter_written header.now (view value.now) texts.old ≡ Ok (pred, texts.new)) }
     ensures err { IfErr result (λ f. (f ≡ LoadFault.Memory) ⊎ (filter_written header.now (view value.now) texts.old ≡ Err f)) }
+    ensures grows { Grows texts.old texts.new }
 {
     if !is_whole_pred(value) {
         return Err(LoadFault::Key(Key::Where));
@@ -39,6 +41,7 @@ pub(crate) fn filter_of(
 ) -> Result<Pred, LoadFault>
     ensures ok { IfOk result (λ pred. filter_of header.now (view table.now) texts.old ≡ Ok (pred, texts.new)) }
     ensures err { IfErr result (λ f. (f ≡ LoadFault.Memory) ⊎ (filter_of header.now (view table.now) texts.old ≡ Err f)) }
+    ensures grows { Grows texts.old texts.new }
 {
     match table.get("where") {
         Some(value) => filter_written(alloc, header, texts, value),

@@ -2,6 +2,7 @@
 ghost use Rattle.std.specs.Prelude.{◌≡◌, ◌⊎◌, Ok, Err, IfOk, IfErr};
 ghost use Rattle.std.specs.Option.{option_copied};
 ghost use Rattle.toml.specs.View.{view};
+ghost use Rattle.wh_load.specs.Dict.{Grows};
 ghost use Rattle.wh_load.specs.Formula.{is_whole_expr, is_whole_pred, unknown_column, unknown_in_test, whole_expr, whole_pred};
 
 use super::expr_form::is_expr;
@@ -41,6 +42,7 @@ pub(crate) fn whole_expr(
 ) -> Result<TypedExpr, LoadFault>
     ensures ok { IfOk result (λ typed. whole_expr header.now (view value.now) texts.old ≡ Ok (typed, texts.new)) }
     ensures err { IfErr result (λ f. (f ≡ LoadFault.Memory) ⊎ (whole_expr header.now (view value.now) texts.old ≡ Err f)) }
+    ensures grows { Grows texts.old texts.new }
 {
     typed_expr(alloc, header, texts, value, MAX_DEPTH)
 }
@@ -71,6 +73,7 @@ pub(crate) fn whole_pred(
 ) -> Result<Pred, LoadFault>
     ensures ok { IfOk result (λ pred. whole_pred header.now (view value.now) texts.old ≡ Ok (pred, texts.new)) }
     ensures err { IfErr result (λ f. (f ≡ LoadFault.Memory) ⊎ (whole_pred header.now (view value.now) texts.old ≡ Err f)) }
+    ensures grows { Grows texts.old texts.new }
 {
     typed_pred(alloc, header, texts, value, MAX_DEPTH)
 }

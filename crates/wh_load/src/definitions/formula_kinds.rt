@@ -3,6 +3,7 @@ ghost use Rattle.std.specs.Prelude.{◌≡◌, ◌⊎◌, ◌<◌, ◌≤◌, []
 ghost use Rattle.toml.specs.View.{view};
 ghost use Rattle.wh_formula.specs.Expr as expr_tree;
 ghost use Rattle.wh_formula.specs.Pred as pred_tree;
+ghost use Rattle.wh_load.specs.Dict.{Grows};
 ghost use Rattle.wh_load.specs.FormulaKinds.{combined, compared, compares_texts, fits_kinds, is_int, operation, typed_all, typed_any, typed_column, typed_comparison, typed_expr, typed_literal, typed_not, typed_operation, typed_parts, typed_pred};
 
 use super::expr_form::{ExprForm, Sign, expr_form};
@@ -70,6 +71,7 @@ fn literal(alloc: Global, texts: &mut Dict, text: &str) -> Result<TypedExpr, Loa
     ensures ok { IfOk result (λ typed. typed_literal texts.old text.now ≡ Ok (typed, texts.new)) }
     ensures within { IfOk result (λ typed. expr_tree.depth typed.expr ≡ 1) }
     ensures err { IfErr result (λ f. f ≡ LoadFault.Memory) }
+    ensures grows { Grows texts.old texts.new }
 {
     let number = texts.number(alloc, text)?;
     Ok(TypedExpr {
@@ -105,6 +107,7 @@ pub(crate) fn typed_expr(
     ensures ok { IfOk result (λ typed. typed_expr header.now levels (view value.now) texts.old ≡ Ok (typed, texts.new)) }
     ensures within { IfOk result (λ typed. expr_tree.depth typed.expr ≤ levels) }
     ensures err { IfErr result (λ f. (f ≡ LoadFault.Memory) ⊎ (typed_expr header.now levels (view value.now) texts.old ≡ Err f)) }
+    ensures grows { Grows texts.old texts.new }
 {
     if levels == 0 {
         return Err(header.unfit(alloc));
@@ -137,6 +140,7 @@ fn typed_operation(
     ensures ok { IfOk result (λ typed. typed_operation header.now (typed_expr header.now levels) sign (view left.now) (view right.now) texts.old ≡ Ok (typed, texts.new)) }
     ensures within { IfOk result (λ typed. expr_tree.depth typed.expr ≤ levels + 1) }
     ensures err { IfErr result (λ f. (f ≡ LoadFault.Memory) ⊎ (typed_operation header.now (typed_expr header.now levels) sign (view left.now) (view right.now) texts.old ≡ Err f)) }
+    ensures grows { Grows texts.old texts.new }
 {
     let left = typed_expr(alloc, header, texts, left, levels)?;
     let right = typed_expr(alloc, header, texts, right, levels)?;
@@ -198,6 +202,7 @@ fn typed_comparison(
     ensures ok { IfOk result (λ pred. typed_comparison header.now (typed_expr header.now levels) comparison (view left.now) (view right.now) texts.old ≡ Ok (pred, texts.new)) }
     ensures within { IfOk result (λ pred. pred_tree.depth pred ≤ levels + 1) }
     ensures err { IfErr result (λ f. (f ≡ LoadFault.Memory) ⊎ (typed_comparison header.now (typed_expr header.now levels) comparison (view left.now) (view right.now) texts.old ≡ Err f)) }
+    ensures grows { Grows texts.old texts.new }
 {
     let left = typed_expr(alloc, header, texts, left, levels)?;
     let right = typed_expr(alloc, header, texts, right, levels)?;
@@ -218,6 +223,7 @@ pub(crate) fn typed_pred(
     ensures ok { IfOk result (λ pred. typed_pred header.now levels (view value.now) texts.old ≡ Ok (pred, texts.new)) }
     ensures within { IfOk result (λ pred. pred_tree.depth pred ≤ levels) }
     ensures err { IfErr result (λ f. (f ≡ LoadFault.Memory) ⊎ (typed_pred header.now levels (view value.now) texts.old ≡ Err f)) }
+    ensures grows { Grows texts.old texts.new }
 {
     if levels == 0 {
         return Err(header.unfit(alloc));
@@ -246,6 +252,7 @@ fn typed_all(
     ensures ok { IfOk result (λ pred. typed_all (typed_pred header.now levels) (map view values.now) texts.old ≡ Ok (pred, texts.new)) }
     ensures within { IfOk result (λ pred. pred_tree.depth pred ≤ levels + 1) }
     ensures err { IfErr result (λ f. (f ≡ LoadFault.Memory) ⊎ (typed_all (typed_pred header.now levels) (map view values.now) texts.old ≡ Err f)) }
+    ensures grows { Grows texts.old texts.new }
 {
     let parts = typed_parts(alloc, header, texts, values, levels)?;
     Ok(Pred::all(parts))
@@ -263,6 +270,7 @@ fn typed_any(
     ensures ok { IfOk result (λ pred. typed_any (typed_pred header.now levels) (map view values.now) texts.old ≡ Ok (pred, texts.new)) }
     ensures within { IfOk result (λ pred. pred_tree.depth pred ≤ levels + 1) }
     ensures err { IfErr result (λ f. (f ≡ LoadFault.Memory) ⊎ (typed_any (typed_pred header.now levels) (map view values.now) texts.old ≡ Err f)) }
+    ensures grows { Grows texts.old texts.new }
 {
     let parts = typed_parts(alloc, header, texts, values, levels)?;
     Ok(Pred::any(parts))
@@ -280,6 +288,7 @@ fn typed_not(
     ensures ok { IfOk result (λ pred. typed_not (typed_pred header.now levels) (view value.now) texts.old ≡ Ok (pred, texts.new)) }
     ensures within { IfOk result (λ pred. pred_tree.depth pred ≤ levels + 1) }
     ensures err { IfErr result (λ f. (f ≡ LoadFault.Memory) ⊎ (typed_not (typed_pred header.now levels) (view value.now) texts.old ≡ Err f)) }
+    ensures grows { Grows texts.old texts.new }
 {
     let part = typed_pred(alloc, header, texts, value, levels)?;
     let contrary = Pred::not(alloc, part)?;
@@ -298,6 +307,7 @@ fn typed_parts(
     ensures ok { IfOk result (λ parts. typed_parts (typed_pred header.now levels) [] (map view values.now) texts.old ≡ Ok (parts.items, texts.new)) }
     ensures within { IfOk result (λ parts. All (λ part. pred_tree.depth part ≤ levels) parts.items) }
     ensures err { IfErr result (λ f. (f ≡ LoadFault.Memory) ⊎ (typed_parts (typed_pred header.now levels) [] (map view values.now) texts.old ≡ Err f)) }
+    ensures grows { Grows texts.old texts.new }
 {
     let mut parts = Vec::new(alloc);
     for value in values {

@@ -2,6 +2,7 @@
 ghost use Rattle.std.specs.Prelude.{◌≡◌, ◌⊎◌, [], codes, map, Ok, Err, IfOk, IfErr};
 ghost use Rattle.toml.specs.Data.{get};
 ghost use Rattle.toml.specs.View.{view};
+ghost use Rattle.wh_load.specs.Dict.{Grows};
 ghost use Rattle.wh_load.specs.Output.{count_column, count_written, group_written, groups, groups_of, kept, kept_alone, output_of, shown_outcome, summed, summed_at, sums_at, sums_in, sums_of};
 ghost use Rattle.wh_load.specs.Pairs.{seen_pair, typed_columns};
 
@@ -49,6 +50,7 @@ fn kept(
 ) -> Result<Outcome, LoadFault>
     ensures ok { IfOk result (λ outcome. kept header.now (view value.now) texts.old ≡ Ok (shown_outcome outcome, texts.new)) }
     ensures err { IfErr result (λ f. (f ≡ LoadFault.Memory) ⊎ (kept header.now (view value.now) texts.old ≡ Err f)) }
+    ensures grows { Grows texts.old texts.new }
 {
     let pairs = pairs_written(alloc, Key::Keep, value)?;
     if !is_few(pairs.len()) || !are_exprs(&pairs) {
@@ -151,6 +153,7 @@ fn sums_of<'a>(
         ≡ Ok (typed_columns columns.new.items exprs.items, texts.new)) }
     ensures err { IfErr result (λ f. (f ≡ LoadFault.Memory)
         ⊎ (sums_of header.now (map (λ n. n.now) seen.old.items) columns.old.items (view table.now) texts.old ≡ Err f)) }
+    ensures grows { Grows texts.old texts.new }
 {
     let pairs = sums_at(alloc, table)?;
     known_pairs(alloc, header, seen, &pairs)?;
@@ -174,6 +177,7 @@ fn summed(
 ) -> Result<Outcome, LoadFault>
     ensures ok { IfOk result (λ outcome. summed header.now (view table.now) (view value.now) texts.old ≡ Ok (shown_outcome outcome, texts.new)) }
     ensures err { IfErr result (λ f. (f ≡ LoadFault.Memory) ⊎ (summed header.now (view table.now) (view value.now) texts.old ≡ Err f)) }
+    ensures grows { Grows texts.old texts.new }
 {
     let mut seen = Vec::new(alloc);
     let mut columns = Vec::new(alloc);
@@ -201,6 +205,7 @@ fn kept_alone(
 ) -> Result<Outcome, LoadFault>
     ensures ok { IfOk result (λ outcome. kept_alone header.now (view value.now) (get (codes "group") (view table.now)) texts.old ≡ Ok (shown_outcome outcome, texts.new)) }
     ensures err { IfErr result (λ f. (f ≡ LoadFault.Memory) ⊎ (kept_alone header.now (view value.now) (get (codes "group") (view table.now)) texts.old ≡ Err f)) }
+    ensures grows { Grows texts.old texts.new }
 {
     let outcome = kept(alloc, header, texts, value)?;
     match table.get("group") {
@@ -217,6 +222,7 @@ fn summed_at(
 ) -> Result<Outcome, LoadFault>
     ensures ok { IfOk result (λ outcome. summed_at header.now (view table.now) (get (codes "group") (view table.now)) texts.old ≡ Ok (shown_outcome outcome, texts.new)) }
     ensures err { IfErr result (λ f. (f ≡ LoadFault.Memory) ⊎ (summed_at header.now (view table.now) (get (codes "group") (view table.now)) texts.old ≡ Err f)) }
+    ensures grows { Grows texts.old texts.new }
 {
     match table.get("group") {
         Some(value) => summed(alloc, header, texts, table, value),
@@ -234,6 +240,7 @@ pub(crate) fn output_of(
 ) -> Result<Outcome, LoadFault>
     ensures ok { IfOk result (λ outcome. output_of header.now (view table.now) texts.old ≡ Ok (shown_outcome outcome, texts.new)) }
     ensures err { IfErr result (λ f. (f ≡ LoadFault.Memory) ⊎ (output_of header.now (view table.now) texts.old ≡ Err f)) }
+    ensures grows { Grows texts.old texts.new }
 {
     match table.get("keep") {
         Some(value) => kept_alone(alloc, header, texts, table, value),

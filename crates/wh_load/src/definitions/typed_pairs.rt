@@ -1,6 +1,7 @@
 // The columns that pairs of a name and a formula make.
 ghost use Rattle.std.specs.Prelude.{◌≡◌, ◌⊎◌, [], map, Ok, Err, IfOk, IfErr};
 ghost use Rattle.toml.specs.View.{view};
+ghost use Rattle.wh_load.specs.Dict.{Grows};
 ghost use Rattle.wh_load.specs.Pairs.{group_cell, group_columns, grouped, seen_pair, takes_kind, typed_cell, typed_columns, typed_pairs};
 
 use super::formula::whole_expr;
@@ -41,6 +42,7 @@ fn typed_cell(
 ) -> Result<TypedExpr, LoadFault>
     ensures ok { IfOk result (λ typed. typed_cell header.now rule (view value.now) texts.old ≡ Ok (typed, texts.new)) }
     ensures err { IfErr result (λ f. (f ≡ LoadFault.Memory) ⊎ (typed_cell header.now rule (view value.now) texts.old ≡ Err f)) }
+    ensures grows { Grows texts.old texts.new }
 {
     let typed = whole_expr(alloc, header, texts, value)?;
     if !takes_kind(rule, typed.kind) {
@@ -62,6 +64,7 @@ pub(crate) fn typed_pairs(
         ≡ Ok (typed_columns columns.new.items exprs.items, texts.new)) }
     ensures err { IfErr result (λ f. (f ≡ LoadFault.Memory)
         ⊎ (typed_pairs header.now rule (typed_columns columns.old.items []) (map seen_pair pairs.now) texts.old ≡ Err f)) }
+    ensures grows { Grows texts.old texts.new }
 {
     let mut exprs = Vec::new(alloc);
     for pair in pairs {

@@ -1,6 +1,7 @@
 // One view of a catalogue.
 ghost use Rattle.std.specs.Prelude.{◌≡◌, ◌⊎◌, ◌<◌, length, map, Ok, Err, IfOk, IfErr};
 ghost use Rattle.toml.specs.View.{view};
+ghost use Rattle.wh_load.specs.Dict.{Grows};
 ghost use Rattle.wh_load.specs.FormulaKinds.{Texts};
 ghost use Rattle.wh_load.specs.Definitions.{base_view, derived_view, next_view, shown_view};
 
@@ -25,6 +26,7 @@ fn derived_view(
 ) -> Result<WrittenView, LoadFault>
     ensures ok { IfOk result (λ own. derived_view header.now (view table.now) texts.old ≡ Ok (shown_view own, texts.new)) }
     ensures err { IfErr result (λ f. (f ≡ LoadFault.Memory) ⊎ (derived_view header.now (view table.now) texts.old ≡ Err f)) }
+    ensures grows { Grows texts.old texts.new }
 {
     let join = join_of(alloc, header, table)?;
     let filter = filter_of(alloc, header, texts, table)?;
@@ -63,6 +65,7 @@ pub(crate) fn next_view(
     requires { length views.now < length shape.now.children }
     ensures ok { IfOk result (λ own. next_view shape.now (map shown_view views.now) (view table.now) texts.old ≡ Ok (shown_view own, texts.new)) }
     ensures err { IfErr result (λ f. (f ≡ LoadFault.Memory) ⊎ (next_view shape.now (map shown_view views.now) (view table.now) texts.old ≡ Err f)) }
+    ensures grows { Grows texts.old texts.new }
 {
     if table.get("over").is_none() {
         return base_view(alloc, table);

@@ -3,7 +3,7 @@ ghost use Rattle.std.specs.Prelude.{◌≡◌, ◌++◌, OnOk};
 ghost use Rattle.std.specs.List.{join_with_byte};
 ghost use Rattle.wh_load.specs.TreeText.{branch_words, cycle_text, node_text, parted_text, tree_text};
 
-use crate::expression::{append_name, write_expression};
+use crate::expression::{append_expression, append_name};
 use crate::names::Names;
 use std::alloc::AllocError;
 use wh_cert::TreeNode;
@@ -15,7 +15,7 @@ fn append_parted(out: &mut Vec<u8>, names: &Names, list: &[Expression]) -> Resul
 {
     for expression in list {
         out.extend_from_slice(b"; ")?;
-        write_expression(out, names, expression)?;
+        append_expression(out, names, expression)?;
     }
     Ok(())
 }
@@ -27,7 +27,7 @@ fn append_cycle(out: &mut Vec<u8>, names: &Names, list: &[Expression]) -> Result
         return out.extend_from_slice(b"cycle");
     };
     out.extend_from_slice(b"cycle ")?;
-    write_expression(out, names, first)?;
+    append_expression(out, names, first)?;
     append_parted(out, names, rest)
 }
 

@@ -1,5 +1,5 @@
 // Writing tables.
-ghost use Rattle.std.specs.Prelude.{◌≡◌, ◌+◌, ◌++◌, ◌∷◌, ℕ, List, [], drop, OnOk};
+ghost use Rattle.std.specs.Prelude.{◌≡◌, ◌+◌, ◌++◌, ◌∷◌, ℕ, List, [], drop, OnOk, OnErr};
 ghost use Rattle.std.specs.Fmt.{signed_decimal};
 ghost use Rattle.std.specs.List.{list_any};
 ghost use Rattle.csv.specs.Writing.{default_writer, escaped, field_text, fields_text, needs_byte, quoted, row_text};
@@ -123,21 +123,44 @@ fn write_row(
     Ok(())
 }
 
+// Appends the table line by line.
+fn append_table(
+    out: &mut Vec<u8>,
+    columns: &[Column],
+    bag: &Bag,
+    dict: &Dict,
+) -> Result<(), AllocError>
+    ensures ok { OnOk result (out.new.items ≡ out.old.items ++ table_text columns.now dict.now bag.now) }
+    ensures begins { OnErr result ((more : List ℕ) × (out.new.items ≡ out.old.items ++ more)) }
+{
+    let mut line = Vec::new(*out.allocator());
+    write_header(&mut line, columns)?;
+    out.extend_from_slice(&line)?;
+    for (row, count) in bag.rows() {
+        line.clear();
+        write_row(&mut line, columns, row, count, dict)?;
+        out.extend_from_slice(&line)?;
+    }
+    Ok(())
+}
+
 /// Appends the table as it is written: the header `#` and the columns' names, then each row's count and cells, in rising
 /// order of the rows, a line each. Fields are in quotes where they have a comma, a quote, CR or LF. A cell of a text column
-/// is written as the text of its number, as nothing where the dictionary has none of this number. Where memory fails, a
-/// part of the text may have been appended.
+/// is written as the text of its number, as nothing where the dictionary has none of this number. Where memory fails,
+/// nothing is appended.
 pub fn write_table(
     out: &mut Vec<u8>,
     columns: &[Column],
     bag: &Bag,
     dict: &Dict,
 ) -> Result<(), AllocError>
-    ensures { OnOk result (out.new.items ≡ out.old.items ++ table_text columns.now dict.now bag.now) }
+    ensures ok { OnOk result (out.new.items ≡ out.old.items ++ table_text columns.now dict.now bag.now) }
+    ensures err { OnErr result (out.new.items ≡ out.old.items) }
 {
-    write_header(out, columns)?;
-    for (row, count) in bag.rows() {
-        write_row(out, columns, row, count, dict)?;
+    let start = out.len();
+    let written = append_table(out, columns, bag, dict);
+    if written.is_err() {
+        out.truncate(start);
     }
-    Ok(())
+    written
 }

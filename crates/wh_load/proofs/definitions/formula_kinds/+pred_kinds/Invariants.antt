@@ -1,6 +1,7 @@
 use Rattle.std.proofs.Common.{◌≡◌, ◌≤◌, ◌+◌, ◌*◌, [], drop, map, All}
 use Rattle.toml.specs.View.{view}
 use Rattle.wh_formula.specs.Pred.{depth}
+use Rattle.wh_load.specs.Dict.{Grows}
 use Rattle.wh_load.specs.FormulaKinds.{typed_parts, typed_pred}
 use Rattle.wh_load.proofs.definitions.formula_kinds.+pred_kinds.Given as goal
 
@@ -14,6 +15,7 @@ abbrev pub invariant-typed_parts-loop-value : goal.invariant-typed_parts-loop-va
 invariant-typed_parts-loop-value l = record {
   read : typed_parts (typed_pred l.header l.levels) [] (map view l.values) l.initial.texts ≡ typed_parts (typed_pred l.header l.levels) l.parts.items (map view (drop l.value-index l.values)) l.texts;
   within : All (λ part. depth part ≤ l.levels) l.parts.items;
+  grows : Grows l.initial.texts l.texts;
 }
 
 abbrev pub decreases-typed_all : goal.decreases-typed_all
