@@ -1,11 +1,11 @@
 -- The contents of a base, worked out view by view.
-use Rattle.std.proofs.Common.{◌≡◌, ◌≢◌, ◌^◌, rules, ℕ, suc, ◌+◌, ◌<◌, ◌≤◌, true, false, not, List, [], ◌∷◌, length, map, set, refl, sym, ap, subst, ◌∙◌, arith, ⊎_elim, inl, inr, ◌⊎◌, Option, Some, None}
+use Rattle.std.proofs.Common.{◌≡◌, ◌≢◌, ◌^◌, rules, ℕ, ◌+◌, ◌<◌, true, false, not, List, [], ◌∷◌, length, map, set, refl, sym, ap, subst, ◌∙◌, arith, ⊎_elim, inl, inr, ◌⊎◌, Option, Some, None}
 use Rattle.std.specs.Prelude.{is_some}
 use Rattle.std.proofs.lemmas.Grind.{common_steps}
 use Rattle.std.proofs.lemmas.Bool.{cases_lt}
 use Rattle.std.proofs.lemmas.List.{get_or-set_same, length-set}
 use Rattle.wh_dag.specs.Shape.{children_of, has}
-use Rattle.wh_dag.specs.Catalog.{CatalogOf, IsCatalog, DefinitionOf, columns, definition_of, is_base, is_empty, width_of}
+use Rattle.wh_dag.specs.Catalog.{CatalogOf, IsCatalog, DefinitionOf, definition_of, is_base, is_empty, width_of}
 use Rattle.wh_row.specs.Bag.{Bag, HasWidth, empty, size}
 use Rattle.wh_maint.specs.Asked.{AreBags}
 use Rattle.wh_maint.specs.Comp.{bag_at}
@@ -14,12 +14,11 @@ use Rattle.wh_maint.specs.Definition.{graph_of, view_of}
 use Rattle.wh_maint.specs.Product.{combined}
 use Rattle.wh_maint.specs.Size.{HaveTooMany, product_of}
 use Rattle.wh_maint.specs.Value.{HasValue, accumulators, view_value}
-use Rattle.wh_maint.specs.View.{column}
 use Rattle.wh_maint.specs.declared.fault.MaintFault.{MaintFault}
-use Rattle.wh_maint.specs.declared.fault.MaintFault.TheVariants.{Absent, Large, Memory, Range}
+use Rattle.wh_maint.specs.declared.fault.MaintFault.TheVariants.{Large, Memory, Range}
 use Rattle.wh_maint.proofs.FromScratch.{catalogs_are_graphs, contents_are_values}
 use Rattle.wh_maint.proofs.Widths.{columns_have_width, tables_have_width}
-use Rattle.whview.specs.OpenedNight.{AreOpenedTo, HasNoContents, HasValueOver, HaveContentsBelow, IsValueFault}
+use Rattle.whview.specs.OpenedNight.{AreOpenedTo, HasNoContents, HasValueOver}
 
 no_children : (us : List ℕ) → is_empty us ≡ true → us ≡ []
 no_children [] e = refl
@@ -59,7 +58,7 @@ stored_bags c tables v table b l wide = record {
     same_or_not a b = ⊎_elim (λ less. inr (omega arith)) (λ more. ⊎_elim (λ further. inr (omega arith)) (λ back. inl (omega arith)) (cases_lt b a)) (cases_lt a b)
 
 -- a view's value has the view's width
-pub value_wide : (c : CatalogOf) → IsCatalog c → (v : ℕ) → v < length c.views.children → is_base c v ≡ false → (tables : List Bag)
+value_wide : (c : CatalogOf) → IsCatalog c → (v : ℕ) → v < length c.views.children → is_base c v ≡ false → (tables : List Bag)
     → HasWidth (view_value (view_of (definition_of c v)) tables) (width_of c v)
 value_wide c is v l derived tables = go (definition_of c v) refl (is.derived v l ∙ ap not derived)
   where
@@ -68,6 +67,11 @@ value_wide c is v l derived tables = go (definition_of c v) refl (is.derived v l
     go (Some d) e s =
         subst (HasWidth (view_value (view_of (Some d)) tables)) (sym (is.defined_columns v d e))
         (tables_have_width d.output (accumulators (view_of (Some d)) tables) (λ j. columns_have_width d j (combined (view_of (Some d)).passes tables)))
+
+-- and so has a table that is that value
+pub table_wide : (c : CatalogOf) → IsCatalog c → (v : ℕ) → v < length c.views.children → is_base c v ≡ false → (tables : List Bag) (table : Bag)
+    → table ≡ view_value (view_of (definition_of c v)) tables → HasWidth table (width_of c v)
+table_wide c is v l derived tables table e = subst (λ t. HasWidth t (width_of c v)) (sym e) (value_wide c is v l derived tables)
 
 module _ (c : CatalogOf) (is : IsCatalog c) (base tables : List Bag) (v : ℕ) (l : v < length c.views.children) (o : AreOpenedTo c base v tables) where
   whole : IsFromScratch (graph_of c) (bag_at base)

@@ -1,16 +1,15 @@
 -- What the program prints, from what its parts answer.
-use Rattle.std.proofs.Common.{◌≡◌, ◌≢◌, ◌⊎◌, ◌≤◌, ◌<◌, ℕ, zero, suc, arith, List, [], ◌∷◌, Bool, ◌||◌, Option, Some, None, true, false, length, refl, sym, ap, subst, ◌∙◌, ⊎_elim}
-use Rattle.std.specs.Prelude.{IfSome, codes, map}
+use Rattle.std.proofs.Common.{◌≡◌, ◌≢◌, ◌≤◌, ◌<◌, ℕ, zero, suc, arith, List, [], ◌∷◌, Bool, ◌||◌, Option, Some, None, Result, Ok, Err, length, refl, sym, ap, subst, ◌∙◌, ⊎_elim}
+use Rattle.std.specs.Prelude.{IfOk, IfSome, IsErrOf, MatchResult, map}
 use Rattle.std.specs.Borrow.{Bor}
 use Rattle.std.specs.List.{list_any}
-use Rattle.std.specs.Str.{is_utf8}
-use Rattle.std.proofs.lemmas.Option.{none-some}
-use Rattle.clap.specs.Words.{fault_of, subcommand_of}
-use Rattle.whview.specs.CheckOutput.{line}
+use Rattle.clap.specs.Words.{fault_of}
+use Rattle.wh_load.specs.declared.read.ReadFault.{ReadFault}
+use Rattle.wh_load.specs.declared.read.ReadFault.TheVariants as reading
 use Rattle.whview.specs.CommandFault.{FailsAs, status_of}
-use Rattle.whview.specs.CommandLine.{IsAsked, whview_app}
-use Rattle.whview.specs.FirstLine.{first_line_of, after_first_line, words_in, names_input}
-use Rattle.whview.specs.Output.{HoldsOfBytes, IsCommandOutput, IsHandedOutput, IsRead, IsRefused, IsInputOutput, file_of, a_file, words_answered, read_fails, line_answered, line_names_a_file, line_refused}
+use Rattle.whview.specs.CommandLine.{whview_app}
+use Rattle.whview.specs.FirstLine.{words_in, names_input}
+use Rattle.whview.specs.Output.{AskFor, Bytes, Failed, HoldsOfReading, IsCommandOutput, IsHandedOutput, IsReadAnswer, IsRefused, IsSourceAnswer, IsUnreadShown, answered, file_of, too_long, within}
 use Rattle.whview.specs.declared.command_line.Asked.{Asked}
 use Rattle.whview.specs.declared.command_line.fault.CommandFault.{CommandFault}
 use Rattle.whview.specs.declared.command_line.fault.CommandFault.TheVariants.{Memory}
@@ -22,32 +21,38 @@ refused_as words f status fails told ended =
     (λ k. record { kind = k.0; found = k.1; ended = ended ∙ k.2 })
     fails
 
--- ---- what holds of the bytes of a reader
+-- ---- what was read
 
 longer : (n : ℕ) → (xs : List ℕ) × (n < length xs)
 longer zero = (0 ∷ [], omega arith)
 longer (suc n) = let shorter = longer n in (0 ∷ shorter.0, let l : n < length shorter.0 = shorter.1 in omega arith)
 
--- it holds where there are more bytes than a limit
-pub holds_of_many : (known : Option (List ℕ)) (P : List ℕ → Type 0) (limit : ℕ) → IfSome known (λ all. limit < length all) → ((bytes : List ℕ) → limit < length bytes → P bytes) → HoldsOfBytes known P
-holds_of_many (Some all) P limit many f = (all, refl, f all many)
-holds_of_many None P limit many f = let long = longer limit in (long.0, tt, f long.0 long.1)
+-- there are bytes of this reader, more than a limit
+many_read : (known : Option (List ℕ)) (limit : ℕ) → IfSome known (λ all. limit < length all) → (bytes : List ℕ) × IfSome known (λ all. bytes ≡ all) × (limit < length bytes)
+many_read (Some all) limit many = (all, refl, many)
+many_read None limit many = let long = longer limit in (long.0, tt, long.1)
+
+-- an answer to what was read, from the reader's bytes or from why they could not be had
+pub answers_reading : {B : Type 0} (read : Result B ReadFault) (items : B → List ℕ) (len : B → ℕ) (same : (v : B) → len v ≡ length (items v)) (known : Option (List ℕ)) (of : List ℕ → List ℕ → ℕ → Type 0) (text : List ℕ) (status : ℕ)
+    → IfOk read (λ v. len v ≤ 67108864) → IfOk read (λ v. IfSome known (λ all. items v ≡ all)) → (IsErrOf read reading.TooLong → IfSome known (λ all. 67108864 < length all))
+    → MatchResult read (λ v. of (items v) text status) (λ fault. IsUnreadShown fault text status) → HoldsOfReading known (λ r. IsReadAnswer r of text status)
+answers_reading (Ok v) items len same known of text status fits all long is = (Bytes (items v), all, within (subst (λ n. n ≤ 67108864) (same v) fits) is)
+answers_reading (Err reading.Read) items len same known of text status fits all long is = (Failed, tt, is)
+answers_reading (Err reading.TooLong) items len same known of text status fits all long is =
+    let many = many_read known 67108864 (long refl) in (Bytes many.0, many.1, too_long many.2 is)
+answers_reading (Err reading.Memory) items len same known of text status fits all long is = absurd is
 
 -- ---- words that were handed in
 
-pub from_file : (words : List (List ℕ)) (known : Option (List ℕ)) (text : List ℕ) (status : ℕ) (command : Asked) (path : List ℕ) → fault_of whview_app words ≡ [] → IsAsked (subcommand_of whview_app words) command → Some path ≡ file_of command → ((text ≡ line (codes "fault read")) × (status ≡ 3)) ⊎ HoldsOfBytes None (λ bytes. IsRead command bytes text status) → IsHandedOutput words known text status
-from_file words known text status command path taken asked is read =
-    ⊎_elim
-    (λ fails. read_fails command taken asked fails.0 fails.1)
-    (λ answer. a_file command taken asked (λ none. none-some path (sym none ∙ sym is)) answer)
-    read
+pub from_file : (words : List (List ℕ)) (known : Option (List ℕ)) (text : List ℕ) (status : ℕ) (command : Asked) (path : List ℕ) → AskFor words command → Some path ≡ file_of command
+    → HoldsOfReading None (λ own. IsReadAnswer own (IsCommandOutput command) text status) → HoldsOfReading known (λ reading. IsHandedOutput words reading text status)
+from_file words known text status command path ask is holds =
+    (Failed, tt, answered command ask (subst (λ file. IsSourceAnswer file Failed (IsCommandOutput command) text status) is holds))
 
-pub from_reader : (words : List (List ℕ)) (known : Option (List ℕ)) (text : List ℕ) (status : ℕ) (command : Asked) → fault_of whview_app words ≡ [] → IsAsked (subcommand_of whview_app words) command → None ≡ file_of command → ((text ≡ line (codes "fault read")) × (status ≡ 3)) ⊎ HoldsOfBytes known (λ bytes. IsRead command bytes text status) → IsHandedOutput words known text status
-from_reader words known text status command taken asked is read =
-    ⊎_elim
-    (λ fails. read_fails command taken asked fails.0 fails.1)
-    (λ answer. words_answered command taken asked (sym is) answer)
-    read
+pub from_reader : (words : List (List ℕ)) (known : Option (List ℕ)) (text : List ℕ) (status : ℕ) (command : Asked) → AskFor words command → None ≡ file_of command
+    → HoldsOfReading known (λ own. IsReadAnswer own (IsCommandOutput command) text status) → HoldsOfReading known (λ reading. IsHandedOutput words reading text status)
+from_reader words known text status command ask is holds =
+    (holds.0, holds.1, answered command ask (subst (λ file. IsSourceAnswer file holds.0 (IsCommandOutput command) text status) is holds.2))
 
 -- ---- words on the first line
 
@@ -55,15 +60,6 @@ pub list_any-map : {X Y : Type 0} (p : Y → Bool) (f : X → Y) (xs : List X) �
 list_any-map p f [] = refl
 list_any-map p f (x ∷ xs) = ap (λ b. p (f x) || b) (list_any-map p f xs)
 
--- the line of an input names a file, by the words that the code has
-pub names_file : (input : List ℕ) (words : List (Bor (List ℕ))) (text : List ℕ) (status : ℕ) → length input ≤ 67108864 → is_utf8 (first_line_of input) ≡ true → map (λ w. w.now) words ≡ words_in (first_line_of input) → list_any (λ w. names_input w.now) words ≡ true → text ≡ line (codes "error: `--input` cannot stand in the words of an input") → status ≡ 2 → IsInputOutput input text status
-names_file input words text status fits utf8 same named printed ended =
-    line_names_a_file fits utf8 (ap (list_any names_input) (sym same) ∙ list_any-map names_input (λ w. w.now) words ∙ named) printed ended
-
-pub answers_line : (input : List ℕ) (words : List (Bor (List ℕ))) (text : List ℕ) (status : ℕ) (command : Asked) → length input ≤ 67108864 → is_utf8 (first_line_of input) ≡ true → map (λ w. w.now) words ≡ words_in (first_line_of input) → list_any (λ w. names_input w.now) words ≡ false → fault_of whview_app (map (λ w. w.now) words) ≡ [] → IsAsked (subcommand_of whview_app (map (λ w. w.now) words)) command → IsCommandOutput command (after_first_line input) text status → IsInputOutput input text status
-answers_line input words text status command fits utf8 same named taken asked output =
-    line_answered command fits utf8 (ap (list_any names_input) (sym same) ∙ list_any-map names_input (λ w. w.now) words ∙ named) (subst (λ ws. fault_of whview_app ws ≡ []) same taken) (subst (λ ws. IsAsked (subcommand_of whview_app ws) command) same asked) output
-
-pub refuses_line : (input : List ℕ) (words : List (Bor (List ℕ))) (text : List ℕ) (status : ℕ) → length input ≤ 67108864 → is_utf8 (first_line_of input) ≡ true → map (λ w. w.now) words ≡ words_in (first_line_of input) → list_any (λ w. names_input w.now) words ≡ false → IsRefused (map (λ w. w.now) words) status → IsInputOutput input text status
-refuses_line input words text status fits utf8 same named refusal =
-    line_refused fits utf8 (ap (list_any names_input) (sym same) ∙ list_any-map names_input (λ w. w.now) words ∙ named) (subst (λ ws. IsRefused ws status) same refusal)
+-- whether the line names a file, by the words that the code has
+pub names_file : (line : List ℕ) (words : List (Bor (List ℕ))) (b : Bool) → map (λ w. w.now) words ≡ words_in line → list_any (λ w. names_input w.now) words ≡ b → list_any names_input (words_in line) ≡ b
+names_file line words b same named = ap (list_any names_input) (sym same) ∙ list_any-map names_input (λ w. w.now) words ∙ named

@@ -40,7 +40,7 @@ use Rattle.wh_strategy.specs.declared.sizes.SizeRow.{SizeRow}
 use Rattle.whview.proofs.NamesRead.{AreNames, are_names, are_sizes, name-plain, name-unparted}
 use Rattle.whview.proofs.SmallWorks.{small_size, work_fits}
 use Rattle.whview.specs.CheckOutput.{IsFaultShown}
-use Rattle.whview.specs.CertifyOutput.{IsJudgement, certified, certified_one_way, claim_in, claim_of}
+use Rattle.whview.specs.CertifyOutput.{IsJudgement, claim_in, claim_of, judged}
 use Rattle.whview.specs.PlanCertified.{LeastPlanIsCertified, PrintedPlanIsCertified, PrintedPlanIsReadBack, accepted_text, claim_with, plan_with, texts_with}
 use Rattle.whview.specs.PlanOutput.{IsLeastPlan, Measured, MeasuredTexts, measured_in, measured_of, measured_texts_of}
 use Rattle.wh_load.specs.NameForm.{is_name}
@@ -217,11 +217,11 @@ printed_plan_is_read_back costs bytes measured work own list certificate read le
 
 pub least_plan_is_certified : LeastPlanIsCertified
 least_plan_is_certified costs measured work scope.All list certificate least =
-    certified least.correct (sym least.worked)
+    judged (accepted_for scope.All) least.correct (sym least.worked)
     (subst (λ w. IsJudged measured.shape.children (sizes_of measured.sizes) costs.comp costs.inst w certificate (accepted_for scope.All)) least.worked least.accepted)
     (least.least_of_all refl) refl refl
 least_plan_is_certified costs measured work scope.OneWay list certificate least =
-    certified_one_way least.correct (sym least.worked)
+    judged (accepted_for scope.OneWay) least.correct (sym least.worked)
     (subst (λ w. IsJudged measured.shape.children (sizes_of measured.sizes) costs.comp costs.inst w certificate (accepted_for scope.OneWay)) least.worked least.accepted)
     least.least_one_way refl refl
 

@@ -1,10 +1,9 @@
 -- The rows that were read are of their views' columns.
-use Rattle.std.proofs.Common.{◌≡◌, ℕ, zero, suc, ◌+◌, ◌<◌, ◌≤ℤ◌, ℤ, pos, true, List, [], ◌∷◌, ◌++◌, length, map, refl, sym, ap, subst, ◌∙◌, arith, append_assoc, append-nil, Option, Some, None}
-use Rattle.std.specs.Prelude.{Result, Ok, Err, codes, slice_index, slice_index_or}
+use Rattle.std.proofs.Common.{◌≡◌, ℕ, zero, suc, ◌<◌, ◌≤ℤ◌, pos, List, [], ◌∷◌, ◌++◌, length, map, refl, sym, ap, subst, ◌∙◌, arith, append_assoc, append-nil, Option, Some, None}
+use Rattle.std.specs.Prelude.{Result, Ok, Err, codes, slice_index}
 use Rattle.std.proofs.lemmas.Int.{ints}
-use Rattle.wh_row.specs.Bag.{Bag, HasWidth, IsTable, count, empty}
-use Rattle.wh_row.specs.Row.{Row}
-use Rattle.wh_dag.specs.Catalog.{IsCatalog, is_base}
+use Rattle.wh_row.specs.Bag.{Bag, HasWidth, IsTable, empty}
+use Rattle.wh_dag.specs.Catalog.{IsCatalog}
 use Rattle.wh_dag.specs.Shape.{Views}
 use Rattle.wh_dag.specs.Written.{name_of}
 use Rattle.wh_dag.specs.Catalog.{DefinitionOf}

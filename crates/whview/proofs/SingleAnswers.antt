@@ -1,7 +1,7 @@
 -- The same words and bytes have one answer at most.
-use Rattle.std.proofs.Common.{◌≡◌, ◌⊎◌, ◌<◌, ◌≤◌, ℕ, List, [], ◌∷◌, Option, Some, None, Result, Ok, Err, true, false, refl, sym, ap, subst, ◌∙◌, ⊎_elim, inl, inr, arith}
+use Rattle.std.proofs.Common.{◌≡◌, ◌<◌, ◌≤◌, ℕ, List, [], ◌∷◌, Option, Some, None, Result, Ok, Err, true, false, refl, sym, ap, subst, ◌∙◌, inl, inr, arith}
 use Rattle.std.specs.Prelude.{MatchResult, codes}
-use Rattle.clap.specs.Words.{IsAmong, Kinds, Row, Text, fault_of, subcommand_of}
+use Rattle.clap.specs.Words.{IsAmong, Kinds, Row, Text, fault_of, first_of}
 use Rattle.clap.specs.declared.error.kind.ErrorKind.{ErrorKind}
 use Rattle.wh_dag.specs.Shape.{IsShape}
 use Rattle.wh_load.specs.Catalogue.{shape_of}
@@ -12,20 +12,21 @@ use Rattle.wh_strategy.specs.declared.costs.Costs.{Costs}
 use Rattle.wh_strategy.specs.declared.expression.Expression.{Expression}
 use Rattle.wh_strategy.specs.Sizes.{sizes_of}
 use Rattle.wh_strategy.specs.Work.{work_of}
-use Rattle.wh_strategy.proofs.Agreeing.{refused}
+use Rattle.wh_strategy.proofs.Agreeing.{refused as refused_list}
 use Rattle.wh_cert.specs.Certificate.{IsJudged}
 use Rattle.wh_cert.specs.declared.certificate.Verdict.{Verdict}
 use Rattle.wh_cert.specs.declared.certificate.Verdict.TheVariants.{All, OneWay, Rejected}
 use Rattle.wh_cert.proofs.OneVerdict.{verdicts_same}
 use Rattle.wh_load.specs.PlanText.{plan_of}
-use Rattle.whview.specs.CertifyOutput.{Claim, IsCertifyOutput, IsJudgement, IsLeastOfAll, IsLeastOneWay, broken as broken_claim, certified, certified_one_way, claim_in, claim_of, claim_texts_of, other_work, rejected, rejected_text, work_at}
+use Rattle.whview.specs.CertifyOutput.{Claim, IsCertifyOutput, IsJudgement, IsLeastBy, broken as broken_claim, claim_in, claim_of, claim_texts_of, judged, other_work, verdict_status, verdict_text, work_at}
 use Rattle.whview.specs.CheckOutput.{Inputs, IsCheckOutput, IsFaultShown, IsVerdict, broken, correct, correct_text, inputs_in, inputs_of, texts_of}
-use Rattle.whview.specs.CommandLine.{IsAsked, whview_app}
+use Rattle.whview.specs.CommandLine.{AsksBy, IsAsked, whview_app}
+use Rattle.whview.specs.FirstLine.{after_first_line, first_line_of, words_in}
 use Rattle.whview.proofs.SingleFaults.{one_broken, one_shown}
 use Rattle.whview.proofs.SingleNights.{one_night}
 use Rattle.whview.proofs.SinglePlans.{as_planning, one_plan}
-use Rattle.whview.specs.OneAnswer.{AreOneAnswer, AreSame, IsReadFailure, OneCertifyOutput, OneCheckOutput, OneHandedOutput, OneInputOutput, one_text}
-use Rattle.whview.specs.Output.{IsCommandOutput, IsHandedOutput, IsRead, IsRefused, ReadsInput, a_file, input_too_long, line_answered, line_names_a_file, line_not_text, line_refused, read_fails, read_too_long, read_within, words_answered, words_refused}
+use Rattle.whview.specs.OneAnswer.{AreOneAnswer, AreOneAnswerTo, AreOneLineAnswer, AreSame, OneCertifyOutput, OneCheckOutput, OneHandedOutput, OneInputOutput, one_text}
+use Rattle.whview.specs.Output.{AskFor, Bytes, Failed, IsCommandOutput, IsHandedOutput, IsLineAnswer, IsReadAnswer, IsRefused, IsSourceAnswer, IsWordsAnswer, Reading, ReadsInput, answered, file_of, names_a_file, not_text, refused, of_words, too_long, within}
 use Rattle.whview.specs.declared.command_line.Asked.{Asked}
 use Rattle.whview.specs.declared.command_line.Asked.TheVariants as asked
 use Rattle.wh_load.proofs.ShapesRead.{from_step, is_shape, same_Ok}
@@ -35,8 +36,8 @@ use Rattle.wh_load.proofs.ShapesRead.{from_step, is_shape, same_Ok}
 one_verdict : (costs : Costs) (inputs : Inputs) (text other : List ℕ) (status ended : ℕ) → IsShape inputs.shape.children
     → IsVerdict costs inputs text status → IsVerdict costs inputs other ended → AreSame text status other ended
 one_verdict costs inputs text other status ended sh (correct is t s) (correct is' u e) = record { texts = t ∙ sym u; statuses = s ∙ sym e }
-one_verdict costs inputs text other status ended sh (correct is t s) (broken rule place f u e) = absurd (refused rule _ _ place sh f is)
-one_verdict costs inputs text other status ended sh (broken rule place f t s) (correct is u e) = absurd (refused rule _ _ place sh f is)
+one_verdict costs inputs text other status ended sh (correct is t s) (broken rule place f u e) = absurd (refused_list rule _ _ place sh f is)
+one_verdict costs inputs text other status ended sh (broken rule place f t s) (correct is u e) = absurd (refused_list rule _ _ place sh f is)
 one_verdict costs inputs text other status ended sh (broken rule place f t s) (broken rule' place' g u e) =
     record { texts = t ∙ one_broken _ _ rule rule' place place' f g ∙ sym u; statuses = s ∙ sym e }
 
@@ -67,51 +68,16 @@ one_check costs bytes text other status ended = go (inputs_of bytes) (shape_read
 one_judgement : (costs : Costs) (claim : Claim) (text other : List ℕ) (status ended : ℕ) → IsShape claim.shape.children
     → IsJudgement costs claim text status → IsJudgement costs claim other ended → AreSame text status other ended
 one_judgement costs claim text other status ended sh (broken_claim rule place f t s) (broken_claim rule' place' f' t' s') = record { texts = t ∙ one_broken _ _ rule rule' place place' f f' ∙ sym t'; statuses = s ∙ sym s' }
-one_judgement costs claim text other status ended sh (broken_claim rule place f t s) (other_work is' n' t' s') = absurd (refused rule _ _ place sh f is')
-one_judgement costs claim text other status ended sh (broken_claim rule place f t s) (certified is' w' j' l' t' s') = absurd (refused rule _ _ place sh f is')
-one_judgement costs claim text other status ended sh (broken_claim rule place f t s) (certified_one_way is' w' j' l' t' s') = absurd (refused rule _ _ place sh f is')
-one_judgement costs claim text other status ended sh (broken_claim rule place f t s) (rejected place' is' w' j' t' s') = absurd (refused rule _ _ place sh f is')
-one_judgement costs claim text other status ended sh (other_work is n t s) (broken_claim rule' place' f' t' s') = absurd (refused rule' _ _ place' sh f' is)
+one_judgement costs claim text other status ended sh (broken_claim rule place f t s) (other_work is' n' t' s') = absurd (refused_list rule _ _ place sh f is')
+one_judgement costs claim text other status ended sh (broken_claim rule place f t s) (judged verdict' is' w' j' l' t' s') = absurd (refused_list rule _ _ place sh f is')
+one_judgement costs claim text other status ended sh (other_work is n t s) (broken_claim rule' place' f' t' s') = absurd (refused_list rule' _ _ place' sh f' is)
 one_judgement costs claim text other status ended sh (other_work is n t s) (other_work is' n' t' s') = record { texts = t ∙ sym t'; statuses = s ∙ sym s' }
-one_judgement costs claim text other status ended sh (other_work is n t s) (certified is' w' j' l' t' s') = absurd (n w')
-one_judgement costs claim text other status ended sh (other_work is n t s) (certified_one_way is' w' j' l' t' s') = absurd (n w')
-one_judgement costs claim text other status ended sh (other_work is n t s) (rejected place' is' w' j' t' s') = absurd (n w')
-one_judgement costs claim text other status ended sh (certified is w j l t s) (broken_claim rule' place' f' t' s') = absurd (refused rule' _ _ place' sh f' is)
-one_judgement costs claim text other status ended sh (certified is w j l t s) (other_work is' n' t' s') = absurd (n' w)
-one_judgement costs claim text other status ended sh (certified is w j l t s) (certified is' w' j' l' t' s') = record { texts = t ∙ sym t'; statuses = s ∙ sym s' }
-one_judgement costs claim text other status ended sh (certified is w j l t s) (certified_one_way is' w' j' l' t' s') =
-    let same : All ≡ OneWay = verdicts_same _ _ _ _ _ claim.plan.certificate All OneWay j j' in
-    let bad : ⊥ = cc in
-    absurd bad
-one_judgement costs claim text other status ended sh (certified is w j l t s) (rejected place' is' w' j' t' s') =
-    let same : All ≡ Rejected place' = verdicts_same _ _ _ _ _ claim.plan.certificate All (Rejected place') j j' in
-    let bad : ⊥ = cc in
-    absurd bad
-one_judgement costs claim text other status ended sh (certified_one_way is w j l t s) (broken_claim rule' place' f' t' s') = absurd (refused rule' _ _ place' sh f' is)
-one_judgement costs claim text other status ended sh (certified_one_way is w j l t s) (other_work is' n' t' s') = absurd (n' w)
-one_judgement costs claim text other status ended sh (certified_one_way is w j l t s) (certified is' w' j' l' t' s') =
-    let same : OneWay ≡ All = verdicts_same _ _ _ _ _ claim.plan.certificate OneWay All j j' in
-    let bad : ⊥ = cc in
-    absurd bad
-one_judgement costs claim text other status ended sh (certified_one_way is w j l t s) (certified_one_way is' w' j' l' t' s') = record { texts = t ∙ sym t'; statuses = s ∙ sym s' }
-one_judgement costs claim text other status ended sh (certified_one_way is w j l t s) (rejected place' is' w' j' t' s') =
-    let same : OneWay ≡ Rejected place' = verdicts_same _ _ _ _ _ claim.plan.certificate OneWay (Rejected place') j j' in
-    let bad : ⊥ = cc in
-    absurd bad
-one_judgement costs claim text other status ended sh (rejected place is w j t s) (broken_claim rule' place' f' t' s') = absurd (refused rule' _ _ place' sh f' is)
-one_judgement costs claim text other status ended sh (rejected place is w j t s) (other_work is' n' t' s') = absurd (n' w)
-one_judgement costs claim text other status ended sh (rejected place is w j t s) (certified is' w' j' l' t' s') =
-    let same : Rejected place ≡ All = verdicts_same _ _ _ _ _ claim.plan.certificate (Rejected place) All j j' in
-    let bad : ⊥ = cc in
-    absurd bad
-one_judgement costs claim text other status ended sh (rejected place is w j t s) (certified_one_way is' w' j' l' t' s') =
-    let same : Rejected place ≡ OneWay = verdicts_same _ _ _ _ _ claim.plan.certificate (Rejected place) OneWay j j' in
-    let bad : ⊥ = cc in
-    absurd bad
-one_judgement costs claim text other status ended sh (rejected place is w j t s) (rejected place' is' w' j' t' s') =
-    let verdicts : Rejected place ≡ Rejected place' = verdicts_same _ _ _ _ _ claim.plan.certificate (Rejected place) (Rejected place') j j' in
-    let same : place ≡ place' = cc in
-    record { texts = t ∙ ap rejected_text same ∙ sym t'; statuses = s ∙ sym s' }
+one_judgement costs claim text other status ended sh (other_work is n t s) (judged verdict' is' w' j' l' t' s') = absurd (n w')
+one_judgement costs claim text other status ended sh (judged verdict is w j l t s) (broken_claim rule' place' f' t' s') = absurd (refused_list rule' _ _ place' sh f' is)
+one_judgement costs claim text other status ended sh (judged verdict is w j l t s) (other_work is' n' t' s') = absurd (n' w)
+one_judgement costs claim text other status ended sh (judged verdict is w j l t s) (judged verdict' is' w' j' l' t' s') =
+    let same : verdict ≡ verdict' = verdicts_same _ _ _ _ _ claim.plan.certificate verdict verdict' j j' in
+    record { texts = t ∙ ap (verdict_text claim.plan.work) same ∙ sym t'; statuses = s ∙ ap verdict_status same ∙ sym s' }
 
 -- what is read of a claim has a shape
 claim_shape_read : (bytes : List ℕ) (claim : Claim) → claim_of bytes ≡ Ok claim → IsShape claim.shape.children
@@ -153,19 +119,17 @@ judged_at costs other claim verdict e f j =
     (subst (λ i. IsJudged claim.shape.children (sizes_of claim.sizes) costs.comp i (work_at other claim) claim.plan.certificate verdict) f
     (subst (λ c. IsJudged claim.shape.children (sizes_of claim.sizes) c other.inst (work_at other claim) claim.plan.certificate verdict) e j))
 
-least_at : (costs other : Costs) (claim : Claim) → other.comp ≡ costs.comp → other.inst ≡ costs.inst → IsLeastOfAll other claim → IsLeastOfAll costs claim
-least_at costs other claim e f least list is = subst (λ work. claim.plan.work ≤ work) (same_work_of costs other claim list e f) (least list is)
-
-least_one_way_at : (costs other : Costs) (claim : Claim) → other.comp ≡ costs.comp → other.inst ≡ costs.inst → IsLeastOneWay other claim → IsLeastOneWay costs claim
-least_one_way_at costs other claim e f least list is one_way = subst (λ work. claim.plan.work ≤ work) (same_work_of costs other claim list e f) (least list is one_way)
+least_at : (costs other : Costs) (claim : Claim) (verdict : Verdict) → other.comp ≡ costs.comp → other.inst ≡ costs.inst → IsLeastBy other claim verdict → IsLeastBy costs claim verdict
+least_at costs other claim All e f least = λ list is. subst (λ work. claim.plan.work ≤ work) (same_work_of costs other claim list e f) (least list is)
+least_at costs other claim OneWay e f least = λ list is one_way. subst (λ work. claim.plan.work ≤ work) (same_work_of costs other claim list e f) (least list is one_way)
+least_at costs other claim (Rejected place) e f least = least
 
 judgement_at : (costs other : Costs) (claim : Claim) (text : List ℕ) (status : ℕ) → other.comp ≡ costs.comp → other.inst ≡ costs.inst
     → IsJudgement other claim text status → IsJudgement costs claim text status
 judgement_at costs other claim text status e f (broken_claim rule place is t s) = broken_claim rule place is t s
 judgement_at costs other claim text status e f (other_work is n t s) = other_work is (λ w. n (same_work costs other claim e f ∙ w)) t s
-judgement_at costs other claim text status e f (certified is w j l t s) = certified is (sym (same_work costs other claim e f) ∙ w) (judged_at costs other claim All e f j) (least_at costs other claim e f l) t s
-judgement_at costs other claim text status e f (certified_one_way is w j l t s) = certified_one_way is (sym (same_work costs other claim e f) ∙ w) (judged_at costs other claim OneWay e f j) (least_one_way_at costs other claim e f l) t s
-judgement_at costs other claim text status e f (rejected place is w j t s) = rejected place is (sym (same_work costs other claim e f) ∙ w) (judged_at costs other claim (Rejected place) e f j) t s
+judgement_at costs other claim text status e f (judged verdict is w j l t s) =
+    judged verdict is (sym (same_work costs other claim e f) ∙ w) (judged_at costs other claim verdict e f j) (least_at costs other claim verdict e f l) t s
 
 as_certification : (costs other : Costs) (bytes text : List ℕ) (status : ℕ) → other.comp ≡ costs.comp → other.inst ≡ costs.inst
     → IsCertifyOutput other bytes text status → IsCertifyOutput costs bytes text status
@@ -252,35 +216,33 @@ one_output (asked.Certify costs input) bytes text other status ended f g = one_c
 one_output (asked.Night input) bytes text other status ended f g = one_night bytes text other status ended f g
 
 -- two commands that the same words ask for read the same
-one_file : (found : Option (Text × List Row)) (command other : Asked) → IsAsked found command → IsAsked found other → ReadsInput command → ReadsInput other
-one_file None command other f g reads = absurd f
-one_file (Some found) (asked.Check costs input) (asked.Check costs' input') f g reads = g.1.file ∙ sym f.1.file ∙ reads
-one_file (Some found) (asked.Certify costs input) (asked.Certify costs' input') f g reads = g.1.file ∙ sym f.1.file ∙ reads
-one_file (Some found) (asked.Plan costs budget input) (asked.Plan costs' budget' input') f g reads = g.1.file ∙ sym f.1.file ∙ reads
-one_file (Some found) (asked.Check costs input) (asked.Plan costs' budget' input') f g reads = let bad : codes "check" ≡ codes "plan" = sym f.0 ∙ g.0 in cc
-one_file (Some found) (asked.Plan costs budget input) (asked.Check costs' input') f g reads = let bad : codes "plan" ≡ codes "check" = sym f.0 ∙ g.0 in cc
-one_file (Some found) (asked.Plan costs budget input) (asked.Certify costs' input') f g reads = let bad : codes "plan" ≡ codes "certify" = sym f.0 ∙ g.0 in cc
-one_file (Some found) (asked.Certify costs input) (asked.Plan costs' budget' input') f g reads = let bad : codes "certify" ≡ codes "plan" = sym f.0 ∙ g.0 in cc
-one_file (Some found) (asked.Check costs input) (asked.Certify costs' input') f g reads = let bad : codes "check" ≡ codes "certify" = sym f.0 ∙ g.0 in cc
-one_file (Some found) (asked.Certify costs input) (asked.Check costs' input') f g reads = let bad : codes "certify" ≡ codes "check" = sym f.0 ∙ g.0 in cc
-one_file (Some found) (asked.Night input) (asked.Night input') f g reads = g.1 ∙ sym f.1 ∙ reads
-one_file (Some found) (asked.Check costs input) (asked.Night input') f g reads = absurd (check_is_not_night (sym f.0 ∙ g.0))
-one_file (Some found) (asked.Night input) (asked.Check costs' input') f g reads = absurd (check_is_not_night (sym g.0 ∙ f.0))
-one_file (Some found) (asked.Plan costs budget input) (asked.Night input') f g reads = absurd (plan_is_not_night (sym f.0 ∙ g.0))
-one_file (Some found) (asked.Night input) (asked.Plan costs' budget' input') f g reads = absurd (plan_is_not_night (sym g.0 ∙ f.0))
-one_file (Some found) (asked.Certify costs input) (asked.Night input') f g reads = absurd (certify_is_not_night (sym f.0 ∙ g.0))
-one_file (Some found) (asked.Night input) (asked.Certify costs' input') f g reads = absurd (certify_is_not_night (sym g.0 ∙ f.0))
+file_asked : (name : Text) (options : List Row) (command : Asked) → AsksBy name options command → file_of command ≡ first_of (codes "input") options
+file_asked name options (asked.Check costs input) is = is.1.file
+file_asked name options (asked.Plan costs budget input) is = is.1.file
+file_asked name options (asked.Certify costs input) is = is.1.file
+file_asked name options (asked.Night input) is = is.1
 
-one_read : (command : Asked) (bytes text other : List ℕ) (status ended : ℕ) → IsRead command bytes text status → IsRead command bytes other ended → AreOneAnswer command bytes text status other ended
-one_read command bytes text other status ended (read_too_long l f) (read_too_long m g) = as_one command bytes text other status ended (one_shown _ text other status ended f g)
-one_read command bytes text other status ended (read_too_long l f) (read_within m g) = let bad : ⊥ = omega arith in absurd bad
-one_read command bytes text other status ended (read_within l f) (read_too_long m g) = let bad : ⊥ = omega arith in absurd bad
-one_read command bytes text other status ended (read_within l f) (read_within m g) = one_output command bytes text other status ended f g
+one_file : (found : Option (Text × List Row)) (command other : Asked) → IsAsked found command → IsAsked found other → file_of other ≡ file_of command
+one_file None command other f g = absurd f
+one_file (Some found) command other f g = file_asked found.0 found.1 other g ∙ sym (file_asked found.0 found.1 command f)
 
-as_read : (found : Option (Text × List Row)) (command other : Asked) → IsAsked found command → IsAsked found other
-    → (bytes text : List ℕ) (status : ℕ) → IsRead other bytes text status → IsRead command bytes text status
-as_read found command other f g bytes text status (read_too_long l is) = read_too_long l is
-as_read found command other f g bytes text status (read_within l is) = read_within l (one_asked found command other f g bytes text status is)
+-- ---- one answer to what was read
+
+one_read : (reading : Reading) (of : List ℕ → List ℕ → ℕ → Type 0) (one : List ℕ → List ℕ → ℕ → List ℕ → ℕ → Type 0) (text other : List ℕ) (status ended : ℕ)
+    → ((bytes : List ℕ) → AreSame text status other ended → one bytes text status other ended)
+    → ((bytes : List ℕ) → of bytes text status → of bytes other ended → one bytes text status other ended)
+    → IsReadAnswer reading of text status → IsReadAnswer reading of other ended → AreOneAnswerTo reading one text status other ended
+one_read Failed of one text other status ended same both f g = one_shown _ text other status ended f g
+one_read (Bytes bytes) of one text other status ended same both (too_long l f) (too_long m g) = same bytes (one_shown _ text other status ended f g)
+one_read (Bytes bytes) of one text other status ended same both (too_long l f) (within m g) = let bad : ⊥ = omega arith in absurd bad
+one_read (Bytes bytes) of one text other status ended same both (within l f) (too_long m g) = let bad : ⊥ = omega arith in absurd bad
+one_read (Bytes bytes) of one text other status ended same both (within l f) (within m g) = both bytes f g
+
+read_as : (reading : Reading) (of to : List ℕ → List ℕ → ℕ → Type 0) (text : List ℕ) (status : ℕ) → ((bytes : List ℕ) → of bytes text status → to bytes text status)
+    → IsReadAnswer reading of text status → IsReadAnswer reading to text status
+read_as Failed of to text status turn f = f
+read_as (Bytes bytes) of to text status turn (too_long l f) = too_long l f
+read_as (Bytes bytes) of to text status turn (within l f) = within l (turn bytes f)
 
 -- ---- words that were handed in
 
@@ -291,51 +253,50 @@ none_refused (x ∷ xs) k e among = cc
 not_refused : (words : List (List ℕ)) (status : ℕ) → fault_of whview_app words ≡ [] → IsRefused words status → ⊥
 not_refused words status taken is = none_refused _ is.kind taken is.found
 
--- the reader failed, or the answer is the command's
-handed : (words : List (List ℕ)) (command : Asked) (bytes text : List ℕ) (status : ℕ) → fault_of whview_app words ≡ [] → IsAsked (subcommand_of whview_app words) command → ReadsInput command
-    → IsHandedOutput words (Some bytes) text status → IsReadFailure text status ⊎ IsRead command bytes text status
-handed words command bytes text status taken is reads (words_refused refusal) = absurd (not_refused words status taken refusal)
-handed words command bytes text status taken is reads (read_fails other t is' printed ended) = inl (record { printed = printed; ended = ended })
-handed words command bytes text status taken is reads (a_file other t is' file answer) = absurd (file (one_file _ command other is is' reads))
-handed words command bytes text status taken is reads (words_answered other t is' r holds) =
-    inr (as_read _ command other is is' bytes text status (subst (λ read. IsRead other read text status) holds.1 holds.2))
+from_reader : (file : Option (List ℕ)) (reading : Reading) (of : List ℕ → List ℕ → ℕ → Type 0) (text : List ℕ) (status : ℕ) → file ≡ None
+    → IsSourceAnswer file reading of text status → IsReadAnswer reading of text status
+from_reader None reading of text status e is = is
+from_reader (Some path) reading of text status e is = let bad : ⊥ = cc in absurd bad
+
+-- the answer is that of the command that the words ask for
+handed : (words : List (List ℕ)) (command : Asked) (reading : Reading) (text : List ℕ) (status : ℕ) → AskFor words command → ReadsInput command
+    → IsHandedOutput words reading text status → IsReadAnswer reading (IsCommandOutput command) text status
+handed words command reading text status ask reads (refused refusal) = absurd (not_refused words status ask.taken refusal)
+handed words command reading text status ask reads (answered other again is) =
+    read_as reading (IsCommandOutput other) (IsCommandOutput command) text status (λ bytes. one_asked _ command other ask.asked again.asked bytes text status)
+    (from_reader (file_of other) reading (IsCommandOutput other) text status (one_file _ command other ask.asked again.asked ∙ reads) is)
 
 pub one_handed : OneHandedOutput
-one_handed words command bytes text other status ended taken is reads f g =
-    ⊎_elim
-    (λ failed. inr (inl failed))
-    (λ read. ⊎_elim
-    (λ failed. inr (inr failed))
-    (λ again. inl (one_read command bytes text other status ended read again))
-    (handed words command bytes other ended taken is reads g))
-    (handed words command bytes text status taken is reads f)
+one_handed words command reading text other status ended ask reads f g =
+    one_read reading (IsCommandOutput command) (AreOneAnswer command) text other status ended
+    (λ bytes. as_one command bytes text other status ended)
+    (λ bytes. one_output command bytes text other status ended)
+    (handed words command reading text status ask reads f)
+    (handed words command reading other ended ask reads g)
 
 -- ---- an input whose first line gives the words
 
+one_words : (input text other : List ℕ) (status ended : ℕ)
+    → IsWordsAnswer (words_in (first_line_of input)) (λ command. IsCommandOutput command (after_first_line input)) text status
+    → IsWordsAnswer (words_in (first_line_of input)) (λ command. IsCommandOutput command (after_first_line input)) other ended
+    → AreOneLineAnswer input text status other ended
+one_words input text other status ended (refused f) (refused g) = inr (inr (f, g))
+one_words input text other status ended (refused f) (answered c ask g) = absurd (not_refused _ status ask.taken f)
+one_words input text other status ended (answered c ask f) (refused g) = absurd (not_refused _ ended ask.taken g)
+one_words input text other status ended (answered c ask f) (answered d again g) =
+    inr (inl (c, ask, one_output c _ text other status ended f (one_asked _ c d ask.asked again.asked _ other ended g)))
+
+one_line_answer : (input text other : List ℕ) (status ended : ℕ) → IsLineAnswer input text status → IsLineAnswer input other ended → AreOneLineAnswer input text status other ended
+one_line_answer input text other status ended (not_text u f s) (not_text u' g e) = inl (record { texts = f ∙ sym g; statuses = s ∙ sym e })
+one_line_answer input text other status ended (not_text u f s) (names_a_file u' n g e) = let bad : false ≡ true = sym u ∙ u' in cc
+one_line_answer input text other status ended (not_text u f s) (of_words u' n g) = let bad : false ≡ true = sym u ∙ u' in cc
+one_line_answer input text other status ended (names_a_file u n f s) (not_text u' g e) = let bad : false ≡ true = sym u' ∙ u in cc
+one_line_answer input text other status ended (names_a_file u n f s) (names_a_file u' n' g e) = inl (record { texts = f ∙ sym g; statuses = s ∙ sym e })
+one_line_answer input text other status ended (names_a_file u n f s) (of_words u' n' g) = let bad : true ≡ false = sym n ∙ n' in cc
+one_line_answer input text other status ended (of_words u n f) (not_text u' g e) = let bad : false ≡ true = sym u' ∙ u in cc
+one_line_answer input text other status ended (of_words u n f) (names_a_file u' n' g e) = let bad : true ≡ false = sym n' ∙ n in cc
+one_line_answer input text other status ended (of_words u n f) (of_words u' n' g) = one_words input text other status ended f g
+
 pub one_line : OneInputOutput
-one_line input text other status ended (input_too_long l f) (input_too_long m g) = inl (one_shown _ text other status ended f g)
-one_line input text other status ended (input_too_long l f) (line_not_text m u g e) = let bad : ⊥ = omega arith in absurd bad
-one_line input text other status ended (input_too_long l f) (line_names_a_file m u n g e) = let bad : ⊥ = omega arith in absurd bad
-one_line input text other status ended (input_too_long l f) (line_refused m u n g) = let bad : ⊥ = omega arith in absurd bad
-one_line input text other status ended (input_too_long l f) (line_answered c m u n t a g) = let bad : ⊥ = omega arith in absurd bad
-one_line input text other status ended (line_not_text m u f s) (input_too_long l g) = let bad : ⊥ = omega arith in absurd bad
-one_line input text other status ended (line_not_text m u f s) (line_not_text m' u' g e) = inl (record { texts = f ∙ sym g; statuses = s ∙ sym e })
-one_line input text other status ended (line_not_text m u f s) (line_names_a_file m' u' n g e) = let bad : false ≡ true = sym u ∙ u' in cc
-one_line input text other status ended (line_not_text m u f s) (line_refused m' u' n g) = let bad : false ≡ true = sym u ∙ u' in cc
-one_line input text other status ended (line_not_text m u f s) (line_answered c m' u' n t a g) = let bad : false ≡ true = sym u ∙ u' in cc
-one_line input text other status ended (line_names_a_file m u n f s) (input_too_long l g) = let bad : ⊥ = omega arith in absurd bad
-one_line input text other status ended (line_names_a_file m u n f s) (line_not_text m' u' g e) = let bad : false ≡ true = sym u' ∙ u in cc
-one_line input text other status ended (line_names_a_file m u n f s) (line_names_a_file m' u' n' g e) = inl (record { texts = f ∙ sym g; statuses = s ∙ sym e })
-one_line input text other status ended (line_names_a_file m u n f s) (line_refused m' u' n' g) = let bad : true ≡ false = sym n ∙ n' in cc
-one_line input text other status ended (line_names_a_file m u n f s) (line_answered c m' u' n' t a g) = let bad : true ≡ false = sym n ∙ n' in cc
-one_line input text other status ended (line_refused m u n f) (input_too_long l g) = let bad : ⊥ = omega arith in absurd bad
-one_line input text other status ended (line_refused m u n f) (line_not_text m' u' g e) = let bad : false ≡ true = sym u' ∙ u in cc
-one_line input text other status ended (line_refused m u n f) (line_names_a_file m' u' n' g e) = let bad : true ≡ false = sym n' ∙ n in cc
-one_line input text other status ended (line_refused m u n f) (line_refused m' u' n' g) = inr (inr (f, g))
-one_line input text other status ended (line_refused m u n f) (line_answered c m' u' n' t a g) = absurd (not_refused _ status t f)
-one_line input text other status ended (line_answered c m u n t a f) (input_too_long l g) = let bad : ⊥ = omega arith in absurd bad
-one_line input text other status ended (line_answered c m u n t a f) (line_not_text m' u' g e) = let bad : false ≡ true = sym u' ∙ u in cc
-one_line input text other status ended (line_answered c m u n t a f) (line_names_a_file m' u' n' g e) = let bad : true ≡ false = sym n' ∙ n in cc
-one_line input text other status ended (line_answered c m u n t a f) (line_refused m' u' n' g) = absurd (not_refused _ ended t g)
-one_line input text other status ended (line_answered c m u n t a f) (line_answered c' m' u' n' t' a' g) =
-    inr (inl (c, a, one_output c _ text other status ended f (one_asked _ c c' a a' _ other ended g)))
+one_line reading text other status ended f g =
+    one_read reading IsLineAnswer AreOneLineAnswer text other status ended (λ bytes same. inl same) (λ bytes. one_line_answer bytes text other status ended) f g

@@ -10,9 +10,9 @@ use Rattle.std.proofs.lemmas.List.Sums.{sum_by-le}
 use Rattle.std.proofs.lemmas.Nat.{mul-le}
 use Rattle.std.proofs.lemmas.Option.{slice_get-get_or}
 use Rattle.wh_dag.specs.Shape.{Distinct, IsShape, children_of, has}
-use Rattle.wh_strategy.proofs.Charges.{length-parts}
+use Rattle.wh_dag.proofs.PartSums.{length-parts}
 use Rattle.wh_strategy.proofs.Found.{has-head, has-tail}
-use Rattle.wh_strategy.proofs.Members.{length-le_members}
+use Rattle.wh_dag.proofs.Members.{length-le_members}
 use Rattle.wh_strategy.specs.Expression.{At, is_new}
 use Rattle.wh_strategy.specs.Rules.{IsCorrect, IsOneWay}
 use Rattle.wh_strategy.specs.Sizes.{AreSizes, Size, sizes_of}

@@ -2,7 +2,8 @@
 use Rattle.std.specs.Prelude.{◌≡◌, ◌≢◌, ◌≤◌, ◌++◌, ℕ, List, Result, Ok, codes, decimal, MatchResult}
 use Rattle.wh_dag.specs.Shape.{Views}
 use Rattle.wh_cert.specs.Certificate.{IsJudged}
-use Rattle.wh_cert.specs.declared.certificate.Verdict.TheVariants as verdict
+use Rattle.wh_cert.specs.declared.certificate.Verdict.{Verdict}
+use Rattle.wh_cert.specs.declared.certificate.Verdict.TheVariants.{All, OneWay, Rejected}
 use Rattle.wh_load.specs.Catalogue.{◌>>=◌, shape_of}
 use Rattle.wh_load.specs.PlanText.{plan_of}
 use Rattle.wh_load.specs.SizesText.{sizes_of_text}
@@ -72,32 +73,33 @@ IsLeastOneWay costs claim =
     (other : List Expression) → IsCorrect claim.shape.children other → IsOneWay other
     → claim.plan.work ≤ work_of claim.shape.children (sizes_of claim.sizes) costs.comp costs.inst other
 
--- what is printed of a plan of this work that is certified against all strategies
-abbrev pub certified_text : ℕ → List ℕ
-certified_text work = line (codes "certified all work " ++ decimal work)
+-- what a verdict says of the work of a plan that it certifies
+abbrev pub IsLeastBy : Costs → Claim → Verdict → Type 0
+IsLeastBy costs claim All = IsLeastOfAll costs claim
+IsLeastBy costs claim OneWay = IsLeastOneWay costs claim
+IsLeastBy costs claim (Rejected place) = Unit {0}
 
--- what is printed of one that is certified against one-way strategies
-abbrev pub certified_one_way_text : ℕ → List ℕ
-certified_one_way_text work = line (codes "certified one-way work " ++ decimal work)
+-- what is printed of a plan of this work by this verdict: against which strategies it is certified, or where its certificate is
+-- rejected
+abbrev pub verdict_text : ℕ → Verdict → List ℕ
+verdict_text work All = line (codes "certified all work " ++ decimal work)
+verdict_text work OneWay = line (codes "certified one-way work " ++ decimal work)
+verdict_text work (Rejected place) = line (codes "rejected at " ++ decimal place)
 
--- what is printed of one whose certificate is rejected at this place
-abbrev pub rejected_text : ℕ → List ℕ
-rejected_text place = line (codes "rejected at " ++ decimal place)
+-- and the status
+abbrev pub verdict_status : Verdict → ℕ
+verdict_status All = 0
+verdict_status OneWay = 0
+verdict_status (Rejected place) = 1
 
 -- What is printed of a claim, and the status: the first rule that the list breaks; else that its work is another one; else the
 -- verdict on its certificate. Where it is certified, no strategy of its scope costs less.
 pub data IsJudgement (costs : Costs) (claim : Claim) (text : List ℕ) (status : ℕ) : Type 0 where
   broken : (rule : Rule) (place : ℕ) → IsFirstBroken claim.shape.children claim.plan.strategy rule place → text ≡ broken_text rule place → status ≡ 1 → IsJudgement costs claim text status
   other_work : IsCorrect claim.shape.children claim.plan.strategy → work_at costs claim ≢ claim.plan.work → text ≡ line (codes "rejected work") → status ≡ 1 → IsJudgement costs claim text status
-  certified : IsCorrect claim.shape.children claim.plan.strategy → work_at costs claim ≡ claim.plan.work
-      → IsJudged claim.shape.children (sizes_of claim.sizes) costs.comp costs.inst (work_at costs claim) claim.plan.certificate verdict.All
-      → IsLeastOfAll costs claim → text ≡ certified_text claim.plan.work → status ≡ 0 → IsJudgement costs claim text status
-  certified_one_way : IsCorrect claim.shape.children claim.plan.strategy → work_at costs claim ≡ claim.plan.work
-      → IsJudged claim.shape.children (sizes_of claim.sizes) costs.comp costs.inst (work_at costs claim) claim.plan.certificate verdict.OneWay
-      → IsLeastOneWay costs claim → text ≡ certified_one_way_text claim.plan.work → status ≡ 0 → IsJudgement costs claim text status
-  rejected : (place : ℕ) → IsCorrect claim.shape.children claim.plan.strategy → work_at costs claim ≡ claim.plan.work
-      → IsJudged claim.shape.children (sizes_of claim.sizes) costs.comp costs.inst (work_at costs claim) claim.plan.certificate (verdict.Rejected place)
-      → text ≡ rejected_text place → status ≡ 1 → IsJudgement costs claim text status
+  judged : (verdict : Verdict) → IsCorrect claim.shape.children claim.plan.strategy → work_at costs claim ≡ claim.plan.work
+      → IsJudged claim.shape.children (sizes_of claim.sizes) costs.comp costs.inst (work_at costs claim) claim.plan.certificate verdict
+      → IsLeastBy costs claim verdict → text ≡ verdict_text claim.plan.work verdict → status ≡ verdict_status verdict → IsJudgement costs claim text status
 
 -- what `certify` prints for a bundle's bytes, and the status
 abbrev pub IsCertifyOutput : Costs → List ℕ → List ℕ → ℕ → Type 0

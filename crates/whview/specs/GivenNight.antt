@@ -1,5 +1,5 @@
 -- What a night is given by the bytes of a bundle.
-use Rattle.std.specs.Prelude.{◌≡◌, ◌++◌, ℕ, List, [], ◌∷◌, length, Bool, true, false, Option, Some, None, slice_get, option_and_then, Result, Ok, codes, if◌then◌else◌}
+use Rattle.std.specs.Prelude.{◌++◌, ℕ, List, [], ◌∷◌, length, Bool, true, false, Option, Some, None, slice_get, option_and_then, option_map, Result, Ok, codes, if◌then◌else◌}
 use Rattle.std.specs.Option.{option_or}
 use Rattle.wh_dag.specs.Catalog.{CatalogOf, DefinitionOf}
 use Rattle.wh_dag.specs.Shape.{Views}
@@ -57,21 +57,25 @@ is_base_view (Some view) = is_undefined view.definition
 abbrev pub is_base_name : List (List ℕ) → List ViewOf → List ℕ → Bool
 is_base_name names views word = is_base_view (option_and_then (slice_get views) (number_of names word))
 
--- whether a part of this heading may stand there: data and changes are of base views
-abbrev pub fits_base : List (List ℕ) → List ViewOf → Heading → Bool
-fits_base names views (heading.Data name) = is_base_name names views name
-fits_base names views (heading.Changes name) = is_base_name names views name
-fits_base names views _ = true
+-- the first word of the heading of rows of this name, where it is the name of no base view
+abbrev pub unless_base_name : List (List ℕ) → List ViewOf → List ℕ → List ℕ → Option (List ℕ)
+unless_base_name names views word name = if is_base_name names views name then None else Some word
 
--- the first word of such a heading
-abbrev pub rows_word : Heading → List ℕ
-rows_word (heading.Data name) = codes "data"
-rows_word _ = codes "changes"
+-- the first word of a heading that may not stand over these views: data and changes are of base views
+abbrev pub stray_word : List (List ℕ) → List ViewOf → Heading → Option (List ℕ)
+stray_word names views heading.Catalogue = None
+stray_word names views heading.Sizes = None
+stray_word names views heading.Strategy = None
+stray_word names views heading.Plan = None
+stray_word names views heading.Schedule = None
+stray_word names views heading.Night = None
+stray_word names views (heading.Data name) = unless_base_name names views (codes "data") name
+stray_word names views (heading.Changes name) = unless_base_name names views (codes "changes") name
 
--- the first part with rows of no base view is a fault
+-- the first part whose heading may not stand there is a fault
 abbrev pub first_stray : List (List ℕ) → List ViewOf → List Part → Option LoadFault
 first_stray names views [] = None
-first_stray names views (part ∷ rest) = if fits_base names views part.heading then first_stray names views rest else Some (fault.Part (rows_word part.heading))
+first_stray names views (part ∷ rest) = option_or (option_map fault.Part (stray_word names views part.heading)) (first_stray names views rest)
 
 -- ---- tables and changes
 
@@ -110,12 +114,12 @@ rows_after kind parts names before (view ∷ rest) texts = do
   own ← rows_of kind parts (name_of names (length before)) view texts
   rows_after kind parts names (before ++ own.0 ∷ []) rest own.1
 
--- tables have no negative count
+-- (of calls in the program) tables have no negative count
 abbrev pub IsTableIfTable : Rows → Bag → Type 0
 IsTableIfTable TableRows bag = IsTable bag
 IsTableIfTable ChangeRows bag = Unit {0}
 
--- there are rows of each of these views, of its columns
+-- (of calls in the program) there are rows of each of these views, of its columns
 abbrev pub AreReadRows : Rows → List ViewOf → List Bag → Type 0
 AreReadRows kind [] [] = Unit {0}
 AreReadRows kind [] (bag ∷ bags) = ⊥

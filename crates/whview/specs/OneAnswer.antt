@@ -1,6 +1,5 @@
 -- That there is one answer at most: what the texts and statuses that are allowed for the same words and bytes have in common.
-use Rattle.std.specs.Prelude.{◌≡◌, ◌⊎◌, ℕ, ◌+◌, ◌^◌, ◌<◌, ◌≤◌, List, [], length, Some, Ok, codes}
-use Rattle.clap.specs.Words.{fault_of, subcommand_of}
+use Rattle.std.specs.Prelude.{◌≡◌, ◌⊎◌, ℕ, ◌+◌, ◌^◌, ◌<◌, ◌≤◌, List, length, Ok}
 use Rattle.wh_cert.specs.declared.certificate.Certificate.{Certificate}
 use Rattle.wh_cert.specs.declared.certificate.Certificate.TheVariants.{Search}
 use Rattle.wh_cert.specs.declared.certificate.Scope.{Scope}
@@ -13,11 +12,10 @@ use Rattle.wh_strategy.specs.Sizes.{sizes_of}
 use Rattle.wh_strategy.specs.declared.costs.Costs.{Costs}
 use Rattle.wh_strategy.specs.declared.expression.Expression.{Expression}
 use Rattle.whview.specs.CertifyOutput.{IsCertifyOutput}
-use Rattle.whview.specs.CheckOutput.{IsCheckOutput, line}
-use Rattle.whview.specs.CommandLine.{IsAsked, whview_app}
+use Rattle.whview.specs.CheckOutput.{IsCheckOutput}
 use Rattle.whview.specs.FirstLine.{after_first_line, first_line_of, words_in}
 use Rattle.whview.specs.NightOutput.{IsNightOutput}
-use Rattle.whview.specs.Output.{IsHandedOutput, IsInputOutput, IsRefused, ReadsInput}
+use Rattle.whview.specs.Output.{AskFor, Bytes, Failed, IsHandedOutput, IsInputOutput, IsRefused, Reading, ReadsInput}
 use Rattle.whview.specs.PlanOutput.{IsPlanOutput, Measured, measured_of, spent_text}
 use Rattle.whview.specs.declared.command_line.Asked.{Asked}
 use Rattle.whview.specs.declared.command_line.Asked.TheVariants as asked
@@ -92,10 +90,19 @@ AreOneAnswer (asked.Plan costs budget input) bytes text status other ended = Are
 AreOneAnswer (asked.Certify costs input) bytes text status other ended = AreSame text status other ended
 AreOneAnswer (asked.Night input) bytes text status other ended = AreSame text status other ended
 
--- the answer of a reader that failed
-pub record IsReadFailure (text : List ℕ) (status : ℕ) : Type 0 where
-  pub printed : text ≡ line (codes "fault read")
-  pub ended : status ≡ 3
+-- What two answers for the same reading have in common, where this is what two answers for the same bytes have. Of a reader that
+-- failed there is one.
+abbrev pub AreOneAnswerTo : Reading → (List ℕ → List ℕ → ℕ → List ℕ → ℕ → Type 0) → List ℕ → ℕ → List ℕ → ℕ → Type 0
+AreOneAnswerTo (Bytes bytes) one text status other ended = one bytes text status other ended
+AreOneAnswerTo Failed one text status other ended = AreSame text status other ended
+
+-- What two answers for the same bytes have in common, where their first line gives the words: one text and one status, or what
+-- two answers of the command have that the words ask for, or `clap` refuses the words or answers them with help.
+abbrev pub AreOneLineAnswer : List ℕ → List ℕ → ℕ → List ℕ → ℕ → Type 0
+AreOneLineAnswer input text status other ended =
+    AreSame text status other ended
+    ⊎ (((command : Asked) × AskFor (words_in (first_line_of input)) command × AreOneAnswer command (after_first_line input) text status other ended)
+    ⊎ (IsRefused (words_in (first_line_of input)) status × IsRefused (words_in (first_line_of input)) ended))
 
 -- all checks of the same bytes at the same costs have one text and one status
 abbrev pub OneCheckOutput : Type 0
@@ -122,21 +129,17 @@ OneNightOutput =
     (bytes text other : List ℕ) (status ended : ℕ) →
     IsNightOutput bytes text status → IsNightOutput bytes other ended → AreSame text status other ended
 
--- words that were handed in, that `clap` takes and that name no file have one answer for the same bytes, unless the reader
--- fails
+-- words that were handed in, that `clap` takes and that name no file have one answer for what was read
 abbrev pub OneHandedOutput : Type 0
 OneHandedOutput =
-    (words : List (List ℕ)) (command : Asked) (bytes text other : List ℕ) (status ended : ℕ) →
-    fault_of whview_app words ≡ [] → IsAsked (subcommand_of whview_app words) command → ReadsInput command →
-    IsHandedOutput words (Some bytes) text status → IsHandedOutput words (Some bytes) other ended →
-    AreOneAnswer command bytes text status other ended ⊎ (IsReadFailure text status ⊎ IsReadFailure other ended)
+    (words : List (List ℕ)) (command : Asked) (reading : Reading) (text other : List ℕ) (status ended : ℕ) →
+    AskFor words command → ReadsInput command →
+    IsHandedOutput words reading text status → IsHandedOutput words reading other ended →
+    AreOneAnswerTo reading (AreOneAnswer command) text status other ended
 
--- an input whose first line gives the words has one answer, unless `clap` refuses these words or answers them with help:
--- that of the command that they ask for, or one text and one status
+-- an input whose first line gives the words has one answer for what was read, unless `clap` refuses these words or answers them
+-- with help
 abbrev pub OneInputOutput : Type 0
 OneInputOutput =
-    (input text other : List ℕ) (status ended : ℕ) →
-    IsInputOutput input text status → IsInputOutput input other ended →
-    AreSame text status other ended
-    ⊎ (((command : Asked) × IsAsked (subcommand_of whview_app (words_in (first_line_of input))) command × AreOneAnswer command (after_first_line input) text status other ended)
-    ⊎ (IsRefused (words_in (first_line_of input)) status × IsRefused (words_in (first_line_of input)) ended))
+    (reading : Reading) (text other : List ℕ) (status ended : ℕ) →
+    IsInputOutput reading text status → IsInputOutput reading other ended → AreOneAnswerTo reading AreOneLineAnswer text status other ended

@@ -1,10 +1,12 @@
--- What the program prints for words and the bytes of its input, and the status that it ends with.
-use Rattle.std.specs.Prelude.{◌≡◌, ◌<◌, ◌≤◌, ℕ, List, [], length, Option, None, IfSome, Result, MatchResult, codes, option_map, true, false}
+-- What the program prints for words and what it reads, and the status that it ends with.
+use Rattle.std.specs.Prelude.{◌≡◌, ◌<◌, ◌≤◌, ℕ, List, [], length, Option, None, Some, IfSome, Result, MatchResult, codes, option_map, true, false}
 use Rattle.std.specs.List.{list_any}
 use Rattle.std.specs.Str.{is_utf8}
 use Rattle.clap.specs.Words.{IsAmong, fault_of, subcommand_of}
 use Rattle.clap.specs.declared.error.kind.ErrorKind.{ErrorKind}
 use Rattle.wh_load.specs.declared.fault.LoadFault.TheVariants as fault
+use Rattle.wh_load.specs.declared.read.ReadFault.{ReadFault}
+use Rattle.wh_load.specs.declared.read.ReadFault.TheVariants.{Memory, Read, TooLong}
 use Rattle.whview.specs.CertifyOutput.{IsCertifyOutput}
 use Rattle.whview.specs.CheckOutput.{IsCheckOutput, IsFaultShown, line}
 use Rattle.whview.specs.CommandFault.{status_of_kind}
@@ -15,6 +17,8 @@ use Rattle.whview.specs.PlanOutput.{IsPlanOutput}
 use Rattle.whview.specs.declared.answer.Answer.{Answer}
 use Rattle.whview.specs.declared.command_line.Asked.{Asked}
 use Rattle.whview.specs.declared.command_line.Asked.TheVariants as asked
+
+-- ---- commands
 
 -- what a command prints for the bytes of a bundle, and the status
 abbrev pub IsCommandOutput : Asked → List ℕ → List ℕ → ℕ → Type 0
@@ -34,6 +38,8 @@ file_of (asked.Night input) = option_map (λ path. path.now) input
 abbrev pub ReadsInput : Asked → Type 0
 ReadsInput command = file_of command ≡ None
 
+-- ---- answers
+
 -- that memory was refused is told
 pub record IsMemoryTold (text : List ℕ) (status : ℕ) : Type 0 where
   pub printed : text ≡ line (codes "memory")
@@ -43,32 +49,84 @@ pub record IsMemoryTold (text : List ℕ) (status : ℕ) : Type 0 where
 abbrev pub IsTold : {E : Type 0} → Result Answer E → List ℕ → ℕ → Type 0
 IsTold answer text status = MatchResult answer (λ a. (text ≡ a.text.items) × (status ≡ a.status)) (λ _. IsMemoryTold text status)
 
+-- ---- what was read
+
+-- what reading to the end came to: all the bytes, or an error of the reader
+pub data Reading : Type 0 where
+  Bytes : List ℕ → Reading
+  Failed : Reading
+
+-- This may have been read of a reader of which these bytes are known: those bytes and no others; where none are known of it, any.
+-- No clause can rule out that the reader failed. What std promises of a reader says which bytes a read gives, and that a read that
+-- fails takes none of them, and nothing of when it fails: it may be at any read, also at the one after the last byte.
+abbrev pub IsReadingOf : Option (List ℕ) → Reading → Type 0
+IsReadingOf known (Bytes bytes) = IfSome known (λ all. bytes ≡ all)
+IsReadingOf known Failed = Unit {0}
+
+-- this holds of what was read of a reader, of which these bytes are known
+abbrev pub HoldsOfReading : Option (List ℕ) → (Reading → Type 0) → Type 0
+HoldsOfReading known P = (reading : Reading) × IsReadingOf known reading × P reading
+
+-- what is printed for these bytes, and the status: more than 67,108,864 are a fault, and for others it is this
+pub data IsLimited (bytes : List ℕ) (of : List ℕ → ℕ → Type 0) (text : List ℕ) (status : ℕ) : Type 0 where
+  too_long : 67108864 < length bytes → IsFaultShown fault.TooLong text status → IsLimited bytes of text status
+  within : length bytes ≤ 67108864 → of text status → IsLimited bytes of text status
+
+-- what is printed for what was read, and the status, where this is printed for bytes
+abbrev pub IsReadAnswer : Reading → (List ℕ → List ℕ → ℕ → Type 0) → List ℕ → ℕ → Type 0
+IsReadAnswer (Bytes bytes) of text status = IsLimited bytes (of bytes) text status
+IsReadAnswer Failed of text status = IsFaultShown fault.Read text status
+
+-- (of a call in the program) what is printed where the bytes could not be had, and the status; of want of memory nothing is
+abbrev pub IsUnreadShown : ReadFault → List ℕ → ℕ → Type 0
+IsUnreadShown Read text status = IsFaultShown fault.Read text status
+IsUnreadShown TooLong text status = IsFaultShown fault.TooLong text status
+IsUnreadShown Memory text status = ⊥
+
+-- ---- what words ask for
+
 -- these words are no command line, or ask for help: `clap` takes exactly those where it finds nothing. The text is not promised, and the status is that of what `clap` finds in them
 pub record IsRefused (words : List (List ℕ)) (status : ℕ) : Type 0 where
   pub kind : ErrorKind
   pub found : IsAmong kind (fault_of whview_app words)
   pub ended : status ≡ status_of_kind kind
 
--- what the program prints for an input of at most 67,108,864 bytes whose command is known, and the status
-pub data IsRead (command : Asked) (bytes text : List ℕ) (status : ℕ) : Type 0 where
-  read_too_long : 67108864 < length bytes → IsFaultShown fault.TooLong text status → IsRead command bytes text status
-  read_within : length bytes ≤ 67108864 → IsCommandOutput command bytes text status → IsRead command bytes text status
+-- `clap` finds no fault in these words, and they ask for this command
+pub record AskFor (words : List (List ℕ)) (command : Asked) : Type 0 where
+  pub taken : fault_of whview_app words ≡ []
+  pub asked : IsAsked (subcommand_of whview_app words) command
 
--- this holds of the bytes of a reader; of some bytes, where none are known of it
-abbrev pub HoldsOfBytes : Option (List ℕ) → (List ℕ → Type 0) → Type 0
-HoldsOfBytes known P = (bytes : List ℕ) × IfSome known (λ all. bytes ≡ all) × P bytes
+-- what is printed for these words, and the status, where this is printed for a command
+pub data IsWordsAnswer (words : List (List ℕ)) (of : Asked → List ℕ → ℕ → Type 0) (text : List ℕ) (status : ℕ) : Type 0 where
+  refused : IsRefused words status → IsWordsAnswer words of text status
+  answered : (command : Asked) → AskFor words command → of command text status → IsWordsAnswer words of text status
 
--- what it prints for words that were handed in, where these bytes are known of the reader; of a file none are known
-pub data IsHandedOutput (words : List (List ℕ)) (known : Option (List ℕ)) (text : List ℕ) (status : ℕ) : Type 0 where
-  words_refused : IsRefused words status → IsHandedOutput words known text status
-  read_fails : (command : Asked) → fault_of whview_app words ≡ [] → IsAsked (subcommand_of whview_app words) command → text ≡ line (codes "fault read") → status ≡ 3 → IsHandedOutput words known text status
-  a_file : (command : Asked) → fault_of whview_app words ≡ [] → IsAsked (subcommand_of whview_app words) command → (ReadsInput command → ⊥) → HoldsOfBytes None (λ bytes. IsRead command bytes text status) → IsHandedOutput words known text status
-  words_answered : (command : Asked) → fault_of whview_app words ≡ [] → IsAsked (subcommand_of whview_app words) command → ReadsInput command → HoldsOfBytes known (λ bytes. IsRead command bytes text status) → IsHandedOutput words known text status
+-- ---- words that were handed in
 
--- what it prints for an input whose first line gives the words, and the status
-pub data IsInputOutput (input text : List ℕ) (status : ℕ) : Type 0 where
-  input_too_long : 67108864 < length input → IsFaultShown fault.TooLong text status → IsInputOutput input text status
-  line_not_text : length input ≤ 67108864 → is_utf8 (first_line_of input) ≡ false → text ≡ line (codes "fault words") → status ≡ 2 → IsInputOutput input text status
-  line_names_a_file : length input ≤ 67108864 → is_utf8 (first_line_of input) ≡ true → list_any names_input (words_in (first_line_of input)) ≡ true → text ≡ line (codes "error: `--input` cannot stand in the words of an input") → status ≡ 2 → IsInputOutput input text status
-  line_refused : length input ≤ 67108864 → is_utf8 (first_line_of input) ≡ true → list_any names_input (words_in (first_line_of input)) ≡ false → IsRefused (words_in (first_line_of input)) status → IsInputOutput input text status
-  line_answered : (command : Asked) → length input ≤ 67108864 → is_utf8 (first_line_of input) ≡ true → list_any names_input (words_in (first_line_of input)) ≡ false → fault_of whview_app (words_in (first_line_of input)) ≡ [] → IsAsked (subcommand_of whview_app (words_in (first_line_of input))) command → IsCommandOutput command (after_first_line input) text status → IsInputOutput input text status
+-- what is printed where this was read of the program's reader; of a file, where one is named, anything may have been
+abbrev pub IsSourceAnswer : Option (List ℕ) → Reading → (List ℕ → List ℕ → ℕ → Type 0) → List ℕ → ℕ → Type 0
+IsSourceAnswer None reading of text status = IsReadAnswer reading of text status
+IsSourceAnswer (Some path) reading of text status = HoldsOfReading None (λ own. IsReadAnswer own of text status)
+
+-- what the program prints for words that were handed in, and the status, where this was read of its reader
+abbrev pub IsHandedOutput : List (List ℕ) → Reading → List ℕ → ℕ → Type 0
+IsHandedOutput words reading text status =
+    IsWordsAnswer words (λ command. IsSourceAnswer (file_of command) reading (IsCommandOutput command)) text status
+
+-- the words ask for a command that reads the program's reader
+abbrev pub AskToRead : List (List ℕ) → Type 0
+AskToRead words = (command : Asked) × AskFor words command × ReadsInput command
+
+-- ---- words on the first line
+
+-- what the program prints for these bytes, whose first line gives the words, and the status
+pub data IsLineAnswer (input text : List ℕ) (status : ℕ) : Type 0 where
+  not_text : is_utf8 (first_line_of input) ≡ false → text ≡ line (codes "fault words") → status ≡ 2 → IsLineAnswer input text status
+  names_a_file : is_utf8 (first_line_of input) ≡ true → list_any names_input (words_in (first_line_of input)) ≡ true
+      → text ≡ line (codes "error: `--input` cannot stand in the words of an input") → status ≡ 2 → IsLineAnswer input text status
+  of_words : is_utf8 (first_line_of input) ≡ true → list_any names_input (words_in (first_line_of input)) ≡ false
+      → IsWordsAnswer (words_in (first_line_of input)) (λ command. IsCommandOutput command (after_first_line input)) text status → IsLineAnswer input text status
+
+-- what the program prints where it is handed no words, and the status, where this was read of its reader
+abbrev pub IsInputOutput : Reading → List ℕ → ℕ → Type 0
+IsInputOutput reading text status = IsReadAnswer reading IsLineAnswer text status

@@ -2,12 +2,12 @@
 use Rattle.std.specs.Prelude.{◌≡◌, ℕ, List, Ok}
 use Rattle.wh_cert.specs.declared.certificate.Certificate.{Certificate}
 use Rattle.wh_cert.specs.declared.certificate.Scope.{Scope}
-use Rattle.wh_cert.specs.declared.certificate.Scope.TheVariants.{All, OneWay}
 use Rattle.wh_load.specs.PlanText.{plan_of, plan_text}
 use Rattle.wh_load.specs.declared.plan.Plan.{Plan}
 use Rattle.wh_strategy.specs.declared.costs.Costs.{Costs}
 use Rattle.wh_strategy.specs.declared.expression.Expression.{Expression}
-use Rattle.whview.specs.CertifyOutput.{Claim, ClaimTexts, IsCertifyOutput, IsJudgement, certified_one_way_text, certified_text, claim_texts_of}
+use Rattle.wh_prune.specs.Plan.{accepted_for}
+use Rattle.whview.specs.CertifyOutput.{Claim, ClaimTexts, IsCertifyOutput, IsJudgement, claim_texts_of, verdict_text}
 use Rattle.whview.specs.PlanOutput.{IsLeastPlan, Measured, MeasuredTexts, measured_in, measured_of, measured_texts_of}
 
 -- the plan of this scope, work, list and certificate
@@ -20,8 +20,7 @@ claim_with measured plan = record { shape = measured.shape; sizes = measured.siz
 
 -- what `certify` prints of a plan of this scope and work that it accepts
 abbrev pub accepted_text : Scope → ℕ → List ℕ
-accepted_text All work = certified_text work
-accepted_text OneWay work = certified_one_way_text work
+accepted_text scope work = verdict_text work (accepted_for scope)
 
 -- the text of a plan of least work for what the bytes of a bundle say is read back as that plan
 abbrev pub PrintedPlanIsReadBack : Type 0

@@ -1,4 +1,5 @@
--- The texts of parts, as they lie in memory.
+-- The texts of parts, as they lie in memory. No clause that is seen from outside speaks of it: these are the words of the calls
+-- that read a bundle.
 use Rattle.std.specs.Cow.{cow_slice_items}
 use Rattle.whview.specs.CertifyOutput.{ClaimTexts}
 use Rattle.whview.specs.CheckOutput.{Texts}

@@ -1,4 +1,5 @@
--- What a night is given, as it lies in memory.
+-- What a night is given, as it lies in memory. No clause that is seen from outside speaks of it: these are the words of the calls
+-- inside `night`.
 use Rattle.std.specs.Prelude.{List, map}
 use Rattle.wh_dag.specs.Shape.{Views}
 use Rattle.wh_row.specs.Bag.{Bag}

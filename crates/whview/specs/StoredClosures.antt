@@ -1,4 +1,5 @@
--- What is made of a formula, to be stored with it.
+-- What is made of a formula, to be stored with it. No clause that is seen from outside speaks of it: these are the words of the
+-- calls inside `night` that are handed the makers of closures.
 use Rattle.std.specs.Prelude.{ℕ, ℤ, List, [], ◌∷◌, Bool, Option, Some, None, IsTrue}
 use Rattle.wh_dag.specs.Catalog.{DefinitionOf, IsDefinition}
 use Rattle.wh_formula.specs.Combiner.{AnswersExpr}

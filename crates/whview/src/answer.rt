@@ -3,12 +3,12 @@
 ghost use Rattle.std.specs.Prelude.{◌≡◌, IfOk, decimal, string_bytes};
 ghost use Rattle.wh_load.specs.FaultText.{fault_text};
 ghost use Rattle.wh_load.specs.PlanText.{plan_text};
-ghost use Rattle.whview.specs.CertifyOutput.{certified_text, certified_one_way_text, rejected_text};
+ghost use Rattle.whview.specs.CertifyOutput.{verdict_status, verdict_text};
 ghost use Rattle.whview.specs.CheckOutput.{IsFaultShown, correct_text, broken_text, line};
 ghost use Rattle.whview.specs.PlanOutput.{spent_text};
 
 use std::alloc::{AllocError, Global};
-use wh_cert::Planned;
+use wh_cert::{Planned, Verdict};
 use wh_dag::Shape;
 use wh_load::{LoadFault, Names, write_plan};
 use wh_strategy::Rule;
@@ -48,39 +48,19 @@ impl Answer {
         })
     }
 
-    /// The answer for a plan that is certified against all strategies, of this work.
-    pub fn certified(alloc: Global, work: u128) -> Result<Answer, AllocError>
-        ensures text { IfOk result (λ a. a.text.items ≡ certified_text work) }
-        ensures status { IfOk result (λ a. a.status ≡ 0) }
+    /// The answer for a plan of this work by the verdict on its certificate.
+    pub fn judged(alloc: Global, work: u128, verdict: &Verdict) -> Result<Answer, AllocError>
+        ensures text { IfOk result (λ a. a.text.items ≡ verdict_text work verdict.now) }
+        ensures status { IfOk result (λ a. a.status ≡ verdict_status verdict.now) }
     {
-        let text = format!(in alloc; "certified all work {work}\n")?;
+        let (text, status) = match verdict {
+            Verdict::All => (format!(in alloc; "certified all work {work}\n")?, 0),
+            Verdict::OneWay => (format!(in alloc; "certified one-way work {work}\n")?, 0),
+            Verdict::Rejected(place) => (format!(in alloc; "rejected at {place}\n")?, 1),
+        };
         Ok(Answer {
             text: text.into_bytes(),
-            status: 0,
-        })
-    }
-
-    /// The answer for a plan that is certified against one-way strategies, of this work.
-    pub fn certified_one_way(alloc: Global, work: u128) -> Result<Answer, AllocError>
-        ensures text { IfOk result (λ a. a.text.items ≡ certified_one_way_text work) }
-        ensures status { IfOk result (λ a. a.status ≡ 0) }
-    {
-        let text = format!(in alloc; "certified one-way work {work}\n")?;
-        Ok(Answer {
-            text: text.into_bytes(),
-            status: 0,
-        })
-    }
-
-    /// The answer for a plan whose certificate is rejected at this place.
-    pub fn rejected(alloc: Global, place: usize) -> Result<Answer, AllocError>
-        ensures text { IfOk result (λ a. a.text.items ≡ rejected_text place) }
-        ensures status { IfOk result (λ a. a.status ≡ 1) }
-    {
-        let text = format!(in alloc; "rejected at {place}\n")?;
-        Ok(Answer {
-            text: text.into_bytes(),
-            status: 1,
+            status,
         })
     }
 

@@ -10,7 +10,7 @@ use crate::reading::{bundle_of, text_of};
 use crate::verdict::refusal;
 use std::alloc::{AllocError, Global};
 use std::borrow::CowSlice;
-use wh_cert::{Verdict, certify};
+use wh_cert::certify;
 use wh_dag::Shape;
 use wh_load::{Bundle, Heading, LoadFault, Names, Nights, Plan, read_plan, read_shape, read_sizes};
 use wh_strategy::{Costs, Sizes, check, work};
@@ -99,11 +99,8 @@ fn judgement(alloc: Global, costs: Costs, claim: Claim) -> Result<Answer, AllocE
     if work(&shape, &sizes, costs, &correct) != claimed {
         return Answer::of(alloc, "rejected work\n", 1);
     }
-    match certify(&shape, &sizes, costs, &correct, &certificate) {
-        Verdict::All => Answer::certified(alloc, claimed),
-        Verdict::OneWay => Answer::certified_one_way(alloc, claimed),
-        Verdict::Rejected(place) => Answer::rejected(alloc, place),
-    }
+    let verdict = certify(&shape, &sizes, costs, &correct, &certificate);
+    Answer::judged(alloc, claimed, &verdict)
 }
 
 /// What `certify` answers for the bytes of a bundle.

@@ -3,11 +3,11 @@
 ghost use Rattle.whview.specs.OneAnswer.{OneCertifyOutput, OneCheckOutput, OneHandedOutput, OneInputOutput, OneNightOutput, OnePlanOutput};
 ghost use Rattle.whview.specs.PlanCertified.{LeastPlanIsCertified, PrintedPlanIsCertified, PrintedPlanIsReadBack};
 
-/// A law of the definitions: the same words and bytes have one text and one status at most, but for plans. Two plans have one
-/// scope and one work; under scope all their certificate is one too, so that their lists alone may differ, and under scope
-/// one-way their lists and their trees. That a budget is spent is answered only where the ordered graph has a cycle, and two
-/// such answers differ in the least work that was found alone. Left out are a reader that fails, words that `clap` refuses or
-/// answers with help, and a file that the words name.
+/// A law of the definitions: the same words and the same reading, which is bytes or an error of the reader, have one text and
+/// one status at most, but for plans. Two plans have one scope and one work; under scope all their certificate is one too, so
+/// that their lists alone may differ, and under scope one-way their lists and their trees. That a budget is spent is answered
+/// only where the ordered graph has a cycle, and two such answers differ in the least work that was found alone. Left out are
+/// words that `clap` refuses or answers with help, and a file that the words name.
 pub fn one_answer_law()
     ensures check { OneCheckOutput }
     ensures plan { OnePlanOutput }

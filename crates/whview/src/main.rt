@@ -19,13 +19,15 @@ mod tests;
 mod verdict;
 mod words;
 
-use program::{run, want_of_memory};
+use program::{run, want_of_memory, words_without_text};
 use std::alloc::AllocError;
+use std::io::ErrorKind;
 use std::process::ExitCode;
 use std::rt::Env;
 use std::{env, io};
 
-/// The words of the command line after the program's name. It fails only where memory is refused.
+/// The words of the command line after the program's name. It fails where one of them is not UTF-8 (`InvalidData`), and
+/// where memory is refused.
 fn handed_words<E: Env + AllocGlobal>(rt: &E) -> io::Result<Vec<String>> {
     let mut words = Vec::new(rt.alloc());
     for word in env::args(rt)?.skip(1) {
@@ -37,8 +39,12 @@ fn handed_words<E: Env + AllocGlobal>(rt: &E) -> io::Result<Vec<String>> {
 fn main(rt: HostRuntime) -> ExitCode {
     let mut input = rt.stdin();
     let mut out = rt.stdout();
-    let Ok(words) = handed_words(&rt) else {
-        return ExitCode::from(want_of_memory(&mut out));
+    let words = match handed_words(&rt) {
+        Ok(words) => words,
+        Err(error) if error.kind() == ErrorKind::InvalidData => {
+            return ExitCode::from(words_without_text(&mut out));
+        }
+        Err(_) => return ExitCode::from(want_of_memory(&mut out)),
     };
     let lent: Result<Vec<&str>, AllocError> = words
         .iter()

@@ -1,11 +1,11 @@
 //! The whole program over a reader and a writer.
 
-ghost use Rattle.std.specs.Prelude.{◌≡◌, ◌≢◌, ◌≤◌, ◌⊎◌, ℕ, List, [], Some, None, codes, length, map, option_map, IfOk};
+ghost use Rattle.std.specs.Prelude.{◌≡◌, ◌≢◌, ◌⊎◌, ℕ, List, [], None, codes, option_map, IfOk, MatchResult};
 ghost use Rattle.std.specs.Io.KnownBytes.{Appends};
 ghost use Rattle.clap.specs.Walk.{texts};
 ghost use Rattle.whview.specs.CheckOutput.{line};
 ghost use Rattle.whview.specs.CommandFault.{status_of};
-ghost use Rattle.whview.specs.Output.{HoldsOfBytes, IsCommandOutput, IsHandedOutput, IsInputOutput, IsMemoryTold, IsRead, IsTold, ReadsInput, file_of};
+ghost use Rattle.whview.specs.Output.{AskToRead, HoldsOfReading, IsCommandOutput, IsHandedOutput, IsInputOutput, IsLineAnswer, IsMemoryTold, IsReadAnswer, IsTold, IsUnreadShown, file_of};
 
 use crate::answer::Answer;
 use crate::certification::certification;
@@ -23,7 +23,9 @@ use wh_load::{LoadFault, ReadFault, read_all};
 /// The most bytes that an input may have.
 const LIMIT: usize = 67_108_864;
 
-/// The status where memory was refused, and where the writer fails.
+/// The status where words are not taken, where memory was refused, and where the writer fails.
+const WORDS: u8 = 2;
+
 const MEMORY: u8 = 4;
 
 const OUTPUT: u8 = 5;
@@ -52,21 +54,42 @@ fn file_of<'a>(asked: &Asked<'a>) -> Option<&'a str>
     }
 }
 
+/// The answer where the bytes of a reader could not be had.
+fn unread_answer(alloc: Global, fault: &ReadFault) -> Result<Answer, AllocError>
+    ensures { IfOk result (λ a. IsUnreadShown fault.now a.text.items a.status) }
+{
+    match fault {
+        ReadFault::Read => Answer::fault(alloc, &LoadFault::Read),
+        ReadFault::TooLong => Answer::fault(alloc, &LoadFault::TooLong),
+        ReadFault::Memory => Err(AllocError),
+    }
+}
+
+/// What a command answers for what was read.
+fn answer_to(
+    alloc: Global,
+    asked: &Asked<'_>,
+    read: Result<Vec<u8>, ReadFault>,
+) -> Result<Answer, AllocError>
+    ensures { IfOk result (λ a. MatchResult read (λ bytes. IsCommandOutput asked.now bytes.items a.text.items a.status)
+        (λ fault. IsUnreadShown fault a.text.items a.status)) }
+{
+    match read {
+        Ok(bytes) => command_answer(alloc, asked, &bytes),
+        Err(fault) => unread_answer(alloc, &fault),
+    }
+}
+
 /// What a command answers for all that a reader has.
 fn read_answer<R: Read>(
     alloc: Global,
     asked: &Asked<'_>,
     input: &mut R,
 ) -> Result<Answer, AllocError>
-    ensures { IfOk result (λ a. ((a.text.items ≡ line (codes "fault read")) × (a.status ≡ 3))
-        ⊎ HoldsOfBytes (R.remaining input.old) (λ bytes. IsRead asked.now bytes a.text.items a.status)) }
+    ensures { IfOk result (λ a. HoldsOfReading (R.remaining input.old) (λ reading. IsReadAnswer reading (IsCommandOutput asked.now) a.text.items a.status)) }
 {
-    match read_all(input, alloc, LIMIT) {
-        Ok(bytes) => command_answer(alloc, asked, &bytes),
-        Err(ReadFault::Read) => Answer::fault(alloc, &LoadFault::Read),
-        Err(ReadFault::TooLong) => Answer::fault(alloc, &LoadFault::TooLong),
-        Err(ReadFault::Memory) => Err(AllocError),
-    }
+    let read = read_all(input, alloc, LIMIT);
+    answer_to(alloc, asked, read)
 }
 
 /// What a command answers for a file. What it holds no contract can say, so the answer is the one to some bytes.
@@ -76,8 +99,7 @@ fn file_answer<F: Files>(
     asked: &Asked<'_>,
     path: &str,
 ) -> Result<Answer, AllocError>
-    ensures { IfOk result (λ a. ((a.text.items ≡ line (codes "fault read")) × (a.status ≡ 3))
-        ⊎ HoldsOfBytes None (λ bytes. IsRead asked.now bytes a.text.items a.status)) }
+    ensures { IfOk result (λ a. HoldsOfReading None (λ reading. IsReadAnswer reading (IsCommandOutput asked.now) a.text.items a.status)) }
 {
     match fs::open(files, path) {
         Ok(mut file) => read_answer(alloc, asked, &mut file),
@@ -103,7 +125,8 @@ fn words_answer<'a, F: Files, R: Read>(
     words: &'a [&'a str],
     input: &mut R,
 ) -> Result<Answer, AllocError>
-    ensures { IfOk result (λ a. IsHandedOutput (texts words.now) (R.remaining input.old) a.text.items a.status) }
+    ensures answer { IfOk result (λ a. HoldsOfReading (R.remaining input.old) (λ reading. IsHandedOutput (texts words.now) reading a.text.items a.status)) }
+    ensures unread { ¬ (AskToRead (texts words.now)) → input.new ≡ input.old }
 {
     match parse(alloc, words) {
         Ok(asked) => match file_of(&asked) {
@@ -114,10 +137,9 @@ fn words_answer<'a, F: Files, R: Read>(
     }
 }
 
-/// What the program answers for an input whose first line gives the words.
+/// What the program answers for bytes whose first line gives the words.
 fn line_answer(alloc: Global, input: &[u8]) -> Result<Answer, AllocError>
-    requires { length input.now ≤ 67108864 }
-    ensures { IfOk result (λ a. IsInputOutput input.now a.text.items a.status) }
+    ensures { IfOk result (λ a. IsLineAnswer input.now a.text.items a.status) }
 {
     let (line, bundle) = first_line(input);
     let Ok(line) = str::from_utf8(line) else {
@@ -137,17 +159,23 @@ fn line_answer(alloc: Global, input: &[u8]) -> Result<Answer, AllocError>
     }
 }
 
+/// What the program answers for what was read, where its first line gives the words.
+fn line_answer_to(alloc: Global, read: Result<Vec<u8>, ReadFault>) -> Result<Answer, AllocError>
+    ensures { IfOk result (λ a. MatchResult read (λ bytes. IsLineAnswer bytes.items a.text.items a.status)
+        (λ fault. IsUnreadShown fault a.text.items a.status)) }
+{
+    match read {
+        Ok(bytes) => line_answer(alloc, &bytes),
+        Err(fault) => unread_answer(alloc, &fault),
+    }
+}
+
 /// What the program answers where it is handed no words.
 fn input_answer<R: Read>(alloc: Global, input: &mut R) -> Result<Answer, AllocError>
-    ensures { IfOk result (λ a. ((a.text.items ≡ line (codes "fault read")) × (a.status ≡ 3))
-        ⊎ HoldsOfBytes (R.remaining input.old) (λ bytes. IsInputOutput bytes a.text.items a.status)) }
+    ensures { IfOk result (λ a. HoldsOfReading (R.remaining input.old) (λ reading. IsInputOutput reading a.text.items a.status)) }
 {
-    match read_all(input, alloc, LIMIT) {
-        Ok(bytes) => line_answer(alloc, &bytes),
-        Err(ReadFault::Read) => Answer::fault(alloc, &LoadFault::Read),
-        Err(ReadFault::TooLong) => Answer::fault(alloc, &LoadFault::TooLong),
-        Err(ReadFault::Memory) => Err(AllocError),
-    }
+    let read = read_all(input, alloc, LIMIT);
+    line_answer_to(alloc, read)
 }
 
 /// Writes a text whole: the status, or 5 where the writer fails. Then nothing is said of how much went out.
@@ -161,6 +189,14 @@ fn give<W: Write>(out: &mut W, text: &[u8], status: u8) -> u8
         return OUTPUT;
     }
     status
+}
+
+/// What the program answers where a word of the command line is not UTF-8, as for a first line that is not: `fault words`
+/// and 2, or 5 where the writer fails.
+pub fn words_without_text<W: Write>(out: &mut W) -> u8
+    ensures { result ≢ 5 → (result ≡ 2) × Appends (W.contents out.old) (W.contents out.new) (line (codes "fault words")) }
+{
+    give(out, b"fault words\n", WORDS)
 }
 
 /// What the program answers where memory was refused: `memory` and 4, or 5 where the writer fails.
@@ -194,10 +230,13 @@ pub fn run<'a, F: Files, R: Read, W: Write>(
 ) -> u8
     // Where the writer fails nothing is promised of the text.
     ensures handed { words.now ≢ [] → result ≢ 5 → (text : List ℕ) × Appends (W.contents out.old) (W.contents out.new) text
-        × (IsMemoryTold text result ⊎ IsHandedOutput (texts words.now) (R.remaining input.old) text result) }
+        × (IsMemoryTold text result ⊎ HoldsOfReading (R.remaining input.old) (λ reading. IsHandedOutput (texts words.now) reading text result)) }
 
     ensures in_line { words.now ≡ [] → result ≢ 5 → (text : List ℕ) × Appends (W.contents out.old) (W.contents out.new) text
-        × (IsMemoryTold text result ⊎ (((text ≡ line (codes "fault read")) × (result ≡ 3)) ⊎ HoldsOfBytes (R.remaining input.old) (λ bytes. IsInputOutput bytes text result))) }
+        × (IsMemoryTold text result ⊎ HoldsOfReading (R.remaining input.old) (λ reading. IsInputOutput reading text result)) }
+
+    // Words that name a file or are refused leave the reader unread.
+    ensures unread { words.now ≢ [] → ¬ (AskToRead (texts words.now)) → input.new ≡ input.old }
 {
     if words.is_empty() {
         let answer = input_answer(alloc, input);

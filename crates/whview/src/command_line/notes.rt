@@ -2,7 +2,13 @@
 
 /// Of the program.
 pub const PROGRAM: &str =
-    "Where no words are given, the first line of standard input has them, without --input.";
+    "Each command reads a bundle: one text of several parts, each of which begins with a line like
+@catalogue. 'whview COMMAND --help' has the command's options and statuses.
+
+Where no words are given, the first line of standard input has them, without --input.
+
+Example:
+  whview night --input examples/night_shop.bundle";
 
 /// Of `check`.
 pub const CHECK: &str = "Ends with:
@@ -14,7 +20,7 @@ pub const CHECK: &str = "Ends with:
   5  the output failed
 
 Example:
-  whview check --comp-cost 2 --input bundle.txt";
+  whview check --comp-cost 2 --input examples/one_way_check.bundle";
 
 /// Of `plan`.
 pub const PLAN: &str = "Ends with:
@@ -25,7 +31,7 @@ pub const PLAN: &str = "Ends with:
   5  the output failed
 
 Example:
-  whview plan --budget 5000 --input bundle.txt";
+  whview plan --budget 5000 --input examples/plan_all.bundle";
 
 /// Of `certify`.
 pub const CERTIFY: &str = "Ends with:
@@ -37,7 +43,7 @@ pub const CERTIFY: &str = "Ends with:
   5  the output failed
 
 Example:
-  whview certify --input bundle.txt";
+  whview certify --input examples/certify_pairs.bundle";
 
 /// Of `night`.
 pub const NIGHT: &str = "Ends with:
@@ -49,4 +55,4 @@ pub const NIGHT: &str = "Ends with:
   5  the output failed
 
 Example:
-  whview night --input bundle.txt";
+  whview night --input examples/night_shop.bundle";

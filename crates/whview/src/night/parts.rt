@@ -1,8 +1,8 @@
 //! The parts of a bundle that a night is given, read.
 
-ghost use Rattle.std.specs.Prelude.{◌≡◌, ◌⊎◌, [], length, map, None, Some, Ok, Err, IfOk, IfErr, OnOk};
+ghost use Rattle.std.specs.Prelude.{◌≡◌, ◌⊎◌, [], length, map, option_map, None, Some, Ok, Err, IfOk, IfErr, OnOk};
 ghost use Rattle.wh_load.specs.Definitions.{shown_view};
-ghost use Rattle.whview.specs.GivenNight.{TableRows, ChangeRows, AreReadRows, first_stray, fits_base, is_base_name, night_in, night_of, opening_in, rows_after, rows_of, rows_word};
+ghost use Rattle.whview.specs.GivenNight.{TableRows, ChangeRows, AreReadRows, first_stray, is_base_name, night_in, night_of, opening_in, rows_after, rows_of, stray_word, unless_base_name};
 ghost use Rattle.whview.specs.ShownNight.{shown_night, shown_opening, IsFitNight};
 
 use super::given::{Given, Opening};
@@ -10,7 +10,7 @@ use crate::reading::{bundle_of, text_of};
 use std::alloc::{AllocError, Global};
 use wh_dag::Shape;
 use wh_load::{
-    Bundle, Dict, Heading, LoadFault, Names, Nights, Part, Piece, Word, Written, WrittenView,
+    Bundle, Dict, Heading, LoadFault, Names, Nights, Piece, Word, Written, WrittenView,
     read_changes, read_definitions, read_shape, read_strategy, read_table,
 };
 use wh_row::Bag;
@@ -28,28 +28,35 @@ fn is_base_name(names: &Names, views: &[WrittenView], word: &[u8]) -> bool
     }
 }
 
-/// Whether a part has rows of a base view, or no rows.
-fn fits_base(names: &Names, views: &[WrittenView], part: &Part<'_>) -> bool
-    ensures { result ≡ fits_base names.now (map shown_view views.now) part.now.heading }
+/// The first word of the heading of rows of this name, where it is the name of no base view.
+fn unless_base_name<'a>(
+    names: &Names,
+    views: &[WrittenView],
+    word: &'a [u8],
+    name: &[u8],
+) -> Option<&'a [u8]>
+    ensures { option_map (λ w. w.now) result ≡ unless_base_name names.now (map shown_view views.now) word.entry.now name.now }
 {
-    match &part.heading {
-        Heading::Data(name) => is_base_name(names, views, name.as_slice()),
-        Heading::Changes(name) => is_base_name(names, views, name.as_slice()),
-        _ => true,
+    if is_base_name(names, views, name) {
+        None
+    } else {
+        Some(word)
     }
 }
 
-/// The fault of a part whose rows are of no base view.
-fn stray_part(alloc: Global, part: &Part<'_>) -> LoadFault
-    ensures { (result ≡ LoadFault.Memory) ⊎ (result ≡ LoadFault.Part (rows_word part.now.heading)) }
+/// The first word of a heading that may not stand in a bundle of these views.
+fn stray_word<'a>(names: &Names, views: &[WrittenView], heading: &Heading<'_>) -> Option<&'a [u8]>
+    ensures { option_map (λ w. w.now) result ≡ stray_word names.now (map shown_view views.now) heading.now }
 {
-    let word = match &part.heading {
-        Heading::Data(_) => Word::new(alloc, b"data"),
-        _ => Word::new(alloc, b"changes"),
-    };
-    match word {
-        Ok(word) => LoadFault::Part(word),
-        Err(AllocError) => LoadFault::Memory,
+    match heading {
+        Heading::Data(name) => unless_base_name(names, views, b"data", name.as_slice()),
+        Heading::Changes(name) => unless_base_name(names, views, b"changes", name.as_slice()),
+        Heading::Catalogue
+        | Heading::Sizes
+        | Heading::Strategy
+        | Heading::Plan
+        | Heading::Schedule
+        | Heading::Night => None,
     }
 }
 
@@ -64,8 +71,8 @@ fn only_base_parts(
     ensures err { IfErr result (λ f. (f ≡ LoadFault.Memory) ⊎ (first_stray names.now (map shown_view views.now) bundle.now ≡ Some f)) }
 {
     for part in bundle.parts() {
-        if !fits_base(names, views, part) {
-            return Err(stray_part(alloc, part));
+        if let Some(word) = stray_word(names, views, &part.heading) {
+            return Err(LoadFault::Part(Word::new(alloc, word)?));
         }
     }
     Ok(())

@@ -111,26 +111,6 @@ fn a_certification_has_its_costs_and_its_file(rt: HostRuntime) {
     }
 }
 
-#[test]
-fn a_plan_has_its_costs_and_its_file(rt: HostRuntime) {
-    let words = ["plan", "--input=f", "--comp-cost", "2", "--inst-cost", "3"];
-    match parse(rt.alloc(), words.as_slice()) {
-        Ok(
-            Asked::Plan {
-                costs,
-                budget,
-                input,
-            },
-        ) => {
-            assert_eq!(&rt; (costs.comp, costs.inst), (2, 3));
-            assert_eq!(&rt; budget.nodes, 1_000_000);
-            assert!(&rt; input == Some("f"));
-        }
-        Ok(asked) => panic!(&rt; "{asked:?}"),
-        Err(fault) => panic!(&rt; "{fault:?}"),
-    }
-}
-
 /// The line is a plan whose search may open so many nodes.
 fn plans_within(rt: &impl Abort, alloc: Global, line: &str, nodes: u64) {
     let words = words_of_line(alloc, line).expect(rt, "words");
@@ -271,11 +251,13 @@ fn help_that_is_asked_for_ends_with_0(rt: HostRuntime) {
         "help",
         "help check",
         "help plan",
+        "help certify",
         "help night",
         "help help",
         "night --help",
         "check -h",
         "check --help",
+        "certify --help",
     ] {
         ends(&rt, rt.alloc(), line, 0);
     }
@@ -296,30 +278,13 @@ Commands:
 Options:
   -h, --help  Print help
 
+Each command reads a bundle: one text of several parts, each of which begins with a line like
+@catalogue. 'whview COMMAND --help' has the command's options and statuses.
+
 Where no words are given, the first line of standard input has them, without --input.
-";
-
-const CHECK_HELP: &str =
-    "Judges a strategy and gives its work. Reads the catalogue, the strategy and the sizes.
-
-Usage: whview check [OPTIONS]
-
-Options:
-      --comp-cost <N>  The cost of a row that a Comp reads, 1 to 1,000,000 [default: 1]
-      --inst-cost <N>  The cost of a row that an Inst writes, 1 to 1,000,000 [default: 1]
-      --input <FILE>   The file to read [default: standard input]
-  -h, --help           Print help
-
-Ends with:
-  0  the strategy is correct
-  1  it breaks a rule
-  2  these words are not taken
-  3  the input has a fault
-  4  memory was refused
-  5  the output failed
 
 Example:
-  whview check --comp-cost 2 --input bundle.txt
+  whview night --input examples/night_shop.bundle
 ";
 
 const PLAN_HELP: &str =
@@ -342,30 +307,7 @@ Ends with:
   5  the output failed
 
 Example:
-  whview plan --budget 5000 --input bundle.txt
-";
-
-const CERTIFY_HELP: &str =
-    "Judges a plan by its certificate. Reads the catalogue, the sizes and the plan.
-
-Usage: whview certify [OPTIONS]
-
-Options:
-      --comp-cost <N>  The cost of a row that a Comp reads, 1 to 1,000,000 [default: 1]
-      --inst-cost <N>  The cost of a row that an Inst writes, 1 to 1,000,000 [default: 1]
-      --input <FILE>   The file to read [default: standard input]
-  -h, --help           Print help
-
-Ends with:
-  0  the plan is certified
-  1  it is rejected, or its strategy breaks a rule
-  2  these words are not taken
-  3  the input has a fault
-  4  memory was refused
-  5  the output failed
-
-Example:
-  whview certify --input bundle.txt
+  whview plan --budget 5000 --input examples/plan_all.bundle
 ";
 
 const NIGHT_HELP: &str =
@@ -386,17 +328,14 @@ Ends with:
   5  the output failed
 
 Example:
-  whview night --input bundle.txt
+  whview night --input examples/night_shop.bundle
 ";
 
 #[test]
 fn help_names_each_command_and_option(rt: HostRuntime) {
     shows(&rt, rt.alloc(), "--help", 0, PROGRAM_HELP);
     shows(&rt, rt.alloc(), "help", 0, PROGRAM_HELP);
-    shows(&rt, rt.alloc(), "check --help", 0, CHECK_HELP);
-    shows(&rt, rt.alloc(), "help check", 0, CHECK_HELP);
     shows(&rt, rt.alloc(), "plan --help", 0, PLAN_HELP);
-    shows(&rt, rt.alloc(), "certify --help", 0, CERTIFY_HELP);
     shows(&rt, rt.alloc(), "night --help", 0, NIGHT_HELP);
 }
 

@@ -1,6 +1,6 @@
 use Rattle.std.proofs.Common.{◌∙◌, sym}
 use Rattle.whview.proofs.IfOks.{if_ok, if_ok_both}
-use Rattle.whview.proofs.Verdicts.{refusal_is_judgement, rejection_is_judgement}
+use Rattle.whview.proofs.Verdicts.{refusal_is_judgement, verdict_is_judgement}
 use Rattle.whview.proofs.certification.judgement.Goals as goal
 
 pub returns-in-Err : goal.returns-in-Err
@@ -10,6 +10,6 @@ returns-in-Err c =
 
 pub returns : goal.returns
 returns c =
-    if_ok_both c.rejected.result _ _ _ c.rejected.ensures.text c.rejected.ensures.status
-    (λ a printed ended. rejection_is_judgement c.args.costs (record { shape = c.args.claim.shape; sizes = c.args.claim.sizes; plan = c.args.claim.plan }) c.in-Ok.correct.list c.in-Rejected.place a.text.items a.status
-    c.in-Ok.ensures.ok.1 c.in-Ok.ensures.ok.2 (sym c.work.ensures ∙ c.if-work-claimed.false) c.in-Rejected.ensures.judged printed ended)
+    if_ok_both c.judged.result _ _ _ c.judged.ensures.text c.judged.ensures.status
+    (λ a printed ended. verdict_is_judgement c.args.costs (record { shape = c.args.claim.shape; sizes = c.args.claim.sizes; plan = c.args.claim.plan }) c.in-Ok.correct.list c.certify-verdict.result a.text.items a.status
+    c.in-Ok.ensures.ok.1 c.in-Ok.ensures.ok.2 (sym c.work.ensures ∙ c.if-work-claimed.false) c.certify-verdict.ensures.judged c.certify-verdict.ensures.least c.certify-verdict.ensures.one_way printed ended)

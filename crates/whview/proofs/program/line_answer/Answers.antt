@@ -8,14 +8,14 @@ use Rattle.whview.proofs.IfOks.{if_ok, if_ok_both}
 use Rattle.whview.specs.FirstLine.{first_line_of, words_in}
 use Rattle.whview.specs.CommandFault.{FailsAs}
 use Rattle.whview.specs.CommandLine.{IsAsked, whview_app}
-use Rattle.whview.specs.Output.{IsCommandOutput, line_not_text}
-use Rattle.whview.proofs.Outputs.{refused_as, names_file, answers_line, refuses_line}
+use Rattle.whview.specs.Output.{IsCommandOutput, answered, names_a_file, not_text, of_words, refused}
+use Rattle.whview.proofs.Outputs.{refused_as, names_file}
 use Rattle.whview.proofs.program.line_answer.Goals as goal
 
 pub returns-in_default : goal.returns-in_default
 returns-in_default c =
     let bad : is_utf8 (first_line_of c.args.input.now) ≡ false = false_from_ne_true _ (λ y. c.in_default.ensures.cases.0 (subst IsUtf8 (sym c.first_line.ensures.line) (IsUtf8-from_is_utf8 _ y))) in
-    if_ok_both c.of.result _ _ _ c.of.ensures.text c.of.ensures.status (λ a text status. line_not_text c.requires bad text status)
+    if_ok_both c.of.result _ _ _ c.of.ensures.text c.of.ensures.status (λ a text status. not_text bad text status)
 
 pub returns-then-refuses_input : goal.returns-then-refuses_input
 returns-then-refuses_input c =
@@ -24,7 +24,7 @@ returns-then-refuses_input c =
     let same = ap (map (λ w. w.now)) c.deref.ensures.value ∙ c.in_ok-words.ensures ∙ ap words_in at in
     let named = sym c.refuses_input.ensures ∙ c.if-refuses_input.true in
     if_ok_both c.of-then-refuses_input.result _ _ _ c.of-then-refuses_input.ensures.text c.of-then-refuses_input.ensures.status
-    (λ a printed ended. names_file c.args.input.now c.deref.result.now a.text.items a.status c.requires utf8 same named printed ended)
+    (λ a printed ended. names_a_file utf8 (names_file (first_line_of c.args.input.now) c.deref.result.now _ same named) printed ended)
 
 pub returns-in-Ok-parse : goal.returns-in-Ok-parse
 returns-in-Ok-parse c =
@@ -32,12 +32,13 @@ returns-in-Ok-parse c =
     let utf8 = is_utf8-from_IsUtf8 _ (subst IsUtf8 c.first_line.ensures.line c.in-Ok.ensures.cases.1) in
     let same = ap (map (λ w. w.now)) c.deref.ensures.value ∙ c.in_ok-words.ensures ∙ ap words_in at in
     let named = sym c.refuses_input.ensures ∙ c.if-refuses_input.false in
-    let twice = c.deref-2.ensures.value ∙ sym c.deref.ensures.value in
-    let asked = subst (λ ws. IsAsked (subcommand_of whview_app (map (λ w. w.now) ws)) c.in-Ok-parse.asked) twice c.in-Ok-parse.ensures.asked in
-    let taken = subst (λ ws. fault_of whview_app (map (λ w. w.now) ws) ≡ []) twice c.in-Ok-parse.ensures.fails in
+    let twice = ap (map (λ w. w.now)) (c.deref-2.ensures.value ∙ sym c.deref.ensures.value) ∙ same in
+    let asked = subst (λ ws. IsAsked (subcommand_of whview_app ws) c.in-Ok-parse.asked) twice c.in-Ok-parse.ensures.asked in
+    let taken = subst (λ ws. fault_of whview_app ws ≡ []) twice c.in-Ok-parse.ensures.fails in
     if_ok c.command_answer.result _ _ c.command_answer.ensures
-    (λ a output. answers_line c.args.input.now c.deref.result.now a.text.items a.status c.in-Ok-parse.asked c.requires utf8 same named taken asked
-    (subst (λ bytes. IsCommandOutput c.in-Ok-parse.asked bytes a.text.items a.status) c.first_line.ensures.rest output))
+    (λ a output. of_words utf8 (names_file (first_line_of c.args.input.now) c.deref.result.now _ same named)
+    (answered c.in-Ok-parse.asked (record { taken = taken; asked = asked })
+    (subst (λ bytes. IsCommandOutput c.in-Ok-parse.asked bytes a.text.items a.status) c.first_line.ensures.rest output)))
 
 pub returns : goal.returns
 returns c =
@@ -45,7 +46,8 @@ returns c =
     let utf8 = is_utf8-from_IsUtf8 _ (subst IsUtf8 c.first_line.ensures.line c.in-Ok.ensures.cases.1) in
     let same = ap (map (λ w. w.now)) c.deref.ensures.value ∙ c.in_ok-words.ensures ∙ ap words_in at in
     let named = sym c.refuses_input.ensures ∙ c.if-refuses_input.false in
-    let twice = c.deref-2.ensures.value ∙ sym c.deref.ensures.value in
-    let fails = subst (λ ws. FailsAs (fault_of whview_app (map (λ w. w.now) ws)) c.in-Err.fault) twice c.in-Err.ensures.fails in
+    let twice = ap (map (λ w. w.now)) (c.deref-2.ensures.value ∙ sym c.deref.ensures.value) ∙ same in
+    let fails = subst (λ ws. FailsAs (fault_of whview_app ws) c.in-Err.fault) twice c.in-Err.ensures.fails in
     if_ok_both c.refusal.result _ _ _ c.refusal.ensures.status c.refusal.ensures.told
-    (λ a ended told. refuses_line c.args.input.now c.deref.result.now a.text.items a.status c.requires utf8 same named (refused_as (map (λ w. w.now) c.deref.result.now) c.in-Err.fault a.status fails told ended))
+    (λ a ended told. of_words utf8 (names_file (first_line_of c.args.input.now) c.deref.result.now _ same named)
+    (refused (refused_as (words_in (first_line_of c.args.input.now)) c.in-Err.fault a.status fails told ended)))

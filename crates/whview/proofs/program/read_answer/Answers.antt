@@ -1,10 +1,10 @@
-use Rattle.std.proofs.Common.{Err, ap, inr}
-use Rattle.whview.specs.Output.{IsRead, read_too_long}
+use Rattle.whview.specs.Output.{IsCommandOutput}
 use Rattle.whview.proofs.IfOks.{if_ok}
-use Rattle.whview.proofs.Outputs.{holds_of_many}
+use Rattle.whview.proofs.Outputs.{answers_reading}
 use Rattle.whview.proofs.program.read_answer.Goals as goal
 
-pub returns-in-Err-TooLong : goal.returns-in-Err-TooLong
-returns-in-Err-TooLong g c =
-    if_ok c.fault-in-Err-TooLong.result _ _ c.fault-in-Err-TooLong.ensures
-    (λ a shown. inr (holds_of_many (g.R.Read.remaining c.args.input.now) (λ bytes. IsRead c.args.asked.now bytes a.text.items a.status) 67108864 (c.in-Err-TooLong.ensures.too_long (ap Err c.in-Err-TooLong.field-0-is)) (λ bytes many. read_too_long many shown)))
+pub returns : goal.returns
+returns g c =
+    if_ok c.answer_to.result _ _ c.answer_to.ensures
+    (λ a is. answers_reading c.read_all-read.result (λ v. v.items) (λ v. v.len) (λ v. v.ok.0) (g.R.Read.remaining c.args.input.now) (IsCommandOutput c.args.asked.now) a.text.items a.status
+    c.read_all-read.ensures.within c.read_all-read.ensures.bytes c.read_all-read.ensures.too_long is)

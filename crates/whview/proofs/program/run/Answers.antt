@@ -1,5 +1,5 @@
 use Rattle.clap.specs.Walk.{texts}
-use Rattle.whview.specs.Output.{IsHandedOutput}
+use Rattle.whview.specs.Output.{HoldsOfReading, IsHandedOutput}
 use Rattle.whview.proofs.Told.{memory_or}
 use Rattle.whview.proofs.program.run.Goals as goal
 
@@ -8,6 +8,6 @@ returns-else-is_empty-clause-handed g c some written =
     let told = c.tell-else-is_empty.ensures written in (
       told.0,
       told.1,
-      memory_or c.words_answer-answer.result (IsHandedOutput (texts c.args.words.now) (g.R.Read.remaining c.args.input.now))
-          told.0 c.tell-else-is_empty.result c.words_answer-answer.ensures told.2,
+      memory_or c.words_answer-answer.result (λ text status. HoldsOfReading (g.R.Read.remaining c.args.input.now) (λ reading. IsHandedOutput (texts c.args.words.now) reading text status))
+          told.0 c.tell-else-is_empty.result c.words_answer-answer.ensures.answer told.2,
     )
