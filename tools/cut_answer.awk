@@ -1,7 +1,7 @@
 # The answer for a beginning of an input, by the rules of docs/FORMATS.md for what a cut can leave unfinished: the word, a
 # heading, a part that is missing, and the records of the sizes, which stand last. A cut leaves the catalogue and the strategy
-# whole wherever the sizes have begun, so these have no fault of their own. `word` is the command, and `whole` what it prints
-# for the whole input.
+# whole wherever the sizes have begun, so these have no fault of their own. `word` is the command, `views` has the names of the
+# views, and `whole` is what is printed for the whole input.
 
 function answer(text, status) {
   if (text != "") print text
@@ -41,8 +41,8 @@ END {
   if (!stands["sizes"]) answer("fault part sizes", 3)
   if (record[1] != "view,pre,post,change") answer("fault header", 3)
   for (number = 2; number <= records; number++) judge(number)
-  if (!given["A"]) answer("fault sizes A", 3)
-  if (!given["B"]) answer("fault sizes B", 3)
-  if (!given["V"]) answer("fault sizes V", 3)
+  number = split(views, names, " ")
+  for (place = 1; place <= number; place++)
+    if (!given[names[place]]) answer("fault sizes " names[place], 3)
   answer(whole, 0)
 }

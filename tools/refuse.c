@@ -1,5 +1,11 @@
-/* Refuses one call of the program that it is loaded into: REFUSE is malloc, read or write, and AT the number of the call,
-   counted from 1. Where a call was refused, a byte goes to descriptor 9. */
+/* Refuses calls of the program that it is loaded into. REFUSE says which, and AT is a number:
+
+     malloc, read, write   the call of this number, counted from 1
+     memory                each call for memory from this number on
+     short                 no call, but a read or a write is of at most so many bytes
+     count                 no call; a letter goes to standard error for each: m, r or w
+
+   An x goes to standard error for each call that is refused. */
 #define _GNU_SOURCE
 #include <errno.h>
 #include <stdlib.h>
@@ -8,15 +14,29 @@
 #include <unistd.h>
 
 extern void *__libc_malloc(size_t);
+extern void *__libc_calloc(size_t, size_t);
 extern void *__libc_realloc(void *, size_t);
+extern void *__libc_memalign(size_t, size_t);
 
-static int is_refused(const char *kind, long *count) {
+static int asked(const char *what) {
   const char *wanted = getenv("REFUSE");
-  const char *at = getenv("AT");
-  if (!wanted || !at || strcmp(wanted, kind) != 0 || ++*count != atol(at)) return 0;
-  syscall(SYS_write, 9, "x", 1);
-  return 1;
+  return wanted && strcmp(wanted, what) == 0;
 }
+
+static long at(void) {
+  const char *number = getenv("AT");
+  return number ? atol(number) : 0;
+}
+
+/* Whether this call, the next of its kind, is refused. */
+static int is_refused(const char *kind, long *count) {
+  ++*count;
+  int refused = (asked(kind) && *count == at()) || (kind[0] == 'm' && asked("memory") && *count >= at());
+  if (refused || asked("count")) syscall(SYS_write, 2, refused ? "x" : kind, 1);
+  return refused;
+}
+
+static size_t shortened(size_t size) { return asked("short") && size > (size_t)at() ? (size_t)at() : size; }
 
 static long allocations, reads, writes;
 
@@ -25,17 +45,27 @@ void *malloc(size_t size) {
   return __libc_malloc(size);
 }
 
+void *calloc(size_t count, size_t size) {
+  if (is_refused("malloc", &allocations)) return errno = ENOMEM, NULL;
+  return __libc_calloc(count, size);
+}
+
 void *realloc(void *old, size_t size) {
   if (is_refused("malloc", &allocations)) return errno = ENOMEM, NULL;
   return __libc_realloc(old, size);
 }
 
+void *aligned_alloc(size_t alignment, size_t size) {
+  if (is_refused("malloc", &allocations)) return errno = ENOMEM, NULL;
+  return __libc_memalign(alignment, size);
+}
+
 ssize_t read(int from, void *to, size_t size) {
   if (is_refused("read", &reads)) return errno = EIO, -1;
-  return syscall(SYS_read, from, to, size);
+  return syscall(SYS_read, from, to, shortened(size));
 }
 
 ssize_t write(int to, const void *from, size_t size) {
   if (is_refused("write", &writes)) return errno = EIO, -1;
-  return syscall(SYS_write, to, from, size);
+  return syscall(SYS_write, to, from, shortened(size));
 }

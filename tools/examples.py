@@ -1,0 +1,59 @@
+"""The worked examples: each bundle of examples/ with its words and the answer beside it, for the tools that run them all."""
+
+import subprocess
+import sys
+from importlib.machinery import SourceFileLoader
+from importlib.util import module_from_spec, spec_from_loader
+from pathlib import Path
+from typing import NamedTuple
+
+ROOT = Path(__file__).resolve().parent.parent
+BUILT = ROOT / "crates/whview/out/whview"
+
+
+class Example(NamedTuple):
+    """A bundle, the words that it is run with, and what is printed, with the line of the status."""
+
+    name: str
+    words: list
+    bundle: bytes
+    answer: bytes
+
+    @property
+    def path(self):
+        return ROOT / f"examples/{self.name}.bundle"
+
+
+def words_of(name):
+    """The words beside a bundle, or the command that its name begins with, which is `check` where it begins with no other."""
+    given = ROOT / f"examples/{name}.words"
+    if given.exists():
+        return given.read_text().split()
+    command = name.partition("_")[0]
+    return [command if command in ("plan", "certify", "night") else "check"]
+
+
+def examples():
+    """All examples, by name."""
+    names = sorted(path.stem for path in ROOT.glob("examples/*.bundle"))
+    folder = ROOT / "examples"
+    return [
+        Example(name, words_of(name), (folder / f"{name}.bundle").read_bytes(), (folder / f"{name}.answer").read_bytes())
+        for name in names
+    ]
+
+
+def program():
+    """The program that the first word names, or the repository's own, built where it is out of date."""
+    if len(sys.argv) > 1:
+        return Path(sys.argv[1]).resolve()
+    subprocess.run([ROOT / "whview", "--help"], check=True, stdout=subprocess.DEVNULL)
+    return BUILT
+
+
+def tool(name):
+    """A tool of this folder as a module, for the evaluators in it."""
+    loader = SourceFileLoader(name, str(ROOT / "tools" / name))
+    module = module_from_spec(spec_from_loader(name, loader))
+    loader.exec_module(module)
+    return module
