@@ -111,6 +111,26 @@ fn a_certification_has_its_costs_and_its_file(rt: HostRuntime) {
     }
 }
 
+#[test]
+fn a_plan_has_its_costs_and_its_file(rt: HostRuntime) {
+    let words = ["plan", "--input=f", "--comp-cost", "2", "--inst-cost", "3"];
+    match parse(rt.alloc(), words.as_slice()) {
+        Ok(
+            Asked::Plan {
+                costs,
+                budget,
+                input,
+            },
+        ) => {
+            assert_eq!(&rt; (costs.comp, costs.inst), (2, 3));
+            assert_eq!(&rt; budget.nodes, 1_000_000);
+            assert!(&rt; input == Some("f"));
+        }
+        Ok(asked) => panic!(&rt; "{asked:?}"),
+        Err(fault) => panic!(&rt; "{fault:?}"),
+    }
+}
+
 /// The line is a plan whose search may open so many nodes.
 fn plans_within(rt: &impl Abort, alloc: Global, line: &str, nodes: u64) {
     let words = words_of_line(alloc, line).expect(rt, "words");
