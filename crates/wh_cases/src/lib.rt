@@ -5,7 +5,11 @@
 #![tactic(auto)]
 
 #[cfg(test)]
+mod bags;
+#[cfg(test)]
 mod carried;
+#[cfg(test)]
+mod formulas;
 #[cfg(test)]
 mod nights;
 #[cfg(test)]

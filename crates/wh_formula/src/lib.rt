@@ -15,8 +15,6 @@ mod native;
 mod pred;
 mod row_test;
 mod row_value;
-#[cfg(test)]
-mod tests;
 
 pub use combiner::Combiner;
 pub use comparison::Comparison;

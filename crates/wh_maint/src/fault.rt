@@ -75,7 +75,7 @@ impl MaintFault {
 }
 
 /// Why combined rows were not added up.
-#[derive(Clone, Copy, Debug, PartialEq, Eq)]
+#[derive(Clone, Copy)]
 pub(crate) enum RowFault {
     /// Memory was refused.
     Memory,

@@ -7,7 +7,7 @@ use std::alloc::{AllocError, Global};
 use wh_strategy::{Expression, Sources};
 
 /// A one-way expression: a Comp of a view from one child, or an Inst of a view.
-#[derive(Debug, Clone, Copy, PartialEq, Eq)]
+#[derive(Clone, Copy, PartialEq, Eq)]
 pub(crate) enum Node {
     Comp(usize, usize),
     Inst(usize),

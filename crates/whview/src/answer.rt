@@ -14,7 +14,7 @@ use wh_load::{LoadFault, Names, write_plan};
 use wh_strategy::Rule;
 
 /// A text, built whole, and the status to end with.
-#[derive(Debug, Drop)]
+#[derive(Drop)]
 pub struct Answer {
     /// The bytes to write: lines, each with its LF.
     pub text: Vec<u8>,

@@ -24,7 +24,7 @@ const DEFAULT_COST: u64 = 1;
 const DEFAULT_BUDGET: u64 = 1_000_000;
 
 /// A command with its options, as the words of a command line ask for it.
-#[derive(Debug, Clone, Copy, PartialEq, Eq)]
+#[derive(Clone, Copy)]
 pub enum Asked<'a> {
     /// Judge the strategy and give its work.
     Check {

@@ -14,8 +14,6 @@ mod night;
 mod planning;
 mod program;
 mod reading;
-#[cfg(test)]
-mod tests;
 mod verdict;
 mod words;
 

@@ -12,7 +12,7 @@ use wh_cert::{PairMin, Scope, TreeNode};
 use wh_strategy::Expression;
 
 /// What a line of a plan says.
-#[derive(Debug, Drop)]
+#[derive(Drop)]
 pub(crate) enum PlanLine {
     /// The strategies that the plan's is least among.
     Scoped(Scope),

@@ -10,7 +10,7 @@ use clap::error::ErrorKind;
 use std::alloc::{AllocError, Global};
 
 /// Why a command line asks for nothing that can be done, with the text for the user.
-#[derive(Debug, Drop)]
+#[derive(Drop)]
 pub enum CommandFault {
     /// Help is asked for; its text.
     Help(String),

@@ -1,4 +1,4 @@
-//! Closures that filters and combiners store.
+// Closures that filters and combiners store: the one that is stored answers.
 ghost use Rattle.std.specs.Prelude.{◌≡◌, length, pos};
 ghost use Rattle.wh_formula.specs.Expr.{Add, Column, Number};
 ghost use Rattle.wh_formula.specs.Pred.{Cmp};
@@ -7,11 +7,11 @@ ghost use Rattle.wh_formula.specs.Filter.{AnswersPred};
 ghost use Rattle.wh_formula.specs.Combiner.{AnswersExpr};
 ghost use Rattle.wh_formula.specs.declared.comparison.Comparison.TheVariants.{Less, Greater};
 
-use crate::{Combiner, Comparison, Expr, Filter, Native, Pred, RowTest, RowValue};
 use std::alloc::{AllocError, Global};
 use std::process::Abort;
 use std::sync::atomic::{AtomicUsize, Ordering};
 use std::test::Fail;
+use wh_formula::{Combiner, Comparison, Expr, Filter, Native, Pred, RowTest, RowValue};
 
 // Stores the closure as a filter for a positive first cell, and asks it three times.
 fn ask_three_times<T: RowTest + Drop>(rt: &impl Abort, call: T)
@@ -79,14 +79,14 @@ fn combine_calls_the_closure(rt: HostRuntime) -> Result<(), Fail> {
 
 type Answer = Box<dyn Fn(&[i64]) -> bool + Sync>;
 
-// How many filters of a list accept the row: one for a first cell below 5, one for a second cell below 7.
-fn accepting<T: RowTest + Drop>(
+// So many filters of a list accept each row: one is for a first cell below 5, one for a second cell below 7.
+fn accept<T: RowTest + Drop>(
+    rt: &impl Abort,
     alloc: Global,
     first: T,
     second: T,
-    row: &[i64],
-) -> Result<usize, AllocError>
-    requires width { length row.now ≡ 2 }
+    rows: &[([i64; 2], usize)],
+) -> Result<(), AllocError>
     requires callable_first { CallableOnRows 2 (T.can_test first) }
     requires answers_first { AnswersPred (Cmp Less (Column 0) (Number (pos 5))) 2 (T.tests first) }
     requires callable_second { CallableOnRows 2 (T.can_test second) }
@@ -97,9 +97,12 @@ fn accepting<T: RowTest + Drop>(
     let mut filters = Vec::new(alloc);
     filters.push(Filter::new(one, 2, first))?;
     filters.push(Filter::new(two, 2, second))?;
-    let accepting = filters.iter().filter(|filter| filter.width() == row.len()
-        && filter.accepts(row));
-    Ok(accepting.count())
+    for (row, wanted) in rows {
+        let accepting = filters.iter().filter(|filter| filter.width() == row.len()
+            && filter.accepts(row));
+        assert_eq!(rt; accepting.count(), *wanted);
+    }
+    Ok(())
 }
 
 #[test]
@@ -117,17 +120,7 @@ fn filters_of_two_formulas_stand_in_one_list(rt: HostRuntime) -> Result<(), Fail
             requires { length row.now ≡ 2 }
         { row[1] < 7 },
     )?;
-    assert_eq!(rt;
-        accepting(alloc, Native(&*first), Native(&*second), &[1, 9])?,
-        1
-    );
-    assert_eq!(rt;
-        accepting(alloc, Native(&*first), Native(&*second), &[1, 6])?,
-        2
-    );
-    assert_eq!(rt;
-        accepting(alloc, Native(&*first), Native(&*second), &[5, 7])?,
-        0
-    );
+    let rows = [([1, 9], 1), ([1, 6], 2), ([5, 7], 0)];
+    accept(&rt, alloc, Native(&*first), Native(&*second), &rows)?;
     Ok(())
 }

@@ -1,9 +1,9 @@
-//! What no clause says: the worked examples, and that ample memory is enough.
+// Bags: the worked examples, and that ample memory is enough.
 
-use crate::{Bag, BagFault, Records, RecordsFault};
 use std::alloc::Global;
 use std::process::Abort;
 use std::test::Fail;
+use wh_row::{Bag, BagFault, Records, RecordsFault};
 
 /// A bag of these rows, added one after another.
 fn bag_of(alloc: Global, rows: &[(&[i64], i64)]) -> Result<Bag, BagFault> {

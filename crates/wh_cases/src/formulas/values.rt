@@ -1,12 +1,12 @@
-//! Formulas at rows, each call with ample memory.
+// Formulas at rows, each call with ample memory.
 ghost use Rattle.std.specs.Prelude.{◌≡◌, IfOk, All};
 ghost use Rattle.wh_formula.specs.Expr.{depth};
 ghost use Rattle.wh_formula.specs.Pred as pred;
 
-use crate::{Comparison, Expr, MAX_DEPTH, Pred};
 use std::alloc::{AllocError, Global};
 use std::process::Abort;
 use std::test::Fail;
+use wh_formula::{Comparison, Expr, MAX_DEPTH, Pred};
 
 // The square is the last one within i64 at the first of these rows, and past it at the second.
 const LAST: [i64; 1] = [3037000499];
@@ -103,13 +103,32 @@ fn all_of_none_holds_and_any_of_none_does_not(rt: HostRuntime) {
     answers(&rt, &Pred::any(Vec::new(rt.alloc())), &[], false);
 }
 
-fn between(alloc: Global) -> Result<Vec<Pred>, AllocError>
+// The first cell is on this side of the number.
+fn beside(op: Comparison, number: i64) -> Pred
+    ensures { pred.depth result ≡ 2 }
+{
+    Pred::compare(op, Expr::column(0), Expr::number(number))
+}
+
+fn both(alloc: Global, first: Pred, second: Pred) -> Result<Vec<Pred>, AllocError>
+    requires first { pred.depth first ≡ 2 }
+    requires second { pred.depth second ≡ 2 }
     ensures { IfOk result (λ parts. All (λ p. pred.depth p ≡ 2) parts.items) }
 {
     let mut parts = Vec::new(alloc);
-    parts.push(Pred::compare(Comparison::Greater, Expr::column(0), Expr::number(0)))?;
-    parts.push(Pred::compare(Comparison::Less, Expr::column(0), Expr::number(9)))?;
+    parts.push(first)?;
+    parts.push(second)?;
     Ok(parts)
+}
+
+fn between(alloc: Global) -> Result<Vec<Pred>, AllocError>
+    ensures { IfOk result (λ parts. All (λ p. pred.depth p ≡ 2) parts.items) }
+{
+    both(
+        alloc,
+        beside(Comparison::Greater, 0),
+        beside(Comparison::Less, 9),
+    )
 }
 
 #[test]

@@ -1,0 +1,4 @@
+// Formulas and the closures that are stored beside them.
+
+mod stored;
+mod values;
