@@ -1,6 +1,7 @@
 //! Decisions: which view of a couple is installed first.
 
-ghost use Rattle.std.specs.Prelude.{◌≡◌, ◌≢◌, ◌<◌, [], ◌∷◌, ◌++◌, false, length, take, IfOk, OnErr};
+ghost use Rattle.std.specs.Prelude.{◌≡◌, ◌≢◌, ◌<◌, [], ◌∷◌, ◌++◌, ℕ, false, length, take, IfOk, OnErr};
+ghost use Rattle.wh_dag.specs.Siblings.{IsCouple};
 ghost use Rattle.wh_strategy.specs.Sizes.{sizes_of};
 ghost use Rattle.wh_cert.specs.Graph.{decides, IsOrdered};
 ghost use Rattle.wh_minwork.specs.Desired.{in_desired_order};
@@ -48,7 +49,8 @@ impl Decided {
         sizes: &Sizes,
     ) -> Result<Decided, AllocError>
         requires { length sizes.now ≡ length shape.now.children }
-        ensures { IfOk result (IsOrdered shape.now.children (sizes_of sizes.now)) }
+        ensures ordered { IfOk result (IsOrdered shape.now.children (sizes_of sizes.now)) }
+        ensures err { OnErr result ((u : ℕ) × (w : ℕ) × IsCouple shape.now.children u w) }
     {
         let siblings = Relation::of_siblings(shape.child_lists());
         let mut decided = Decided::new(alloc);

@@ -38,7 +38,7 @@ loop-lower-preserved c =
     let n : length c.args.shape.now.children ≤ c.loop-higher.higher = omega arith in
     decided_row c.args.shape.now.children (sizes_of c.args.sizes.now) c.loop-lower.lower c.loop-higher.higher c.loop-higher.decided c.child_lists.ensures.shape n c.loop-higher.invariant
 
-pub returns : goal.returns
-returns c =
+pub returns-clause-ordered : goal.returns-clause-ordered
+returns-clause-ordered c =
     let n : length c.args.shape.now.children ≤ c.loop-lower.lower = omega arith in
     decided_all c.args.shape.now.children (sizes_of c.args.sizes.now) c.loop-lower.lower (c.loop-lower.lower + 1) c.loop-lower.decided c.child_lists.ensures.shape n c.loop-lower.invariant
