@@ -116,6 +116,7 @@ pub fn plain_len(text: &[u8]) -> usize
     ensures within { result ≤ length text.now }
     ensures lines { whole_lines text.now ≡ whole_lines (take result text.now) ++ whole_lines (drop result text.now) }
     ensures plain { IsTrue (list_all is_plain (whole_lines (take result text.now))) }
+    ensures marked { result < length text.now → IsTrue (slice_index text.now result == 64) }
 {
     let mut at = 0;
     while let Some(gap) = memchr(b'@', &text[at..]) {

@@ -1,5 +1,5 @@
 use Rattle.std.proofs.Common.{◌+◌, ◌∙◌, arith, sym, length-drop}
-use Rattle.std.proofs.lemmas.List.{take_rest}
+use Rattle.std.proofs.lemmas.List.{get_or-drop, take_rest}
 use Rattle.wh_load.proofs.LineLemmas.{unmarked_start, unmarked_past, unmarked_to, unmarked_all, lines_at_mark}
 use Rattle.wh_load.proofs.bundle.line.plain_len.Goals as goal
 
@@ -20,6 +20,14 @@ returns-then-begins_line-clause-plain c =
     let at = c.loop-gap.at in
     let found = rw (take_rest text at) at c.in-Some.ensures in
     unmarked_to text at c.in-Some.gap c.loop-gap.invariant.plain (λ j h. found.0.before j (omega arith) h)
+
+pub returns-then-begins_line-clause-marked : goal.returns-then-begins_line-clause-marked
+returns-then-begins_line-clause-marked c =
+    let text = c.args.text.now in
+    let at = c.loop-gap.at in
+    let found = rw (take_rest text at) at c.in-Some.ensures in
+    let marked = rw (get_or-drop at text c.in-Some.gap 0) at found.1 in
+    λ inside. marked
 
 pub loop-gap-preserved : goal.loop-gap-preserved
 loop-gap-preserved c =
