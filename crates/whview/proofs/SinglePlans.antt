@@ -115,12 +115,12 @@ beside_spent comp inst budget opened best work found list certificate measured t
 
 one_planned : (comp inst budget : ℕ) (bytes : List ℕ) (measured : Measured) (text other : List ℕ) (status ended : ℕ) → measured_of bytes ≡ Ok measured
     → IsPlanned comp inst budget measured text status → IsPlanned comp inst budget measured other ended → AreOnePlan budget bytes text status other ended
-one_planned comp inst budget bytes measured text other status ended read (planned work found list certificate least t s) (planned again also other_list other_certificate least' u e) =
+one_planned comp inst budget bytes measured text other status ended read (planned work found list certificate least within t s) (planned again also other_list other_certificate least' within' u e) =
     two_plans comp inst budget bytes measured read work again found also list other_list certificate other_certificate text other status ended least least' t u s e
-one_planned comp inst budget bytes measured text other status ended read (planned work found list certificate least t s) (spent opened best cyclic is u e) =
+one_planned comp inst budget bytes measured text other status ended read (planned work found list certificate least within t s) (spent opened best cyclic is u e) =
     plan_and_spent measured read (may_spend comp inst budget opened best measured cyclic is)
     (beside_spent comp inst budget opened best work found list certificate measured text other least is t u) s e
-one_planned comp inst budget bytes measured text other status ended read (spent opened best cyclic is t s) (planned work found list certificate least u e) =
+one_planned comp inst budget bytes measured text other status ended read (spent opened best cyclic is t s) (planned work found list certificate least within u e) =
     spent_and_plan measured read (may_spend comp inst budget opened best measured cyclic is)
     (beside_spent comp inst budget opened best work found list certificate measured other text least is u t) s e
 one_planned comp inst budget bytes measured text other status ended read (spent opened best cyclic is t s) (spent opened' best' cyclic' is' u e) =

@@ -14,7 +14,7 @@ use Rattle.wh_load.specs.declared.bundle.heading.Heading.TheVariants as heading
 use Rattle.wh_load.specs.declared.bundle.part.Part.{Part}
 use Rattle.wh_load.specs.declared.fault.LoadFault.{LoadFault}
 use Rattle.wh_minwork.specs.Plan.{IsAcyclicAsDesired, IsSortedAsDesired}
-use Rattle.wh_prune.specs.Plan.{IsCyclicAsDesired, accepted_for}
+use Rattle.wh_prune.specs.Plan.{IsCyclicAsDesired, IsWithinBudget, accepted_for}
 use Rattle.wh_prune.specs.Spent.{IsSpent}
 use Rattle.wh_strategy.specs.declared.costs.Costs.{Costs}
 use Rattle.wh_strategy.specs.declared.expression.Expression.{Expression}
@@ -76,11 +76,11 @@ pub record IsLeastPlan (comp inst : ℕ) (measured : Measured) (work : ℕ) (sco
 abbrev pub spent_text : ℕ → ℕ → List ℕ
 spent_text opened best = line (codes "budget opened " ++ decimal opened ++ codes " best " ++ decimal best)
 
--- What is printed for this, and the status: a plan of least work, or that the search for one has spent its budget, which takes an
--- ordered graph with a cycle.
+-- What is printed for this, and the status: a plan of least work, whose tree, if it has one, has no more nodes than the budget; or
+-- that the search for one has spent its budget, which takes an ordered graph with a cycle.
 pub data IsPlanned (comp inst budget : ℕ) (measured : Measured) (text : List ℕ) (status : ℕ) : Type 0 where
   planned : (work : ℕ) (scope : Scope) (list : List Expression) (certificate : Certificate) → IsLeastPlan comp inst measured work scope list certificate
-      → text ≡ plan_text measured.shape.names scope work list certificate → status ≡ 0 → IsPlanned comp inst budget measured text status
+      → IsWithinBudget budget certificate → text ≡ plan_text measured.shape.names scope work list certificate → status ≡ 0 → IsPlanned comp inst budget measured text status
   spent : (opened best : ℕ) → IsCyclicAsDesired measured.shape.children (sizes_of measured.sizes)
       → IsSpent measured.shape.children (sizes_of measured.sizes) comp inst budget opened best
       → text ≡ spent_text opened best → status ≡ 4 → IsPlanned comp inst budget measured text status

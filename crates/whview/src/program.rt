@@ -1,10 +1,10 @@
 //! The whole program over a reader and a writer.
 
-ghost use Rattle.std.specs.Prelude.{◌≡◌, ◌≢◌, ◌⊎◌, ℕ, List, [], None, codes, option_map, IfOk, MatchResult};
+ghost use Rattle.std.specs.Prelude.{◌≡◌, ◌≢◌, ◌⊎◌, ℕ, List, [], None, Some, codes, option_map, IfOk, MatchResult};
 ghost use Rattle.std.specs.Io.KnownBytes.{Appends};
 ghost use Rattle.clap.specs.Walk.{texts};
 ghost use Rattle.whview.specs.CheckOutput.{line};
-ghost use Rattle.whview.specs.CommandFault.{status_of};
+ghost use Rattle.whview.specs.CommandFault.{status_of, text_of};
 ghost use Rattle.whview.specs.Output.{AskToRead, HoldsOfReading, IsCommandOutput, IsHandedOutput, IsInputOutput, IsLineAnswer, IsMemoryTold, IsReadAnswer, IsTold, IsUnreadShown, file_of};
 
 use crate::answer::Answer;
@@ -109,6 +109,7 @@ fn file_answer<F: Files>(
 
 /// The text and the status of words that are no command line, or that ask for help.
 fn refusal(alloc: Global, fault: &CommandFault) -> Result<Answer, AllocError>
+    ensures text { IfOk result (λ a. text_of fault.now ≡ Some a.text.items) }
     ensures status { IfOk result (λ a. a.status ≡ status_of fault.now) }
     ensures told { IfOk result (λ a. fault.now ≢ CommandFault.Memory) }
 {

@@ -25,7 +25,7 @@ returns-in-Ok c =
       cyclic = is.cyclic;
       sorted = is.sorted;
     })
-    printed ended)
+    is.within printed ended)
 
 pub returns-in-Err-Budget : goal.returns-in-Err-Budget
 returns-in-Err-Budget c =
