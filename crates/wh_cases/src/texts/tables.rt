@@ -409,7 +409,7 @@ const SUMMARY_CHANGES: &str =
 fn columns_of(alloc: Global, names: &str) -> Result<Vec<Column>, AllocError> {
     let mut columns = Vec::new(alloc);
     for word in names.split_whitespace() {
-        let (name, kind) = match word.split_once(":") {
+        let (name, kind) = match word.split_once(':') {
             Some((name, _)) => (name, Kind::Text),
             None => (word, Kind::Int),
         };
