@@ -7,4 +7,4 @@ mod closures;
 mod examples;
 mod groups;
 mod limits;
-mod tables;
+pub(crate) mod tables;

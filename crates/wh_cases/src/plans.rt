@@ -5,5 +5,5 @@ mod certificates;
 mod given;
 mod least;
 mod searched;
-mod shapes;
+pub(crate) mod shapes;
 mod strategies;

@@ -1,12 +1,13 @@
-//! A catalogue of two tables and the view that joins them, and bags.
+//! A catalogue of two tables and the view that joins them.
 
 ghost use Rattle.std.specs.Prelude.{◌≡◌, ◌<◌, true, Some, pos, length, slice_index_or};
 
+use crate::plans::shapes::read;
 use std::alloc::Global;
+use std::process::Abort;
 use std::test::Fail;
 use wh_dag::{Catalog, Definition, Output, Shape};
 use wh_formula::{Combiner, Expr, Filter, Pred, RowTest, RowValue};
-use wh_row::Bag;
 use wh_strategy::{Expression, Sources, Strategy};
 
 /// Every row passes.
@@ -39,46 +40,51 @@ impl RowValue for Cell {
     }
 }
 
-/// a(x,y) and b(y,z), and v, which keeps a.x as x and b.z as z where a.y = b.y.
-pub(crate) fn two_tables(alloc: Global) -> Result<Option<Catalog<Every, Cell>>, Fail> {
-    let mut names = Vec::new(alloc);
-    let mut over = Vec::new(alloc);
-    for (name, children) in [("a", ""), ("b", ""), ("v", "a b")] {
-        names.push(String::from_str(alloc, name)?)?;
-        let mut own = Vec::new(alloc);
-        for child in children.split_whitespace() {
-            own.push(String::from_str(alloc, child)?)?;
-        }
-        over.push(if own.is_empty() { None } else { Some(own) })?;
-    }
-    if names.len() != over.len() {
-        return Ok(None);
-    }
-    let shape = Shape::new(alloc, names, over)?;
+/// a and b, and v over both.
+fn shape(rt: &impl Abort, alloc: Global) -> Result<Shape, Fail> {
+    Ok(read(rt, alloc, &[("a", "-"), ("b", "-"), ("v", "a b")])?)
+}
+
+/// The first and the fourth cell.
+fn kept(alloc: Global) -> Result<Vec<Combiner<Cell>>, Fail> {
     let mut kept = Vec::new(alloc);
     kept.push(Combiner::new(Expr::column(0), 4, Cell { place: 0 }))?;
     kept.push(Combiner::new(Expr::column(3), 4, Cell { place: 3 }))?;
+    Ok(kept)
+}
+
+/// Keeps a.x as x and b.z as z where a.y = b.y.
+fn joined(alloc: Global) -> Result<Option<Definition<Every, Cell>>, Fail> {
     let join = vec![in alloc; (1, 2)]?;
+    let out = Output::Keep(kept(alloc)?);
     let filter = Filter::new(Pred::always(), 4, Every);
-    let out = Output::Keep(kept);
     if !Definition::fits(&join, &filter, &out) {
         return Ok(None);
     }
+    Ok(Some(Definition::new(join, filter, out)))
+}
+
+/// The definition alone.
+fn definitions(alloc: Global) -> Result<Vec<Definition<Every, Cell>>, Fail> {
     let mut definitions = Vec::new(alloc);
-    definitions.push(Definition::new(join, filter, out))?;
+    if let Some(joined) = joined(alloc)? {
+        definitions.push(joined)?;
+    }
+    Ok(definitions)
+}
+
+/// a(x,y) and b(y,z), and v, which keeps a.x as x and b.z as z where a.y = b.y.
+pub(crate) fn two_tables(
+    rt: &impl Abort,
+    alloc: Global,
+) -> Result<Option<Catalog<Every, Cell>>, Fail> {
+    let shape = shape(rt, alloc)?;
     let widths = vec![in alloc; 2, 2]?;
+    let definitions = definitions(alloc)?;
     if !Catalog::fits(&shape, &widths, &definitions) {
         return Ok(None);
     }
     Ok(Some(Catalog::new(alloc, shape, widths, definitions)?))
-}
-
-pub(crate) fn bag(alloc: Global, rows: &[(&[i64], i64)]) -> Result<Bag, Fail> {
-    let mut bag = Bag::new(alloc);
-    for (row, count) in rows {
-        bag.add(row, *count)?;
-    }
-    Ok(bag)
 }
 
 /// comp v from a; inst a; comp v from b; inst b; inst v

@@ -1,41 +1,56 @@
 //! Nights over two tables and the view that joins them.
 
-use crate::carried::given::{bag, one_way, two_tables};
+use crate::carried::given::{Cell, Every, one_way, two_tables};
+use crate::nights::tables::bags;
 use std::alloc::Global;
+use std::process::Abort;
 use std::test::Fail;
+use wh_dag::Catalog;
 use wh_maint::are_bags;
 use wh_night::{Carried, CarryFault, are_fit, carry};
 use wh_row::Bag;
-use wh_strategy::check;
+use wh_strategy::{Strategy, check};
 
-/// Carries the one-way strategy out from these opening rows of v, with this change of a, and b -(10,5) +(10,6). None
-/// where the catalogue or the tables are not what a night asks for.
+static A: [(&[i64], i64); 2] = [(&[1, 10], 1), (&[2, 10], 1)];
+
+static B: [(&[i64], i64); 1] = [(&[10, 5], 1)];
+
+static CHANGE_OF_B: [(&[i64], i64); 2] = [(&[10, 5], -1), (&[10, 6], 1)];
+
+/// Carries the list out from these tables, with these changes. None where they are not what a night asks for.
+fn carried(
+    alloc: Global,
+    catalog: &Catalog<Every, Cell>,
+    tables: &[Bag],
+    changes: &[Bag],
+    list: Strategy,
+) -> Result<Option<Result<Carried, CarryFault>>, Fail> {
+    let Ok(correct) = check(alloc, catalog.shape(), list) else {
+        return Ok(None);
+    };
+    if !are_bags(catalog, tables) || !are_bags(catalog, changes) {
+        return Ok(None);
+    }
+    if !are_fit(alloc, catalog, tables)? {
+        return Ok(None);
+    }
+    Ok(Some(carry(alloc, catalog, tables, changes, &correct)))
+}
+
+/// Carries the one-way strategy out from these opening rows of v, with this change of a, and b -(10,5) +(10,6).
 fn night(
+    rt: &impl Abort,
     alloc: Global,
     opening: &[(&[i64], i64)],
     change: &[(&[i64], i64)],
 ) -> Result<Option<Result<Carried, CarryFault>>, Fail> {
-    let Some(catalog) = two_tables(alloc)? else {
+    let tables = bags(alloc, &[&A, &B, opening])?;
+    let changes = bags(alloc, &[change, &CHANGE_OF_B, &[]])?;
+    let list = one_way(alloc)?;
+    let Some(catalog) = two_tables(rt, alloc)? else {
         return Ok(None);
     };
-    let Ok(correct) = check(alloc, catalog.shape(), one_way(alloc)?) else {
-        return Ok(None);
-    };
-    let mut tables = Vec::new(alloc);
-    tables.push(bag(alloc, &[(&[1, 10], 1), (&[2, 10], 1)])?)?;
-    tables.push(bag(alloc, &[(&[10, 5], 1)])?)?;
-    tables.push(bag(alloc, opening)?)?;
-    let mut changes = Vec::new(alloc);
-    changes.push(bag(alloc, change)?)?;
-    changes.push(bag(alloc, &[(&[10, 5], -1), (&[10, 6], 1)])?)?;
-    changes.push(Bag::new(alloc))?;
-    if !are_bags(&catalog, &tables) || !are_bags(&catalog, &changes) {
-        return Ok(None);
-    }
-    if !are_fit(alloc, &catalog, &tables)? {
-        return Ok(None);
-    }
-    Ok(Some(carry(alloc, &catalog, &tables, &changes, &correct)))
+    carried(alloc, &catalog, &tables, &changes, list)
 }
 
 /// Whether the night was carried out with these rows of its steps, and v then has exactly these rows, once each.
@@ -75,7 +90,7 @@ fn has_rows(table: &Bag, rows: &[&[i64]]) -> bool {
 #[test]
 fn two_table_night(rt: HostRuntime) -> Result<(), Fail> {
     let opening: [(&[i64], i64); 2] = [(&[1, 5], 1), (&[2, 5], 1)];
-    let night = night(rt.alloc(), &opening, &[(&[2, 10], -1), (&[3, 10], 1)])?;
+    let night = night(&rt, rt.alloc(), &opening, &[(&[2, 10], -1), (&[3, 10], 1)])?;
     assert!(rt; ends_with(&night, &[3, 2, 4, 2, 4], &[&[1, 6], &[3, 6]]));
     Ok(())
 }
@@ -83,7 +98,7 @@ fn two_table_night(rt: HostRuntime) -> Result<(), Fail> {
 #[test]
 fn stray_row(rt: HostRuntime) -> Result<(), Fail> {
     let opening: [(&[i64], i64); 3] = [(&[1, 5], 1), (&[2, 5], 1), (&[7, 7], 1)];
-    let night = night(rt.alloc(), &opening, &[(&[2, 10], -1), (&[3, 10], 1)])?;
+    let night = night(&rt, rt.alloc(), &opening, &[(&[2, 10], -1), (&[3, 10], 1)])?;
     assert!(rt; ends_with(&night, &[3, 2, 4, 2, 4], &[&[1, 6], &[3, 6], &[7, 7]]));
     Ok(())
 }
@@ -91,7 +106,7 @@ fn stray_row(rt: HostRuntime) -> Result<(), Fail> {
 #[test]
 fn absent_row(rt: HostRuntime) -> Result<(), Fail> {
     let opening: [(&[i64], i64); 2] = [(&[1, 5], 1), (&[2, 5], 1)];
-    let night = night(rt.alloc(), &opening, &[(&[9, 9], -1)])?;
+    let night = night(&rt, rt.alloc(), &opening, &[(&[9, 9], -1)])?;
     let refused = match &night {
         Some(Err(refused)) => refused.fault.number() == 4 && !refused.started,
         _ => false,

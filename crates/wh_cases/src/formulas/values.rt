@@ -133,11 +133,23 @@ fn between(alloc: Global) -> Result<Vec<Pred>, AllocError>
 
 #[test]
 fn all_asks_for_each_part_and_any_for_one(rt: HostRuntime) -> Result<(), Fail> {
-    let all = Pred::all(between(rt.alloc())?).copy(rt.alloc())?;
-    answers(&rt, &all, &[4], true);
-    answers(&rt, &all, &[9], false);
-    let any = Pred::any(between(rt.alloc())?).copy(rt.alloc())?;
-    answers(&rt, &any, &[9], true);
+    let all = Pred::all(between(rt.alloc())?);
+    answers_as_its_copy(&rt, rt.alloc(), &all, 4, true)?;
+    answers_as_its_copy(&rt, rt.alloc(), &all, 9, false)?;
+    let any = Pred::any(between(rt.alloc())?);
+    answers_as_its_copy(&rt, rt.alloc(), &any, 9, true)?;
+    Ok(())
+}
+
+fn answers_as_its_copy(
+    rt: &impl Abort,
+    alloc: Global,
+    test: &Pred,
+    cell: i64,
+    answer: bool,
+) -> Result<(), AllocError> {
+    answers(rt, test, &[cell], answer);
+    answers(rt, &test.copy(alloc)?, &[cell], answer);
     Ok(())
 }
 

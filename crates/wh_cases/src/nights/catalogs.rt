@@ -131,18 +131,43 @@ pub(crate) fn read_warehouse(
 ) -> Result<Warehouse, LoadFault> {
     let text = text.as_bytes();
     let shape = read_shape(alloc, text)?;
-    let written = read_definitions(alloc, text, &shape, dict)?;
-    let mut widths = Vec::new(alloc);
-    let mut definitions = Vec::new(alloc);
-    let mut columns = Vec::new(alloc);
-    for view in written.views {
-        match &view.definition {
-            None => widths.push(view.columns.len())?,
-            Some(own) => definitions.push(definition(rt, alloc, own)?)?,
-        }
-        columns.push(view.columns)?;
-    }
+    let views = read_definitions(alloc, text, &shape, dict)?.views;
+    let widths = base_widths(alloc, &views)?;
+    let definitions = definitions(rt, alloc, &views)?;
+    let columns = columns(alloc, views)?;
     assert!(rt; Catalog::fits(&shape, &widths, &definitions));
     let catalog = Catalog::new(alloc, shape, widths, definitions)?;
     Ok(Warehouse { catalog, columns })
+}
+
+fn base_widths(alloc: Global, views: &[WrittenView]) -> Result<Vec<usize>, AllocError> {
+    let mut widths = Vec::new(alloc);
+    for view in views {
+        if view.definition.is_none() {
+            widths.push(view.columns.len())?;
+        }
+    }
+    Ok(widths)
+}
+
+fn definitions(
+    rt: &impl Abort,
+    alloc: Global,
+    views: &[WrittenView],
+) -> Result<Vec<Definition<Tested, Valued>>, AllocError> {
+    let mut definitions = Vec::new(alloc);
+    for view in views {
+        if let Some(own) = &view.definition {
+            definitions.push(definition(rt, alloc, own)?)?;
+        }
+    }
+    Ok(definitions)
+}
+
+fn columns(alloc: Global, views: Vec<WrittenView>) -> Result<Vec<Vec<Column>>, AllocError> {
+    let mut columns = Vec::new(alloc);
+    for view in views {
+        columns.push(view.columns)?;
+    }
+    Ok(columns)
 }

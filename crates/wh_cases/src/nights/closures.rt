@@ -7,12 +7,13 @@ ghost use Rattle.wh_formula.specs.Filter.{AnswersPred};
 ghost use Rattle.wh_formula.specs.Combiner.{AnswersExpr};
 
 use crate::nights::calls::{change_of, comp_of, rows_of};
-use crate::nights::tables::bag;
-use std::alloc::{AllocError, Global};
+use crate::nights::tables::bags;
+use std::alloc::Global;
 use std::process::Abort;
 use std::test::Fail;
 use wh_dag::{Catalog, Definition, Output, Shape};
 use wh_formula::{Combiner, Expr, Filter, Native, Pred, RowTest, RowValue};
+use wh_maint::Pending;
 use wh_row::Bag;
 
 type Value = Box<dyn Fn(&[i64]) -> Option<i64> + Sync>;
@@ -53,14 +54,6 @@ fn catalog<F: RowTest + Drop, G: RowValue + Drop>(
     Ok(Catalog::new(alloc, shape, widths, definitions)?)
 }
 
-fn three(alloc: Global, first: Bag, second: Bag) -> Result<Vec<Bag>, AllocError> {
-    let mut bags = Vec::new(alloc);
-    bags.push(first)?;
-    bags.push(second)?;
-    bags.push(Bag::new(alloc))?;
-    Ok(bags)
-}
-
 // v keeps a.x and b.z where a.y = b.y.
 fn joins<F: RowTest + Drop, G: RowValue + Drop>(
     rt: &impl Abort,
@@ -85,17 +78,21 @@ fn joins<F: RowTest + Drop, G: RowValue + Drop>(
     joins_tables(rt, alloc, &catalog)
 }
 
+static TWO_TABLES: [&[(&[i64], i64)]; 3] = [&[(&[1, 10], 1), (&[2, 10], 1)], &[(&[10, 5], 1)], &[]];
+
+static TWO_CHANGES: [&[(&[i64], i64)]; 3] = [
+    &[(&[2, 10], -1), (&[3, 10], 1)],
+    &[(&[10, 5], -1), (&[10, 6], 1)],
+    &[],
+];
+
 fn joins_tables<F: RowTest, G: RowValue>(
     rt: &impl Abort,
     alloc: Global,
     catalog: &Catalog<F, G>,
 ) -> Result<(), Fail> {
-    let a = bag(alloc, &[(&[1, 10], 1), (&[2, 10], 1)])?;
-    let b = bag(alloc, &[(&[10, 5], 1)])?;
-    let tables = three(alloc, a, b)?;
-    let of_a = bag(alloc, &[(&[2, 10], -1), (&[3, 10], 1)])?;
-    let of_b = bag(alloc, &[(&[10, 5], -1), (&[10, 6], 1)])?;
-    let changes = three(alloc, of_a, of_b)?;
+    let tables = bags(alloc, &TWO_TABLES)?;
+    let changes = bags(alloc, &TWO_CHANGES)?;
     assert_eq!(rt; rows_of(rt, catalog, 2, &[0], &tables, &changes), 3);
     assert_eq!(rt; rows_of(rt, catalog, 2, &[0, 1], &tables, &changes), 11);
     match comp_of(rt, alloc, catalog, 2, &[0, 1], &tables, &changes) {
@@ -158,34 +155,48 @@ fn sums<F: RowTest + Drop, G: RowValue + Drop>(
     sums_groups(rt, alloc, &catalog)
 }
 
+static A_SUMMARY: [&[(&[i64], i64)]; 2] = [
+    &[(&[1, 5], 1), (&[2, 3], 1), (&[2, 4], 1)],
+    &[(&[1, 1, 5], 1), (&[2, 2, 7], 1)],
+];
+
+static A_CHANGE: [&[(&[i64], i64)]; 2] = [&[(&[1, 5], -1), (&[2, 4], -1), (&[2, -3], 1)], &[]];
+
 fn sums_groups<F: RowTest, G: RowValue>(
     rt: &impl Abort,
     alloc: Global,
     catalog: &Catalog<F, G>,
 ) -> Result<(), Fail> {
-    let mut tables = Vec::new(alloc);
-    tables.push(bag(alloc, &[(&[1, 5], 1), (&[2, 3], 1), (&[2, 4], 1)])?)?;
-    tables.push(bag(alloc, &[(&[1, 1, 5], 1), (&[2, 2, 7], 1)])?)?;
-    let mut changes = Vec::new(alloc);
-    changes.push(bag(alloc, &[(&[1, 5], -1), (&[2, 4], -1), (&[2, -3], 1)])?)?;
-    changes.push(Bag::new(alloc))?;
+    let tables = bags(alloc, &A_SUMMARY)?;
+    let changes = bags(alloc, &A_CHANGE)?;
+    assert!(rt; tables.len() == 2);
     match comp_of(rt, alloc, catalog, 1, &[0], &tables, &changes) {
         Ok(all) => {
             assert_eq!(rt; (all.count(&[1]), all.count(&[2])), (-1, 0));
             assert!(rt; all.sums() == 1);
             assert_eq!(rt; (all.sum(0, &[1]), all.sum(0, &[2])), (-5, -7));
-            match change_of(rt, alloc, catalog, 1, &all, &tables[1]) {
-                Ok(own) => {
-                    assert_eq!(rt; own.total(), 3);
-                    assert_eq!(rt; (own.count(&[1, 1, 5]), own.count(&[2, 2, 7])), (-1, -1));
-                    assert_eq!(rt; own.count(&[2, 2, 0]), 1);
-                }
-                Err(_fault) => assert!(rt; false, "refused"),
-            }
+            changes_groups(rt, alloc, catalog, &all, &tables[1]);
         }
         Err(_fault) => assert!(rt; false, "refused"),
     }
     Ok(())
+}
+
+fn changes_groups<F: RowTest, G: RowValue>(
+    rt: &impl Abort,
+    alloc: Global,
+    catalog: &Catalog<F, G>,
+    all: &Pending,
+    table: &Bag,
+) {
+    match change_of(rt, alloc, catalog, 1, all, table) {
+        Ok(own) => {
+            assert_eq!(rt; own.total(), 3);
+            assert_eq!(rt; (own.count(&[1, 1, 5]), own.count(&[2, 2, 7])), (-1, -1));
+            assert_eq!(rt; own.count(&[2, 2, 0]), 1);
+        }
+        Err(_fault) => assert!(rt; false, "refused"),
+    }
 }
 
 #[test]

@@ -2,12 +2,13 @@
 
 use crate::nights::calls::{change_of, comp_of};
 use crate::nights::carried::{Night, tells};
-use crate::nights::catalogs::read_warehouse;
+use crate::nights::catalogs::{Tested, Valued, read_warehouse};
 use crate::nights::examples::{BY_GROUP, GROUPS};
 use crate::nights::tables::{bag, bags};
-use std::alloc::Global;
+use std::alloc::{AllocError, Global};
 use std::process::Abort;
 use std::test::Fail;
+use wh_dag::Catalog;
 use wh_load::{Dict, write_table};
 use wh_maint::{MaintFault, Pending, are_bags, are_sources, is_fit};
 use wh_row::Bag;
@@ -39,37 +40,45 @@ fn a_group_with_the_same_sums_stays(rt: HostRuntime) -> Result<(), Fail> {
 fn change(
     rt: &impl Abort,
     alloc: Global,
-    table: Bag,
-    of_a: Bag,
+    table: &[(&[i64], i64)],
+    of_a: &[(&[i64], i64)],
 ) -> Result<Result<Vec<u8>, MaintFault>, Fail> {
+    let tables = bags(alloc, &[&[], table])?;
+    let changes = bags(alloc, &[of_a, &[]])?;
     let mut dict = Dict::new(alloc);
     let house = read_warehouse(rt, alloc, BY_GROUP, &mut dict)?;
-    let tables = bags(alloc, Bag::new(alloc), table)?;
-    let changes = bags(alloc, of_a, Bag::new(alloc))?;
-    let pending = match comp_of(rt, alloc, &house.catalog, 1, &[0], &tables, &changes) {
-        Ok(pending) => pending,
-        Err(fault) => return Ok(Err(fault)),
-    };
+    match change_of_s(rt, alloc, &house.catalog, &tables, &changes) {
+        Ok(own) => {
+            assert!(rt; house.columns.len() == 2);
+            let mut out = Vec::new(alloc);
+            write_table(&mut out, &house.columns[1], &own, &dict)?;
+            Ok(Ok(out))
+        }
+        Err(fault) => Ok(Err(fault)),
+    }
+}
+
+// The change of s by a change of a.
+fn change_of_s(
+    rt: &impl Abort,
+    alloc: Global,
+    catalog: &Catalog<Tested, Valued>,
+    tables: &[Bag],
+    changes: &[Bag],
+) -> Result<Bag, MaintFault> {
+    let pending = comp_of(rt, alloc, catalog, 1, &[0], tables, changes)?;
     assert_eq!(rt; (pending.view(), pending.sums()), (1, 1));
     assert!(rt; tables.len() == 2);
-    let own = match change_of(rt, alloc, &house.catalog, 1, &pending, &tables[1]) {
-        Ok(own) => own,
-        Err(fault) => return Ok(Err(fault)),
-    };
-    let mut out = Vec::new(alloc);
-    assert!(rt; house.columns.len() == 2);
-    write_table(&mut out, &house.columns[1], &own, &dict)?;
-    Ok(Ok(out))
+    change_of(rt, alloc, catalog, 1, &pending, &tables[1])
 }
 
 #[test]
 fn a_count_or_a_sum_leaves_i64(rt: HostRuntime) -> Result<(), Fail> {
     let alloc = rt.alloc();
-    let most = bag(alloc, &[(&[1, i64::MAX, i64::MAX], 1)])?;
-    let both = change(&rt, alloc, most, bag(alloc, &[(&[1, 1], 1)])?)?;
+    let more: [(&[i64], i64); 1] = [(&[1, 1], 1)];
+    let both = change(&rt, alloc, &[(&[1, i64::MAX, i64::MAX], 1)], &more)?;
     assert!(&rt; matches!(both, Err(MaintFault::Large(1))));
-    let most = bag(alloc, &[(&[1, 1, i64::MAX], 1)])?;
-    let sum = change(&rt, alloc, most, bag(alloc, &[(&[1, 1], 1)])?)?;
+    let sum = change(&rt, alloc, &[(&[1, 1, i64::MAX], 1)], &more)?;
     assert!(&rt; matches!(sum, Err(MaintFault::Range(1))));
     Ok(())
 }
@@ -78,8 +87,7 @@ fn a_count_or_a_sum_leaves_i64(rt: HostRuntime) -> Result<(), Fail> {
 #[test]
 fn a_group_that_leaves_has_no_sum(rt: HostRuntime) -> Result<(), Fail> {
     let alloc = rt.alloc();
-    let table = bag(alloc, &[(&[1, 1, i64::MIN], 1)])?;
-    let told = change(&rt, alloc, table, bag(alloc, &[(&[1, 1], -1)])?)?;
+    let told = change(&rt, alloc, &[(&[1, 1, i64::MIN], 1)], &[(&[1, 1], -1)])?;
     assert!(&rt;
         told.is_ok_and(|text| text.as_slice()
             == b"#,g,n,t\n-1,1,1,-9223372036854775808\n".as_slice())
@@ -92,20 +100,30 @@ fn tables_are_fit_or_not(rt: HostRuntime) -> Result<(), Fail> {
     let alloc = rt.alloc();
     let mut dict = Dict::new(alloc);
     let house = read_warehouse(&rt, alloc, BY_GROUP, &mut dict)?;
-    assert!(&rt; house.catalog.shape().len() == 2 && !house.catalog.is_base(1));
-    let cases: [(&[(&[i64], i64)], bool); 6] = [
-        (&[], true),
-        (&[(&[1, 2, 0], 1), (&[2, 1, 0], 1)], true),
-        (&[(&[1, 0, 0], 1)], false),
-        (&[(&[1, 2, 0], 2)], false),
-        (&[(&[1, 2, 0], 1), (&[1, 3, 0], 1)], false),
-        (&[(&[3], 1)], false),
-    ];
-    for (rows, wanted) in cases {
+    for (rows, wanted) in &TABLES {
         let table = bag(alloc, rows)?;
-        assert_eq!(&rt; is_fit(alloc, &house.catalog, 1, &table)?, wanted);
+        assert_eq!(&rt; is_fit_for_s(&rt, alloc, &house.catalog, &table)?, *wanted);
     }
     Ok(())
+}
+
+static TABLES: [(&[(&[i64], i64)], bool); 6] = [
+    (&[], true),
+    (&[(&[1, 2, 0], 1), (&[2, 1, 0], 1)], true),
+    (&[(&[1, 0, 0], 1)], false),
+    (&[(&[1, 2, 0], 2)], false),
+    (&[(&[1, 2, 0], 1), (&[1, 3, 0], 1)], false),
+    (&[(&[3], 1)], false),
+];
+
+fn is_fit_for_s(
+    rt: &impl Abort,
+    alloc: Global,
+    catalog: &Catalog<Tested, Valued>,
+    table: &Bag,
+) -> Result<bool, AllocError> {
+    assert!(rt; catalog.shape().len() == 2 && !catalog.is_base(1));
+    is_fit(alloc, catalog, 1, table)
 }
 
 #[test]
@@ -113,20 +131,35 @@ fn bags_sources_and_pendings_are_told_apart(rt: HostRuntime) -> Result<(), Fail>
     let alloc = rt.alloc();
     let mut dict = Dict::new(alloc);
     let house = read_warehouse(&rt, alloc, BY_GROUP, &mut dict)?;
-    assert!(&rt; house.catalog.shape().len() == 2 && !house.catalog.is_base(1));
-    let wide = bags(
-        alloc,
-        bag(alloc, &[(&[1, 2], 1)])?,
-        bag(alloc, &[(&[1, 2], 1)])?,
-    )?;
-    assert!(&rt; !are_bags(&house.catalog, &wide));
-    assert!(&rt; !are_bags(&house.catalog, &[]));
-    assert!(&rt; are_sources(&house.catalog, 1, &[0]));
-    assert!(&rt; !are_sources(&house.catalog, 1, &[]));
-    assert!(&rt; !are_sources(&house.catalog, 1, &[0, 0]));
-    assert!(&rt; !are_sources(&house.catalog, 1, &[1]));
-    assert!(&rt; Pending::new(alloc, 1, 1)?.is_for(&house.catalog, 1));
-    assert!(&rt; !Pending::new(alloc, 1, 0)?.is_for(&house.catalog, 1));
-    assert!(&rt; !Pending::new(alloc, 0, 1)?.is_for(&house.catalog, 1));
+    tells_bags_apart(&rt, alloc, &house.catalog)?;
+    tells_sources_apart(&rt, &house.catalog);
+    for (view, sums, wanted) in [(1, 1, true), (1, 0, false), (0, 1, false)] {
+        let pending = Pending::new(alloc, view, sums)?;
+        assert_eq!(&rt; is_for_s(&rt, &pending, &house.catalog), wanted);
+    }
     Ok(())
+}
+
+fn tells_bags_apart(
+    rt: &impl Abort,
+    alloc: Global,
+    catalog: &Catalog<Tested, Valued>,
+) -> Result<(), Fail> {
+    let wide = bags(alloc, &[&[(&[1, 2], 1)], &[(&[1, 2], 1)]])?;
+    assert!(rt; !are_bags(catalog, &wide));
+    assert!(rt; !are_bags(catalog, &[]));
+    Ok(())
+}
+
+fn tells_sources_apart(rt: &impl Abort, catalog: &Catalog<Tested, Valued>) {
+    assert!(rt; catalog.shape().len() == 2 && !catalog.is_base(1));
+    assert!(rt; are_sources(catalog, 1, &[0]));
+    assert!(rt; !are_sources(catalog, 1, &[]));
+    assert!(rt; !are_sources(catalog, 1, &[0, 0]));
+    assert!(rt; !are_sources(catalog, 1, &[1]));
+}
+
+fn is_for_s(rt: &impl Abort, pending: &Pending, catalog: &Catalog<Tested, Valued>) -> bool {
+    assert!(rt; catalog.shape().len() == 2 && !catalog.is_base(1));
+    pending.is_for(catalog, 1)
 }

@@ -1,6 +1,6 @@
 // What tables become by their changes.
 
-use std::alloc::{AllocError, Global};
+use std::alloc::Global;
 use std::test::Fail;
 use wh_maint::{MaintFault, changed, install};
 use wh_row::{Bag, BagFault};
@@ -14,11 +14,12 @@ pub(crate) fn bag(alloc: Global, rows: &[(&[i64], i64)]) -> Result<Bag, BagFault
     Ok(bag)
 }
 
-/// Two bags in a list.
-pub(crate) fn bags(alloc: Global, first: Bag, second: Bag) -> Result<Vec<Bag>, AllocError> {
+/// The bags of these lists of rows.
+pub(crate) fn bags(alloc: Global, lists: &[&[(&[i64], i64)]]) -> Result<Vec<Bag>, Fail> {
     let mut bags = Vec::new(alloc);
-    bags.push(first)?;
-    bags.push(second)?;
+    for rows in lists {
+        bags.push(bag(alloc, rows)?)?;
+    }
     Ok(bags)
 }
 

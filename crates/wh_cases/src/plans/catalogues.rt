@@ -13,14 +13,14 @@ use std::test::Fail;
 use wh_dag::{Catalog, Definition, Output};
 use wh_formula::{Combiner, Expr, Filter, Native, Pred, RowTest, RowValue};
 
-/// Where the cells at the two places are equal, it keeps the first and the fourth cell.
+/// Where the cells at the two places are equal, it keeps the first and the fourth cell; none where the places do not fit.
 fn joined<F: RowTest + Drop, G: RowValue + Drop>(
     alloc: Global,
     places: (usize, usize),
     every: F,
     x: G,
     z: G,
-) -> Result<Option<Definition<F, G>>, AllocError>
+) -> Result<Vec<Definition<F, G>>, AllocError>
     requires callable { CallableOnRows 4 (F.can_test every) }
     requires answers { AnswersPred True 4 (F.tests every) }
     requires callable_x { CallableOnRows 4 (G.can_combine x) }
@@ -34,10 +34,11 @@ fn joined<F: RowTest + Drop, G: RowValue + Drop>(
     let join = vec![in alloc; places]?;
     let filter = Filter::new(Pred::always(), 4, every);
     let out = Output::Keep(kept);
-    if !Definition::fits(&join, &filter, &out) {
-        return Ok(None);
+    let mut definitions = Vec::new(alloc);
+    if Definition::fits(&join, &filter, &out) {
+        definitions.push(Definition::new(join, filter, out))?;
     }
-    Ok(Some(Definition::new(join, filter, out)))
+    Ok(definitions)
 }
 
 /// Each combiner's value at the row.
@@ -66,13 +67,9 @@ fn makes_catalogue<F: RowTest + Drop, G: RowValue + Drop>(
     requires callable_z { CallableOnRows 4 (G.can_combine z) }
     requires answers_z { AnswersExpr (Column 3) 4 (G.combines z) }
 {
-    let Some(definition) = joined(alloc, places, every, x, z)? else {
-        return Ok(false);
-    };
     let shape = read(rt, alloc, &[("a", "-"), ("b", "-"), ("v", "a b")])?;
     let widths = widths.to_vec(alloc)?;
-    let mut definitions = Vec::new(alloc);
-    definitions.push(definition)?;
+    let definitions = joined(alloc, places, every, x, z)?;
     if !Catalog::fits(&shape, &widths, &definitions) {
         return Ok(false);
     }
@@ -181,20 +178,41 @@ fn summary<F: RowTest + Drop, G: RowValue + Drop>(
     requires callable_x { CallableOnRows 2 (G.can_combine x) }
     requires answers_x { AnswersExpr (Column 1) 2 (G.combines x) }
 {
-    let filter = Filter::new(Pred::always(), 2, every);
+    let definitions = summed(rt, alloc, every, x)?;
+    let shape = read(rt, alloc, &[("a", "-"), ("s", "a")])?;
+    let widths = vec![in alloc; 2]?;
+    assert!(rt; Catalog::fits(&shape, &widths, &definitions));
+    let catalog = Catalog::new(alloc, shape, widths, definitions)?;
+    summary_reads_back(rt, &catalog);
+    has_limits::<F, G>(rt, alloc)
+}
+
+/// The definition of that summary alone.
+fn summed<F: RowTest + Drop, G: RowValue + Drop>(
+    rt: &impl Abort,
+    alloc: Global,
+    every: F,
+    x: G,
+) -> Result<Vec<Definition<F, G>>, AllocError>
+    requires callable { CallableOnRows 2 (F.can_test every) }
+    requires answers { AnswersPred True 2 (F.tests every) }
+    requires callable_x { CallableOnRows 2 (G.can_combine x) }
+    requires answers_x { AnswersExpr (Column 1) 2 (G.combines x) }
+{
     let mut sums = Vec::new(alloc);
     sums.push(Combiner::new(Expr::column(1), 2, x))?;
     let group = vec![in alloc; 0]?;
+    let filter = Filter::new(Pred::always(), 2, every);
     let out = Output::Sums { group, sums };
     assert!(rt; !out.is_over(1));
     let join = Vec::new(alloc);
     assert!(rt; Definition::fits(&join, &filter, &out));
     let mut definitions = Vec::new(alloc);
     definitions.push(Definition::new(join, filter, out))?;
-    let shape = read(rt, alloc, &[("a", "-"), ("s", "a")])?;
-    let widths = vec![in alloc; 2]?;
-    assert!(rt; Catalog::fits(&shape, &widths, &definitions));
-    let catalog = Catalog::new(alloc, shape, widths, definitions)?;
+    Ok(definitions)
+}
+
+fn summary_reads_back<F: RowTest, G: RowValue>(rt: &impl Abort, catalog: &Catalog<F, G>) {
     assert_eq!(rt; catalog.shape().len(), 2);
     assert_eq!(rt;
         (
@@ -212,7 +230,6 @@ fn summary<F: RowTest + Drop, G: RowValue + Drop>(
         }
         Output::Keep(_) => assert!(rt; false, "a join"),
     }
-    has_limits::<F, G>(rt, alloc)
 }
 
 #[test]

@@ -148,13 +148,23 @@ fn bounds_are_as_worked_by_hand(rt: HostRuntime) -> Result<(), Fail> {
 fn six_children(rt: HostRuntime) -> Result<(), Fail> {
     let alloc = rt.alloc();
     let shape = shaped(&rt, alloc, &SIX)?;
-    let sizes = sized(alloc, &SIX_SIZES)?.expect(&rt, "sizes");
-    let correct = correct(&rt, alloc, &shape, ONE_BY_ONE)?;
     let lines = lines_at(alloc, &shape, 20)?;
     assert_eq!(rt; lines.len(), 15);
-    let all = judged(&rt, alloc, &shape, &sizes, &correct, &lines)?;
+    let all = judged_of_six(&rt, alloc, &shape, &lines)?;
     assert_eq!(rt; all, Verdict::All);
-    let short = judged(&rt, alloc, &shape, &sizes, &correct, &lines[..14])?;
+    let short = judged_of_six(&rt, alloc, &shape, &lines[..14])?;
     assert_eq!(rt; short, Verdict::Rejected(15));
     Ok(())
+}
+
+/// The verdict on these lines for the bases one by one.
+fn judged_of_six(
+    rt: &impl Abort,
+    alloc: Global,
+    shape: &Shape,
+    lines: &[Line],
+) -> Result<Verdict, AllocError> {
+    let sizes = sized(alloc, &SIX_SIZES)?.expect(rt, "sizes");
+    let correct = correct(rt, alloc, shape, ONE_BY_ONE)?;
+    judged(rt, alloc, shape, &sizes, &correct, lines)
 }

@@ -24,23 +24,26 @@ fn planned(
     let costs = Costs::new(1, 1).expect(rt, "costs of 1");
     assert_eq!(rt; sizes.len(), shape.len());
     match min_work(alloc, &shape, &sizes, costs) {
-        Ok(plan) => {
-            let Planned {
-                correct,
-                work,
-                scope,
-                certificate,
-            } = plan;
-            assert!(rt; scope == Scope::All);
-            let list = written(alloc, &shape, correct.strategy().as_slice())?;
-            match certificate {
-                Certificate::Pairs(pairs) => Ok((list, work, pairs.into_vec())),
-                Certificate::Search(_) => Ok((list, work, Vec::new(alloc))),
-            }
-        }
+        Ok(plan) => Ok(told(rt, alloc, &shape, plan)?),
         Err(MinFault::Cyclic(cycle)) => Ok((written(alloc, &shape, &cycle)?, 0, Vec::new(alloc))),
         Err(MinFault::Memory) => Err(AllocError.into()),
     }
+}
+
+/// A plan's list in words, its work and the lines of its certificate.
+fn told(
+    rt: &impl Abort,
+    alloc: Global,
+    shape: &Shape,
+    plan: Planned,
+) -> Result<(String, u128, Vec<PairMin>), AllocError> {
+    assert!(rt; plan.scope == Scope::All);
+    let list = written(alloc, shape, plan.correct.strategy().as_slice())?;
+    let lines = match plan.certificate {
+        Certificate::Pairs(pairs) => pairs.into_vec(),
+        Certificate::Search(_) => Vec::new(alloc),
+    };
+    Ok((list, plan.work, lines))
 }
 
 /// Finds a plan of this list and this work, with so many lines that are all of this minimum.

@@ -39,17 +39,27 @@ fn found(
 ) -> Result<Result<Words, (u64, u128)>, Fail> {
     let shape = shaped(rt, alloc, views)?;
     let sizes = sized(alloc, rows)??;
+    match asked(rt, alloc, by, &shape, &sizes, budget) {
+        Ok(planned) => Ok(Ok(in_words(rt, alloc, &shape, &sizes, planned)?)),
+        Err(PruneFault::Budget { opened, best }) => Ok(Err((opened, best))),
+        Err(PruneFault::Memory) => Err(AllocError.into()),
+    }
+}
+
+fn asked(
+    rt: &impl Abort,
+    alloc: Global,
+    by: By,
+    shape: &Shape,
+    sizes: &Sizes,
+    budget: u64,
+) -> Result<Planned, PruneFault> {
     let costs = Costs::new(1, 1).expect(rt, "costs of 1");
     assert_eq!(rt; sizes.len(), shape.len());
     assert!(rt; 1 <= budget && budget < 1 << 63);
-    let answer = match by {
-        By::Plan => plan(alloc, &shape, &sizes, costs, budget),
-        By::Prune => prune(alloc, &shape, &sizes, costs, budget),
-    };
-    match answer {
-        Ok(planned) => Ok(Ok(in_words(rt, alloc, &shape, &sizes, costs, planned)?)),
-        Err(PruneFault::Budget { opened, best }) => Ok(Err((opened, best))),
-        Err(PruneFault::Memory) => Err(AllocError.into()),
+    match by {
+        By::Plan => plan(alloc, shape, sizes, costs, budget),
+        By::Prune => prune(alloc, shape, sizes, costs, budget),
     }
 }
 
@@ -58,33 +68,31 @@ fn in_words(
     alloc: Global,
     shape: &Shape,
     sizes: &Sizes,
-    costs: Costs,
     planned: Planned,
 ) -> Result<Words, Fail> {
-    let Planned {
-        correct,
-        work,
-        scope,
-        certificate,
-    } = planned;
-    assert!(rt; correct.is_of(shape) && sizes.len() == shape.len());
-    let verdict = certify(shape, sizes, costs, &correct, &certificate);
-    let accepted = match scope {
+    let accepted = match planned.scope {
         Scope::All => Verdict::All,
         Scope::OneWay => Verdict::OneWay,
     };
-    assert_eq!(rt; verdict, accepted);
-    let list = written(alloc, shape, correct.strategy().as_slice())?;
-    let lines = match certificate {
+    assert_eq!(rt; judged(rt, shape, sizes, &planned), accepted);
+    let list = written(alloc, shape, planned.correct.strategy().as_slice())?;
+    let lines = match planned.certificate {
         Certificate::Pairs(pairs) => pairs.into_vec(),
         Certificate::Search(_tree) => Vec::new(alloc),
     };
     Ok(Words {
         list,
-        scope,
-        work,
+        scope: planned.scope,
+        work: planned.work,
         lines,
     })
+}
+
+/// What `certify` says of the plan's certificate.
+fn judged(rt: &impl Abort, shape: &Shape, sizes: &Sizes, planned: &Planned) -> Verdict {
+    let costs = Costs::new(1, 1).expect(rt, "costs of 1");
+    assert!(rt; planned.correct.is_of(shape) && sizes.len() == shape.len());
+    certify(shape, sizes, costs, &planned.correct, &planned.certificate)
 }
 
 /// Finds a plan of this list, this scope and this work, with so many lines.

@@ -3,7 +3,7 @@
 use std::alloc::{AllocError, Global};
 use std::process::Abort;
 use std::test::Fail;
-use wh_dag::{Couple, Name, Shape, ShapeFault, SiblingPair};
+use wh_dag::{ChildLists, Couple, Name, Shape, ShapeFault, SiblingPair};
 
 /// The children of a view, by their names with spaces between: "-" for a base view.
 fn children(alloc: Global, names: &str) -> Result<Option<Vec<String>>, AllocError> {
@@ -56,14 +56,17 @@ fn a_view_over_two_bases_reads_back(rt: HostRuntime) -> Result<(), Fail> {
     assert_eq!(rt; shape.name(2), "v");
     assert_eq!(rt; shape.children(0), [].as_slice());
     assert_eq!(rt; shape.children(2), [1, 0].as_slice());
-    let lists = shape.child_lists();
+    let other = read(&rt, alloc, &[("a", "-"), ("b", "-"), ("v", "a b")])?;
+    assert!(rt; !other.child_lists().is_same(shape.child_lists()));
+    lists_read_back(&rt, alloc, shape.child_lists())?;
+    Ok(())
+}
+
+fn lists_read_back(rt: &impl Abort, alloc: Global, lists: &ChildLists) -> Result<(), AllocError> {
     assert_eq!(rt; lists.len(), 3);
     assert!(rt; !lists.is_empty());
     assert_eq!(rt; lists.of(2), [1, 0].as_slice());
-    let copy = lists.copy(alloc)?;
-    assert!(rt; copy.is_same(lists));
-    let other = read(&rt, alloc, &[("a", "-"), ("b", "-"), ("v", "a b")])?;
-    assert!(rt; !other.child_lists().is_same(lists));
+    assert!(rt; lists.copy(alloc)?.is_same(lists));
     Ok(())
 }
 
@@ -85,9 +88,9 @@ fn parents_follow_the_views(rt: HostRuntime) -> Result<(), Fail> {
     let alloc = rt.alloc();
     let shape = read(&rt, alloc, &THREE_LEVELS)?;
     assert_eq!(rt; shape.len(), 4);
-    assert_eq!(rt; shape.parents(alloc, 0)?.as_slice(), [2, 3].as_slice());
-    assert_eq!(rt; shape.parents(alloc, 1)?.as_slice(), [2].as_slice());
-    assert_eq!(rt; shape.parents(alloc, 3)?.as_slice(), [].as_slice());
+    for (view, parents) in [(0, [2, 3].as_slice()), (1, &[2]), (3, &[])] {
+        assert_eq!(rt; shape.parents(alloc, view)?.as_slice(), parents);
+    }
     Ok(())
 }
 
@@ -193,23 +196,34 @@ fn the_65th_view_is_one_too_many(rt: HostRuntime) -> Result<(), Fail> {
     assert_eq!(rt; names.len(), over.len());
     assert_eq!(rt; Shape::new(alloc, names, over)?.len(), 64);
     let (names, over) = bases(alloc, 65)?;
-    assert_eq!(rt; names.len(), over.len());
-    match Shape::new(alloc, names, over) {
-        Ok(_) => assert!(rt; false, "65 views"),
-        Err(fault) => assert_eq!(rt; told(&fault), (5, 64, "64")),
-    }
+    refuses(&rt, alloc, names, over, (5, 64, "64"));
+    Ok(())
+}
+
+#[test]
+fn a_view_over_nothing_is_told_before_the_65th(rt: HostRuntime) -> Result<(), Fail> {
+    let alloc = rt.alloc();
     let (names, mut over) = bases(alloc, 65)?;
-    assert_eq!(rt; names.len(), over.len());
     over.pop();
     over.pop();
     over.push(Some(Vec::new(alloc)))?;
     over.push(None)?;
+    refuses(&rt, alloc, names, over, (6, 63, "63"));
+    Ok(())
+}
+
+fn refuses(
+    rt: &impl Abort,
+    alloc: Global,
+    names: Vec<String>,
+    over: Vec<Option<Vec<String>>>,
+    want: (u8, usize, &str),
+) {
     assert_eq!(rt; names.len(), over.len());
     match Shape::new(alloc, names, over) {
-        Ok(_) => assert!(rt; false, "65 views, one over nothing"),
-        Err(fault) => assert_eq!(rt; told(&fault), (6, 63, "63")),
+        Ok(_) => assert!(rt; false, "no fault"),
+        Err(fault) => assert_eq!(rt; told(&fault), want),
     }
-    Ok(())
 }
 
 #[test]

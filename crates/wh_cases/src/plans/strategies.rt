@@ -100,7 +100,7 @@ fn a_view_is_complete_before_it_is_read(rt: HostRuntime) -> Result<(), Fail> {
     Ok(())
 }
 
-// Six bases of 10 rows of which one changes: 63 terms. A seventh child is one too many.
+// Six bases of 10 rows of which one changes: 63 terms.
 #[test]
 fn six_children(rt: HostRuntime) -> Result<(), Fail> {
     let alloc = rt.alloc();
@@ -114,6 +114,12 @@ fn six_children(rt: HostRuntime) -> Result<(), Fail> {
         "V<A1+A2+A3+A4+A5+A6 A1 A2 A3 A4 A5 A6 V",
     )?;
     assert_eq!(rt; verdict, Verdict::Work(2059));
+    Ok(())
+}
+
+#[test]
+fn a_seventh_child_is_one_too_many(rt: HostRuntime) -> Result<(), Fail> {
+    let alloc = rt.alloc();
     let mut seven = SIX[..6].to_vec(alloc)?;
     seven.push(("A7", ""))?;
     seven.push(("V", "A1 A2 A3 A4 A5 A6 A7"))?;
@@ -122,20 +128,24 @@ fn six_children(rt: HostRuntime) -> Result<(), Fail> {
     Ok(())
 }
 
+fn refuses(
+    rt: &impl Abort,
+    alloc: Global,
+    rows: &[(u64, u64, u64)],
+    fault: Option<OutOfRange>,
+) -> Result<(), AllocError> {
+    assert_eq!(rt; sized(alloc, rows)?.err(), fault);
+    Ok(())
+}
+
 #[test]
 fn sizes_too_far_apart(rt: HostRuntime) -> Result<(), Fail> {
     let alloc = rt.alloc();
     let most = 1 << 40;
-    assert_eq!(rt; sized(alloc, &[(10, 20, 5)])?.err(), Some(OutOfRange(0)));
-    assert_eq!(rt;
-        sized(alloc, &[(10, 15, 5), (15, 9, 5)])?.err(),
-        Some(OutOfRange(1))
-    );
-    assert_eq!(rt;
-        sized(alloc, &[(most + 1, most, 1)])?.err(),
-        Some(OutOfRange(0))
-    );
-    assert!(rt; sized(alloc, &[(most, most, most), (0, most, most)])?.is_ok());
+    refuses(&rt, alloc, &[(10, 20, 5)], Some(OutOfRange(0)))?;
+    refuses(&rt, alloc, &[(10, 15, 5), (15, 9, 5)], Some(OutOfRange(1)))?;
+    refuses(&rt, alloc, &[(most + 1, most, 1)], Some(OutOfRange(0)))?;
+    refuses(&rt, alloc, &[(most, most, most), (0, most, most)], None)?;
     let shape = shaped(&rt, alloc, &[("A", "")])?;
     let sizes = sized(alloc, &[(10, 15, 5)])?.expect(&rt, "sizes");
     assert_eq!(rt; judged(&rt, alloc, &shape, &sizes, "A")?, Verdict::Work(5));
@@ -146,15 +156,27 @@ fn sizes_too_far_apart(rt: HostRuntime) -> Result<(), Fail> {
 fn costs_scale_the_two_parts_of_the_work(rt: HostRuntime) -> Result<(), Fail> {
     let alloc = rt.alloc();
     assert!(rt; Costs::new(0, 1).is_none() && Costs::new(1, 1_000_001).is_none());
-    let costs = Costs::new(1_000_000, 3).expect(&rt, "costs");
     let shape = shaped(&rt, alloc, &[("A", ""), ("V", "A")])?;
     let sizes = sized(alloc, &[(10, 12, 4), (20, 20, 5)])?.expect(&rt, "sizes");
-    let correct = check(alloc, &shape, listed(alloc, &shape, "V<A A V")?)?;
-    assert!(rt; correct.is_of(&shape) && correct.is_one_way());
+    assert_eq!(rt;
+        work_of_the_only_list(&rt, alloc, &shape, &sizes)?,
+        4_000_027
+    );
+    Ok(())
+}
+
+fn work_of_the_only_list(
+    rt: &impl Abort,
+    alloc: Global,
+    shape: &Shape,
+    sizes: &Sizes,
+) -> Result<u128, Fail> {
+    let costs = Costs::new(1_000_000, 3).expect(rt, "costs");
+    let correct = check(alloc, shape, listed(alloc, shape, "V<A A V")?)?;
+    assert!(rt; correct.is_of(shape) && correct.is_one_way());
     assert_eq!(rt; correct.strategy().as_slice().len(), 3);
     assert_eq!(rt; sizes.len(), shape.len());
-    assert_eq!(rt; work(&shape, &sizes, costs, &correct), 4_000_027);
-    Ok(())
+    Ok(work(shape, sizes, costs, &correct))
 }
 
 /// 64 views, each over the six before it, or over all before it where they are fewer.
