@@ -1,7 +1,7 @@
 //! Nights over two tables and the view that joins them.
 
 use crate::carried::given::{Cell, Every, one_way, two_tables};
-use crate::nights::tables::bags;
+use crate::nights::tables::{bag, two_bags};
 use std::alloc::Global;
 use std::process::Abort;
 use std::test::Fail;
@@ -11,11 +11,19 @@ use wh_night::{Carried, CarryFault, are_fit, carry};
 use wh_row::Bag;
 use wh_strategy::{Strategy, check};
 
-static A: [(&[i64], i64); 2] = [(&[1, 10], 1), (&[2, 10], 1)];
+/// The rows of a and of b, and these of v.
+fn tables(alloc: Global, of_v: &[(&[i64], i64)]) -> Result<Vec<Bag>, Fail> {
+    let mut tables = two_bags(alloc, &[(&[1, 10], 1), (&[2, 10], 1)], &[(&[10, 5], 1)])?;
+    tables.push(bag(alloc, of_v)?)?;
+    Ok(tables)
+}
 
-static B: [(&[i64], i64); 1] = [(&[10, 5], 1)];
-
-static CHANGE_OF_B: [(&[i64], i64); 2] = [(&[10, 5], -1), (&[10, 6], 1)];
+/// This change of a, that of b, and none of v.
+fn changes(alloc: Global, of_a: &[(&[i64], i64)]) -> Result<Vec<Bag>, Fail> {
+    let mut changes = two_bags(alloc, of_a, &[(&[10, 5], -1), (&[10, 6], 1)])?;
+    changes.push(Bag::new(alloc))?;
+    Ok(changes)
+}
 
 /// Carries the list out from these tables, with these changes. None where they are not what a night asks for.
 fn carried(
@@ -44,8 +52,8 @@ fn night(
     opening: &[(&[i64], i64)],
     change: &[(&[i64], i64)],
 ) -> Result<Option<Result<Carried, CarryFault>>, Fail> {
-    let tables = bags(alloc, &[&A, &B, opening])?;
-    let changes = bags(alloc, &[change, &CHANGE_OF_B, &[]])?;
+    let tables = tables(alloc, opening)?;
+    let changes = changes(alloc, change)?;
     let list = one_way(alloc)?;
     let Some(catalog) = two_tables(rt, alloc)? else {
         return Ok(None);

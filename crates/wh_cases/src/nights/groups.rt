@@ -4,7 +4,7 @@ use crate::nights::calls::{change_of, comp_of};
 use crate::nights::carried::{Night, tells};
 use crate::nights::catalogs::{Tested, Valued, read_warehouse};
 use crate::nights::examples::{BY_GROUP, GROUPS};
-use crate::nights::tables::{bag, bags};
+use crate::nights::tables::{bag, two_bags};
 use std::alloc::{AllocError, Global};
 use std::process::Abort;
 use std::test::Fail;
@@ -43,8 +43,8 @@ fn change(
     table: &[(&[i64], i64)],
     of_a: &[(&[i64], i64)],
 ) -> Result<Result<Vec<u8>, MaintFault>, Fail> {
-    let tables = bags(alloc, &[&[], table])?;
-    let changes = bags(alloc, &[of_a, &[]])?;
+    let tables = two_bags(alloc, &[], table)?;
+    let changes = two_bags(alloc, of_a, &[])?;
     let mut dict = Dict::new(alloc);
     let house = read_warehouse(rt, alloc, BY_GROUP, &mut dict)?;
     match change_of_s(rt, alloc, &house.catalog, &tables, &changes) {
@@ -145,7 +145,7 @@ fn tells_bags_apart(
     alloc: Global,
     catalog: &Catalog<Tested, Valued>,
 ) -> Result<(), Fail> {
-    let wide = bags(alloc, &[&[(&[1, 2], 1)], &[(&[1, 2], 1)]])?;
+    let wide = two_bags(alloc, &[(&[1, 2], 1)], &[(&[1, 2], 1)])?;
     assert!(rt; !are_bags(catalog, &wide));
     assert!(rt; !are_bags(catalog, &[]));
     Ok(())

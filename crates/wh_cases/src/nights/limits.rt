@@ -3,7 +3,7 @@
 use crate::nights::calls::{comp_of, merge_into};
 use crate::nights::carried::{Night, tells};
 use crate::nights::catalogs::read_warehouse;
-use crate::nights::tables::bags;
+use crate::nights::tables::two_bags;
 use std::alloc::Global;
 use std::process::Abort;
 use std::test::Fail;
@@ -133,8 +133,8 @@ fn a_row_without_a_value_may_cancel(rt: HostRuntime) -> Result<(), Fail> {
 }
 
 fn added(rt: &impl Abort, alloc: Global, count: i64) -> Result<Option<Pending>, Fail> {
-    let tables = bags(alloc, &[&[], &[]])?;
-    let changes = bags(alloc, &[&[(&[3], count)], &[]])?;
+    let tables = two_bags(alloc, &[], &[])?;
+    let changes = two_bags(alloc, &[(&[3], count)], &[])?;
     let mut dict = Dict::new(alloc);
     let house = read_warehouse(rt, alloc, SQUARE, &mut dict)?;
     Ok(comp_of(rt, alloc, &house.catalog, 1, &[0], &tables, &changes).ok())

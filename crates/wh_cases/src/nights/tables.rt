@@ -23,6 +23,18 @@ pub(crate) fn bags(alloc: Global, lists: &[&[(&[i64], i64)]]) -> Result<Vec<Bag>
     Ok(bags)
 }
 
+/// Two bags in a list.
+pub(crate) fn two_bags(
+    alloc: Global,
+    first: &[(&[i64], i64)],
+    second: &[(&[i64], i64)],
+) -> Result<Vec<Bag>, Fail> {
+    let mut bags = Vec::new(alloc);
+    bags.push(bag(alloc, first)?)?;
+    bags.push(bag(alloc, second)?)?;
+    Ok(bags)
+}
+
 // The number of what was refused, 0 for nothing.
 fn refusal<T: Drop>(answer: Result<T, MaintFault>) -> u8 {
     match answer {

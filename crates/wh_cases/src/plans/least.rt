@@ -37,13 +37,18 @@ fn told(
     shape: &Shape,
     plan: Planned,
 ) -> Result<(String, u128, Vec<PairMin>), AllocError> {
-    assert!(rt; plan.scope == Scope::All);
-    let list = written(alloc, shape, plan.correct.strategy().as_slice())?;
-    let lines = match plan.certificate {
-        Certificate::Pairs(pairs) => pairs.into_vec(),
-        Certificate::Search(_) => Vec::new(alloc),
-    };
-    Ok((list, plan.work, lines))
+    let Planned {
+        correct,
+        work,
+        scope,
+        certificate,
+    } = plan;
+    assert!(rt; scope == Scope::All);
+    let list = written(alloc, shape, correct.strategy().as_slice())?;
+    match certificate {
+        Certificate::Pairs(pairs) => Ok((list, work, pairs.into_vec())),
+        Certificate::Search(_) => Ok((list, work, Vec::new(alloc))),
+    }
 }
 
 /// Finds a plan of this list and this work, with so many lines that are all of this minimum.

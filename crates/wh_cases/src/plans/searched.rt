@@ -75,15 +75,21 @@ fn in_words(
         Scope::OneWay => Verdict::OneWay,
     };
     assert_eq!(rt; judged(rt, shape, sizes, &planned), accepted);
-    let list = written(alloc, shape, planned.correct.strategy().as_slice())?;
-    let lines = match planned.certificate {
+    let Planned {
+        correct,
+        work,
+        scope,
+        certificate,
+    } = planned;
+    let list = written(alloc, shape, correct.strategy().as_slice())?;
+    let lines = match certificate {
         Certificate::Pairs(pairs) => pairs.into_vec(),
         Certificate::Search(_tree) => Vec::new(alloc),
     };
     Ok(Words {
         list,
-        scope: planned.scope,
-        work: planned.work,
+        scope,
+        work,
         lines,
     })
 }
