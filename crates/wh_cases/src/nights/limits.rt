@@ -144,18 +144,23 @@ fn added(rt: &impl Abort, alloc: Global, count: i64) -> Result<Option<Pending>, 
 #[test]
 fn a_count_of_two_comps_leaves_i64(rt: HostRuntime) -> Result<(), Fail> {
     let alloc = rt.alloc();
-    let (Some(one), Some(mut all)) = (
-        added(&rt, alloc, 72057594037927936)?,
-        added(&rt, alloc, 72057594037927936)?,
-    ) else {
-        assert!(&rt; false, "refused");
-        return Ok(());
-    };
+    let one = added(&rt, alloc, 72057594037927936)?.expect(&rt, "a comp");
+    let all = added(&rt, alloc, 72057594037927936)?.expect(&rt, "a comp");
+    grows_127_times_and_no_further(&rt, &one, all);
+    Ok(())
+}
+
+fn grows_127_times_and_no_further(rt: &impl Abort, one: &Pending, all: Pending) {
+    let mut all = all;
     for _time in 0..126 {
-        assert!(&rt; merge_into(&rt, &mut all, &one).is_ok());
+        assert!(rt; merge_into(rt, &mut all, one).is_ok());
     }
-    assert!(&rt; matches!(merge_into(&rt, &mut all, &one), Err(MaintFault::Large(1))));
-    assert_eq!(&rt; all.count(&[9]), 9151314442816847872);
-    assert!(&rt; added(&rt, alloc, 72057594037927937)?.is_none());
+    assert!(rt; matches!(merge_into(rt, &mut all, one), Err(MaintFault::Large(1))));
+    assert_eq!(rt; all.count(&[9]), 9151314442816847872);
+}
+
+#[test]
+fn a_row_of_more_than_two_to_the_56_is_refused(rt: HostRuntime) -> Result<(), Fail> {
+    assert!(&rt; added(&rt, rt.alloc(), 72057594037927937)?.is_none());
     Ok(())
 }

@@ -10,7 +10,7 @@ use std::test::Fail;
 use wh_cert::{Certificate, PairMin, Planned, Scope};
 use wh_dag::Shape;
 use wh_minwork::{Decided, Graph, MinFault, SortFault, desired_order, min_work};
-use wh_strategy::Costs;
+use wh_strategy::{Costs, Sizes};
 
 /// What MinWork answers in words: the list, the work and the lines of the certificate, or the cycle.
 fn planned(
@@ -21,13 +21,22 @@ fn planned(
 ) -> Result<(String, u128, Vec<PairMin>), Fail> {
     let shape = shaped(rt, alloc, views)?;
     let sizes = sized(alloc, rows)??;
-    let costs = Costs::new(1, 1).expect(rt, "costs of 1");
-    assert_eq!(rt; sizes.len(), shape.len());
-    match min_work(alloc, &shape, &sizes, costs) {
+    match asked(rt, alloc, &shape, &sizes) {
         Ok(plan) => Ok(told(rt, alloc, &shape, plan)?),
         Err(MinFault::Cyclic(cycle)) => Ok((written(alloc, &shape, &cycle)?, 0, Vec::new(alloc))),
         Err(MinFault::Memory) => Err(AllocError.into()),
     }
+}
+
+fn asked(
+    rt: &impl Abort,
+    alloc: Global,
+    shape: &Shape,
+    sizes: &Sizes,
+) -> Result<Planned, MinFault> {
+    let costs = Costs::new(1, 1).expect(rt, "costs of 1");
+    assert_eq!(rt; sizes.len(), shape.len());
+    min_work(alloc, shape, sizes, costs)
 }
 
 /// A plan's list in words, its work and the lines of its certificate.

@@ -56,9 +56,15 @@ fn a_view_over_two_bases_reads_back(rt: HostRuntime) -> Result<(), Fail> {
     assert_eq!(rt; shape.name(2), "v");
     assert_eq!(rt; shape.children(0), [].as_slice());
     assert_eq!(rt; shape.children(2), [1, 0].as_slice());
-    let other = read(&rt, alloc, &[("a", "-"), ("b", "-"), ("v", "a b")])?;
-    assert!(rt; !other.child_lists().is_same(shape.child_lists()));
     lists_read_back(&rt, alloc, shape.child_lists())?;
+    Ok(())
+}
+
+#[test]
+fn children_in_another_order_are_other_lists(rt: HostRuntime) -> Result<(), Fail> {
+    let shape = read(&rt, rt.alloc(), &[("a", "-"), ("b", "-"), ("v", "b a")])?;
+    let other = read(&rt, rt.alloc(), &[("a", "-"), ("b", "-"), ("v", "a b")])?;
+    assert!(rt; !other.child_lists().is_same(shape.child_lists()));
     Ok(())
 }
 
