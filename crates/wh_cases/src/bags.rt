@@ -1,29 +1,15 @@
 // Bags: the worked examples, and that ample memory is enough.
 
-use std::alloc::Global;
+use crate::nights::tables::bag as bag_of;
 use std::process::Abort;
 use std::test::Fail;
 use wh_row::{Bag, BagFault, Records, RecordsFault};
-
-/// A bag of these rows, added one after another.
-fn bag_of(alloc: Global, rows: &[(&[i64], i64)]) -> Result<Bag, BagFault> {
-    let mut bag = Bag::new(alloc);
-    for (row, count) in rows {
-        bag.add(row, *count)?;
-    }
-    Ok(bag)
-}
 
 /// Asserts that the bag lists these rows, with these counts, in this order.
 fn assert_lists(rt: &impl Abort, bag: &Bag, wanted: &[(&[i64], i64)]) {
     let mut rows = bag.rows();
     for (row, count) in wanted {
-        let next = rows.next();
-        assert!(rt; next.is_some());
-        if let Some((found, times)) = next {
-            assert_eq!(rt; found, *row);
-            assert_eq!(rt; times, *count);
-        }
+        assert_eq!(rt; rows.next(), Some((*row, *count)));
     }
     assert!(rt; rows.next().is_none());
 }

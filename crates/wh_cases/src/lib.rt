@@ -7,8 +7,6 @@
 #[cfg(test)]
 mod bags;
 #[cfg(test)]
-mod carried;
-#[cfg(test)]
 mod formulas;
 #[cfg(test)]
 mod nights;

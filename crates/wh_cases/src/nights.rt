@@ -2,9 +2,8 @@
 
 mod calls;
 mod carried;
-mod catalogs;
+pub(crate) mod catalogs;
 mod closures;
-mod examples;
 mod groups;
 mod limits;
 pub(crate) mod tables;

@@ -1,173 +1,118 @@
-// Catalogues from their text, with formulas that are asked as they are written.
-ghost use Rattle.std.specs.Prelude.{◌≡◌, length, IsTrue, Option};
+//! Catalogues of base views of two columns and one view over them.
 
-use std::alloc::{AllocError, Global};
+ghost use Rattle.std.specs.Prelude.{◌≡◌, ◌<◌, true, Some, pos, length, slice_index_or};
+
+use crate::plans::shapes::shaped;
+use std::alloc::Global;
 use std::process::Abort;
-use wh_dag::{Catalog, Definition, Output};
+use std::test::Fail;
+use wh_dag::{Catalog, Definition, Output, Shape};
 use wh_formula::{Combiner, Expr, Filter, Pred, RowTest, RowValue};
-use wh_load::{
-    Column, Dict, LoadFault, WrittenDefinition, WrittenOutput, WrittenView, read_definitions,
-    read_shape,
-};
 
-/// A test that is asked as it is written.
+/// Every row passes.
 #[derive(Drop)]
-pub(crate) struct Tested {
-    pred: Pred,
-}
+pub(crate) struct Every;
 
-impl RowTest for Tested {
-    ghost use Rattle.std.specs.Prelude.{◌≡◌, length, IsTrue};
-    ghost use Rattle.wh_formula.specs.Pred.{fits, holds};
+impl RowTest for Every {
+    ghost can_test = { λ _ _. Unit {0} };
 
-    ghost can_test = { λ t cells. IsTrue (fits (length cells) t.pred) };
+    ghost tests = { λ _ _ answer. answer ≡ true };
 
-    ghost tests = { λ t cells answer. answer ≡ holds cells t.pred };
-
-    fn test(&self, row: &[i64]) -> bool {
-        self.pred.holds(row)
+    fn test(&self, _row: &[i64]) -> bool {
+        true
     }
 }
 
-/// An expression that is asked as it is written.
+/// The cell at a place.
 #[derive(Drop)]
-pub(crate) struct Valued {
-    expr: Expr,
+pub(crate) struct Cell {
+    place: usize,
 }
 
-impl RowValue for Valued {
-    ghost use Rattle.std.specs.Prelude.{◌≡◌, length, IsTrue};
-    ghost use Rattle.wh_formula.specs.Expr.{fits, value};
+impl RowValue for Cell {
+    ghost can_combine = { λ cell row. cell.place < length row };
 
-    ghost can_combine = { λ v cells. IsTrue (fits (length cells) v.expr) };
-
-    ghost combines = { λ v cells answer. answer ≡ value cells v.expr };
+    ghost combines = { λ cell row answer. answer ≡ Some (slice_index_or row cell.place (pos 0)) };
 
     fn number(&self, row: &[i64]) -> Option<i64> {
-        self.expr.value(row)
+        Some(row[self.place])
     }
 }
 
-/// A catalogue, with the columns of its views.
-#[derive(Drop)]
-pub(crate) struct Warehouse {
-    pub(crate) catalog: Catalog<Tested, Valued>,
-    pub(crate) columns: Vec<Vec<Column>>,
-}
-
-fn filter(
+/// The catalogue of this shape, whose last view alone is over others, by this join, filter and output.
+pub(crate) fn catalog<F: RowTest + Drop, G: RowValue + Drop>(
     rt: &impl Abort,
     alloc: Global,
-    width: usize,
-    pred: &Pred,
-) -> Result<Filter<Tested>, AllocError> {
-    assert!(rt; pred.fits(width));
-    let tested = Tested {
-        pred: pred.copy(alloc)?,
-    };
-    Ok(Filter::new(pred.copy(alloc)?, width, tested))
-}
-
-fn combiner(
-    rt: &impl Abort,
-    alloc: Global,
-    width: usize,
-    expr: &Expr,
-) -> Result<Combiner<Valued>, AllocError> {
-    assert!(rt; expr.fits(width));
-    let valued = Valued {
-        expr: expr.copy(alloc)?,
-    };
-    Ok(Combiner::new(expr.copy(alloc)?, width, valued))
-}
-
-fn combiners(
-    rt: &impl Abort,
-    alloc: Global,
-    width: usize,
-    exprs: &[Expr],
-) -> Result<Vec<Combiner<Valued>>, AllocError> {
-    let mut combiners = Vec::new(alloc);
-    for expr in exprs {
-        combiners.push(combiner(rt, alloc, width, expr)?)?;
-    }
-    Ok(combiners)
-}
-
-fn output(
-    rt: &impl Abort,
-    alloc: Global,
-    width: usize,
-    written: &WrittenOutput,
-) -> Result<Output<Valued>, AllocError> {
-    match written {
-        WrittenOutput::Keep(kept) => Ok(Output::Keep(combiners(rt, alloc, width, kept)?)),
-        WrittenOutput::Sums { group, sums } => {
-            let group = Vec::from_slice(alloc, group)?;
-            let sums = combiners(rt, alloc, width, sums)?;
-            Ok(Output::Sums { group, sums })
-        }
-    }
-}
-
-fn definition(
-    rt: &impl Abort,
-    alloc: Global,
-    written: &WrittenDefinition,
-) -> Result<Definition<Tested, Valued>, AllocError> {
-    let join = Vec::from_slice(alloc, &written.join)?;
-    let filter = filter(rt, alloc, written.width, &written.filter)?;
-    let out = output(rt, alloc, written.width, &written.output)?;
-    assert!(rt; Definition::fits(&join, &filter, &out));
-    Ok(Definition::new(join, filter, out))
-}
-
-/// The catalogue that the text writes.
-pub(crate) fn read_warehouse(
-    rt: &impl Abort,
-    alloc: Global,
-    text: &str,
-    dict: &mut Dict,
-) -> Result<Warehouse, LoadFault> {
-    let text = text.as_bytes();
-    let shape = read_shape(alloc, text)?;
-    let views = read_definitions(alloc, text, &shape, dict)?.views;
-    let widths = base_widths(alloc, &views)?;
-    let definitions = definitions(rt, alloc, &views)?;
-    let columns = columns(alloc, views)?;
-    assert!(rt; Catalog::fits(&shape, &widths, &definitions));
-    let catalog = Catalog::new(alloc, shape, widths, definitions)?;
-    Ok(Warehouse { catalog, columns })
-}
-
-fn base_widths(alloc: Global, views: &[WrittenView]) -> Result<Vec<usize>, AllocError> {
+    shape: Shape,
+    join: Vec<(usize, usize)>,
+    filter: Filter<F>,
+    out: Output<G>,
+) -> Result<Catalog<F, G>, Fail> {
     let mut widths = Vec::new(alloc);
-    for view in views {
-        if view.definition.is_none() {
-            widths.push(view.columns.len())?;
-        }
+    for _base in 1..shape.len() {
+        widths.push(2)?;
     }
-    Ok(widths)
-}
-
-fn definitions(
-    rt: &impl Abort,
-    alloc: Global,
-    views: &[WrittenView],
-) -> Result<Vec<Definition<Tested, Valued>>, AllocError> {
+    assert!(rt; Definition::fits(&join, &filter, &out));
     let mut definitions = Vec::new(alloc);
-    for view in views {
-        if let Some(own) = &view.definition {
-            definitions.push(definition(rt, alloc, own)?)?;
-        }
-    }
-    Ok(definitions)
+    definitions.push(Definition::new(join, filter, out))?;
+    assert!(rt; Catalog::fits(&shape, &widths, &definitions));
+    Ok(Catalog::new(alloc, shape, widths, definitions)?)
 }
 
-fn columns(alloc: Global, views: Vec<WrittenView>) -> Result<Vec<Vec<Column>>, AllocError> {
-    let mut columns = Vec::new(alloc);
-    for view in views {
-        columns.push(view.columns)?;
-    }
-    Ok(columns)
+/// a, and v over it.
+pub(crate) fn over_one(rt: &impl Abort, alloc: Global) -> Result<Shape, Fail> {
+    Ok(shaped(rt, alloc, &[("a", "-"), ("v", "a")])?)
+}
+
+/// a and b, and v over both.
+pub(crate) fn over_two(rt: &impl Abort, alloc: Global) -> Result<Shape, Fail> {
+    Ok(shaped(rt, alloc, &[("a", "-"), ("b", "-"), ("v", "a b")])?)
+}
+
+/// The first and the fourth cell.
+pub(crate) fn first_and_fourth(alloc: Global) -> Result<Vec<Combiner<Cell>>, Fail> {
+    let mut kept = Vec::new(alloc);
+    kept.push(Combiner::new(Expr::column(0), 4, Cell { place: 0 }))?;
+    kept.push(Combiner::new(Expr::column(3), 4, Cell { place: 3 }))?;
+    Ok(kept)
+}
+
+/// a(x,y) and b(y,z), and v, which keeps a.x and b.z where a.y = b.y.
+pub(crate) fn joined(rt: &impl Abort, alloc: Global) -> Result<Catalog<Every, Cell>, Fail> {
+    let out = Output::Keep(first_and_fourth(alloc)?);
+    let join = vec![in alloc; (1, 2)]?;
+    let filter = Filter::new(Pred::always(), 4, Every);
+    let shape = over_two(rt, alloc)?;
+    catalog(rt, alloc, shape, join, filter, out)
+}
+
+/// The second of two cells.
+pub(crate) fn second(alloc: Global) -> Result<Vec<Combiner<Cell>>, Fail> {
+    let mut cells = Vec::new(alloc);
+    cells.push(Combiner::new(Expr::column(1), 2, Cell { place: 1 }))?;
+    Ok(cells)
+}
+
+/// a(g,x), and v with the sum of a.x for each a.g.
+pub(crate) fn summed(rt: &impl Abort, alloc: Global) -> Result<Catalog<Every, Cell>, Fail> {
+    let sums = second(alloc)?;
+    let group = vec![in alloc; 0]?;
+    let filter = Filter::new(Pred::always(), 2, Every);
+    let shape = over_one(rt, alloc)?;
+    catalog(
+        rt,
+        alloc,
+        shape,
+        Vec::new(alloc),
+        filter,
+        Output::Sums { group, sums },
+    )
+}
+
+/// a(g,x), and v, which keeps a.x.
+pub(crate) fn kept(rt: &impl Abort, alloc: Global) -> Result<Catalog<Every, Cell>, Fail> {
+    let out = Output::Keep(second(alloc)?);
+    let filter = Filter::new(Pred::always(), 2, Every);
+    let shape = over_one(rt, alloc)?;
+    catalog(rt, alloc, shape, Vec::new(alloc), filter, out)
 }

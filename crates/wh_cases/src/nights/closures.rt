@@ -6,53 +6,18 @@ ghost use Rattle.wh_formula.specs.Native.{CallableOnRows};
 ghost use Rattle.wh_formula.specs.Filter.{AnswersPred};
 ghost use Rattle.wh_formula.specs.Combiner.{AnswersExpr};
 
-use crate::nights::calls::{change_of, comp_of, rows_of};
+use crate::nights::calls::{change_of, comp_of, rows_of, value_of};
+use crate::nights::catalogs::{catalog, over_one, over_two};
 use crate::nights::tables::bags;
 use std::alloc::Global;
 use std::process::Abort;
 use std::test::Fail;
-use wh_dag::{Catalog, Definition, Output, Shape};
+use wh_dag::{Catalog, Output};
 use wh_formula::{Combiner, Expr, Filter, Native, Pred, RowTest, RowValue};
 use wh_maint::Pending;
 use wh_row::Bag;
 
 type Value = Box<dyn Fn(&[i64]) -> Option<i64> + Sync>;
-
-// Base views of these names, and a view over them.
-fn shape(rt: &impl Abort, alloc: Global, bases: &[&str]) -> Result<Shape, Fail> {
-    let mut names = Vec::new(alloc);
-    let mut over = Vec::new(alloc);
-    let mut children = Vec::new(alloc);
-    for base in bases {
-        names.push(String::from_str(alloc, base)?)?;
-        over.push(None)?;
-        children.push(String::from_str(alloc, base)?)?;
-    }
-    names.push(String::from_str(alloc, "v")?)?;
-    over.push(Some(children))?;
-    assert_eq!(rt; names.len(), over.len());
-    Ok(Shape::new(alloc, names, over)?)
-}
-
-fn catalog<F: RowTest + Drop, G: RowValue + Drop>(
-    rt: &impl Abort,
-    alloc: Global,
-    bases: &[&str],
-    join: Vec<(usize, usize)>,
-    filter: Filter<F>,
-    out: Output<G>,
-) -> Result<Catalog<F, G>, Fail> {
-    let mut widths = Vec::new(alloc);
-    for _base in bases {
-        widths.push(2)?;
-    }
-    assert!(rt; Definition::fits(&join, &filter, &out));
-    let mut definitions = Vec::new(alloc);
-    definitions.push(Definition::new(join, filter, out))?;
-    let shape = shape(rt, alloc, bases)?;
-    assert!(rt; Catalog::fits(&shape, &widths, &definitions));
-    Ok(Catalog::new(alloc, shape, widths, definitions)?)
-}
 
 // v keeps a.x and b.z where a.y = b.y.
 fn joins<F: RowTest + Drop, G: RowValue + Drop>(
@@ -74,7 +39,14 @@ fn joins<F: RowTest + Drop, G: RowValue + Drop>(
     kept.push(Combiner::new(Expr::column(3), 4, z))?;
     let join = vec![in alloc; (1, 2)]?;
     let filter = Filter::new(Pred::always(), 4, every);
-    let catalog = catalog(rt, alloc, &["a", "b"], join, filter, Output::Keep(kept))?;
+    let catalog = catalog(
+        rt,
+        alloc,
+        over_two(rt, alloc)?,
+        join,
+        filter,
+        Output::Keep(kept),
+    )?;
     joins_tables(rt, alloc, &catalog)
 }
 
@@ -93,6 +65,7 @@ fn joins_tables<F: RowTest, G: RowValue>(
 ) -> Result<(), Fail> {
     let tables = bags(alloc, &TWO_TABLES)?;
     let changes = bags(alloc, &TWO_CHANGES)?;
+    has_its_value(rt, alloc, catalog, &tables);
     assert_eq!(rt; rows_of(rt, catalog, 2, &[0], &tables, &changes), 3);
     assert_eq!(rt; rows_of(rt, catalog, 2, &[0, 1], &tables, &changes), 11);
     match comp_of(rt, alloc, catalog, 2, &[0, 1], &tables, &changes) {
@@ -104,6 +77,23 @@ fn joins_tables<F: RowTest, G: RowValue>(
         Err(_fault) => assert!(rt; false, "refused"),
     }
     Ok(())
+}
+
+fn has_its_value<F: RowTest, G: RowValue>(
+    rt: &impl Abort,
+    alloc: Global,
+    catalog: &Catalog<F, G>,
+    tables: &[Bag],
+) {
+    match value_of(rt, alloc, catalog, 2, tables) {
+        Ok(own) => {
+            assert_eq!(rt;
+                (own.total(), own.count(&[1, 5]), own.count(&[2, 5])),
+                (2, 1, 1)
+            );
+        }
+        Err(_fault) => assert!(rt; false, "refused"),
+    }
 }
 
 #[test]
@@ -151,7 +141,14 @@ fn sums<F: RowTest + Drop, G: RowValue + Drop>(
     let group = vec![in alloc; 0]?;
     let filter = Filter::new(Pred::always(), 2, every);
     let out = Output::Sums { group, sums };
-    let catalog = catalog(rt, alloc, &["a"], Vec::new(alloc), filter, out)?;
+    let catalog = catalog(
+        rt,
+        alloc,
+        over_one(rt, alloc)?,
+        Vec::new(alloc),
+        filter,
+        out,
+    )?;
     sums_groups(rt, alloc, &catalog)
 }
 

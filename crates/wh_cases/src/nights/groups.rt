@@ -1,68 +1,33 @@
-// Groups of a summary that leave, stay and come back, and their counts and sums at the limits.
+// Groups of a summary: their counts and sums at the limits, and what the calls on them ask.
 
 use crate::nights::calls::{change_of, comp_of};
-use crate::nights::carried::{Night, tells};
-use crate::nights::catalogs::{Tested, Valued, read_warehouse};
-use crate::nights::examples::{BY_GROUP, GROUPS};
+use crate::nights::catalogs::{Cell, Every, summed};
 use crate::nights::tables::{bag, two_bags};
 use std::alloc::{AllocError, Global};
 use std::process::Abort;
 use std::test::Fail;
 use wh_dag::Catalog;
-use wh_load::{Dict, write_table};
 use wh_maint::{MaintFault, Pending, are_bags, are_sources, is_fit};
 use wh_row::Bag;
 
-#[test]
-fn a_group_leaves_and_comes_back(rt: HostRuntime) -> Result<(), Fail> {
-    let night = Night {
-        tables: &["g,x\n1,5\n2,3\n"],
-        changes: &["#,g,x\n-1,1,5\n1,1,7\n-1,2,3\n"],
-        ..GROUPS
-    };
-    let wanted = "comp s from a: 3\ninst a: 3\ninst s: 3\n#,g,n,t\n1,1,1,7\n";
-    tells(&rt, rt.alloc(), &night, wanted)
-}
-
-// A change that leaves a group its count and its sum changes nothing.
-#[test]
-fn a_group_with_the_same_sums_stays(rt: HostRuntime) -> Result<(), Fail> {
-    let night = Night {
-        tables: &["g,x\n1,5\n1,1\n"],
-        changes: &["#,g,x\n-1,1,5\n-1,1,1\n1,1,4\n1,1,2\n"],
-        ..GROUPS
-    };
-    let wanted = "comp s from a: 4\ninst a: 4\ninst s: 0\n#,g,n,t\n1,1,2,6\n";
-    tells(&rt, rt.alloc(), &night, wanted)
-}
-
-// The change of s, whose table is given, by a change of a, as it is written.
+// The change of the summary, whose table is given, by a change of a.
 fn change(
     rt: &impl Abort,
     alloc: Global,
     table: &[(&[i64], i64)],
     of_a: &[(&[i64], i64)],
-) -> Result<Result<Vec<u8>, MaintFault>, Fail> {
+) -> Result<Result<Bag, MaintFault>, Fail> {
     let tables = two_bags(alloc, &[], table)?;
     let changes = two_bags(alloc, of_a, &[])?;
-    let mut dict = Dict::new(alloc);
-    let house = read_warehouse(rt, alloc, BY_GROUP, &mut dict)?;
-    match change_of_s(rt, alloc, &house.catalog, &tables, &changes) {
-        Ok(own) => {
-            assert!(rt; house.columns.len() == 2);
-            let mut out = Vec::new(alloc);
-            write_table(&mut out, &house.columns[1], &own, &dict)?;
-            Ok(Ok(out))
-        }
-        Err(fault) => Ok(Err(fault)),
-    }
+    let catalog = summed(rt, alloc)?;
+    Ok(change_of_sums(rt, alloc, &catalog, &tables, &changes))
 }
 
-// The change of s by a change of a.
-fn change_of_s(
+// The change of the summary by a change of a.
+fn change_of_sums(
     rt: &impl Abort,
     alloc: Global,
-    catalog: &Catalog<Tested, Valued>,
+    catalog: &Catalog<Every, Cell>,
     tables: &[Bag],
     changes: &[Bag],
 ) -> Result<Bag, MaintFault> {
@@ -87,22 +52,18 @@ fn a_count_or_a_sum_leaves_i64(rt: HostRuntime) -> Result<(), Fail> {
 #[test]
 fn a_group_that_leaves_has_no_sum(rt: HostRuntime) -> Result<(), Fail> {
     let alloc = rt.alloc();
-    let told = change(&rt, alloc, &[(&[1, 1, i64::MIN], 1)], &[(&[1, 1], -1)])?;
-    assert!(&rt;
-        told.is_ok_and(|text| text.as_slice()
-            == b"#,g,n,t\n-1,1,1,-9223372036854775808\n".as_slice())
-    );
+    let left = change(&rt, alloc, &[(&[1, 1, i64::MIN], 1)], &[(&[1, 1], -1)])?;
+    assert!(&rt; left.is_ok_and(|own| own.total() == 1 && own.count(&[1, 1, i64::MIN]) == -1));
     Ok(())
 }
 
 #[test]
 fn tables_are_fit_or_not(rt: HostRuntime) -> Result<(), Fail> {
     let alloc = rt.alloc();
-    let mut dict = Dict::new(alloc);
-    let house = read_warehouse(&rt, alloc, BY_GROUP, &mut dict)?;
+    let catalog = summed(&rt, alloc)?;
     for (rows, wanted) in &TABLES {
         let table = bag(alloc, rows)?;
-        assert_eq!(&rt; is_fit_for_s(&rt, alloc, &house.catalog, &table)?, *wanted);
+        assert_eq!(&rt; is_fit_for_sums(&rt, alloc, &catalog, &table)?, *wanted);
     }
     Ok(())
 }
@@ -116,10 +77,10 @@ static TABLES: [(&[(&[i64], i64)], bool); 6] = [
     (&[(&[3], 1)], false),
 ];
 
-fn is_fit_for_s(
+fn is_fit_for_sums(
     rt: &impl Abort,
     alloc: Global,
-    catalog: &Catalog<Tested, Valued>,
+    catalog: &Catalog<Every, Cell>,
     table: &Bag,
 ) -> Result<bool, AllocError> {
     assert!(rt; catalog.shape().len() == 2 && !catalog.is_base(1));
@@ -129,13 +90,12 @@ fn is_fit_for_s(
 #[test]
 fn bags_sources_and_pendings_are_told_apart(rt: HostRuntime) -> Result<(), Fail> {
     let alloc = rt.alloc();
-    let mut dict = Dict::new(alloc);
-    let house = read_warehouse(&rt, alloc, BY_GROUP, &mut dict)?;
-    tells_bags_apart(&rt, alloc, &house.catalog)?;
-    tells_sources_apart(&rt, &house.catalog);
+    let catalog = summed(&rt, alloc)?;
+    tells_bags_apart(&rt, alloc, &catalog)?;
+    tells_sources_apart(&rt, &catalog);
     for (view, sums, wanted) in [(1, 1, true), (1, 0, false), (0, 1, false)] {
         let pending = Pending::new(alloc, view, sums)?;
-        assert_eq!(&rt; is_for_s(&rt, &pending, &house.catalog), wanted);
+        assert_eq!(&rt; is_for_sums(&rt, &pending, &catalog), wanted);
     }
     Ok(())
 }
@@ -143,7 +103,7 @@ fn bags_sources_and_pendings_are_told_apart(rt: HostRuntime) -> Result<(), Fail>
 fn tells_bags_apart(
     rt: &impl Abort,
     alloc: Global,
-    catalog: &Catalog<Tested, Valued>,
+    catalog: &Catalog<Every, Cell>,
 ) -> Result<(), Fail> {
     let wide = two_bags(alloc, &[(&[1, 2], 1)], &[(&[1, 2], 1)])?;
     assert!(rt; !are_bags(catalog, &wide));
@@ -151,7 +111,7 @@ fn tells_bags_apart(
     Ok(())
 }
 
-fn tells_sources_apart(rt: &impl Abort, catalog: &Catalog<Tested, Valued>) {
+fn tells_sources_apart(rt: &impl Abort, catalog: &Catalog<Every, Cell>) {
     assert!(rt; catalog.shape().len() == 2 && !catalog.is_base(1));
     assert!(rt; are_sources(catalog, 1, &[0]));
     assert!(rt; !are_sources(catalog, 1, &[]));
@@ -159,7 +119,7 @@ fn tells_sources_apart(rt: &impl Abort, catalog: &Catalog<Tested, Valued>) {
     assert!(rt; !are_sources(catalog, 1, &[1]));
 }
 
-fn is_for_s(rt: &impl Abort, pending: &Pending, catalog: &Catalog<Tested, Valued>) -> bool {
+fn is_for_sums(rt: &impl Abort, pending: &Pending, catalog: &Catalog<Every, Cell>) -> bool {
     assert!(rt; catalog.shape().len() == 2 && !catalog.is_base(1));
     pending.is_for(catalog, 1)
 }

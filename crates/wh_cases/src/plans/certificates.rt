@@ -1,14 +1,14 @@
 //! Pair bounds, and certificates that are accepted or rejected at a line.
 
 use crate::plans::given::{
-    CYCLIC, CYCLIC_SIZES, SIX, SIX_SIZES, TWO_BASES, TWO_BASES_SIZES, listed, shaped, sized,
+    CYCLIC, CYCLIC_SIZES, Measured, SIX, SIX_SIZES, TWO_BASES, TWO_BASES_SIZES, given, listed,
 };
 use std::alloc::{AllocError, Global};
 use std::process::Abort;
 use std::test::Fail;
 use wh_cert::{Certificate, PairMin, PairMins, Verdict, certify, pair_bound};
 use wh_dag::{Shape, ShapeFault};
-use wh_strategy::{Correct, Costs, Sizes, check};
+use wh_strategy::{Correct, Costs, check};
 
 /// The correct strategy of these steps.
 fn correct(
@@ -47,11 +47,11 @@ fn by_pairs(alloc: Global, lines: &[Line]) -> Result<Certificate, AllocError> {
 fn judged(
     rt: &impl Abort,
     alloc: Global,
-    shape: &Shape,
-    sizes: &Sizes,
+    given: &Measured,
     correct: &Correct,
     lines: &[Line],
 ) -> Result<Verdict, AllocError> {
+    let Measured { shape, sizes } = given;
     assert!(rt; correct.is_of(shape) && sizes.len() == shape.len());
     let costs = Costs::new(1, 1).expect(rt, "costs of 1");
     let certificate = by_pairs(alloc, lines)?;
@@ -76,12 +76,11 @@ static JUDGED: [(&str, &[Line], Verdict); 6] = [
 #[test]
 fn certificates_over_two_bases_are_judged_as_worked_by_hand(rt: HostRuntime) -> Result<(), Fail> {
     let alloc = rt.alloc();
-    let shape = shaped(&rt, alloc, &TWO_BASES)?;
-    let sizes = sized(alloc, &TWO_BASES_SIZES)?.expect(&rt, "sizes");
-    let correct = correct(&rt, alloc, &shape, "V<B B V<A A V")?;
+    let given = given(&rt, alloc, &TWO_BASES, &TWO_BASES_SIZES)?;
+    let correct = correct(&rt, alloc, &given.shape, "V<B B V<A A V")?;
     for (name, lines, verdict) in &JUDGED {
         assert_eq!(rt;
-            judged(&rt, alloc, &shape, &sizes, &correct, lines)?,
+            judged(&rt, alloc, &given, &correct, lines)?,
             *verdict,
             "{name}"
         );
@@ -94,10 +93,9 @@ static RIGHT: [Line; 1] = [(2, 1, 0, 80)];
 #[test]
 fn right_lines_of_a_dearer_strategy_are_rejected_at_0(rt: HostRuntime) -> Result<(), Fail> {
     let alloc = rt.alloc();
-    let shape = shaped(&rt, alloc, &TWO_BASES)?;
-    let sizes = sized(alloc, &TWO_BASES_SIZES)?.expect(&rt, "sizes");
-    let at_once = correct(&rt, alloc, &shape, "V<A+B A B V")?;
-    let verdict = judged(&rt, alloc, &shape, &sizes, &at_once, &RIGHT)?;
+    let given = given(&rt, alloc, &TWO_BASES, &TWO_BASES_SIZES)?;
+    let at_once = correct(&rt, alloc, &given.shape, "V<A+B A B V")?;
+    let verdict = judged(&rt, alloc, &given, &at_once, &RIGHT)?;
     assert_eq!(rt; verdict, Verdict::Rejected(0));
     Ok(())
 }
@@ -126,11 +124,10 @@ fn bound(
     views: &[(&str, &str)],
     rows: &[(u64, u64, u64)],
 ) -> Result<u128, ShapeFault> {
-    let shape = shaped(rt, alloc, views)?;
-    let sizes = sized(alloc, rows)?.expect(rt, "sizes");
+    let given = given(rt, alloc, views, rows)?;
     let costs = Costs::new(1, 1).expect(rt, "costs of 1");
-    assert_eq!(rt; sizes.len(), shape.len());
-    Ok(pair_bound(&shape, &sizes, costs))
+    assert_eq!(rt; given.sizes.len(), given.shape.len());
+    Ok(pair_bound(&given.shape, &given.sizes, costs))
 }
 
 // 80 + 34 + 40; 140 + 160 + 85 + 95; 15 pairs of 20, six changes and seven Insts.
@@ -147,12 +144,12 @@ fn bounds_are_as_worked_by_hand(rt: HostRuntime) -> Result<(), Fail> {
 #[test]
 fn six_children(rt: HostRuntime) -> Result<(), Fail> {
     let alloc = rt.alloc();
-    let shape = shaped(&rt, alloc, &SIX)?;
-    let lines = lines_at(alloc, &shape, 20)?;
+    let given = given(&rt, alloc, &SIX, &SIX_SIZES)?;
+    let lines = lines_at(alloc, &given.shape, 20)?;
     assert_eq!(rt; lines.len(), 15);
-    let all = judged_of_six(&rt, alloc, &shape, &lines)?;
+    let all = judged_of_six(&rt, alloc, &given, &lines)?;
     assert_eq!(rt; all, Verdict::All);
-    let short = judged_of_six(&rt, alloc, &shape, &lines[..14])?;
+    let short = judged_of_six(&rt, alloc, &given, &lines[..14])?;
     assert_eq!(rt; short, Verdict::Rejected(15));
     Ok(())
 }
@@ -161,10 +158,9 @@ fn six_children(rt: HostRuntime) -> Result<(), Fail> {
 fn judged_of_six(
     rt: &impl Abort,
     alloc: Global,
-    shape: &Shape,
+    given: &Measured,
     lines: &[Line],
 ) -> Result<Verdict, AllocError> {
-    let sizes = sized(alloc, &SIX_SIZES)?.expect(rt, "sizes");
-    let correct = correct(rt, alloc, shape, ONE_BY_ONE)?;
-    judged(rt, alloc, shape, &sizes, &correct, lines)
+    let correct = correct(rt, alloc, &given.shape, ONE_BY_ONE)?;
+    judged(rt, alloc, given, &correct, lines)
 }

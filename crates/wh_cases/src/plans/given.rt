@@ -1,16 +1,22 @@
 //! Shapes, sizes and lists from the texts of examples.
 
+use crate::plans::shapes::shaped;
 use std::alloc::{AllocError, Global};
 use std::process::Abort;
 use wh_dag::{Shape, ShapeFault};
 use wh_strategy::{Expression, OutOfRange, SizeRow, Sizes, Sources, Strategy};
 
-pub(crate) static TWO_BASES: [(&str, &str); 3] = [("A", ""), ("B", ""), ("V", "A B")];
+pub(crate) static TWO_BASES: [(&str, &str); 3] = [("A", "-"), ("B", "-"), ("V", "A B")];
 
 pub(crate) static TWO_BASES_SIZES: [(u64, u64, u64); 3] = [(10, 12, 4), (100, 70, 30), (50, 44, 6)];
 
 /// B and C, V1 over both, V2 over B and V1.
-pub(crate) static CYCLIC: [(&str, &str); 4] = [("B", ""), ("C", ""), ("V1", "B C"), ("V2", "B V1")];
+pub(crate) static CYCLIC: [(&str, &str); 4] = [
+    ("B", "-"),
+    ("C", "-"),
+    ("V1", "B C"),
+    ("V2", "B V1"),
+];
 
 pub(crate) static CYCLIC_SIZES: [(u64, u64, u64); 4] = [
     (100, 90, 20),
@@ -28,12 +34,12 @@ pub(crate) static TIED_SIZES: [(u64, u64, u64); 4] = [
 ];
 
 pub(crate) static SIX: [(&str, &str); 7] = [
-    ("A1", ""),
-    ("A2", ""),
-    ("A3", ""),
-    ("A4", ""),
-    ("A5", ""),
-    ("A6", ""),
+    ("A1", "-"),
+    ("A2", "-"),
+    ("A3", "-"),
+    ("A4", "-"),
+    ("A5", "-"),
+    ("A6", "-"),
     ("V", "A1 A2 A3 A4 A5 A6"),
 ];
 
@@ -47,26 +53,6 @@ pub(crate) static SIX_SIZES: [(u64, u64, u64); 7] = [
     (10, 10, 1),
     (5, 5, 1),
 ];
-
-/// The shape of these views, each by its name and the names of its children: none for a base view.
-pub(crate) fn shaped(
-    rt: &impl Abort,
-    alloc: Global,
-    rows: &[(&str, &str)],
-) -> Result<Shape, ShapeFault> {
-    let mut names = Vec::new(alloc);
-    let mut over = Vec::new(alloc);
-    for (name, own) in rows {
-        names.push(String::from_str(alloc, name)?)?;
-        let mut children = Vec::new(alloc);
-        for child in own.split_whitespace() {
-            children.push(String::from_str(alloc, child)?)?;
-        }
-        over.push(if own.is_empty() { None } else { Some(children) })?;
-    }
-    assert_eq!(rt; names.len(), over.len());
-    Shape::new(alloc, names, over)
-}
 
 /// Sizes from rows of pre, post and change.
 pub(crate) fn sized(
@@ -82,6 +68,25 @@ pub(crate) fn sized(
         })?;
     }
     Ok(Sizes::new(all))
+}
+
+/// A shape with the sizes of its views.
+#[derive(Drop)]
+pub(crate) struct Measured {
+    pub(crate) shape: Shape,
+    pub(crate) sizes: Sizes,
+}
+
+/// These views with these sizes.
+pub(crate) fn given(
+    rt: &impl Abort,
+    alloc: Global,
+    views: &[(&str, &str)],
+    rows: &[(u64, u64, u64)],
+) -> Result<Measured, ShapeFault> {
+    let shape = shaped(rt, alloc, views)?;
+    let sizes = sized(alloc, rows)?.expect(rt, "sizes");
+    Ok(Measured { shape, sizes })
 }
 
 /// The view of this name, or 99 for a name that is no view's.

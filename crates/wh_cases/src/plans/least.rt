@@ -1,16 +1,17 @@
 //! Plans of least work: which list is found, and which cycle.
 
 use crate::plans::given::{
-    CYCLIC, CYCLIC_SIZES, SIX, SIX_SIZES, TIED_SIZES, TWO_BASES, TWO_BASES_SIZES, shaped, sized,
-    written,
+    CYCLIC, CYCLIC_SIZES, Measured, SIX, SIX_SIZES, TIED_SIZES, TWO_BASES, TWO_BASES_SIZES, given,
+    sized, written,
 };
+use crate::plans::shapes::shaped;
 use std::alloc::{AllocError, Global};
 use std::process::Abort;
 use std::test::Fail;
 use wh_cert::{Certificate, PairMin, Planned, Scope};
 use wh_dag::Shape;
 use wh_minwork::{Decided, Graph, MinFault, SortFault, desired_order, min_work};
-use wh_strategy::{Costs, Sizes};
+use wh_strategy::Costs;
 
 /// What MinWork answers in words: the list, the work and the lines of the certificate, or the cycle.
 fn planned(
@@ -19,21 +20,18 @@ fn planned(
     views: &[(&str, &str)],
     rows: &[(u64, u64, u64)],
 ) -> Result<(String, u128, Vec<PairMin>), Fail> {
-    let shape = shaped(rt, alloc, views)?;
-    let sizes = sized(alloc, rows)??;
-    match asked(rt, alloc, &shape, &sizes) {
-        Ok(plan) => Ok(told(rt, alloc, &shape, plan)?),
-        Err(MinFault::Cyclic(cycle)) => Ok((written(alloc, &shape, &cycle)?, 0, Vec::new(alloc))),
+    let given = given(rt, alloc, views, rows)?;
+    match asked(rt, alloc, &given) {
+        Ok(plan) => Ok(told(rt, alloc, &given.shape, plan)?),
+        Err(MinFault::Cyclic(cycle)) => {
+            Ok((written(alloc, &given.shape, &cycle)?, 0, Vec::new(alloc)))
+        }
         Err(MinFault::Memory) => Err(AllocError.into()),
     }
 }
 
-fn asked(
-    rt: &impl Abort,
-    alloc: Global,
-    shape: &Shape,
-    sizes: &Sizes,
-) -> Result<Planned, MinFault> {
+fn asked(rt: &impl Abort, alloc: Global, given: &Measured) -> Result<Planned, MinFault> {
+    let Measured { shape, sizes } = given;
     let costs = Costs::new(1, 1).expect(rt, "costs of 1");
     assert_eq!(rt; sizes.len(), shape.len());
     min_work(alloc, shape, sizes, costs)
@@ -82,7 +80,7 @@ fn plans_are_as_worked_by_hand(rt: HostRuntime) -> Result<(), Fail> {
     let alloc = rt.alloc();
     let b_first = ("V<B B V<A A V", 154, 1, 80);
     is_planned(&rt, alloc, &TWO_BASES, &TWO_BASES_SIZES, b_first)?;
-    let bases = [("A", ""), ("B", "")];
+    let bases = [("A", "-"), ("B", "-")];
     let sizes = [(10, 12, 4), (5, 5, 0)];
     is_planned(&rt, alloc, &bases, &sizes, ("A B", 4, 0, 0))?;
     let list = "V<A1 A1 V<A2 A2 V<A3 A3 V<A4 A4 V<A5 A5 V<A6 A6 V";

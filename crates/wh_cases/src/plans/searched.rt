@@ -1,16 +1,15 @@
 //! Plans of all shapes, and what a search answers where its budget ends.
 
 use crate::plans::given::{
-    CYCLIC, CYCLIC_SIZES, SIX, SIX_SIZES, TIED_SIZES, TWO_BASES, TWO_BASES_SIZES, shaped, sized,
+    CYCLIC, CYCLIC_SIZES, Measured, SIX, SIX_SIZES, TIED_SIZES, TWO_BASES, TWO_BASES_SIZES, given,
     written,
 };
 use std::alloc::{AllocError, Global};
 use std::process::Abort;
 use std::test::Fail;
 use wh_cert::{Certificate, PairMin, Planned, Scope, Verdict, certify};
-use wh_dag::Shape;
 use wh_prune::{PruneFault, plan, prune};
-use wh_strategy::{Costs, Sizes};
+use wh_strategy::Costs;
 
 /// Who plans.
 #[derive(Clone, Copy)]
@@ -37,10 +36,9 @@ fn found(
     rows: &[(u64, u64, u64)],
     budget: u64,
 ) -> Result<Result<Words, (u64, u128)>, Fail> {
-    let shape = shaped(rt, alloc, views)?;
-    let sizes = sized(alloc, rows)??;
-    match asked(rt, alloc, by, &shape, &sizes, budget) {
-        Ok(planned) => Ok(Ok(in_words(rt, alloc, &shape, &sizes, planned)?)),
+    let given = given(rt, alloc, views, rows)?;
+    match asked(rt, alloc, by, &given, budget) {
+        Ok(planned) => Ok(Ok(in_words(rt, alloc, &given, planned)?)),
         Err(PruneFault::Budget { opened, best }) => Ok(Err((opened, best))),
         Err(PruneFault::Memory) => Err(AllocError.into()),
     }
@@ -50,10 +48,10 @@ fn asked(
     rt: &impl Abort,
     alloc: Global,
     by: By,
-    shape: &Shape,
-    sizes: &Sizes,
+    given: &Measured,
     budget: u64,
 ) -> Result<Planned, PruneFault> {
+    let Measured { shape, sizes } = given;
     let costs = Costs::new(1, 1).expect(rt, "costs of 1");
     assert_eq!(rt; sizes.len(), shape.len());
     assert!(rt; 1 <= budget && budget < 1 << 63);
@@ -66,22 +64,21 @@ fn asked(
 fn in_words(
     rt: &impl Abort,
     alloc: Global,
-    shape: &Shape,
-    sizes: &Sizes,
+    given: &Measured,
     planned: Planned,
 ) -> Result<Words, Fail> {
     let accepted = match planned.scope {
         Scope::All => Verdict::All,
         Scope::OneWay => Verdict::OneWay,
     };
-    assert_eq!(rt; judged(rt, shape, sizes, &planned), accepted);
+    assert_eq!(rt; judged(rt, given, &planned), accepted);
     let Planned {
         correct,
         work,
         scope,
         certificate,
     } = planned;
-    let list = written(alloc, shape, correct.strategy().as_slice())?;
+    let list = written(alloc, &given.shape, correct.strategy().as_slice())?;
     let lines = match certificate {
         Certificate::Pairs(pairs) => pairs.into_vec(),
         Certificate::Search(_tree) => Vec::new(alloc),
@@ -95,7 +92,8 @@ fn in_words(
 }
 
 /// What `certify` says of the plan's certificate.
-fn judged(rt: &impl Abort, shape: &Shape, sizes: &Sizes, planned: &Planned) -> Verdict {
+fn judged(rt: &impl Abort, given: &Measured, planned: &Planned) -> Verdict {
+    let Measured { shape, sizes } = given;
     let costs = Costs::new(1, 1).expect(rt, "costs of 1");
     assert!(rt; planned.correct.is_of(shape) && sizes.len() == shape.len());
     certify(shape, sizes, costs, &planned.correct, &planned.certificate)
@@ -208,7 +206,7 @@ fn a_plan_without_a_search_needs_no_budget(rt: HostRuntime) -> Result<(), Fail> 
         1,
         b_first,
     )?;
-    let bases = [("A", ""), ("B", "")];
+    let bases = [("A", "-"), ("B", "-")];
     let sizes = [(10, 12, 4), (5, 5, 0)];
     let alone = ("A B", Scope::All, 4, 0);
     finds(&rt, alloc, By::Plan, &bases, &sizes, 1, alone)?;

@@ -17,8 +17,8 @@ fn children(alloc: Global, names: &str) -> Result<Option<Vec<String>>, AllocErro
     Ok(Some(children))
 }
 
-/// The shape of these views, each by its name and its children.
-pub(crate) fn read(
+/// The shape of these views, each by its name and the names of its children: "-" for a base view.
+pub(crate) fn shaped(
     rt: &impl Abort,
     alloc: Global,
     rows: &[(&str, &str)],
@@ -50,7 +50,7 @@ fn told(fault: &ShapeFault) -> (u8, usize, &str) {
 #[test]
 fn a_view_over_two_bases_reads_back(rt: HostRuntime) -> Result<(), Fail> {
     let alloc = rt.alloc();
-    let shape = read(&rt, alloc, &[("a", "-"), ("b", "-"), ("v", "b a")])?;
+    let shape = shaped(&rt, alloc, &[("a", "-"), ("b", "-"), ("v", "b a")])?;
     assert_eq!(rt; shape.len(), 3);
     assert!(rt; !shape.is_empty());
     assert_eq!(rt; shape.name(2), "v");
@@ -62,8 +62,8 @@ fn a_view_over_two_bases_reads_back(rt: HostRuntime) -> Result<(), Fail> {
 
 #[test]
 fn children_in_another_order_are_other_lists(rt: HostRuntime) -> Result<(), Fail> {
-    let shape = read(&rt, rt.alloc(), &[("a", "-"), ("b", "-"), ("v", "b a")])?;
-    let other = read(&rt, rt.alloc(), &[("a", "-"), ("b", "-"), ("v", "a b")])?;
+    let shape = shaped(&rt, rt.alloc(), &[("a", "-"), ("b", "-"), ("v", "b a")])?;
+    let other = shaped(&rt, rt.alloc(), &[("a", "-"), ("b", "-"), ("v", "a b")])?;
     assert!(rt; !other.child_lists().is_same(shape.child_lists()));
     Ok(())
 }
@@ -81,7 +81,7 @@ static THREE_LEVELS: [(&str, &str); 4] = [("a", "-"), ("b", "-"), ("v", "a b"), 
 
 #[test]
 fn levels_follow_the_views(rt: HostRuntime) -> Result<(), Fail> {
-    let shape = read(&rt, rt.alloc(), &THREE_LEVELS)?;
+    let shape = shaped(&rt, rt.alloc(), &THREE_LEVELS)?;
     assert_eq!(rt; shape.len(), 4);
     assert_eq!(rt; shape.level(1), 0);
     assert_eq!(rt; shape.level(2), 1);
@@ -92,7 +92,7 @@ fn levels_follow_the_views(rt: HostRuntime) -> Result<(), Fail> {
 #[test]
 fn parents_follow_the_views(rt: HostRuntime) -> Result<(), Fail> {
     let alloc = rt.alloc();
-    let shape = read(&rt, alloc, &THREE_LEVELS)?;
+    let shape = shaped(&rt, alloc, &THREE_LEVELS)?;
     assert_eq!(rt; shape.len(), 4);
     for (view, parents) in [(0, [2, 3].as_slice()), (1, &[2]), (3, &[])] {
         assert_eq!(rt; shape.parents(alloc, view)?.as_slice(), parents);
@@ -149,16 +149,15 @@ fn tells(
     rows: &[(&str, &str)],
     want: (u8, usize, &str),
 ) -> Result<(), Fail> {
-    match read(rt, alloc, rows) {
-        Ok(_) => assert!(rt; false, "no fault"),
-        Err(fault) => {
-            let got = told(&fault);
-            assert_eq!(rt; got.0, want.0);
-            assert_eq!(rt; got.1, want.1);
-            assert_eq!(rt; got.2, want.2);
-        }
-    }
+    is_refused(rt, shaped(rt, alloc, rows), want);
     Ok(())
+}
+
+fn is_refused(rt: &impl Abort, made: Result<Shape, ShapeFault>, want: (u8, usize, &str)) {
+    match made {
+        Ok(_) => assert!(rt; false, "no fault"),
+        Err(fault) => assert_eq!(rt; told(&fault), want),
+    }
 }
 
 #[test]
@@ -174,7 +173,7 @@ fn six_children_pass_and_seven_are_too_many(rt: HostRuntime) -> Result<(), Fail>
         ("g", "-"),
         ("v", "a b c d e f"),
     ];
-    let shape = read(&rt, alloc, &rows)?;
+    let shape = shaped(&rt, alloc, &rows)?;
     assert_eq!(rt; shape.len(), 8);
     assert_eq!(rt; shape.children(7).len(), 6);
     rows[7] = ("v", "a b c d e f g");
@@ -226,10 +225,7 @@ fn refuses(
     want: (u8, usize, &str),
 ) {
     assert_eq!(rt; names.len(), over.len());
-    match Shape::new(alloc, names, over) {
-        Ok(_) => assert!(rt; false, "no fault"),
-        Err(fault) => assert_eq!(rt; told(&fault), want),
-    }
+    is_refused(rt, Shape::new(alloc, names, over), want);
 }
 
 #[test]
@@ -274,7 +270,7 @@ static COUPLES: [Couple; 2] = [
 fn siblings_and_couples_rise(rt: HostRuntime) -> Result<(), Fail> {
     let alloc = rt.alloc();
     let rows = [("b", "-"), ("c", "-"), ("v", "b c"), ("w", "v b")];
-    let shape = read(&rt, alloc, &rows)?;
+    let shape = shaped(&rt, alloc, &rows)?;
     assert_eq!(rt; shape.sibling_pairs(alloc)?.as_slice(), PAIRS.as_slice());
     assert_eq!(rt; shape.couples(alloc)?.as_slice(), COUPLES.as_slice());
     Ok(())

@@ -1,11 +1,14 @@
 //! Which rule a list breaks and where, what it costs, and which sizes are refused.
 
-use crate::plans::given::{SIX, SIX_SIZES, TWO_BASES, TWO_BASES_SIZES, listed, shaped, sized};
+use crate::plans::given::{
+    Measured, SIX, SIX_SIZES, TWO_BASES, TWO_BASES_SIZES, given, listed, sized,
+};
+use crate::plans::shapes::shaped;
 use std::alloc::{AllocError, Global};
 use std::process::Abort;
 use std::test::Fail;
 use wh_dag::{Shape, ShapeFault};
-use wh_strategy::{CheckFault, Costs, OutOfRange, Sizes, check, work};
+use wh_strategy::{CheckFault, Costs, OutOfRange, check, work};
 
 /// What a check and the work of a list answer at costs of 1.
 #[derive(Debug, Clone, Copy, PartialEq, Eq)]
@@ -19,10 +22,10 @@ enum Verdict {
 fn judged(
     rt: &impl Abort,
     alloc: Global,
-    shape: &Shape,
-    sizes: &Sizes,
+    given: &Measured,
     steps: &str,
 ) -> Result<Verdict, AllocError> {
+    let Measured { shape, sizes } = given;
     assert_eq!(rt; sizes.len(), shape.len());
     let costs = Costs::new(1, 1).expect(rt, "costs of 1");
     match check(alloc, shape, listed(alloc, shape, steps)?) {
@@ -76,26 +79,24 @@ static OVER_TWO_BASES: [(&str, &str, Verdict); 13] = [
 #[test]
 fn lists_over_two_bases_are_judged_as_worked_by_hand(rt: HostRuntime) -> Result<(), Fail> {
     let alloc = rt.alloc();
-    let shape = shaped(&rt, alloc, &TWO_BASES)?;
-    let sizes = sized(alloc, &TWO_BASES_SIZES)?.expect(&rt, "sizes");
+    let given = given(&rt, alloc, &TWO_BASES, &TWO_BASES_SIZES)?;
     for (name, steps, verdict) in &OVER_TWO_BASES {
-        assert_eq!(rt;
-            judged(&rt, alloc, &shape, &sizes, steps)?,
-            *verdict,
-            "{name}"
-        );
+        assert_eq!(rt; judged(&rt, alloc, &given, steps)?, *verdict, "{name}");
     }
     Ok(())
 }
 
+static CHAIN: [(&str, &str); 3] = [("A", "-"), ("V", "A"), ("W", "V")];
+
+static CHAIN_SIZES: [(u64, u64, u64); 3] = [(10, 10, 1), (10, 10, 1), (10, 10, 1)];
+
 #[test]
 fn a_view_is_complete_before_it_is_read(rt: HostRuntime) -> Result<(), Fail> {
     let alloc = rt.alloc();
-    let shape = shaped(&rt, alloc, &[("A", ""), ("V", "A"), ("W", "V")])?;
-    let sizes = sized(alloc, &[(10, 10, 1), (10, 10, 1), (10, 10, 1)])?.expect(&rt, "sizes");
-    let late = judged(&rt, alloc, &shape, &sizes, "W<V V<A A V W")?;
+    let given = given(&rt, alloc, &CHAIN, &CHAIN_SIZES)?;
+    let late = judged(&rt, alloc, &given, "W<V V<A A V W")?;
     assert_eq!(rt; late, Verdict::Broken(6, 2));
-    let in_time = judged(&rt, alloc, &shape, &sizes, "V<A W<V A V W")?;
+    let in_time = judged(&rt, alloc, &given, "V<A W<V A V W")?;
     assert_eq!(rt; in_time, Verdict::Work(5));
     Ok(())
 }
@@ -104,13 +105,11 @@ fn a_view_is_complete_before_it_is_read(rt: HostRuntime) -> Result<(), Fail> {
 #[test]
 fn six_children(rt: HostRuntime) -> Result<(), Fail> {
     let alloc = rt.alloc();
-    let sizes = sized(alloc, &SIX_SIZES)?.expect(&rt, "sizes");
-    let shape = shaped(&rt, alloc, &SIX)?;
+    let given = given(&rt, alloc, &SIX, &SIX_SIZES)?;
     let verdict = judged(
         &rt,
         alloc,
-        &shape,
-        &sizes,
+        &given,
         "V<A1+A2+A3+A4+A5+A6 A1 A2 A3 A4 A5 A6 V",
     )?;
     assert_eq!(rt; verdict, Verdict::Work(2059));
@@ -121,7 +120,7 @@ fn six_children(rt: HostRuntime) -> Result<(), Fail> {
 fn a_seventh_child_is_one_too_many(rt: HostRuntime) -> Result<(), Fail> {
     let alloc = rt.alloc();
     let mut seven = SIX[..6].to_vec(alloc)?;
-    seven.push(("A7", ""))?;
+    seven.push(("A7", "-"))?;
     seven.push(("V", "A1 A2 A3 A4 A5 A6 A7"))?;
     let fault = shaped(&rt, alloc, &seven).expect_err(&rt, "seven children");
     assert!(rt; matches!(fault, ShapeFault::TooMany { view: 7, .. }));
@@ -146,9 +145,13 @@ fn sizes_too_far_apart(rt: HostRuntime) -> Result<(), Fail> {
     refuses(&rt, alloc, &[(10, 15, 5), (15, 9, 5)], Some(OutOfRange(1)))?;
     refuses(&rt, alloc, &[(most + 1, most, 1)], Some(OutOfRange(0)))?;
     refuses(&rt, alloc, &[(most, most, most), (0, most, most)], None)?;
-    let shape = shaped(&rt, alloc, &[("A", "")])?;
-    let sizes = sized(alloc, &[(10, 15, 5)])?.expect(&rt, "sizes");
-    assert_eq!(rt; judged(&rt, alloc, &shape, &sizes, "A")?, Verdict::Work(5));
+    Ok(())
+}
+
+#[test]
+fn sizes_just_within(rt: HostRuntime) -> Result<(), Fail> {
+    let given = given(&rt, rt.alloc(), &[("A", "-")], &[(10, 15, 5)])?;
+    assert_eq!(rt; judged(&rt, rt.alloc(), &given, "A")?, Verdict::Work(5));
     Ok(())
 }
 
@@ -156,21 +159,18 @@ fn sizes_too_far_apart(rt: HostRuntime) -> Result<(), Fail> {
 fn costs_scale_the_two_parts_of_the_work(rt: HostRuntime) -> Result<(), Fail> {
     let alloc = rt.alloc();
     assert!(rt; Costs::new(0, 1).is_none() && Costs::new(1, 1_000_001).is_none());
-    let shape = shaped(&rt, alloc, &[("A", ""), ("V", "A")])?;
-    let sizes = sized(alloc, &[(10, 12, 4), (20, 20, 5)])?.expect(&rt, "sizes");
-    assert_eq!(rt;
-        work_of_the_only_list(&rt, alloc, &shape, &sizes)?,
-        4_000_027
-    );
+    let given = given(
+        &rt,
+        alloc,
+        &[("A", "-"), ("V", "A")],
+        &[(10, 12, 4), (20, 20, 5)],
+    )?;
+    assert_eq!(rt; work_of_the_only_list(&rt, alloc, &given)?, 4_000_027);
     Ok(())
 }
 
-fn work_of_the_only_list(
-    rt: &impl Abort,
-    alloc: Global,
-    shape: &Shape,
-    sizes: &Sizes,
-) -> Result<u128, Fail> {
+fn work_of_the_only_list(rt: &impl Abort, alloc: Global, given: &Measured) -> Result<u128, Fail> {
+    let Measured { shape, sizes } = given;
     let costs = Costs::new(1_000_000, 3).expect(rt, "costs");
     let correct = check(alloc, shape, listed(alloc, shape, "V<A A V")?)?;
     assert!(rt; correct.is_of(shape) && correct.is_one_way());
@@ -213,13 +213,10 @@ fn one_by_one(alloc: Global) -> Result<String, AllocError> {
 fn the_widest_shape_is_judged(rt: HostRuntime) -> Result<(), Fail> {
     let alloc = rt.alloc();
     let shape = widest(&rt, alloc)?;
-    let mut rows = Vec::new(alloc);
-    for _ in 0..64 {
-        rows.push((10, 10, 1))?;
-    }
-    let sizes = sized(alloc, &rows)?.expect(&rt, "sizes");
+    let sizes = sized(alloc, &[(10, 10, 1); 64])?.expect(&rt, "sizes");
+    let given = Measured { shape, sizes };
     let steps = one_by_one(alloc)?;
-    let verdict = judged(&rt, alloc, &shape, &sizes, steps.as_str())?;
+    let verdict = judged(&rt, alloc, &given, steps.as_str())?;
     assert_eq!(rt; verdict, Verdict::Work(18_227));
     Ok(())
 }

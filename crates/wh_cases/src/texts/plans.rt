@@ -504,14 +504,19 @@ fn plan_all(alloc: Global, shape: &Shape) -> Option<Planned> {
 }
 
 fn plan_all_text(alloc: Global) -> Result<Vec<u8>, AllocError> {
-    let mut out = Vec::new(alloc);
     let Ok(shape) = two_children(alloc) else {
-        return Ok(out);
+        return Ok(Vec::new(alloc));
     };
-    let names = Names::of(alloc, &shape)?;
-    if let Some(planned) = plan_all(alloc, &shape) {
-        write_plan(alloc, &mut out, &names, &planned)?;
+    match plan_all(alloc, &shape) {
+        Some(planned) => plan_text(alloc, &shape, &planned),
+        None => Ok(Vec::new(alloc)),
     }
+}
+
+fn plan_text(alloc: Global, shape: &Shape, planned: &Planned) -> Result<Vec<u8>, AllocError> {
+    let names = Names::of(alloc, shape)?;
+    let mut out = Vec::new(alloc);
+    write_plan(alloc, &mut out, &names, planned)?;
     Ok(out)
 }
 

@@ -545,9 +545,14 @@ fn numbered(alloc: Global) -> Result<String, AllocError> {
     if !note_literals(alloc, &mut dict) {
         return String::from_str(alloc, "no catalogue");
     }
+    numbered_after(alloc, &mut dict)
+}
+
+// The parts, and the texts that have numbers then.
+fn numbered_after(alloc: Global, dict: &mut Dict) -> Result<String, AllocError> {
     let columns = columns_of(alloc, "k:text n")?;
-    let mut text = read_in_turn(alloc, &columns, &mut dict)?;
-    text.push_str(dict_lines(alloc, &dict)?.as_str())?;
+    let mut text = read_in_turn(alloc, &columns, dict)?;
+    text.push_str(dict_lines(alloc, dict)?.as_str())?;
     Ok(text)
 }
 

@@ -46,8 +46,8 @@ fn nodes(alloc: Global, names: &Names, steps: &[Step]) -> Result<Vec<TreeNode>, 
 /// The verdict on the strategy with the tree of these nodes, at costs of 1.
 pub(crate) fn verdict(rt: &impl Abort, alloc: Global, steps: &[Step]) -> Result<Verdict, Fail> {
     let names = the_names(alloc)?;
-    let list = read_strategy(alloc, &names, STRATEGY.as_bytes())?;
     let tree = Tree::new(nodes(alloc, &names, steps)?).expect(rt, "the nodes of a tree");
+    let list = read_strategy(alloc, &names, STRATEGY.as_bytes())?;
     judged(rt, alloc, list, &Certificate::Search(tree))
 }
 

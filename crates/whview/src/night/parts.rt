@@ -14,6 +14,7 @@ use wh_load::{
     read_changes, read_definitions, read_shape, read_strategy, read_table,
 };
 use wh_row::Bag;
+use wh_strategy::Strategy;
 
 /// Whether this word is the name of a base view.
 fn is_base_name(names: &Names, views: &[WrittenView], word: &[u8]) -> bool
@@ -164,6 +165,42 @@ fn changes_in(
     Ok(changes)
 }
 
+/// What is read beside a catalogue.
+#[derive(Drop)]
+struct Read {
+    tables: Vec<Bag>,
+    changes: Vec<Bag>,
+    strategy: Strategy,
+}
+
+/// The tables and changes of these views, and the strategy.
+fn rows_in(
+    alloc: Global,
+    bundle: &Bundle<'_>,
+    shape: &Shape,
+    views: &[WrittenView],
+    texts: &mut Dict,
+    strategy: &[u8],
+) -> Result<Read, LoadFault>
+    requires { length views.now ≡ length shape.now.children }
+    ensures ok { IfOk result (λ r. opening_in bundle.now shape.now.names (map shown_view views.now) texts.old strategy.now
+        ≡ Ok (record { views = map shown_view views.now; texts = texts.new; tables = r.tables.items; changes = r.changes.items; list = r.strategy })) }
+    ensures tables { IfOk result (λ r. AreReadRows TableRows (map shown_view views.now) r.tables.items) }
+    ensures changes { IfOk result (λ r. AreReadRows ChangeRows (map shown_view views.now) r.changes.items) }
+    ensures err { IfErr result (λ f. (f ≡ LoadFault.Memory) ⊎ (opening_in bundle.now shape.now.names (map shown_view views.now) texts.old strategy.now ≡ Err f)) }
+{
+    let names = Names::of(alloc, shape)?;
+    only_base_parts(alloc, bundle, &names, views)?;
+    let tables = tables_in(alloc, bundle, shape, views, texts)?;
+    let changes = changes_in(alloc, bundle, shape, views, texts)?;
+    let strategy = read_strategy(alloc, &names, strategy)?;
+    Ok(Read {
+        tables,
+        changes,
+        strategy,
+    })
+}
+
 /// What a night over these views begins from.
 fn opening_in(
     alloc: Global,
@@ -181,11 +218,12 @@ fn opening_in(
     ensures err { IfErr result (λ f. (f ≡ LoadFault.Memory) ⊎ (opening_in bundle.now shape.now.names (map shown_view views.items) texts strategy.now ≡ Err f)) }
 {
     let mut texts = texts;
-    let names = Names::of(alloc, shape)?;
-    only_base_parts(alloc, bundle, &names, &views)?;
-    let tables = tables_in(alloc, bundle, shape, &views, &mut texts)?;
-    let changes = changes_in(alloc, bundle, shape, &views, &mut texts)?;
-    let strategy = read_strategy(alloc, &names, strategy)?;
+    let read = rows_in(alloc, bundle, shape, &views, &mut texts, strategy)?;
+    let Read {
+        tables,
+        changes,
+        strategy,
+    } = read;
     Ok(Opening {
         views,
         texts,
