@@ -25,6 +25,8 @@ pub mod NightLemmas
 pub mod NodeReadingBack
 pub mod OutputsFit
 pub mod PartsRead
+pub mod PlanForms
+pub mod PlanGrammars
 pub mod PlanLines
 pub mod PlanReadingBack
 pub mod ReadingBack

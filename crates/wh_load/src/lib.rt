@@ -37,7 +37,9 @@ pub use dict::Dict;
 pub use expression::write_expression;
 pub use fault::{Key, LoadFault};
 pub use names::Names;
-pub use plan::{Plan, plan_reads_back_law, read_plan, tree_lines_law, write_plan};
+pub use plan::{
+    Plan, plan_grammar_law, plan_reads_back_law, read_plan, tree_lines_law, write_plan,
+};
 pub use read::{ReadFault, read_all};
 pub use sizes::read_sizes;
 pub use strategy::{read_strategy, reads_back_law, write_strategy};

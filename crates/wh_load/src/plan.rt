@@ -1,6 +1,7 @@
 //! A plan as text: its scope, its work, the list of its strategy, and the lines of its certificate.
 ghost use Rattle.std.specs.Prelude.{◌≡◌, ◌⊎◌, ◌++◌, Ok, Err, IfOk, IfErr, IsTrue, OnOk, OnErr};
 ghost use Rattle.std.specs.List.{flat_map, join_with_byte};
+ghost use Rattle.wh_load.specs.PlanGrammar.{PlanFaults, PlanGrammar};
 ghost use Rattle.wh_load.specs.PlanReadsBack.{PlanReadsBack, TextsDiffer};
 ghost use Rattle.wh_load.specs.TreeGrowth.{BegunTrees, WholeTrees};
 ghost use Rattle.wh_load.specs.PlanText.{certificate_of, certificate_text, has_its_tree, line_text, may_end, pair_words, plan_from, plan_of, plan_text, scope_text, work_in};
@@ -162,6 +163,14 @@ fn scope_text(scope: Scope) -> &'static str
 pub fn tree_lines_law()
     ensures begun { BegunTrees }
     ensures whole { WholeTrees }
+{}
+
+/// A law of the definitions: a text is read as a plan exactly where its lines with words are those of that plan, in order: its
+/// scope, its work, its list, and a certificate that fits the scope, whose nodes, if it has some, are all of a tree. Any other
+/// text is at fault at the first line with which its lines no longer begin a plan, or after its last line.
+pub fn plan_grammar_law()
+    ensures grammar { PlanGrammar }
+    ensures faults { PlanFaults }
 {}
 
 /// A law of the definitions: over plain and distinct names, a plan whose certificate fits its scope (for one-way over names
