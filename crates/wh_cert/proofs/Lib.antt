@@ -1,3 +1,5 @@
+pub mod ChildViews
+pub mod Descents
 pub mod DesiredOrder
 pub mod Dues
 pub mod Duties
@@ -6,7 +8,7 @@ pub mod Least
 pub mod OneVerdict
 pub mod OneWay
 pub mod PairSums
-pub mod Sums
-pub mod Trees
 pub mod Preorders
-pub mod Descents
+pub mod Sums
+pub mod Tables
+pub mod Trees

@@ -6,5 +6,6 @@ pub mod Followed
 pub mod Graph
 pub mod Order
 pub mod Preorder
+pub mod Relations
 pub mod Search
 pub mod Tree

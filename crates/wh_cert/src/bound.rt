@@ -9,8 +9,8 @@ ghost use Rattle.wh_strategy.specs.Rules.{IsCorrect};
 ghost use Rattle.wh_strategy.specs.Sizes.{AreSizes, sizes_of};
 ghost use Rattle.wh_strategy.specs.Work.{work_of};
 ghost use Rattle.wh_cert.specs.Bound.{in_order, pair_min, decided_value, rows_by, decided_bound_of, pair_bound_of};
-ghost use Rattle.wh_cert.specs.Graph.{decides};
 
+use crate::decisions::Decisions;
 use wh_dag::Shape;
 use wh_strategy::{Costs, Sizes};
 
@@ -46,26 +46,18 @@ pub(crate) fn pair_min(sizes: &Sizes, first: usize, second: usize) -> u128
     kept.min(turned)
 }
 
-/// Whether it is decided that the first view is installed before the second.
-#[tactic(auto, unfolding(crate::specs::Graph::decides))]
-pub(crate) fn decides(decided: &[(usize, usize)], first: usize, second: usize) -> bool
-    ensures { result ≡ decides decided.now first second }
-{
-    decided.iter().any(|d| d.0 == first && d.1 == second)
-}
-
 /// What two views that have a common parent cost in rows by these decisions: that of the decided order, or the minimum
 /// where neither is decided.
 #[tactic(auto, unfolding(wh_strategy::specs::Sizes::sizes_of))]
-fn decided_value(sizes: &Sizes, decided: &[(usize, usize)], first: usize, second: usize) -> u128
+fn decided_value(sizes: &Sizes, decided: &Decisions<'_>, first: usize, second: usize) -> u128
     requires first { first < length sizes.now }
     requires second { second < length sizes.now }
     ensures value { result ≡ decided_value (sizes_of sizes.now) decided.now first second }
     ensures small { result ≤ 2 ^ 41 }
 {
-    if decides(decided, first, second) {
+    if decided.decides(first, second) {
         in_order(sizes, first, second)
-    } else if decides(decided, second, first) {
+    } else if decided.decides(second, first) {
         in_order(sizes, second, first)
     } else {
         pair_min(sizes, first, second)
@@ -73,7 +65,7 @@ fn decided_value(sizes: &Sizes, decided: &[(usize, usize)], first: usize, second
 }
 
 /// The values of a view with each of these others.
-fn values_with(sizes: &Sizes, decided: &[(usize, usize)], view: usize, others: &[usize]) -> u128
+fn values_with(sizes: &Sizes, decided: &Decisions<'_>, view: usize, others: &[usize]) -> u128
     requires view { view < length sizes.now }
     requires others { All (λ w. w < length sizes.now) others.now }
     requires few { length others.now ≤ 6 }
@@ -89,7 +81,7 @@ fn values_with(sizes: &Sizes, decided: &[(usize, usize)], view: usize, others: &
 
 /// What the Comps of a view over these children read at least by these decisions.
 #[tactic(auto, using(crate::proofs::PairSums::pairs_none, crate::proofs::PairSums::pairs_step))]
-fn least_rows(sizes: &Sizes, decided: &[(usize, usize)], children: &[usize]) -> u128
+fn least_rows(sizes: &Sizes, decided: &Decisions<'_>, children: &[usize]) -> u128
     requires views { All (λ w. w < length sizes.now) children.now }
     requires few { length children.now ≤ 6 }
     ensures value { result ≡ rows_by (decided_value (sizes_of sizes.now) decided.now) (sizes_of sizes.now) children.now }
@@ -106,16 +98,18 @@ fn least_rows(sizes: &Sizes, decided: &[(usize, usize)], children: &[usize]) -> 
 
 /// The decided bound at these sizes and costs, in cost times rows: the pair bound with each decided couple at the value
 /// of its decision, the view that is installed first standing first. A couple that is decided both ways counts by the
-/// order in which its parent names the two. Takes no memory.
+/// order in which its parent names the two. Takes no memory: the decisions are looked up in a table on the stack, made first.
 pub fn decided_bound(shape: &Shape, sizes: &Sizes, costs: Costs, decided: &[(usize, usize)]) -> u128
     requires { length sizes.now ≡ length shape.now.children }
     ensures { result ≡ decided_bound_of shape.now.children (sizes_of sizes.now) costs.comp costs.inst decided.now }
 {
+    // Each pair asks twice, so going over all decisions each time would take most of the time.
+    let decisions = Decisions::of(decided);
     let children = shape.child_lists();
     let mut rows = 0;
     let mut changes = 0;
     for view in 0..sizes.len() {
-        rows += least_rows(sizes, decided, children.of(view));
+        rows += least_rows(sizes, &decisions, children.of(view));
         changes += changed_rows(sizes, view);
     }
     costs.comp as u128 * rows + costs.inst as u128 * changes

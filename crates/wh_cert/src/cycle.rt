@@ -4,7 +4,7 @@ ghost use Rattle.std.specs.Prelude.{◌≡◌, ◌↔◌, ◌∷◌, [], ℕ, Is
 ghost use Rattle.wh_dag.specs.Shape.{has, children_of};
 ghost use Rattle.wh_cert.specs.Graph.{decides, IsNode, HasEdge, IsCycle};
 
-use crate::bound::decides;
+use crate::decisions::decides;
 use wh_dag::ChildLists;
 use wh_strategy::{Expression, Sources};
 

@@ -5,8 +5,9 @@ ghost use Rattle.wh_strategy.specs.Sizes.{sizes_of};
 ghost use Rattle.wh_cert.specs.Search.{IsOpen, IsGood, IsAcceptedTree, IsFirstBad};
 ghost use Rattle.wh_cert.specs.Tree.{tree_of};
 
-use crate::bound::{decided_bound, decides};
+use crate::bound::decided_bound;
 use crate::cycle::is_cycle;
+use crate::decisions::decides;
 use crate::descent::Descent;
 use crate::tree::{Tree, TreeNode};
 use wh_dag::{ChildLists, Couple, Shape};

@@ -1,8 +1,6 @@
 -- Nodes and edges as a program tests them are those of the graph.
-use Rattle.std.proofs.Common.{◌≡◌, ℕ, ◌<◌, List, [], ◌∷◌, true, refl, sym, ap, ◌∙◌, subst, length, ⊎_elim, inl, inr}
-use Rattle.std.proofs.lemmas.Bool.{eqb-true, eq-eqb, false≢true, or_left, or_right, or_cases, and_parts, and_from, cases_lt, ltb-true, lt-ltb}
-use Rattle.std.proofs.lemmas.List.{get_or_past}
-use Rattle.wh_dag.specs.Shape.{has, children_of}
+use Rattle.std.proofs.Common.{◌≡◌, ℕ, List, [], ◌∷◌, true, refl, sym, ap, ◌∙◌, subst, length, ⊎_elim, inl, inr}
+use Rattle.std.proofs.lemmas.Bool.{eqb-true, eq-eqb, false≢true, or_left, or_right, or_cases, and_parts, and_from, ltb-true, lt-ltb}
 use Rattle.wh_strategy.specs.declared.expression.Expression.{Expression}
 use Rattle.wh_strategy.specs.declared.expression.Expression.TheVariants.{Comp as comp, Inst as inst}
 use Rattle.wh_cert.specs.Graph.{decides, IsNode, HasEdge}
@@ -51,11 +49,3 @@ leads_edge shape decided (Comp v u) (Inst w) h =
 leads_edge shape decided (Comp u x) (Comp v w) h = ap (λ z. z ∷ []) (eqb-true w u h)
 leads_edge shape decided (Inst u) (Comp v w) h = let p = and_parts _ _ h in let q = and_parts _ _ p.1 in (w, refl, p.0, q.1)
 leads_edge shape decided (Inst u) (Inst w) h = absurd (false≢true h)
-
-pub has_within : (shape : List (List ℕ)) (v u : ℕ) → has (children_of shape v) u ≡ true → v < length shape
-unfolding children_of has
-has_within shape v u m =
-    ⊎_elim
-    (λ l. l)
-    (λ l. absurd (false≢true (sym (ap (λ z. has z u) (get_or_past shape v [] l)) ∙ m)))
-    (cases_lt v (length shape))

@@ -2,7 +2,7 @@
 use Rattle.std.specs.Prelude.{◌≡◌, ℕ, ◌<◌, List, Bool}
 use Rattle.wh_dag.specs.Shape.{has, children_of}
 use Rattle.wh_cert.specs.Graph.{decides}
-use Rattle.wh_minwork.specs.Relations.{related}
+use Rattle.wh_cert.specs.Relations.{related}
 
 -- the child lists of a shape, and the couples that are decided: they determine the graph
 pub record Drawn : Type 0 where

@@ -3,5 +3,4 @@ pub mod Desired
 pub mod Drawn
 pub mod Nodes
 pub mod Plan
-pub mod Relations
 pub mod Sorted

@@ -7,10 +7,9 @@ ghost use Rattle.wh_cert.specs.Graph.{decides, IsOrdered};
 ghost use Rattle.wh_minwork.specs.Desired.{in_desired_order};
 ghost use Rattle.wh_minwork.specs.Decided.{AreDecisions};
 
-use crate::relation::Relation;
 use std::alloc::{AllocError, Global};
 use std::marker::Model;
-use wh_cert::comes_first;
+use wh_cert::{Relation, comes_first};
 use wh_dag::Shape;
 use wh_strategy::Sizes;
 

@@ -7,10 +7,10 @@ ghost use Rattle.wh_minwork.specs.Nodes.{leads, AreNodes};
 use crate::cycle;
 use crate::decided::Decided;
 use crate::node::{self, Node};
-use crate::relation::Relation;
 use crate::unplaced::Unplaced;
 use std::alloc::{AllocError, AllocFailed, Global};
 use std::marker::Model;
+use wh_cert::Relation;
 use wh_dag::{ChildLists, Shape};
 use wh_strategy::{Expression, Strategy};
 
@@ -62,7 +62,7 @@ impl<'a> Model for Graph<'a> {
 
     ghost view = { λ g. record { children = g.children.now; decided = g.decided.now } };
 
-    ghost invariant = { λ g. AreTables g.over.cells g.first.cells g.children.now g.decided.now };
+    ghost invariant = { λ g. AreTables g.over g.first g.children.now g.decided.now };
 }
 
 impl<'a> Graph<'a> {

@@ -8,7 +8,6 @@ mod graph;
 mod lines;
 mod minwork;
 mod node;
-mod relation;
 mod unplaced;
 
 pub use decided::Decided;

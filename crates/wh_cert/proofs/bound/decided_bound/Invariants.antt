@@ -7,7 +7,7 @@ use Rattle.wh_cert.proofs.bound.decided_bound.Given as goal
 
 abbrev pub invariant-loop-view : goal.invariant-loop-view
 invariant-loop-view l = record {
-  rows : l.rows ≡ sum_below (λ v. rows_by (decided_value (sizes_of l.sizes) l.decided) (sizes_of l.sizes) (children_of l.shape.children v)) l.view;
+  rows : l.rows ≡ sum_below (λ v. rows_by (decided_value (sizes_of l.sizes) l.decisions) (sizes_of l.sizes) (children_of l.shape.children v)) l.view;
   changes : l.changes ≡ sum_below (λ v. (sizes_of l.sizes v).change) l.view;
   small : l.rows ≤ l.view * 2 ^ 48;
   low : l.changes ≤ l.view * 2 ^ 40;

@@ -11,6 +11,6 @@ returns-then-has-2 c =
       | then-has w ↦
           rw (c.in-Inst-Comp.is-0, c.in-Inst-Comp.is-1, ← c.self.view_is)
           (c.has-then-has-2.ensures
-          ∙ tables_tell g.over.cells g.first.cells g.children.now g.decided.now c.in-Inst-Comp.u c.in-Inst-Comp.v c.in-Inst-Comp.w c.self.invariant (sym c.has.ensures ∙ w.if-has.true) (sym w.has-then-has.ensures ∙ sym w.value-is ∙ c.if-has-2.true))
+          ∙ tables_tell g.over g.first g.children.now g.decided.now c.in-Inst-Comp.u c.in-Inst-Comp.v c.in-Inst-Comp.w c.self.invariant (sym c.has.ensures ∙ w.if-has.true) (sym w.has-then-has.ensures ∙ sym w.value-is ∙ c.if-has-2.true))
       | else-has w ↦ absurd (both_ways c.has.result w.if-has.false (sym w.value-is ∙ c.if-has-2.true))
     ]

@@ -3,27 +3,37 @@
 ghost use Rattle.std.specs.Prelude.{◌≡◌, ◌<◌, ◌==◌, ◌&&◌, ◌||◌, ℕ, false, All};
 ghost use Rattle.wh_dag.specs.Shape.{has, children_of};
 ghost use Rattle.wh_dag.specs.Siblings.{have_parent};
-ghost use Rattle.wh_minwork.specs.Relations.{related};
 ghost use Rattle.wh_cert.specs.Graph.{decides};
+ghost use Rattle.wh_cert.specs.Relations.{related};
 
+use std::marker::Model;
 use wh_dag::ChildLists;
 
 /// How many views a relation is between: as many as a shape can have.
-const VIEWS: usize = 64;
+pub(crate) const VIEWS: usize = 64;
 
 /// A row of [`VIEWS`] for each view.
 const CELLS: usize = 4096;
 
-/// A relation between views, as a table: looking two views up takes one step.
+/// A relation between views, as a table of 4 KB: looking two views up takes one step. It lies where it is made, and takes
+/// no memory besides.
 #[derive(Drop)]
-pub(crate) struct Relation {
+pub struct Relation {
     cells: [bool; CELLS],
+}
+
+impl Model for Relation {
+    ghost use Rattle.std.specs.Prelude.{List, Bool};
+
+    ghost Value = { List Bool };
+
+    ghost view = { λ r. r.cells };
 }
 
 impl Relation {
     /// No two views are related.
     fn new() -> Relation
-        ensures { (u w : ℕ) → related result.cells u w ≡ false }
+        ensures { (u w : ℕ) → related result u w ≡ false }
     {
         Relation {
             cells: [false; CELLS],
@@ -31,8 +41,8 @@ impl Relation {
     }
 
     /// Which view is over which.
-    pub(crate) fn of_children(children: &ChildLists) -> Relation
-        ensures { (v u : ℕ) → related result.cells v u ≡ has (children_of children.now v) u }
+    pub fn of_children(children: &ChildLists) -> Relation
+        ensures { (v u : ℕ) → related result v u ≡ has (children_of children.now v) u }
     {
         let mut over = Relation::new();
         for view in 0..children.len() {
@@ -42,8 +52,8 @@ impl Relation {
     }
 
     /// Which views have a common parent, a child of a view being related to itself too.
-    pub(crate) fn of_siblings(children: &ChildLists) -> Relation
-        ensures { (u w : ℕ) → related result.cells u w ≡ have_parent children.now u w }
+    pub fn of_siblings(children: &ChildLists) -> Relation
+        ensures { (u w : ℕ) → related result u w ≡ have_parent children.now u w }
     {
         let mut siblings = Relation::new();
         for view in 0..children.len() {
@@ -53,8 +63,8 @@ impl Relation {
     }
 
     /// Which view stands before which in one of these couples. Numbers that no view has are left out.
-    pub(crate) fn of_couples(couples: &[(usize, usize)]) -> Relation
-        ensures { (u w : ℕ) → u < 64 → w < 64 → related result.cells u w ≡ decides couples.now u w }
+    pub fn of_couples(couples: &[(usize, usize)]) -> Relation
+        ensures { (u w : ℕ) → u < 64 → w < 64 → related result u w ≡ decides couples.now u w }
     {
         let mut first = Relation::new();
         for (u, w) in couples {
@@ -65,10 +75,10 @@ impl Relation {
         first
     }
 
-    /// Whether the two are related, in this order.
+    /// Whether the two are related, in this order. No number that no view can have is related to any.
     #[tactic(auto, unfolding(crate::specs::Relations::related))]
-    pub(crate) fn has(&self, u: usize, w: usize) -> bool
-        ensures { result ≡ related self.now.cells u w }
+    pub fn has(&self, u: usize, w: usize) -> bool
+        ensures { result ≡ related self.now u w }
     {
         u < VIEWS && w < VIEWS && self.cells[VIEWS * u + w]
     }
@@ -76,7 +86,7 @@ impl Relation {
     fn insert(&mut self, u: usize, w: usize)
         requires u { u < 64 }
         requires w { w < 64 }
-        ensures { (a b : ℕ) → related self.new.cells a b ≡ (((u == a) && (w == b)) || related self.old.cells a b) }
+        ensures { (a b : ℕ) → related self.new a b ≡ (((u == a) && (w == b)) || related self.old a b) }
     {
         self.cells[VIEWS * u + w] = true;
     }
@@ -84,7 +94,7 @@ impl Relation {
     fn insert_row(&mut self, u: usize, row: &[usize])
         requires u { u < 64 }
         requires row { All (λ w. w < 64) row.now }
-        ensures { (a b : ℕ) → related self.new.cells a b ≡ (((u == a) && has row.now b) || related self.old.cells a b) }
+        ensures { (a b : ℕ) → related self.new a b ≡ (((u == a) && has row.now b) || related self.old a b) }
     {
         for w in row {
             self.insert(u, *w);
@@ -93,7 +103,7 @@ impl Relation {
 
     fn insert_all(&mut self, row: &[usize])
         requires { All (λ w. w < 64) row.now }
-        ensures { (a b : ℕ) → related self.new.cells a b ≡ ((has row.now a && has row.now b) || related self.old.cells a b) }
+        ensures { (a b : ℕ) → related self.new a b ≡ ((has row.now a && has row.now b) || related self.old a b) }
     {
         for u in row {
             self.insert_row(*u, row);

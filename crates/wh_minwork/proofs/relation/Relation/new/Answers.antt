@@ -1,5 +1,0 @@
-use Rattle.wh_minwork.proofs.Tables.{related_none}
-use Rattle.wh_minwork.proofs.relation.Relation.new.Goals as goal
-
-pub returns : goal.returns
-returns c u w = related_none u w

@@ -1,7 +1,0 @@
-use Rattle.std.proofs.Common.{◌≡◌, ◌<◌, ℕ, take}
-use Rattle.wh_cert.specs.Graph.{decides}
-use Rattle.wh_minwork.specs.Relations.{related}
-use Rattle.wh_minwork.proofs.relation.Relation.of_couples.Given as goal
-
-abbrev pub invariant-loop-u : goal.invariant-loop-u
-invariant-loop-u l = (a b : ℕ) → a < 64 → b < 64 → related l.first.cells a b ≡ decides (take l.u-index l.couples) a b
