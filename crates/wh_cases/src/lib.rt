@@ -1,7 +1,8 @@
-//! Tests that cross crates, and the worked examples by public calls: a catalogue is read from its text, carried out on
-//! tables and written again.
+//! Tests that cross crates, and the worked examples by public calls: a catalogue is made by hand and carried out on
+//! tables.
 //!
-//! They stand here and not in the crates below, since a crate that has tests is proved a second time with them.
+//! They stand here and not in the crates below, since a crate that has tests is proved a second time with them. Those of
+//! texts stand in `wh_text_cases`.
 #![tactic(auto)]
 
 #[cfg(test)]
@@ -12,7 +13,3 @@ mod formulas;
 mod nights;
 #[cfg(test)]
 mod plans;
-#[cfg(test)]
-mod texts;
-#[cfg(test)]
-mod trees;
