@@ -75,7 +75,7 @@ impl Relation {
         first
     }
 
-    /// Whether the two are related, in this order. No number that no view can have is related to any.
+    /// Whether the two are related, in this order. A number above 63, which no view can have, is related to none.
     #[tactic(auto, unfolding(crate::specs::Relations::related))]
     pub fn has(&self, u: usize, w: usize) -> bool
         ensures { result ≡ related self.now u w }

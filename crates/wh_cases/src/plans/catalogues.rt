@@ -98,3 +98,12 @@ fn a_base_view_has_1_to_64_columns(rt: HostRuntime) -> Result<(), Fail> {
     }
     Ok(())
 }
+
+#[test]
+fn a_derived_view_needs_its_definition(rt: HostRuntime) -> Result<(), Fail> {
+    let shape = shaped(&rt, rt.alloc(), &[("a", "-"), ("v", "a")])?;
+    let none: Vec<Definition<Every, Cell>> = Vec::new(rt.alloc());
+    assert!(rt; !Catalog::fits(&shape, &[1], &none));
+    assert!(rt; !Catalog::fits(&shape, &[1, 1], &none));
+    Ok(())
+}
