@@ -9,6 +9,14 @@ pub data ExprTree : Type 0 where
   Sub : ExprTree → ExprTree → ExprTree
   Mul : ExprTree → ExprTree → ExprTree
 
+-- it is a sum, a difference or a product
+abbrev pub HasParts : ExprTree → Type 0
+HasParts (Column place) = ⊥
+HasParts (Number n) = ⊥
+HasParts (Add a b) = Unit {0}
+HasParts (Sub a b) = Unit {0}
+HasParts (Mul a b) = Unit {0}
+
 -- how many levels it has
 abbrev pub depth : ExprTree → ℕ
 depth (Column place) = 1

@@ -1,5 +1,5 @@
 -- A test of a row: whether it holds, its columns, its levels.
-use Rattle.std.specs.Prelude.{ℕ, ◌+◌, max, Bool, true, false, not, ◌&&◌, ◌||◌, List, [], ◌∷◌, ℤ}
+use Rattle.std.specs.Prelude.{ℕ, ◌+◌, max, Bool, true, false, not, ◌&&◌, ◌||◌, ◌⊎◌, List, [], ◌∷◌, ℤ}
 use Rattle.wh_formula.specs.declared.comparison.Comparison.{Comparison}
 use Rattle.wh_formula.specs.Comparison.{compares_values}
 use Rattle.wh_formula.specs.Expr.{ExprTree, value}
@@ -23,6 +23,19 @@ mutual
 abbrev pub parts_of : List PredTree → PredTrees
 parts_of [] = no_more
 parts_of (p ∷ ps) = one_more p (parts_of ps)
+
+-- there is a part among these
+abbrev pub HaveSome : PredTrees → Type 0
+HaveSome no_more = ⊥
+HaveSome (one_more p ps) = Unit {0}
+
+-- it is made of other tests, or compares an expression that is made of others
+abbrev pub HasParts : PredTree → Type 0
+HasParts True = ⊥
+HasParts (Cmp op a b) = expr.HasParts a ⊎ expr.HasParts b
+HasParts (AllOf ps) = HaveSome ps
+HasParts (AnyOf ps) = HaveSome ps
+HasParts (Not p) = Unit {0}
 
 abbrev mutual
   -- whether a row meets the test

@@ -1,6 +1,6 @@
 //! Expressions over the cells of a row.
-ghost use Rattle.std.specs.Prelude.{◌≡◌, ◌<◌, ◌≤◌, length, IsTrue, IfOk};
-ghost use Rattle.wh_formula.specs.Expr.{Column, Number, Add, Sub, Mul, depth, fits, value};
+ghost use Rattle.std.specs.Prelude.{◌≡◌, ◌<◌, ◌≤◌, length, IsTrue, IfOk, OnErr};
+ghost use Rattle.wh_formula.specs.Expr.{Column, Number, Add, Sub, Mul, HasParts, depth, fits, value};
 
 use std::alloc::{AllocError, Global};
 use std::marker::Model;
@@ -140,9 +140,10 @@ impl Expr {
         }
     }
 
-    /// Another expression of the same form.
+    /// Another expression of the same form. A column and a constant take no memory.
     pub fn copy(&self, alloc: Global) -> Result<Expr, AllocError>
-        ensures { IfOk result (λ copy. copy ≡ self.now) }
+        ensures copy { IfOk result (λ copy. copy ≡ self.now) }
+        ensures memory { OnErr result (HasParts self.now) }
     {
         match &self.node {
             ExprNode::Column(place) => Ok(Expr::column(*place)),

@@ -1,7 +1,7 @@
 //! Tests of a row.
-ghost use Rattle.std.specs.Prelude.{◌≡◌, ◌<◌, ◌≤◌, length, IsTrue, IfOk, All};
+ghost use Rattle.std.specs.Prelude.{◌≡◌, ◌<◌, ◌≤◌, length, IsTrue, IfOk, OnErr, All};
 ghost use Rattle.wh_formula.specs.Expr as expr_tree;
-ghost use Rattle.wh_formula.specs.Pred.{True, Cmp, AllOf, AnyOf, Not, parts_of, depth, fits, holds, most_levels, all_hold, any_holds, all_fit};
+ghost use Rattle.wh_formula.specs.Pred.{True, Cmp, AllOf, AnyOf, Not, HasParts, HaveSome, parts_of, depth, fits, holds, most_levels, all_hold, any_holds, all_fit};
 
 use crate::comparison::Comparison;
 use crate::expr::{Expr, MAX_DEPTH};
@@ -141,10 +141,11 @@ impl Pred {
         }
     }
 
-    /// Another test of the same form.
+    /// Another test of the same form. It takes memory for the parts of tests and expressions alone.
     #[cycle(pred_copy)]
     pub fn copy(&self, alloc: Global) -> Result<Pred, AllocError>
-        ensures { IfOk result (λ copy. copy ≡ self.now) }
+        ensures copy { IfOk result (λ copy. copy ≡ self.now) }
+        ensures memory { OnErr result (HasParts self.now) }
     {
         match &self.node {
             PredNode::True => Ok(Pred::always()),
@@ -210,7 +211,8 @@ fn any_holds(parts: &[Pred], row: &[i64]) -> bool
 
 #[cycle(pred_copy)]
 fn copies(alloc: Global, parts: &[Pred]) -> Result<Vec<Pred>, AllocError>
-    ensures { IfOk result (λ copies. copies.items ≡ parts.now) }
+    ensures copies { IfOk result (λ copies. copies.items ≡ parts.now) }
+    ensures memory { OnErr result (HaveSome (parts_of parts.now)) }
 {
     let mut copies = Vec::new(alloc);
     for part in parts {

@@ -60,6 +60,9 @@ sum_with_none none b e = same_bag _ _ (λ q. count-sum_of none b q ∙ (λ i. co
 pub none_fits : (none b : Bag) → none ≡ empty → ((q : Row) → FitsSigned w128 (count b q)) → SumsTogetherFit none b
 none_fits none b e fits = λ q. subst (FitsSigned w128) (sym ((λ i. count (e i) q +ℤ count b q) ∙ ap (λ z. z +ℤ count b q) (none_in q) ∙ +ℤ_idl _)) (fits q)
 
+pub fits_none : (b none : Bag) → none ≡ empty → ((q : Row) → FitsSigned w128 (count b q)) → SumsTogetherFit b none
+fits_none b none e fits = λ q. subst (FitsSigned w128) (sym ((λ i. count b q +ℤ count (e i) q) ∙ ap (λ z. count b q +ℤ z) (none_in q) ∙ +ℤ_idr _)) (fits q)
+
 -- ---- column by column
 
 from_next : (f : ℕ → Bag) (k n : ℕ) → map f (range_with_len (k + 1) n) ≡ map (λ j. f (suc j)) (range_with_len k n)
@@ -72,7 +75,7 @@ first_merged a b xs ys = ap (λ cs. sum_of a b ∷ cs) (from_next (λ j. sum_of 
 neither_counts : (q : Row) → FitsSigned w128 (count empty q +ℤ count empty q)
 neither_counts q = none_fits empty empty refl (λ r. subst (FitsSigned w128) (sym (none_in r)) (omega (arith, ints))) q
 
-past_fit : (xs ys : List Bag) → length ys ≡ length xs → ((j : ℕ) → j < length xs → SumsTogetherFit (bag_at xs j) (bag_at ys j)) → (j : ℕ) → SumsTogetherFit (bag_at xs j) (bag_at ys j)
+pub past_fit : (xs ys : List Bag) → length ys ≡ length xs → ((j : ℕ) → j < length xs → SumsTogetherFit (bag_at xs j) (bag_at ys j)) → (j : ℕ) → SumsTogetherFit (bag_at xs j) (bag_at ys j)
 past_fit [] [] e h j = neither_counts
 past_fit [] (b ∷ ys) e h j = absurd (omega arith)
 past_fit (a ∷ xs) [] e h j = absurd (omega arith)
@@ -92,3 +95,8 @@ columns_by view b xs ys p e f = ap (λ (bags : List Bag). b ∷ bags) e ∙ ap (
 
 pub columns_fit : (xs ys us vs : List Bag) → xs ≡ us → ys ≡ vs → MergedFit xs ys → MergedFit us vs
 columns_fit xs ys us vs e f fit = subst (λ (bags : List Bag). MergedFit us bags) f (subst (λ (bags : List Bag). MergedFit bags ys) e fit)
+
+pub sums_by : (xs ys us vs : List Bag) → xs ≡ us → ys ≡ vs → (j : ℕ) → SumsTogetherFit (bag_at xs (suc j)) (bag_at ys (suc j)) → SumsTogetherFit (bag_at us (suc j)) (bag_at vs (suc j))
+sums_by xs ys us vs e f j fit =
+    subst (λ (bags : List Bag). SumsTogetherFit (bag_at us (suc j)) (bag_at bags (suc j))) f
+    (subst (λ (bags : List Bag). SumsTogetherFit (bag_at bags (suc j)) (bag_at ys (suc j))) e fit)

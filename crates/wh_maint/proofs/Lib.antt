@@ -20,6 +20,7 @@ pub mod MetRows
 mod NewGroups
 mod NewRows
 pub mod NoNegative
+mod NoRows
 mod OldGroups
 pub mod OldRows
 mod OneRow

@@ -2,7 +2,7 @@
 use Rattle.std.specs.Prelude.{◌≡◌, ◌≢◌, ℕ, ◌<◌, pos, negsuc, ◌+ℤ◌, ◌≤ℤ◌, ℤ, length}
 use Rattle.std.specs.declared.cmp.Ordering.TheVariants.{Less}
 use Rattle.wh_row.specs.Row.{Row, row_cmp}
-use Rattle.wh_row.specs.Bag.{Bag, count, IsTable}
+use Rattle.wh_row.specs.Bag.{Bag, count, empty, IsTable}
 use Rattle.wh_maint.specs.View.{Kind, Joined, Summed}
 use Rattle.wh_maint.specs.Summary.{group_of, cell_of}
 
@@ -23,6 +23,11 @@ pub record IsSummaryRow (sums : ℕ) (row : Row) (count : ℤ) : Type 0 where
 abbrev pub IsFitTable : Kind → Bag → Type 0
 IsFitTable Joined table = IsTable table
 IsFitTable (Summed sums) table = IsTable table × IsSummaryTable sums table
+
+-- the groups of a table are to be told apart: it is a summary's, and has rows
+abbrev pub HasGroups : Kind → Bag → Type 0
+HasGroups Joined table = ⊥
+HasGroups (Summed sums) table = table ≢ empty
 
 -- a change takes more of a row than the table has
 abbrev pub IsAbsent : Bag → Bag → Row → Type 0

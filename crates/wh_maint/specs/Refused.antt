@@ -3,7 +3,7 @@ use Rattle.std.specs.Prelude.{◌≡◌, ◌≢◌, ℕ, suc, pos, ◌+ℤ◌, L
 use Rattle.std.specs.Int.{w128}
 use Rattle.std.specs.declared.cmp.Ordering.TheVariants.{Less}
 use Rattle.wh_row.specs.Row.{Row, row_cmp}
-use Rattle.wh_row.specs.Bag.{Bag, SumFits, count}
+use Rattle.wh_row.specs.Bag.{Bag, SumFits, HasRowsOf, count, empty}
 use Rattle.wh_maint.specs.declared.fault.MaintFault.{MaintFault}
 use Rattle.wh_maint.specs.declared.fault.MaintFault.TheVariants.{Large, Range, Memory, Absent}
 use Rattle.wh_maint.specs.View.{Kind}
@@ -50,7 +50,12 @@ pub record MergedFit (columns others : List Bag) : Type 0 where
   pub counts : SumFits (bag_at columns 0) (bag_at others 0)
   pub sums : (j : ℕ) → SumsTogetherFit (bag_at columns (suc j)) (bag_at others (suc j))
 
--- of what is pending and is to have that of another Comp: a count or a sum leaves its range; memory may be refused at any time
+-- another Comp brings no row or group that is not there, and no sums
+pub record BringsNothing (columns others : List Bag) : Type 0 where
+  pub counts : HasRowsOf (bag_at columns 0) (bag_at others 0)
+  pub sums : (j : ℕ) → bag_at others (suc j) ≡ empty
+
+-- of what is pending and is to have that of another Comp: a count or a sum leaves its range; memory may be refused before that is known
 abbrev pub IsMergeFault : ℕ → List Bag → List Bag → MaintFault → Type 0
 IsMergeFault view columns others (Large v) = (v ≡ view) × ¬ (MergedFit columns others)
 IsMergeFault view columns others (Range v) = ⊥

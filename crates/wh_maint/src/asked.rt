@@ -1,11 +1,11 @@
 //! Whether bags, sources and tables are what the calls over a catalogue ask for.
 
-ghost use Rattle.std.specs.Prelude.{◌≡◌, ◌↔◌, ◌<◌, length, IsTrue, IfOk, false};
+ghost use Rattle.std.specs.Prelude.{◌≡◌, ◌↔◌, ◌<◌, length, IsTrue, IfOk, OnErr, false};
 ghost use Rattle.wh_dag.specs.Shape.{children_of};
 ghost use Rattle.wh_dag.specs.Catalog.{is_base};
 ghost use Rattle.wh_maint.specs.View.{Summed};
 ghost use Rattle.wh_maint.specs.Asked.{AreBags, AreSources, are_among, are_distinct};
-ghost use Rattle.wh_maint.specs.Fit.{IsFitTable, IsSummaryRow};
+ghost use Rattle.wh_maint.specs.Fit.{IsFitTable, HasGroups, IsSummaryRow};
 ghost use Rattle.wh_maint.specs.Finishing.{kind_in, IsPendingFor};
 
 use crate::combined::sums_in;
@@ -78,7 +78,8 @@ pub fn is_fit<F: RowTest, G: RowValue>(
 ) -> Result<bool, AllocError>
     requires view { view < length catalog.now.views.children }
     requires derived { is_base catalog.now view ≡ false }
-    ensures { IfOk result (λ fit. IsTrue fit ↔ IsFitTable (kind_in catalog.now view) table.now) }
+    ensures fit { IfOk result (λ fit. IsTrue fit ↔ IsFitTable (kind_in catalog.now view) table.now) }
+    ensures memory { OnErr result (HasGroups (kind_in catalog.now view) table.now) }
 {
     match catalog.derived(view).output() {
         Output::Keep(_) => Ok(table.is_table()),
@@ -87,7 +88,8 @@ pub fn is_fit<F: RowTest, G: RowValue>(
 }
 
 fn is_summary_table(alloc: Global, sums: usize, table: &Bag) -> Result<bool, AllocError>
-    ensures { IfOk result (λ fit. IsTrue fit ↔ IsFitTable (Summed sums) table.now) }
+    ensures fit { IfOk result (λ fit. IsTrue fit ↔ IsFitTable (Summed sums) table.now) }
+    ensures memory { OnErr result (HasGroups (Summed sums) table.now) }
 {
     let mut seen = Bag::new(alloc);
     for (row, count) in table.rows() {

@@ -1,12 +1,27 @@
 //! The sums of two Comps together.
 
-ghost use Rattle.std.specs.Prelude.{◌≡◌, ℕ, ◌<◌, length, IfOk, OnOk};
+ghost use Rattle.std.specs.Prelude.{◌≡◌, ◌↔◌, ℕ, ◌<◌, length, IsTrue, IfOk, OnOk};
 ghost use Rattle.wh_row.specs.Bag.{sum_of};
-ghost use Rattle.wh_maint.specs.Comp.{bag_at, merged};
+ghost use Rattle.wh_maint.specs.Comp.{bag_at, merged, AreEmpty};
 ghost use Rattle.wh_maint.specs.Refused.{SumsTogetherFit};
 
 use std::alloc::Global;
 use wh_row::{BagFault, Sums};
+
+/// Whether the others have no sums, so that those of both are these alone.
+pub(crate) fn bring_nothing(sums: &[Sums], others: &[Sums]) -> bool
+    requires { length others.now ≡ length sums.now }
+    ensures none { IsTrue result ↔ AreEmpty others.now }
+    ensures fit { IsTrue result → (j : ℕ) → j < length sums.now → SumsTogetherFit (bag_at sums.now j) (bag_at others.now j) }
+{
+    for j in 0..others.len() {
+        sums[j].sums_fit();
+        if !others[j].is_empty() {
+            return false;
+        }
+    }
+    true
+}
 
 /// The sums of both, column by column.
 pub(crate) fn in_each_column(

@@ -4,7 +4,7 @@ ghost use Rattle.std.specs.Prelude.{◌≡◌, ℕ, suc, ◌<◌, ℤ, pos, List
 ghost use Rattle.wh_row.specs.Bag.{count as count_of, written, empty};
 ghost use Rattle.wh_dag.specs.Catalog.{is_base};
 ghost use Rattle.wh_maint.specs.View.{Summed};
-ghost use Rattle.wh_maint.specs.Comp.{bag_at};
+ghost use Rattle.wh_maint.specs.Comp.{bag_at, AreEmpty};
 ghost use Rattle.wh_maint.specs.Summary.{group_of, is_nonzero, is_touched, summary_change, change_of};
 ghost use Rattle.wh_maint.specs.Value.{NewCountsFit, ChangeHasValue};
 ghost use Rattle.wh_maint.specs.Fit.{IsFitTable, IsSummaryTable};
@@ -39,8 +39,9 @@ pub fn finish<F: RowTest, G: RowValue>(
     ensures counts { OnOk result (NewCountsFit (kind_in catalog.now view) table.now (bag_at pending.now.columns)) }
     ensures sums { OnOk result (ChangeHasValue (kind_in catalog.now view) table.now (bag_at pending.now.columns)) }
 
-    // Large comes before Range and Memory.
+    // Large comes before Range and Memory, and Memory only where something is pending.
     ensures refused { IfErr result (IsFinishFault view (kind_in catalog.now view) table.now (bag_at pending.now.columns)) }
+    ensures memory { result ≡ Err MaintFault.Memory → ¬ (AreEmpty pending.now.columns) }
 {
     match catalog.derived(view).output() {
         Output::Keep(_) => match pending.counts().copy(alloc) {
@@ -88,6 +89,7 @@ pub(crate) fn summary_change(
     ensures change { IfOk result (λ change. change ≡ summary_change sums table.now (bag_at pending.now.columns)) }
     ensures sums { OnOk result (ChangeHasValue (Summed sums) table.now (bag_at pending.now.columns)) }
     ensures range { result ≡ Err RowFault.Range → ¬ (ChangeHasValue (Summed sums) table.now (bag_at pending.now.columns)) }
+    ensures memory { result ≡ Err RowFault.Memory → ¬ (AreEmpty pending.now.columns) }
 {
     let mut change = Bag::new(alloc);
     let mut seen = Bag::new(alloc);
@@ -122,6 +124,7 @@ fn add_old_groups(
     ensures sums { OnOk result ((g : List ℤ) → is_touched sums (bag_at pending.now.columns) g ≡ true
         → has_group sums g (written table.now) ≡ true → GroupHasValue sums table.now (bag_at pending.now.columns) g) }
     ensures range { result ≡ Err RowFault.Range → ¬ (ChangeHasValue (Summed sums) table.now (bag_at pending.now.columns)) }
+    ensures memory { result ≡ Err RowFault.Memory → ¬ (AreEmpty pending.now.columns) }
 {
     for (row, _) in table.rows() {
         let group = group_in(row, sums);
@@ -159,6 +162,7 @@ fn add_new_groups(
     ensures change { OnOk result (change.new ≡ summary_change sums table.now (bag_at pending.now.columns)) }
     ensures sums { OnOk result (ChangeHasValue (Summed sums) table.now (bag_at pending.now.columns)) }
     ensures range { result ≡ Err RowFault.Range → ¬ (ChangeHasValue (Summed sums) table.now (bag_at pending.now.columns)) }
+    ensures memory { result ≡ Err RowFault.Memory → ¬ (AreEmpty pending.now.columns) }
 {
     for (group, _) in pending.counts().rows() {
         if seen.count(group) == 0 {

@@ -1,7 +1,7 @@
 //! A table with its change.
 
 ghost use Rattle.std.specs.Prelude.{◌≡◌, OnOk, IfOk, IfErr};
-ghost use Rattle.wh_row.specs.Bag.{sum_of, SumFits};
+ghost use Rattle.wh_row.specs.Bag.{empty, sum_of, SumFits};
 ghost use Rattle.wh_maint.specs.Refused.{IsInstallFault};
 
 use crate::fault::MaintFault;
@@ -12,7 +12,10 @@ use wh_row::{Bag, BagFault};
 pub fn install(alloc: Global, view: usize, table: &Bag, delta: &Bag) -> Result<Bag, MaintFault>
     ensures sum { IfOk result (λ new. new ≡ sum_of table.now delta.now) }
     ensures fits { OnOk result (SumFits table.now delta.now) }
+
+    // Large comes before Memory, and Memory only where one of them has a row.
     ensures refused { IfErr result (IsInstallFault view table.now delta.now) }
+    ensures memory { result ≡ Err MaintFault.Memory → ¬ ((table.now ≡ empty) × (delta.now ≡ empty)) }
 {
     if !table.sums_fit(delta) {
         return Err(MaintFault::Large(view));

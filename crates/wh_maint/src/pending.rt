@@ -1,13 +1,13 @@
 //! What the Comps of a view have added so far.
 
-ghost use Rattle.std.specs.Prelude.{◌≡◌, ℕ, suc, ◌<◌, ℤ, pos, ◌+ℤ◌, ◌*ℤ◌, FitsSigned, length, map, IfOk, IfErr, OnOk, OnErr, slice_index_or};
+ghost use Rattle.std.specs.Prelude.{◌≡◌, ℕ, suc, ◌<◌, ◌≤◌, ℤ, pos, ◌+ℤ◌, ◌*ℤ◌, FitsSigned, length, map, IfOk, IfErr, OnOk, OnErr, slice_index_or};
 ghost use Rattle.std.specs.List.{range_with_len};
 ghost use mir.Syntax.{w64, w128};
-ghost use Rattle.wh_row.specs.Bag.{count as count_of, empty, plus};
+ghost use Rattle.wh_row.specs.Bag.{count as count_of, empty, plus, HasRowsOf};
 ghost use Rattle.wh_maint.specs.Comp.{bag_at, merged};
-ghost use Rattle.wh_maint.specs.Refused.{MergedFit, IsMergeFault};
+ghost use Rattle.wh_maint.specs.Refused.{SumsTogetherFit, MergedFit, BringsNothing, IsMergeFault};
 
-use crate::both_sums::in_each_column;
+use crate::both_sums::{bring_nothing, in_each_column};
 use crate::fault::{MaintFault, RowFault};
 use std::alloc::{AllocError, Global};
 use std::marker::Model;
@@ -35,10 +35,11 @@ impl Model for Pending {
 }
 
 impl Pending {
-    /// Nothing added, for a view with so many sums.
+    /// Nothing added, for a view with so many sums. Memory is wanted for them alone.
     pub fn new(alloc: Global, view: usize, sums: usize) -> Result<Pending, AllocError>
         ensures view { IfOk result (λ pending. pending.view ≡ view) }
         ensures columns { IfOk result (λ pending. pending.columns ≡ map (λ _. empty) (range_with_len 0 (suc sums))) }
+        ensures memory { OnErr result (1 ≤ sums) }
     {
         let sums = no_sums(alloc, sums)?;
         Ok(Pending {
@@ -87,9 +88,17 @@ impl Pending {
         ensures sum { OnOk result (self.new.columns ≡ merged self.old.columns other.now.columns) }
         ensures fits { OnOk result (MergedFit self.old.columns other.now.columns) }
         ensures refused { IfErr result (IsMergeFault self.old.view self.old.columns other.now.columns) }
+
+        // Memory may come before Large, but only for a row or a group that is not there, or for sums.
+        ensures memory { result ≡ Err MaintFault.Memory → ¬ (BringsNothing self.old.columns other.now.columns) }
         ensures err { OnErr result (self.new ≡ self.old) }
     {
-        let sums = match in_each_column(self.alloc, self.sums.as_slice(), other.sums.as_slice()) {
+        let columns = self.sums.as_slice();
+        let others = other.sums.as_slice();
+        if bring_nothing(columns, others) {
+            return self.merge_counts(other);
+        }
+        let sums = match in_each_column(self.alloc, columns, others) {
             Ok(sums) => sums,
             Err(fault) => return Err(MaintFault::of_bag(fault, self.view)),
         };
@@ -98,6 +107,24 @@ impl Pending {
                 self.sums = sums;
                 Ok(())
             }
+            Err(fault) => Err(MaintFault::of_bag(fault, self.view)),
+        }
+    }
+
+    /// Adds the counts of another Comp that has no sums.
+    fn merge_counts(&mut self, other: &Pending) -> Result<(), MaintFault>
+        requires columns { length other.now.columns ≡ length self.old.columns }
+        requires none { (j : ℕ) → bag_at other.now.columns (suc j) ≡ empty }
+        requires fit { (j : ℕ) → SumsTogetherFit (bag_at self.old.columns (suc j)) (bag_at other.now.columns (suc j)) }
+        ensures view { self.new.view ≡ self.old.view }
+        ensures sum { OnOk result (self.new.columns ≡ merged self.old.columns other.now.columns) }
+        ensures fits { OnOk result (MergedFit self.old.columns other.now.columns) }
+        ensures refused { IfErr result (IsMergeFault self.old.view self.old.columns other.now.columns) }
+        ensures memory { result ≡ Err MaintFault.Memory → ¬ (HasRowsOf (bag_at self.old.columns 0) (bag_at other.now.columns 0)) }
+        ensures err { OnErr result (self.new ≡ self.old) }
+    {
+        match self.counts.merge(&other.counts) {
+            Ok(()) => Ok(()),
             Err(fault) => Err(MaintFault::of_bag(fault, self.view)),
         }
     }
@@ -154,7 +181,8 @@ impl Pending {
 }
 
 fn no_sums(alloc: Global, sums: usize) -> Result<Vec<Sums>, AllocError>
-    ensures { IfOk result (λ none. none.items ≡ map (λ _. empty) (range_with_len 0 sums)) }
+    ensures none { IfOk result (λ none. none.items ≡ map (λ _. empty) (range_with_len 0 sums)) }
+    ensures memory { OnErr result (1 ≤ sums) }
 {
     let mut none = Vec::new(alloc);
     for _number in 0..sums {

@@ -3,7 +3,7 @@ use Rattle.std.specs.Prelude.{◌≡◌, ℕ, ◌<◌, List, [], length}
 use Rattle.wh_strategy.specs.declared.expression.Expression.{Expression}
 use Rattle.wh_row.specs.Bag.{Bag, SumFits}
 use Rattle.wh_maint.specs.View.{ViewGraph}
-use Rattle.wh_maint.specs.Fit.{IsFitTable}
+use Rattle.wh_maint.specs.Fit.{IsFitTable, HasGroups}
 use Rattle.wh_maint.specs.Refused.{NoneAbsent}
 use Rattle.wh_dag.specs.Catalog.{CatalogOf}
 use Rattle.wh_maint.specs.Comp.{bag_at}
@@ -27,3 +27,7 @@ pub record AreFitFor (g : ViewGraph) (changes : ℕ → Bag) (list : List Expres
 -- each view of the catalogue has a fit table
 abbrev pub AreFitTables : CatalogOf → List Bag → Type 0
 AreFitTables catalog tables = (v : ℕ) → v < length catalog.views.children → IsFitTable (kind_in catalog v) (bag_at tables v)
+
+-- a view of the catalogue is a summary whose table has rows
+abbrev pub OneHasGroups : CatalogOf → List Bag → Type 0
+OneHasGroups catalog tables = (v : ℕ) × (v < length catalog.views.children) × HasGroups (kind_in catalog v) (bag_at tables v)

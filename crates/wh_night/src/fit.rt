@@ -1,10 +1,10 @@
 //! Whether tables are fit for a night.
 
-ghost use Rattle.std.specs.Prelude.{◌↔◌, ◌<◌, length, IsTrue, IfOk};
+ghost use Rattle.std.specs.Prelude.{◌↔◌, ◌<◌, length, IsTrue, IfOk, OnErr};
 ghost use Rattle.wh_maint.specs.Asked.{AreBags};
 ghost use Rattle.wh_maint.specs.Finishing.{kind_in};
-ghost use Rattle.wh_maint.specs.Fit.{IsFitTable};
-ghost use Rattle.wh_night.specs.Fit.{AreFitTables};
+ghost use Rattle.wh_maint.specs.Fit.{IsFitTable, HasGroups};
+ghost use Rattle.wh_night.specs.Fit.{AreFitTables, OneHasGroups};
 
 use std::alloc::{AllocError, Global};
 use wh_dag::Catalog;
@@ -19,7 +19,8 @@ pub fn are_fit<F: RowTest, G: RowValue>(
     tables: &[Bag],
 ) -> Result<bool, AllocError>
     requires { AreBags catalog.now tables.now }
-    ensures { IfOk result (λ fit. IsTrue fit ↔ AreFitTables catalog.now tables.now) }
+    ensures fit { IfOk result (λ fit. IsTrue fit ↔ AreFitTables catalog.now tables.now) }
+    ensures memory { OnErr result (OneHasGroups catalog.now tables.now) }
 {
     for view in 0..catalog.shape().len() {
         if !is_fit_view(alloc, catalog, view, &tables[view])? {
@@ -36,7 +37,8 @@ fn is_fit_view<F: RowTest, G: RowValue>(
     table: &Bag,
 ) -> Result<bool, AllocError>
     requires { view < length catalog.now.views.children }
-    ensures { IfOk result (λ fit. IsTrue fit ↔ IsFitTable (kind_in catalog.now view) table.now) }
+    ensures fit { IfOk result (λ fit. IsTrue fit ↔ IsFitTable (kind_in catalog.now view) table.now) }
+    ensures memory { OnErr result (HasGroups (kind_in catalog.now view) table.now) }
 {
     let _shape = catalog.shape();
     if catalog.is_base(view) {

@@ -10,6 +10,7 @@ use Rattle.wh_maint.proofs.NewRows.{after_told, value_asked, touched_at, nonzero
 use Rattle.wh_maint.proofs.OldGroups.{no_row_has}
 use Rattle.wh_maint.proofs.NewGroups.{NewGroups, new_groups_start, new_groups_over, at_pending}
 use Rattle.wh_maint.proofs.GroupSteps.{new_made, new_passed}
+use Rattle.wh_maint.proofs.NoRows.{one_counts}
 use Rattle.wh_maint.proofs.finished.add_new_groups.Goals as goal
 
 pub loop-group-init : goal.loop-group-init
@@ -53,6 +54,14 @@ returns-in-Err-clause-range c = λ x v.
     let fits : FitsSigned w64 c.count.result = search rules in
     let unseen : has_group c.args.sums g (written c.args.table.now) ≡ false = sym (c.requires.seen g t) ∙ ap is_nonzero (sym c.count.ensures ∙ sym (to_z-of_z fits) ∙ ap (to_z w64) c.if-count-eq0.true) in
     c.in-Err.ensures.range x (value_asked c.args.sums c.args.table.now c.args.pending.now.columns c.requires.fit None g (no_row_has c.args.sums c.args.table.now g unseen) (v g t))
+
+pub returns-in-Err-clause-memory : goal.returns-in-Err-clause-memory
+returns-in-Err-clause-memory c = λ _.
+    let p : ℕ → Bag = bag_at c.args.pending.now.columns in
+    let e : Row × ℤ = (c.in-Some.group.now, c.in-Some.field-0-1) in
+    let steps : c.loop-group.group-iterator ≡ e ∷ c.next.new.self = c.in-Some.ensures.steps in
+    let h = subst (λ (es : Counted). NewGroups c.args.sums c.args.table.now p es c.loop-group.change) steps c.loop-group.invariant.walk in
+    one_counts c.args.pending.now.columns 0 c.in-Some.group.now h.are_in.0
 
 pub loop-group-preserved-in_default : goal.loop-group-preserved-in_default
 loop-group-preserved-in_default c =

@@ -9,6 +9,7 @@ use Rattle.wh_maint.specs.Comp.{bag_at}
 use Rattle.wh_maint.proofs.NewRows.{after_told, value_asked}
 use Rattle.wh_maint.proofs.OldGroups.{OldGroups, old_groups_start, old_groups_pass, at_own}
 use Rattle.wh_maint.proofs.GroupSteps.{old_made}
+use Rattle.wh_maint.proofs.NoRows.{one_touched}
 use Rattle.wh_maint.proofs.finished.add_old_groups.Goals as goal
 
 pub loop-row-init : goal.loop-row-init
@@ -45,6 +46,14 @@ returns-in-Err-clause-range c = λ x v.
     let h = subst (λ (es : Counted). OldGroups c.args.sums c.args.table.now p es c.loop-row.change c.loop-row.seen) steps c.loop-row.invariant.walk in
     let t : is_touched c.args.sums p g ≡ true = sym c.is_touched.ensures ∙ c.if-is_touched.true in
     c.in-Err.ensures.range x (value_asked c.args.sums c.args.table.now c.args.pending.now.columns c.requires.fit (Some c.in-Some.row) g (h.are_in.0, sym c.group_in-group.ensures) (v g t))
+
+pub returns-in-Err-clause-memory : goal.returns-in-Err-clause-memory
+returns-in-Err-clause-memory c = λ _.
+    one_touched c.args.pending.now.columns c.args.sums c.group_in-group.result.now (sym c.is_touched.ensures ∙ c.if-is_touched.true)
+
+pub returns-in-Err-note-clause-memory : goal.returns-in-Err-note-clause-memory
+returns-in-Err-note-clause-memory c = λ _.
+    one_touched c.args.pending.now.columns c.args.sums c.group_in-group.result.now (sym c.is_touched.ensures ∙ c.if-is_touched.true)
 
 pub loop-row-preserved-in_default-note : goal.loop-row-preserved-in_default-note
 loop-row-preserved-in_default-note c =

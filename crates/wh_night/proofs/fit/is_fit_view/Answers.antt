@@ -8,8 +8,8 @@ use Rattle.wh_maint.proofs.FromScratch.{catalogs_are_graphs}
 use Rattle.wh_night.proofs.Agreeing.{a_base}
 use Rattle.wh_night.proofs.fit.is_fit_view.Goals as goal
 
-pub returns-then-is_base : goal.returns-then-is_base
-returns-then-is_base g c =
+pub returns-then-is_base-clause-fit : goal.returns-then-is_base-clause-fit
+returns-then-is_base-clause-fit g c =
     let cat = c.args.catalog.now in
     let v = c.args.view in
     let base : is_base cat v ≡ true = sym c.is_base.ensures ∙ c.if-is_base.true in
