@@ -123,10 +123,10 @@ impl Pending {
         ensures memory { result ≡ Err MaintFault.Memory → ¬ (HasRowsOf (bag_at self.old.columns 0) (bag_at other.now.columns 0)) }
         ensures err { OnErr result (self.new ≡ self.old) }
     {
-        match self.counts.merge(&other.counts) {
-            Ok(()) => Ok(()),
-            Err(fault) => Err(MaintFault::of_bag(fault, self.view)),
+        if let Err(fault) = self.counts.merge(&other.counts) {
+            return Err(MaintFault::of_bag(fault, self.view));
         }
+        Ok(())
     }
 
     /// Adds to a count.

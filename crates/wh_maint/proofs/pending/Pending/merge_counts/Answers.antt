@@ -8,23 +8,23 @@ use Rattle.wh_maint.proofs.TermSums.{err_same}
 use Rattle.wh_maint.proofs.NoRows.{first_alone, memory_of_bag}
 use Rattle.wh_maint.proofs.pending.Pending.merge_counts.Goals as goal
 
-pub returns-in-Ok-clause-sum : goal.returns-in-Ok-clause-sum
-returns-in-Ok-clause-sum c =
+pub returns-clause-sum : goal.returns-clause-sum
+returns-clause-sum c =
     let xs = c.self.inside.sums.items in
     let ys = c.other.inside.sums.items in
     let mine = columns_by c.self.inside.view c.self.inside.counts xs xs c.args.self.now refl c.self.view_is in
     let theirs = columns_by c.other.inside.view c.other.inside.counts ys ys c.args.other.now refl c.other.view_is in
     let long : length ys ≡ length xs = let a = ap length mine in let b = ap length theirs in let e = c.requires.columns in omega arith in
-    ap (λ (b : Bag). b ∷ xs) c.in-Ok.ensures.ok
+    ap (λ (b : Bag). b ∷ xs) c.in_default.ensures.ok
     ∙ first_alone c.self.inside.counts c.other.inside.counts xs ys long (λ j. ap (λ (bags : List Bag). bag_at bags (suc j)) theirs ∙ c.requires.none j)
     ∙ (λ i. merged (mine i) (theirs i))
 
-pub returns-in-Ok-clause-fits : goal.returns-in-Ok-clause-fits
-returns-in-Ok-clause-fits c =
+pub returns-clause-fits : goal.returns-clause-fits
+returns-clause-fits c =
     let a = ap (λ (p : PendingOf). bag_at p.columns 0) c.self.view_is in
     let b = ap (λ (p : PendingOf). bag_at p.columns 0) c.other.view_is in
     record {
-      counts = subst (λ (x : Bag). SumFits x (bag_at c.args.other.now.columns 0)) a (subst (λ (y : Bag). SumFits c.self.inside.counts y) b c.in-Ok.ensures.fits);
+      counts = subst (λ (x : Bag). SumFits x (bag_at c.args.other.now.columns 0)) a (subst (λ (y : Bag). SumFits c.self.inside.counts y) b c.in_default.ensures.fits);
       sums = c.requires.fit;
     }
 
