@@ -28,7 +28,7 @@ unnamed names name h =
     list_any_none (λ n. bytes_eq n name) names
     (λ k d l. false_from_ne_true _ (λ t. h k d l ((bytes_eq-Decides _ _).0 t)))
 
-or_none : (a b : Option ShapeFault) → or_else a b ≡ None → (a ≡ None) × (b ≡ None)
+pub or_none : (a b : Option ShapeFault) → or_else a b ≡ None → (a ≡ None) × (b ≡ None)
 or_none None b h = (refl, h)
 or_none (Some f) b h = cc
 
@@ -36,7 +36,7 @@ none_or : (a b : Option ShapeFault) → a ≡ None → b ≡ None → or_else a 
 none_or None b h k = k
 none_or (Some f) b h k = cc
 
-if_none : (b : Bool) (f : ShapeFault) (r : Option ShapeFault) → (if b then Some f else r) ≡ None → (b ≡ false) × (r ≡ None)
+pub if_none : (b : Bool) (f : ShapeFault) (r : Option ShapeFault) → (if b then Some f else r) ≡ None → (b ≡ false) × (r ≡ None)
 if_none true f r h = cc
 if_none false f r h = (refl, h)
 
@@ -118,10 +118,10 @@ view_of names view over h =
     let b = if_none _ _ _ a.1 in
     record { few = leb-false 64 view a.0; new = b.0; over = b.1 }
 
-of_view : (names : List (List ℕ)) (view : ℕ) (over : Option (List (List ℕ))) → IsView names view over → view_fault names view over ≡ None
+pub of_view : (names : List (List ℕ)) (view : ℕ) (over : Option (List (List ℕ))) → IsView names view over → view_fault names view over ≡ None
 of_view names view over h = none_if _ _ _ (lt-leb 64 view h.few) (none_if _ _ _ h.new h.over)
 
-each_view : (names : List (List ℕ)) (n : ℕ) (over : List (Option (List (List ℕ)))) → fault_from names n over ≡ None →
+pub each_view : (names : List (List ℕ)) (n : ℕ) (over : List (Option (List (List ℕ)))) → fault_from names n over ≡ None →
     (k m : ℕ) (o : Option (List (List ℕ))) → m ≡ n + k → slice_get over k ≡ Some o → IsView names m o
 each_view names n [] h k m o e at = cc
 each_view names n (x ∷ over) h zero m o e at =

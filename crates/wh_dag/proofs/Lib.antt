@@ -2,6 +2,7 @@ pub mod CommonParents
 pub mod Dealing
 pub mod Faultless
 pub mod FewCouples
+pub mod FirstFaults
 pub mod FitRest
 pub mod Levels
 pub mod Lists

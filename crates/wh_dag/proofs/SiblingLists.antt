@@ -1,11 +1,13 @@
 -- The lists of sibling pairs and couples, one number more at a time.
-use Rattle.std.proofs.Common.{◌≡◌, ℕ, zero, suc, ◌+◌, List, [], ◌∷◌, ◌++◌, Bool, true, false, map, filter, refl, sym, ap, ◌∙◌, ◌&&◌, nat_lt, arith}
+use Rattle.std.proofs.Common.{◌≡◌, ◌≢◌, ℕ, zero, suc, ◌+◌, ◌<◌, List, [], ◌∷◌, ◌++◌, Bool, true, false, map, filter, length, refl, sym, ap, subst, ◌∙◌, ◌&&◌, nat_lt, arith, cond, inl, inr, Some, Ok, Err, zero-add}
+use Rattle.std.specs.Prelude.{slice_get, Result, OnErr}
 use Rattle.std.specs.List.{range_with_len, flat_map}
 use Rattle.std.proofs.lemmas.List.Elements.{filter-append}
-use Rattle.std.proofs.lemmas.List.FromFn.{filter_of_map_range_with_len_more}
+use Rattle.std.proofs.lemmas.List.FromFn.{filter_of_map_range_with_len_more, get_or-range_with_len, length-range_with_len, get_or-map-range_with_len, length-map-range_with_len}
+use Rattle.std.proofs.lemmas.Option.{slice_get-get_or, same_Some}
 use Rattle.std.proofs.lemmas.Grind.{flat_map-append}
 use Rattle.std.proofs.lemmas.List.{append-nil, append_assoc}
-use Rattle.std.proofs.lemmas.Bool.{cond-true, cond-false, false≢true}
+use Rattle.std.proofs.lemmas.Bool.{cases_lt, cond-true, cond-false, false≢true}
 use Rattle.wh_dag.specs.Shape.{has, children_of}
 use Rattle.wh_dag.specs.Siblings.{is_sibling_pair, each_below, triples_with}
 
@@ -77,3 +79,46 @@ no_pair_with shape parent lower n out =
 -- a list that begins with nothing grows so
 pub made_each : {A : Type 0} (p : A → Bool) (f : ℕ → List A) (n : ℕ) (so_far now : List A) → so_far ≡ filter p (each_below f n) → now ≡ so_far ++ filter p (f n) → now ≡ filter p (each_below f (n + 1))
 made_each p f n so_far now had more = more ∙ ap (λ l. l ++ filter p (f n)) had ∙ sym (kept_more p f n)
+
+-- where nothing is kept of a list, neither its first member is nor anything of the rest
+none_of : {A : Type 0} (p : A → Bool) (x : A) (xs : List A) (b : Bool) → p x ≡ b → cond b (x ∷ filter p xs) (filter p xs) ≡ [] → (p x ≡ false) × (filter p xs ≡ [])
+none_of p x xs true e none = cc
+none_of p x xs false e none = (e, none)
+
+-- a list keeps something where it has a member that passes
+pub some_kept : {A : Type 0} (p : A → Bool) (xs : List A) (k : ℕ) (x : A) → slice_get xs k ≡ Some x → p x ≡ true → filter p xs ≢ []
+some_kept p [] k x at passes none = cc
+some_kept p (y ∷ ys) zero x at passes none =
+    let same : y ≡ x = same_Some y x at in
+    false≢true (sym (none_of p y ys (p y) refl none).0 ∙ ap p same ∙ passes)
+some_kept p (y ∷ ys) (suc k) x at passes none = some_kept p ys k x at passes (none_of p y ys (p y) refl none).1
+
+pub some_below : (p : ℕ → Bool) (n k : ℕ) → k < n → p k ≡ true → filter p (range_with_len 0 n) ≢ []
+some_below p n k low passes =
+    let within : k < length (range_with_len 0 n) = rw length-range_with_len low in
+    some_kept p (range_with_len 0 n) k k (slice_get-get_or (range_with_len 0 n) k 0 within ∙ ap Some (get_or-range_with_len 0 n k 0 low ∙ zero-add k)) passes
+
+pub some_one : {A : Type 0} (p : A → Bool) (f : ℕ → A) (n k : ℕ) → k < n → p (f k) ≡ true → filter p (map f (range_with_len 0 n)) ≢ []
+some_one p f n k low passes =
+    let within : k < length (map f (range_with_len 0 n)) = rw (length-map-range_with_len f 0 n) low in
+    some_kept p (map f (range_with_len 0 n)) k (f k) (slice_get-get_or (map f (range_with_len 0 n)) k (f k) within ∙ ap Some (get_or-map-range_with_len f 0 n k k (f k) low (omega arith))) passes
+
+none_together : {A : Type 0} (xs ys : List A) → xs ++ ys ≡ [] → (xs ≡ []) × (ys ≡ [])
+none_together [] ys e = (refl, e)
+none_together (x ∷ xs) ys e = cc
+
+-- where something is kept of what one number makes, something is kept of what all numbers make
+pub some_each : {A : Type 0} (p : A → Bool) (f : ℕ → List A) (n k : ℕ) → k < n → filter p (f k) ≢ [] → filter p (each_below f n) ≢ []
+some_each p f zero k low some none = absurd (omega arith)
+some_each p f (suc n) k low some none =
+    let on : suc n ≡ n + 1 = omega arith in
+    let both = none_together (filter p (each_below f n)) (filter p (f n)) (sym (kept_more p f n) ∙ subst (λ m. filter p (each_below f m) ≡ []) on none) in
+    elim (cases_lt k n) [
+      | inl less ↦ some_each p f n k less some both.0
+      | inr more ↦ let here : n ≡ k = omega arith in some (subst (λ m. filter p (f m) ≡ []) here both.1)
+    ]
+
+-- what holds at all holds where a call was refused
+pub on_err : {T E P : Type 0} (r : Result T E) → P → OnErr r P
+on_err (Ok v) p = tt
+on_err (Err e) p = p

@@ -2,6 +2,7 @@ pub mod Catalog
 pub mod CatalogCode
 pub mod CatalogParts
 pub mod Fault
+pub mod FirstFault
 pub mod Kept
 pub mod Level
 pub mod Lists

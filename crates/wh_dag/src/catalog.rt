@@ -1,5 +1,5 @@
 // The views of a warehouse with their definitions.
-ghost use Rattle.std.specs.Prelude.{◌≡◌, ◌<◌, ◌≤◌, ◌↔◌, length, IfOk, IsTrue, MatchOption, Some, None, false};
+ghost use Rattle.std.specs.Prelude.{◌≡◌, ◌<◌, ◌≤◌, ◌↔◌, length, IfOk, OnErr, IsTrue, MatchOption, Some, None, false};
 ghost use Rattle.wh_dag.specs.Catalog.{IsCatalog, width_of, combined_width, definition_of, is_base, columns};
 ghost use Rattle.wh_dag.specs.CatalogParts.{FitTogether, Shows, catalog_of};
 
@@ -45,6 +45,9 @@ impl<F: RowTest + Drop, G: RowValue + Drop> Catalog<F, G> {
         requires { FitTogether shape widths.items definitions.items }
         ensures shows { IfOk result (λ c. Shows c shape widths.items definitions.items) }
         ensures made { IfOk result (λ c. c ≡ catalog_of shape widths.items definitions.items) }
+
+        // Without a view no memory is taken.
+        ensures memory { OnErr result (0 < length shape.children) }
     {
         let definitions = dealt::definitions(alloc, shape.child_lists(), definitions)?;
         let widths = dealt::widths(alloc, &definitions, widths)?;

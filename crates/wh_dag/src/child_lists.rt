@@ -1,5 +1,5 @@
 // Which views each view is over.
-ghost use Rattle.std.specs.Prelude.{◌≡◌, ◌<◌, ◌↔◌, ◌==◌, List, ℕ, length, IfOk, IsTrue};
+ghost use Rattle.std.specs.Prelude.{◌≡◌, ◌<◌, ◌↔◌, ◌==◌, List, ℕ, length, IfOk, OnErr, IsTrue};
 ghost use Rattle.wh_dag.specs.Shape.{IsShape, has, children_of};
 ghost use Rattle.wh_dag.specs.Siblings.{have_parent};
 ghost use Rattle.wh_dag.specs.Lists.{lists_of};
@@ -70,9 +70,10 @@ impl ChildLists {
         any_over_both(&self.lists, first, second)
     }
 
-    /// A copy of the lists.
+    /// A copy of the lists. Takes no memory where there is no view.
     pub fn copy(&self, alloc: Global) -> Result<ChildLists, AllocError>
-        ensures { IfOk result (λ copy. copy ≡ self.now) }
+        ensures copy { IfOk result (λ copy. copy ≡ self.now) }
+        ensures memory { OnErr result (0 < length self.now) }
     {
         let lists = copied(alloc, &self.lists)?;
         Ok(ChildLists { lists })
@@ -104,7 +105,8 @@ fn any_over_both(lists: &[Vec<usize>], first: usize, second: usize) -> bool
 }
 
 fn copied(alloc: Global, lists: &[Vec<usize>]) -> Result<Vec<Vec<usize>>, AllocError>
-    ensures { IfOk result (λ copy. lists_of copy.items ≡ lists_of lists.now) }
+    ensures copy { IfOk result (λ copy. lists_of copy.items ≡ lists_of lists.now) }
+    ensures memory { OnErr result (0 < length lists.now) }
 {
     let mut copy = Vec::new(alloc);
     for own in lists {

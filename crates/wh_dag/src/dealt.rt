@@ -1,5 +1,5 @@
 // The parts of a catalogue, dealt out to the views in rising order.
-ghost use Rattle.std.specs.Prelude.{◌≡◌, IfOk};
+ghost use Rattle.std.specs.Prelude.{◌≡◌, ◌<◌, length, IfOk, OnErr};
 ghost use Rattle.wh_dag.specs.CatalogParts.{dealt_definitions, dealt_widths};
 
 use crate::child_lists::ChildLists;
@@ -13,7 +13,8 @@ pub(crate) fn definitions<F: RowTest + Drop, G: RowValue + Drop>(
     shape: &ChildLists,
     given: Vec<Definition<F, G>>,
 ) -> Result<Vec<Option<Definition<F, G>>>, AllocError>
-    ensures { IfOk result (λ dealt. dealt.items ≡ dealt_definitions shape.now given.items) }
+    ensures dealt { IfOk result (λ dealt. dealt.items ≡ dealt_definitions shape.now given.items) }
+    ensures memory { OnErr result (0 < length shape.now) }
 {
     let mut given = given.into_iter();
     let mut dealt = Vec::new(alloc);
@@ -35,7 +36,8 @@ pub(crate) fn widths<F: RowTest, G: RowValue>(
     definitions: &[Option<Definition<F, G>>],
     given: Vec<usize>,
 ) -> Result<Vec<usize>, AllocError>
-    ensures { IfOk result (λ dealt. dealt.items ≡ dealt_widths definitions.now given.items) }
+    ensures dealt { IfOk result (λ dealt. dealt.items ≡ dealt_widths definitions.now given.items) }
+    ensures memory { OnErr result (0 < length definitions.now) }
 {
     let mut given = given.into_iter();
     let mut dealt = Vec::new(alloc);

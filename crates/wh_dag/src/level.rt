@@ -1,5 +1,5 @@
 // The level of each view: 0 for a base, else one more than its highest child.
-ghost use Rattle.std.specs.Prelude.{◌≡◌, ◌<◌, ◌≤◌, ℕ, length, map, slice_index, IfOk, All, vec_len};
+ghost use Rattle.std.specs.Prelude.{◌≡◌, ◌<◌, ◌≤◌, ℕ, length, map, slice_index, IfOk, OnErr, All, vec_len};
 ghost use Rattle.wh_dag.specs.Level.{level_over, level_of};
 
 use crate::child_lists::ChildLists;
@@ -25,6 +25,7 @@ pub(crate) fn levels(alloc: Global, shape: &ChildLists) -> Result<Vec<usize>, Al
     ensures len { IfOk result (λ levels. vec_len levels ≡ length shape.now) }
     ensures levels { IfOk result (λ levels. (v : ℕ) → v < length shape.now →
         slice_index levels.items v ≡ level_of shape.now v) }
+    ensures memory { OnErr result (0 < length shape.now) }
 {
     let mut levels = Vec::new(alloc);
     for view in 0..shape.len() {

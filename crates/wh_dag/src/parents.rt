@@ -1,5 +1,5 @@
 // The views over a view.
-ghost use Rattle.std.specs.Prelude.{◌≡◌, IfOk};
+ghost use Rattle.std.specs.Prelude.{◌≡◌, ◌≢◌, [], IfOk, OnErr};
 ghost use Rattle.wh_dag.specs.Parents.{parents_of};
 
 use crate::child_lists::{ChildLists, is_over};
@@ -12,7 +12,8 @@ pub(crate) fn parents_of_view(
     shape: &ChildLists,
     view: usize,
 ) -> Result<Vec<usize>, AllocError>
-    ensures { IfOk result (λ parents. parents.items ≡ parents_of shape.now view) }
+    ensures parents { IfOk result (λ parents. parents.items ≡ parents_of shape.now view) }
+    ensures memory { OnErr result (parents_of shape.now view ≢ []) }
 {
     let mut parents = Vec::new(alloc);
     for parent in 0..shape.len() {

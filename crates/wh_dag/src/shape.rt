@@ -1,5 +1,5 @@
 // A shape: the names of the views, and which views each is over.
-ghost use Rattle.std.specs.Prelude.{◌≡◌, ◌<◌, ◌⊎◌, ◌==◌, length, map, IfOk, IfErr, OnOk, Some, None, vec_len};
+ghost use Rattle.std.specs.Prelude.{◌≡◌, ◌≢◌, ◌<◌, ◌⊎◌, ◌==◌, [], length, map, IfOk, IfErr, OnOk, OnErr, Some, None, vec_len};
 ghost use Rattle.wh_dag.specs.Shape.{IsShape, children_of};
 ghost use Rattle.wh_dag.specs.Level.{level_of, level_over};
 ghost use Rattle.wh_dag.specs.Parents.{parents_of};
@@ -55,6 +55,9 @@ impl Shape {
         ensures well_formed { OnOk result (IsWellFormed (texts names.items) (written over.items)) }
         ensures err { IfErr result (λ fault. (fault ≡ ShapeFault.Memory)
             ⊎ (first_fault (texts names.items) (written over.items) ≡ Some fault)) }
+
+        // Without a view no memory is taken.
+        ensures memory { OnErr result (0 < vec_len names) }
     {
         let lists = written::child_lists(alloc, &names, &over)?;
         let children = ChildLists::from_lists(lists);
@@ -107,23 +110,28 @@ impl Shape {
         &self.children
     }
 
-    /// The views over this one, rising.
+    /// The views over this one, rising. Takes no memory where there is none.
     pub fn parents(&self, alloc: Global, view: usize) -> Result<Vec<usize>, AllocError>
-        ensures { IfOk result (λ parents. parents.items ≡ parents_of self.now.children view) }
+        ensures parents { IfOk result (λ parents. parents.items ≡ parents_of self.now.children view) }
+        ensures memory { OnErr result (parents_of self.now.children view ≢ []) }
     {
         parents::parents_of_view(alloc, &self.children, view)
     }
 
     /// The sibling pairs (parent, lower, higher), rising: for each view all two views that it is over.
+    /// Takes no memory where there is none.
     pub fn sibling_pairs(&self, alloc: Global) -> Result<Vec<SiblingPair>, AllocError>
-        ensures { IfOk result (λ pairs. pairs.items ≡ sibling_pairs_of self.now.children) }
+        ensures pairs { IfOk result (λ pairs. pairs.items ≡ sibling_pairs_of self.now.children) }
+        ensures memory { OnErr result (sibling_pairs_of self.now.children ≢ []) }
     {
         siblings::sibling_pairs(alloc, &self.children)
     }
 
     /// The couples (lower, higher), rising: all two views that have a common parent, each couple once.
+    /// Takes no memory where there is none.
     pub fn couples(&self, alloc: Global) -> Result<Vec<Couple>, AllocError>
-        ensures { IfOk result (λ couples. couples.items ≡ couples_of self.now.children) }
+        ensures couples { IfOk result (λ couples. couples.items ≡ couples_of self.now.children) }
+        ensures memory { OnErr result (couples_of self.now.children ≢ []) }
     {
         siblings::couples(alloc, &self.children)
     }

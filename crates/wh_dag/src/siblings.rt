@@ -1,5 +1,5 @@
 // Views with a common parent.
-ghost use Rattle.std.specs.Prelude.{◌≡◌, ◌<◌, ◌≤◌, ◌++◌, ℕ, List, IfOk, OnOk, length, filter};
+ghost use Rattle.std.specs.Prelude.{◌≡◌, ◌≢◌, ◌<◌, ◌≤◌, ◌++◌, [], ℕ, List, IfOk, OnOk, OnErr, length, filter};
 ghost use Rattle.wh_dag.specs.Shape.{IsShape};
 ghost use Rattle.wh_dag.specs.Siblings.{is_sibling_pair, is_couple, triples_with, triples_of, pairs_with, sibling_pairs_of, couples_of};
 
@@ -55,7 +55,8 @@ fn add_with(
     lower: usize,
 ) -> Result<(), AllocError>
     requires { parent < length shape.now }
-    ensures { OnOk result (pairs.new.items ≡ pairs.old.items ++ filter (is_sibling_pair shape.now) (triples_with parent lower (length shape.now))) }
+    ensures added { OnOk result (pairs.new.items ≡ pairs.old.items ++ filter (is_sibling_pair shape.now) (triples_with parent lower (length shape.now))) }
+    ensures memory { OnErr result (filter (is_sibling_pair shape.now) (triples_with parent lower (length shape.now)) ≢ []) }
 {
     for higher in 0..shape.len() {
         let pair = SiblingPair {
@@ -73,7 +74,8 @@ fn add_with(
 /// Adds the sibling pairs of this parent.
 fn add_of(pairs: &mut Vec<SiblingPair>, shape: &ChildLists, parent: usize) -> Result<(), AllocError>
     requires { parent < length shape.now }
-    ensures { OnOk result (pairs.new.items ≡ pairs.old.items ++ filter (is_sibling_pair shape.now) (triples_of parent (length shape.now))) }
+    ensures added { OnOk result (pairs.new.items ≡ pairs.old.items ++ filter (is_sibling_pair shape.now) (triples_of parent (length shape.now))) }
+    ensures memory { OnErr result (filter (is_sibling_pair shape.now) (triples_of parent (length shape.now)) ≢ []) }
 {
     for lower in 0..shape.len() {
         if shape.is_over(parent, lower) {
@@ -88,7 +90,8 @@ pub(crate) fn sibling_pairs(
     alloc: Global,
     shape: &ChildLists,
 ) -> Result<Vec<SiblingPair>, AllocError>
-    ensures { IfOk result (λ pairs. pairs.items ≡ sibling_pairs_of shape.now) }
+    ensures pairs { IfOk result (λ pairs. pairs.items ≡ sibling_pairs_of shape.now) }
+    ensures memory { OnErr result (sibling_pairs_of shape.now ≢ []) }
 {
     let mut pairs = Vec::new(alloc);
     for parent in 0..shape.len() {
@@ -103,7 +106,8 @@ fn add_couples_with(
     shape: &ChildLists,
     lower: usize,
 ) -> Result<(), AllocError>
-    ensures { OnOk result (couples.new.items ≡ couples.old.items ++ filter (is_couple shape.now) (pairs_with lower (length shape.now))) }
+    ensures added { OnOk result (couples.new.items ≡ couples.old.items ++ filter (is_couple shape.now) (pairs_with lower (length shape.now))) }
+    ensures memory { OnErr result (filter (is_couple shape.now) (pairs_with lower (length shape.now)) ≢ []) }
 {
     for higher in 0..shape.len() {
         let couple = Couple { lower, higher };
@@ -116,7 +120,8 @@ fn add_couples_with(
 
 /// The couples of the shape, each once, rising.
 pub(crate) fn couples(alloc: Global, shape: &ChildLists) -> Result<Vec<Couple>, AllocError>
-    ensures { IfOk result (λ couples. couples.items ≡ couples_of shape.now) }
+    ensures couples { IfOk result (λ couples. couples.items ≡ couples_of shape.now) }
+    ensures memory { OnErr result (couples_of shape.now ≢ []) }
 {
     let mut couples = Vec::new(alloc);
     for lower in 0..shape.len() {

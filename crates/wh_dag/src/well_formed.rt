@@ -1,7 +1,10 @@
-// What the first fault says of a written shape, in words that name no order.
+// What the first fault says of a written shape, in words that name no order of tests.
 ghost use Rattle.wh_dag.specs.WellFormed.{FaultlessIsWellFormed};
+ghost use Rattle.wh_dag.specs.FirstFault.{FirstFaultByPlaces};
 
-/// A law of the definitions: a written shape has no fault exactly where it is well formed.
+/// Two laws of the definitions: a written shape has no fault exactly where it is well formed, and its first fault is the
+/// one that stands at a view and a step of it where nothing is wrong with the views and the steps before.
 pub fn well_formed_law()
-    ensures { FaultlessIsWellFormed }
+    ensures faultless { FaultlessIsWellFormed }
+    ensures first { FirstFaultByPlaces }
 {}

@@ -1,5 +1,5 @@
 // The written shape: names in place of numbers, read view by view up to the first fault.
-ghost use Rattle.std.specs.Prelude.{◌≡◌, ◌<◌, ◌⊎◌, [], length, map, take, IfOk, IfErr, OnOk, Some, None};
+ghost use Rattle.std.specs.Prelude.{◌≡◌, ◌<◌, ◌⊎◌, [], length, map, take, IfOk, IfErr, OnOk, OnErr, Some, None};
 ghost use Rattle.wh_dag.specs.Lists.{lists_of};
 ghost use Rattle.wh_dag.specs.Written.{texts, written, written_list, name_of, is_named, number_of, numbers_of, children_written};
 ghost use Rattle.wh_dag.specs.Fault.{child_fault, children_fault, over_fault, view_fault, first_fault};
@@ -155,6 +155,7 @@ pub(crate) fn child_lists(
     ensures faultless { OnOk result (first_fault (texts names.now) (written over.now) ≡ None) }
     ensures err { IfErr result (λ fault. (fault ≡ ShapeFault.Memory)
         ⊎ (first_fault (texts names.now) (written over.now) ≡ Some fault)) }
+    ensures memory { OnErr result (0 < length over.now) }
 {
     let mut lists = Vec::new(alloc);
     for (view, written) in over.iter().enumerate() {

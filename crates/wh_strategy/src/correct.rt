@@ -1,6 +1,6 @@
 //! The check, and what it makes.
 
-ghost use Rattle.std.specs.Prelude.{◌≡◌, ◌↔◌, ℕ, List, [], Some, IfOk, IfErr, IsTrue, IfNone, IfSome, MatchOption};
+ghost use Rattle.std.specs.Prelude.{◌≡◌, ◌↔◌, ◌<◌, ℕ, List, [], length, Some, IfOk, IfErr, IsTrue, IfNone, IfSome, MatchOption};
 ghost use Rattle.wh_dag.specs.Shape.{IsShape};
 ghost use Rattle.wh_strategy.specs.Rules.{IsCorrect, IsOneWay, IsFirstBroken, IsFirstPlace, IsReason, Keeps};
 ghost use Rattle.wh_strategy.specs.Tests.{PassEach, IsFirstFailed, Passes, place_from};
@@ -106,6 +106,9 @@ fn first_broken(children: &ChildLists, list: &[Expression]) -> Option<(Rule, usi
 pub fn check(alloc: Global, shape: &Shape, strategy: Strategy) -> Result<Correct, CheckFault>
     ensures ok { IfOk result (λ c. (c.children ≡ shape.now.children) × (c.list ≡ strategy) × IsCorrect shape.now.children strategy) }
     ensures err { IfErr result (IsReason shape.now.children strategy) }
+
+    // Without a view there are no lists to copy.
+    ensures memory { result ≡ Err CheckFault.Memory → 0 < length shape.now.children }
 {
     if let Some((rule, place)) = first_broken(shape.child_lists(), strategy.as_slice()) {
         return Err(CheckFault::Broken { rule, place });

@@ -1,6 +1,6 @@
-use Rattle.std.proofs.Common.{sym, ◌∙◌}
+use Rattle.std.proofs.Common.{◌<◌, length, sym, ◌∙◌, arith}
 use Rattle.wh_dag.specs.Siblings.{is_couple}
-use Rattle.wh_dag.proofs.SiblingLists.{added_one, skipped_one}
+use Rattle.wh_dag.proofs.SiblingLists.{added_one, skipped_one, some_one, on_err}
 use Rattle.wh_dag.proofs.siblings.add_couples_with.Goals as goal
 use Rattle.wh_dag.proofs.siblings.add_couples_with.Goals.{then-is_of+in_ok-push, else-is_of}
 
@@ -14,3 +14,8 @@ loop-higher-preserved c =
           rw w.couples-is
           (record { added = skipped_one (is_couple c.args.shape.now) (λ higher. record { lower = c.args.lower; higher = higher }) c.loop-higher.higher c.args.couples.now.items c.loop-higher.couples.items c.loop-higher.invariant.added (sym c.is_of.ensures ∙ w.if-is_of.false) })
     ]
+
+pub returns-in_err-push-clause-memory : goal.returns-in_err-push-clause-memory
+returns-in_err-push-clause-memory c =
+    let low : c.loop-higher.higher < length c.args.shape.now = omega arith in
+    on_err _ (some_one (is_couple c.args.shape.now) (λ higher. record { lower = c.args.lower; higher = higher }) (length c.args.shape.now) c.loop-higher.higher low (sym c.is_of.ensures ∙ c.if-is_of.true))
