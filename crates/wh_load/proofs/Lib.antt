@@ -15,6 +15,7 @@ pub mod ExpressionPieces
 pub mod FormulaForms
 pub mod FormulaSteps
 pub mod FormulasFit
+pub mod FreshNames
 pub mod JoinSteps
 pub mod LineLemmas
 pub mod Lists
