@@ -4,6 +4,7 @@ pub mod CatalogueNames
 pub mod CatalogueTexts
 pub mod CatalogueViews
 pub mod Cells
+pub mod ChangesReadingBack
 pub mod ColumnsNamed
 pub mod CutLemmas
 pub mod CycleParts
