@@ -4,6 +4,7 @@ pub mod CatalogueNames
 pub mod CatalogueTexts
 pub mod CatalogueViews
 pub mod Cells
+pub mod ChangesReadingBack
 pub mod ColumnsNamed
 pub mod CutLemmas
 pub mod CycleParts
@@ -15,6 +16,7 @@ pub mod ExpressionPieces
 pub mod FormulaForms
 pub mod FormulaSteps
 pub mod FormulasFit
+pub mod FreshNames
 pub mod JoinSteps
 pub mod LineLemmas
 pub mod Lists

@@ -59,12 +59,12 @@ parsed text = by (cases_Bool (are_digits (without_leading_sign text) && is_i64 (
     by (inr e) test = (Err tt, λ holds. both_ways (are_digits (without_leading_sign text) && is_i64 (signed_digits_value 10 text)) e (test.1 holds))
 
 -- a number of i64 in decimal writes that number
-whole-decimal : (z : ℤ) → FitsSigned w64 z → whole_number (signed_decimal z) ≡ Some z
+pub whole-decimal : (z : ℤ) → FitsSigned w64 z → whole_number (signed_decimal z) ≡ Some z
 whole-decimal z fits =
     let p = parsed (signed_decimal z) in
     sym (whole_number-parse (signed_decimal z) p.0 p.1) ∙ ap result_ok (parse-signed_decimal w64 z (signed_decimal z) p.0 fits (small z fits) refl p.1)
 
-decimal-utf8 : (z : ℤ) → FitsSigned w64 z → is_utf8 (signed_decimal z) ≡ true
+pub decimal-utf8 : (z : ℤ) → FitsSigned w64 z → is_utf8 (signed_decimal z) ≡ true
 decimal-utf8 z fits = is_utf8-from_IsUtf8 (signed_decimal z) (IsUtf8-from_ascii (signed_decimal z) (IsAscii-signed z (small z fits)))
 
 -- Cells.
@@ -122,27 +122,27 @@ cell-among texts of_kind.Text (pos n) is = by (slice_get texts n) refl is
 
 -- Rows.
 
-row-back : (texts : List (List ℕ)) (kinds : List Kind) (row : Row) → IsDistinct bytes_eq texts → AllZip (IsCell texts) kinds row → row_of texts kinds (cell_texts texts kinds row) ≡ Some row
+pub row-back : (texts : List (List ℕ)) (kinds : List Kind) (row : Row) → IsDistinct bytes_eq texts → AllZip (IsCell texts) kinds row → row_of texts kinds (cell_texts texts kinds row) ≡ Some row
 unfolding row_of cell_texts
 row-back texts [] [] distinct all = refl
 row-back texts [] (number ∷ row) distinct all = absurd all
 row-back texts (kind ∷ kinds) [] distinct all = absurd all
 row-back texts (kind ∷ kinds) (number ∷ row) distinct all = rw (cell-number texts kind number distinct all.0, row-back texts kinds row distinct all.1) refl
 
-row-utf8 : (texts : List (List ℕ)) (kinds : List Kind) (row : Row) → All IsUtf8 texts → AllZip (IsCell texts) kinds row → list_all is_utf8 (cell_texts texts kinds row) ≡ true
+pub row-utf8 : (texts : List (List ℕ)) (kinds : List Kind) (row : Row) → All IsUtf8 texts → AllZip (IsCell texts) kinds row → list_all is_utf8 (cell_texts texts kinds row) ≡ true
 unfolding cell_texts
 row-utf8 texts [] [] utf8 all = refl
 row-utf8 texts [] (number ∷ row) utf8 all = absurd all
 row-utf8 texts (kind ∷ kinds) [] utf8 all = absurd all
 row-utf8 texts (kind ∷ kinds) (number ∷ row) utf8 all = rw (cell-utf8 texts kind number utf8 all.0, row-utf8 texts kinds row utf8 all.1) refl
 
-row-length : (texts : List (List ℕ)) (kinds : List Kind) (row : Row) → length (cell_texts texts kinds row) ≡ length kinds
+pub row-length : (texts : List (List ℕ)) (kinds : List Kind) (row : Row) → length (cell_texts texts kinds row) ≡ length kinds
 unfolding cell_texts
 row-length texts [] row = refl
 row-length texts (kind ∷ kinds) [] = ap suc (row-length texts kinds [])
 row-length texts (kind ∷ kinds) (number ∷ row) = ap suc (row-length texts kinds row)
 
-row-among : (texts : List (List ℕ)) (kinds : List Kind) (row : Row) → AllZip (IsCell texts) kinds row → all_among texts (texts_in_row kinds (cell_texts texts kinds row)) ≡ true
+pub row-among : (texts : List (List ℕ)) (kinds : List Kind) (row : Row) → AllZip (IsCell texts) kinds row → all_among texts (texts_in_row kinds (cell_texts texts kinds row)) ≡ true
 unfolding cell_texts texts_in_row
 row-among texts [] [] all = refl
 row-among texts [] (number ∷ row) all = absurd all
@@ -199,14 +199,14 @@ all-texts-among texts kinds (e ∷ es) all =
     (all-texts-among texts kinds es all.1)
 
 -- texts that have numbers add none
-with-known : (texts more : List (List ℕ)) → all_among texts more ≡ true → with_texts texts more ≡ texts
+pub with-known : (texts more : List (List ℕ)) → all_among texts more ≡ true → with_texts texts more ≡ texts
 unfolding with_texts
 with-known texts [] all = refl
 with-known texts (text ∷ more) all =
     let parts = and_parts (list_any (bytes_eq text) texts) (all_among texts more) all in
     rw parts.0 (with-known texts more parts.1)
 
-kept-cells : (texts : List (List ℕ)) (kinds : List Kind) (es : Counted) → map read_back (map (record_of texts kinds) es) ≡ map (record_of texts kinds) es
+pub kept-cells : (texts : List (List ℕ)) (kinds : List Kind) (es : Counted) → map read_back (map (record_of texts kinds) es) ≡ map (record_of texts kinds) es
 kept-cells texts kinds [] = refl
 kept-cells texts kinds (e ∷ es) = ap (λ rest. record_of texts kinds e ∷ rest) (kept-cells texts kinds es)
 
@@ -261,7 +261,7 @@ header-back names =
     not-suc : (n : ℕ) → suc n ≡ n → ⊥
     not-suc n e = omega arith
 
-names-utf8 : (names : List (List ℕ)) → All IsUtf8 names → list_all is_utf8 names ≡ true
+pub names-utf8 : (names : List (List ℕ)) → All IsUtf8 names → list_all is_utf8 names ≡ true
 names-utf8 [] all = refl
 names-utf8 (n ∷ names) all = rw (is_utf8-from_IsUtf8 n (all 0 [] (omega arith)), names-utf8 names (λ k d l. all (suc k) d (omega arith))) refl
 
@@ -269,7 +269,7 @@ hash-ascii : (i : ℕ) → get_or (codes "#") i 0 < 128
 hash-ascii zero = omega arith
 hash-ascii (suc i) = omega arith
 
-hash-utf8 : is_utf8 (codes "#") ≡ true
+pub hash-utf8 : is_utf8 (codes "#") ≡ true
 hash-utf8 = is_utf8-from_IsUtf8 (codes "#") (IsUtf8-from_ascii (codes "#") hash-ascii)
 
 header-given : (names : List (List ℕ)) (rows : List (List (List ℕ))) → All IsUtf8 names → header_gives Table names (counted_header names ∷ rows) ≡ Ok (Positive, rows)
@@ -280,7 +280,7 @@ header-given names rows utf8 =
 
 -- The whole table.
 
-bag-back : (bag : Bag) → bag_of (written bag) ≡ bag
+pub bag-back : (bag : Bag) → bag_of (written bag) ≡ bag
 bag-back bag = same_bag (bag_of (written bag)) bag (λ q. count-bag_of (written bag) q ∙ count_in-written bag q)
 
 pub table-reads-back : TableReadsBack

@@ -1,6 +1,7 @@
 pub mod BaseColumns
 pub mod Bundle
 pub mod Catalogue
+pub mod ChangesReadBack
 pub mod ColumnNames
 pub mod Columns
 pub mod Cut

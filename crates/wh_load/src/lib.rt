@@ -43,4 +43,6 @@ pub use plan::{
 pub use read::{ReadFault, read_all};
 pub use sizes::read_sizes;
 pub use strategy::{read_strategy, reads_back_law, write_strategy};
-pub use table::{read_changes, read_table, table_reads_back_law, write_table};
+pub use table::{
+    changes_read_back_law, read_changes, read_table, table_reads_back_law, write_table,
+};

@@ -6,6 +6,7 @@ ghost use Rattle.wh_row.specs.Bag.{HasWidth, IsTable, bag_of};
 ghost use Rattle.wh_row.specs.Records.{EachSumFits};
 ghost use Rattle.wh_load.specs.Dict.{BeginsWith};
 ghost use Rattle.wh_load.specs.Records.{form_fault};
+ghost use Rattle.wh_load.specs.ChangesReadBack.{ChangesReadBack};
 ghost use Rattle.wh_load.specs.TableReadsBack.{NamesAreText, TableReadsBack};
 ghost use Rattle.wh_load.specs.TableText.{EndsSum, ReadTo, count_cells, counting_of, dictionary_after, header_gives, kinds_of, names_of, text_gives};
 ghost use Rattle.wh_load.specs.declared.table.header.Content.TheVariants.{Table, Changes};
@@ -194,4 +195,10 @@ pub fn read_changes(
 pub fn table_reads_back_law()
     ensures back { TableReadsBack }
     ensures names { NamesAreText }
+{}
+
+/// A law of the definitions: changes that were written, as [`write_table`] writes a bag of any sign, are read back as they
+/// were, and leave the dictionary as it is. It asks what [`table_reads_back_law`] asks, but for the sign.
+pub fn changes_read_back_law()
+    ensures { ChangesReadBack }
 {}

@@ -15,6 +15,7 @@ use crate::columns::{Column, Kind};
 use crate::dict::Dict;
 use crate::fault::{Key, LoadFault};
 use crate::name_form::is_name;
+use indexmap::IndexSet;
 use std::alloc::Global;
 use toml::Value;
 use wh_formula::Expr;
@@ -56,7 +57,7 @@ fn kept(
     if !is_few(pairs.len()) || !are_exprs(&pairs) {
         return Err(LoadFault::Key(Key::Keep));
     }
-    let mut seen = Vec::new(alloc);
+    let mut seen = IndexSet::new(alloc);
     known_pairs(alloc, header, &mut seen, &pairs)?;
     let mut columns = Vec::new(alloc);
     let exprs = typed_pairs(
@@ -125,14 +126,14 @@ fn sums_at(alloc: Global, table: &Value) -> Result<Vec<Pair<'_>>, LoadFault>
 fn groups_of<'a>(
     alloc: Global,
     header: &Header,
-    seen: &mut Vec<&'a str>,
+    seen: &mut IndexSet<&'a str>,
     columns: &mut Vec<Column>,
     value: &'a Value,
 ) -> Result<Vec<usize>, LoadFault>
-    requires seen { seen.old.items ≡ [] }
+    requires seen { seen.old.keys ≡ [] }
     requires columns { columns.old.items ≡ [] }
     ensures ok { IfOk result (λ places. groups_of header.now (view value.now)
-        ≡ Ok (groups (map (λ n. n.now) seen.new.items) columns.new.items places.items)) }
+        ≡ Ok (groups (map (λ n. n.now) seen.new.keys) columns.new.items places.items)) }
     ensures err { IfErr result (λ f. (f ≡ LoadFault.Memory) ⊎ (groups_of header.now (view value.now) ≡ Err f)) }
 {
     let pairs = group_written(alloc, value)?;
@@ -145,14 +146,14 @@ fn sums_of<'a>(
     alloc: Global,
     header: &Header,
     texts: &mut Dict,
-    seen: &mut Vec<&'a str>,
+    seen: &mut IndexSet<&'a str>,
     columns: &mut Vec<Column>,
     table: &'a Value,
 ) -> Result<Vec<Expr>, LoadFault>
-    ensures ok { IfOk result (λ exprs. sums_of header.now (map (λ n. n.now) seen.old.items) columns.old.items (view table.now) texts.old
+    ensures ok { IfOk result (λ exprs. sums_of header.now (map (λ n. n.now) seen.old.keys) columns.old.items (view table.now) texts.old
         ≡ Ok (typed_columns columns.new.items exprs.items, texts.new)) }
     ensures err { IfErr result (λ f. (f ≡ LoadFault.Memory)
-        ⊎ (sums_of header.now (map (λ n. n.now) seen.old.items) columns.old.items (view table.now) texts.old ≡ Err f)) }
+        ⊎ (sums_of header.now (map (λ n. n.now) seen.old.keys) columns.old.items (view table.now) texts.old ≡ Err f)) }
     ensures grows { Grows texts.old texts.new }
 {
     let pairs = sums_at(alloc, table)?;
@@ -179,7 +180,7 @@ fn summed(
     ensures err { IfErr result (λ f. (f ≡ LoadFault.Memory) ⊎ (summed header.now (view table.now) (view value.now) texts.old ≡ Err f)) }
     ensures grows { Grows texts.old texts.new }
 {
-    let mut seen = Vec::new(alloc);
+    let mut seen = IndexSet::new(alloc);
     let mut columns = Vec::new(alloc);
     let group = groups_of(alloc, header, &mut seen, &mut columns, value)?;
     let count = count_written(table)?;

@@ -12,6 +12,7 @@ use super::reference::is_reference;
 use crate::catalogue::array_of;
 use crate::fault::{Key, LoadFault};
 use crate::name_form::is_name;
+use indexmap::IndexSet;
 use std::alloc::{AllocError, Global};
 use toml::Value;
 
@@ -120,11 +121,11 @@ fn known_formula(alloc: Global, header: &Header, value: &Value) -> Result<(), Lo
 pub(crate) fn known_pairs<'a>(
     alloc: Global,
     header: &Header,
-    seen: &mut Vec<&'a str>,
+    seen: &mut IndexSet<&'a str>,
     pairs: &[Pair<'a>],
 ) -> Result<(), LoadFault>
-    ensures ok { OnOk result (known_pairs header.now.columns (map (λ n. n.now) seen.old.items) (map seen_pair pairs.now) ≡ Ok (map (λ n. n.now) seen.new.items)) }
-    ensures err { IfErr result (λ f. (f ≡ LoadFault.Memory) ⊎ (known_pairs header.now.columns (map (λ n. n.now) seen.old.items) (map seen_pair pairs.now) ≡ Err f)) }
+    ensures ok { OnOk result (known_pairs header.now.columns (map (λ n. n.now) seen.old.keys) (map seen_pair pairs.now) ≡ Ok (map (λ n. n.now) seen.new.keys)) }
+    ensures err { IfErr result (λ f. (f ≡ LoadFault.Memory) ⊎ (known_pairs header.now.columns (map (λ n. n.now) seen.old.keys) (map seen_pair pairs.now) ≡ Err f)) }
 {
     for pair in pairs {
         fresh_name(alloc, seen, pair.name)?;
