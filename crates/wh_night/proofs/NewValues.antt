@@ -294,6 +294,10 @@ strategies_end_in_contents = λ catalog list tables changes is ok are counts val
 none_past : (catalog : CatalogOf) (bags : List Bag) → length bags ≡ length catalog.views.children → (v : ℕ) → length catalog.views.children ≤ v → bag_at bags v ≡ empty
 none_past catalog bags each v l = past bags v empty (omega (arith, each, l))
 
+no_children : (catalog : CatalogOf) (v : ℕ) → length catalog.views.children ≤ v → children_of catalog.views.children v ≡ []
+unfolding children_of
+no_children catalog v l = past catalog.views.children v [] l
+
 is_base_of : (us : List ℕ) → us ≡ [] → is_empty us ≡ true
 is_base_of [] e = refl
 is_base_of (u ∷ us) e = cc
@@ -323,7 +327,7 @@ ends_in_contents catalog list tables changes after is ok are given have allowed 
     (λ l. carried v l ∙ end.1 v l)
     (λ l.
     none_past catalog after have.each v l
-    ∙ sym ((contents_are_values g base isg).bases v (past catalog.views.children v [] l)
+    ∙ sym ((contents_are_values g base isg).bases v (no_children catalog v l)
     ∙ (λ i. sum_of (none_past catalog tables are.each v l i) (none_past catalog changes given.each v l i)) ∙ sum-empty empty))
     (cases_lt v (length catalog.views.children)))
     end.0
