@@ -8,7 +8,7 @@ use Rattle.wh_maint.specs.View.{ViewGraph, IsViewGraph}
 use Rattle.wh_maint.specs.Definition.{view_of}
 use Rattle.wh_maint.specs.Value.{view_value}
 use Rattle.wh_maint.specs.Fit.{IsFitTable}
-use Rattle.wh_maint.specs.Contents.{if_base, contents_within, contents, AreBaseTables, AreValues, ContentsAreValues, ContentsAreUnique, ContentsAreToldByValues, ContentsAreFit, CatalogsAreGraphs}
+use Rattle.wh_maint.specs.Contents.{if_base, contents_within, contents, AreBaseTables, AreValues, AreContentsOf, HaveValuesOver, HasContents, ContentsAreOne, ContentsAreValues, ContentsAreUnique, ContentsAreToldByValues, ContentsAreFit, CatalogsAreGraphs}
 use Rattle.wh_maint.proofs.Differences.{same_tables}
 use Rattle.wh_maint.proofs.NoNegative.{view_counts}
 use Rattle.wh_maint.proofs.FitTables.{value_is_fit}
@@ -66,6 +66,35 @@ contents_are_told_by_values = λ g tables ok. (
   λ are v some. are v ∙ values g ok tables v some ∙ ap (view_value (g.views v)) (same_tables (g.children v) (contents g tables) tables (λ u t. sym (are u))),
   λ are. contents_are_unique g tables tables ok (λ b e. refl) are,
 )
+
+-- tables that are one by one those of a base's contents are its contents
+pub same_contents : (g : ViewGraph) (base tables others : ℕ → Bag) → ((v : ℕ) → others v ≡ tables v) → AreContentsOf g base tables → AreContentsOf g base others
+same_contents g base tables others same are = subst (AreContentsOf g base) (λ i v. sym (same v) i) are
+
+-- contents of a base are what is worked out of it
+pub worked_out : (g : ViewGraph) (base tables : ℕ → Bag) → IsViewGraph g → AreContentsOf g base tables → (v : ℕ) → tables v ≡ contents g base v
+worked_out g base tables ok are = contents_are_unique g base tables ok are.bases are.values
+
+pub contents_are_one : ContentsAreOne
+contents_are_one = λ g base tables ok. (
+  λ are. (same_contents g base tables (contents g base) (λ v. sym (worked_out g base tables ok are v)) are, worked_out g base tables ok are),
+  λ has. same_contents g base (contents g base) tables has.1 has.0,
+)
+
+-- they are the contents of their own base tables
+pub own_contents : (g : ViewGraph) (base tables : ℕ → Bag) → AreContentsOf g base tables → AreContentsOf g tables tables
+own_contents g base tables are = record {
+  counts = λ b e. subst IsTable (sym (are.bases b e)) (are.counts b e);
+  bases = λ b e. refl;
+  values = are.values;
+  defined = are.defined;
+}
+
+-- a base has contents where each derived view has a value over what is worked out
+pub has_contents : (g : ViewGraph) (base : ℕ → Bag) → IsViewGraph g → AreBaseTables g base → HaveValuesOver g (contents g base) → HasContents g base
+has_contents g base ok counts defined =
+    let whole = contents_are_values g base ok in
+    record { counts = counts; bases = whole.bases; values = whole.values; defined = defined }
 
 -- ---- fit
 

@@ -1,7 +1,7 @@
 //! What holds of all views, tables and changes, for proofs: these functions do nothing.
 
 ghost use Rattle.wh_maint.specs.Bounds.{AddingStaysWithin, SizesMultiply, TermsAreWithin};
-ghost use Rattle.wh_maint.specs.Contents.{CatalogsAreGraphs, ContentsAreFit, ContentsAreToldByValues, ContentsAreUnique, ContentsAreValues};
+ghost use Rattle.wh_maint.specs.Contents.{CatalogsAreGraphs, ContentsAreFit, ContentsAreOne, ContentsAreToldByValues, ContentsAreUnique, ContentsAreValues};
 ghost use Rattle.wh_maint.specs.Laws.{CompsAreDifferences, CompsInAnyOrder, FoldsAddUp, ProductsAreLinear};
 ghost use Rattle.wh_maint.specs.MetRows.{MetRowsCount, NewRowsHaveValues, NewSumsFit, TermsGiveValues, TermsMeetOldOrNewRows};
 ghost use Rattle.wh_maint.specs.SummaryLaws.{ChangesAreDifferences, ChangesAreWhole, ChangesGoByGroups, FitIsToldByRows, GroupsStandTogether, SummariesShowAccumulators, ValuesAreFit};
@@ -102,7 +102,7 @@ pub fn adding_stays_within()
     ensures { AddingStaysWithin }
 {}
 
-/// The contents of a base have its own tables and the values of all derived views.
+/// What is worked out of a base has its own tables, and what all derived views make of their children's.
 pub fn contents_are_values()
     ensures { ContentsAreValues }
 {}
@@ -112,12 +112,17 @@ pub fn contents_are_unique()
     ensures { ContentsAreUnique }
 {}
 
-/// Tables are the contents of their own base tables exactly where each derived view's is its value over its children's.
+/// Tables are what is worked out of their own base tables exactly where each derived view's is made of its children's.
 pub fn contents_are_told_by_values()
     ensures { ContentsAreToldByValues }
 {}
 
-/// The values of views over base tables are fit tables.
+/// A base has one contents at most, which are what is worked out of it.
+pub fn contents_are_one()
+    ensures { ContentsAreOne }
+{}
+
+/// What views make of base tables is fit.
 pub fn contents_are_fit()
     ensures { ContentsAreFit }
 {}

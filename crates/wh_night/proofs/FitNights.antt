@@ -12,8 +12,8 @@ use Rattle.wh_maint.specs.Laws.{changed}
 use Rattle.wh_maint.specs.Fit.{IsFitTable}
 use Rattle.wh_maint.specs.Refused.{NoneAbsent}
 use Rattle.wh_maint.specs.Definition.{graph_of}
-use Rattle.wh_maint.specs.Contents.{contents, AreValues}
-use Rattle.wh_maint.proofs.FromScratch.{contents_are_values, contents_are_told_by_values, contents_are_fit, values_are_tables, catalogs_are_graphs}
+use Rattle.wh_maint.specs.Contents.{contents}
+use Rattle.wh_maint.proofs.FromScratch.{contents_are_values, contents_are_fit, values_are_tables, catalogs_are_graphs}
 use Rattle.wh_night.specs.Carry.{at_first, carried, before}
 use Rattle.wh_night.specs.Laws.{ContentsAreFitForNights}
 use Rattle.wh_night.proofs.Prefixes.{take_past, take_whole}
@@ -23,7 +23,7 @@ not_below : (n : ℤ) → ¬ (n ≤ℤ negsuc 0) → pos 0 ≤ℤ n
 not_below n h = grind (arith, ints, h)
 
 -- a base that takes no row below zero is changed to tables
-changed_table : (table change : Bag) → NoneAbsent table change → IsTable (sum_of table change)
+pub changed_table : (table change : Bag) → NoneAbsent table change → IsTable (sum_of table change)
 changed_table table change none row = subst (λ n. pos 0 ≤ℤ n) (sym (count-sum_of table change row)) (not_below (count table row +ℤ count change row) (none row))
 
 either_fits : (k : Kind) (t : Bool) (a b : Bag) → IsFitTable k a → IsFitTable k b → IsFitTable k (cond t a b)
@@ -40,12 +40,11 @@ before_or_end g changes list tables P h p =
     (cases_lt (length list) p)
 
 pub contents_are_fit_for_nights : ContentsAreFitForNights
-contents_are_fit_for_nights = λ catalog list tables changes is ok base_tables are.
+contents_are_fit_for_nights = λ catalog list tables changes is ok base_tables are_old.
     let g : ViewGraph = graph_of catalog in
     let isg : IsViewGraph g = catalogs_are_graphs catalog is in
     let new : ℕ → Bag = contents g (changed tables changes) in
     let whole = contents_are_values g (changed tables changes) isg in
-    let are_old : AreValues g tables = (contents_are_told_by_values g tables isg).0 are in
     let old_fit : (v : ℕ) → IsFitTable (g.views v).kind (tables v) = contents_are_fit g tables isg base_tables are_old in
     record {
       now = old_fit;

@@ -5,6 +5,7 @@ pub mod PartReads
 pub mod StepRows
 pub mod Agreeing
 pub mod Storing
+pub mod Reasons
 pub mod Refusals
 pub mod Nights
 pub mod FirstRefusals

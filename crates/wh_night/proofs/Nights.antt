@@ -1,5 +1,5 @@
 -- A night, expression by expression, from its first parts to its end.
-use Rattle.std.proofs.Common.{◌≡◌, ℕ, zero, suc, ◌+◌, ◌^◌, ◌<◌, ◌≤◌, refl, sym, ap, subst, ◌∙◌, pos, Bool, true, false, cond, List, [], ◌∷◌, ◌++◌, map, length, take, get_or, Some, ⊎_elim, arith}
+use Rattle.std.proofs.Common.{◌≡◌, ℕ, zero, suc, ◌+◌, ◌^◌, ◌<◌, ◌≤◌, refl, sym, ap, subst, ◌∙◌, pos, Bool, true, false, cond, List, [], ◌∷◌, ◌++◌, map, length, take, get_or, Some, ◌⊎◌, ⊎_elim, arith}
 use Rattle.std.specs.Prelude.{slice_get, ◌≤ℤ◌}
 use Rattle.std.specs.List.{range_with_len}
 use Rattle.std.proofs.lemmas.Int.{ints}
@@ -13,6 +13,7 @@ use Rattle.wh_strategy.specs.Expression.{At}
 use Rattle.wh_strategy.specs.Rules.{IsCorrect}
 use Rattle.wh_row.specs.Bag.{Bag, HasWidth, IsTable, empty, size}
 use Rattle.wh_maint.specs.declared.fault.MaintFault.{MaintFault}
+use Rattle.wh_maint.specs.declared.fault.MaintFault.TheVariants.{Memory}
 use Rattle.wh_maint.specs.View.{sums_of}
 use Rattle.wh_maint.specs.Definition.{graph_of}
 use Rattle.wh_maint.specs.Comp.{PendingOf, bag_at}
@@ -162,7 +163,7 @@ module _ (catalog : CatalogOf) (list : List Expression) (old given : ℕ → Bag
       f ∙ inst_writes catalog.views.children (graph_of catalog).views list old given ok p v at (subst (λ n. n < 2 ^ 128) f small)
 
   pub refused_next : (p : ℕ) (e : Expression) (k : Kept) (fault : MaintFault) → At list p e → Agrees catalog list old given p (before (graph_of catalog) given list old p) k → AreTold catalog list old given k
-      → ArePassedBelow catalog list old given p → IsStepFaultIn catalog k e fault → IsListFault catalog list old given fault
+      → ArePassedBelow catalog list old given p → IsStepFaultIn catalog k e fault → (fault ≡ Memory) ⊎ IsListFault catalog list old given fault
   refused_next p (Comp v ys) k fault at a told earlier f = comp_refused catalog list old given is ok p v ys k at a told earlier fault f
   refused_next p (Inst v) k fault at a told earlier f = inst_refused catalog list old given is ok p v k at a told earlier fault f
 

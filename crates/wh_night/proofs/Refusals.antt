@@ -1,5 +1,5 @@
 -- What the code refuses is what the definition of a refused night says.
-use Rattle.std.proofs.Common.{◌≡◌, ℕ, suc, ◌<◌, refl, sym, ap, subst, ◌∙◌, ◌+ℤ◌, true, eqb, List, length, Some, inl, inr, ⊎_elim, FitsSigned}
+use Rattle.std.proofs.Common.{◌≡◌, ℕ, suc, ◌<◌, refl, sym, ap, subst, ◌∙◌, ◌+ℤ◌, true, eqb, List, length, Some, ◌⊎◌, inl, inr, ⊎_elim, FitsSigned}
 use Rattle.std.specs.Int.{w64, w128}
 use Rattle.std.proofs.lemmas.Bool.{cases_Bool, eqb-true, or_cases, false≢true}
 use Rattle.wh_dag.specs.Shape.{has, children_of}
@@ -19,7 +19,8 @@ use Rattle.wh_maint.specs.Finishing.{kind_in}
 use Rattle.wh_maint.specs.Refused.{IsFinishFault, IsInstallFault, MergedFit}
 use Rattle.wh_night.specs.Carry.{State, change_in, before}
 use Rattle.wh_night.specs.Kept.{Kept, IsFirst, finished, stepped}
-use Rattle.wh_night.specs.Refused.{AddedFit, CanHaveChange, CanBeFinished, CanBeComputed, IsPassed, ArePassedBelow, IsAddFault, IsUnfinished, IsListFault, CanBeFinishedIn, IsPassedIn, IsUnfinishedIn, IsAddFaultIn, IsStepFaultIn}
+use Rattle.wh_night.specs.Refused.{AddedFit, CanHaveChange, CanBeComputed, RowIsLacking, BaseIsLarge, ChangeIsLarge, ChangeHasNoValue, CompIsLarge, CompMeetsNoValue, PendingIsLarge, TableIsLarge, IsRuledOut, IsPassed, ArePassedBelow, IsStepFault, IsListFault, CanBeFinishedIn, IsPassedIn, IsUnfinishedIn, IsAddFaultIn, IsStepFaultIn}
+use Rattle.wh_night.proofs.Reasons.{CanBeFinished, CanAllBeFinished, IsAddFault, IsUnfinished, comp_reason, inst_reason}
 use Rattle.wh_night.proofs.StepRows.{whole_at_inst, whole_at_comp}
 use Rattle.wh_night.proofs.Agreeing.{Agrees, columns_at, comp_done, inst_done, source_within, same_reach, same_values}
 
@@ -111,22 +112,45 @@ module _ (catalog : CatalogOf) (list : List Expression) (old given : ℕ → Bag
     added (Absent w row) f = f
 
   -- an expression that is passed as it is kept is passed by the definition
+  comp_passed : (v : ℕ) (ys : List ℕ) (s : State) → CanAllBeFinished catalog s ys
+      → CanBeComputed (view_of (definition_of catalog v)) (children_of catalog.views.children v) ys s.tables (change_in (graph_of catalog) given s)
+      → AddedFit (s.pending v) (λ j. comp (column (view_of (definition_of catalog v)) j) (children_of catalog.views.children v) ys s.tables (change_in (graph_of catalog) given s))
+      → IsPassed catalog given s (Comp v ys)
+  comp_passed v ys s all can fit (RowIsLacking b) asked = absurd asked
+  comp_passed v ys s all can fit (BaseIsLarge b) asked = absurd asked
+  comp_passed v ys s all can fit (ChangeIsLarge u) asked = λ derived. (all u asked derived).counts
+  comp_passed v ys s all can fit (ChangeHasNoValue u) asked = λ derived. (all u asked derived).sums
+  comp_passed v ys s all can fit (CompIsLarge w zs) asked = subst (λ r. IsRuledOut catalog given s r) (λ i. CompIsLarge (sym asked.0 i) (sym asked.1 i)) can.few
+  comp_passed v ys s all can fit (CompMeetsNoValue w zs) asked = subst (λ r. IsRuledOut catalog given s r) (λ i. CompMeetsNoValue (sym asked.0 i) (sym asked.1 i)) can.values
+  comp_passed v ys s all can fit (PendingIsLarge w zs) asked = subst (λ r. IsRuledOut catalog given s r) (λ i. PendingIsLarge (sym asked.0 i) (sym asked.1 i)) fit
+  comp_passed v ys s all can fit (TableIsLarge w) asked = absurd asked
+
+  inst_passed : (v : ℕ) (s : State) → CanBeFinished catalog s v → SumFits (s.tables v) (change_in (graph_of catalog) given s v) → IsPassed catalog given s (Inst v)
+  inst_passed v s can fit (RowIsLacking b) asked = absurd asked
+  inst_passed v s can fit (BaseIsLarge b) asked = absurd asked
+  inst_passed v s can fit (ChangeIsLarge u) asked = subst (λ x. IsRuledOut catalog given s (ChangeIsLarge x)) (sym asked) (λ derived. (can derived).counts)
+  inst_passed v s can fit (ChangeHasNoValue u) asked = subst (λ x. IsRuledOut catalog given s (ChangeHasNoValue x)) (sym asked) (λ derived. (can derived).sums)
+  inst_passed v s can fit (CompIsLarge w zs) asked = absurd asked
+  inst_passed v s can fit (CompMeetsNoValue w zs) asked = absurd asked
+  inst_passed v s can fit (PendingIsLarge w zs) asked = absurd asked
+  inst_passed v s can fit (TableIsLarge u) asked = subst (λ x. IsRuledOut catalog given s (TableIsLarge x)) (sym asked) fit
+
   pub passed_here : (p : ℕ) (e : Expression) (k : Kept) → At list p e → Agrees catalog list old given p (before (graph_of catalog) given list old p) k → AreTold catalog list old given k
       → IsPassedIn catalog k e → IsPassed catalog given (before (graph_of catalog) given list old p) e
   passed_here p (Comp v ys) k at a told h =
       let done = comp_done catalog list old given is ok p v ys k at a in
       let inside : v < length catalog.views.children = (ok.allowed p v ys at).0 in
-      let s : State = before (graph_of catalog) given list old p in (
-        λ u m. finishes_at_comp p v ys k at a told u m (h.0 u m),
-        computes p v ys s (finished catalog (has ys) k) inside done.0 done.1 (view_of (definition_of catalog v)) h.1,
-        fits p v ys s (finished catalog (has ys) k) inside done.0 done.1 h.2,
-      )
+      let s : State = before (graph_of catalog) given list old p in
+      comp_passed v ys s
+      (λ u m. finishes_at_comp p v ys k at a told u m (h.0 u m))
+      (computes p v ys s (finished catalog (has ys) k) inside done.0 done.1 (view_of (definition_of catalog v)) h.1)
+      (fits p v ys s (finished catalog (has ys) k) inside done.0 done.1 h.2)
   passed_here p (Inst v) k at a told h =
       let done = inst_done catalog list old given is ok p v k at a in
-      let s : State = before (graph_of catalog) given list old p in (
-        finishes_at_inst p v k at a told h.0,
-        subst (λ b. SumFits (s.tables v) b) done.1 (subst (λ b. SumFits b ((finished catalog (λ u. eqb v u) k).changes v)) (a.tables v) h.1),
-      )
+      let s : State = before (graph_of catalog) given list old p in
+      inst_passed v s
+      (finishes_at_inst p v k at a told h.0)
+      (subst (λ b. SumFits (s.tables v) b) done.1 (subst (λ b. SumFits b ((finished catalog (λ u. eqb v u) k).changes v)) (a.tables v) h.1))
 
   -- the changes that it makes known could be made
   pub told_next : (p : ℕ) (e : Expression) (k after : Kept) → At list p e → Agrees catalog list old given p (before (graph_of catalog) given list old p) k → AreTold catalog list old given k
@@ -159,43 +183,36 @@ module _ (catalog : CatalogOf) (list : List Expression) (old given : ℕ → Bag
   pub told_first : (k : Kept) → IsFirst catalog old given k → AreTold catalog list old given k
   told_first k f = λ q v inst known derived. absurd (false≢true (sym derived ∙ sym (f.known v (ok.views q v inst)) ∙ known))
 
+  -- a refusal of this expression is one of the list
+  in_list : (p : ℕ) (e : Expression) → At list p e → ArePassedBelow catalog list old given p → (fault : MaintFault)
+      → (fault ≡ Memory) ⊎ IsStepFault catalog given (before (graph_of catalog) given list old p) e fault → (fault ≡ Memory) ⊎ IsListFault catalog list old given fault
+  in_list p e at earlier fault f = ⊎_elim (λ m. inl m) (λ h. inr (record { place = p; expression = e; there = at; earlier = earlier; refused = h })) f
+
   pub comp_refused : (p v : ℕ) (ys : List ℕ) (k : Kept) → At list p (Comp v ys) → Agrees catalog list old given p (before (graph_of catalog) given list old p) k → AreTold catalog list old given k
-      → ArePassedBelow catalog list old given p → (fault : MaintFault) → IsStepFaultIn catalog k (Comp v ys) fault → IsListFault catalog list old given fault
+      → ArePassedBelow catalog list old given p → (fault : MaintFault) → IsStepFaultIn catalog k (Comp v ys) fault → (fault ≡ Memory) ⊎ IsListFault catalog list old given fault
   comp_refused p v ys k at a told earlier fault f =
       let done = comp_done catalog list old given is ok p v ys k at a in
       let inside : v < length catalog.views.children = (ok.allowed p v ys at).0 in
       let s : State = before (graph_of catalog) given list old p in
-      record {
-        place = p;
-        expression = Comp v ys;
-        there = at;
-        earlier = earlier;
-        refused = ⊎_elim
-            (λ h. inl (record {
-              view = h.view;
-              among = h.among;
-              lower = λ u n m. finishes_at_comp p v ys k at a told u m (h.lower u n m);
-              refused = unfinished p s k a h.view (source_within catalog list old given is ok p v ys at h.view h.among) fault h.refused;
-            }))
-            (λ h. inr (λ u m. finishes_at_comp p v ys k at a told u m (h.0 u m), added p v ys s (finished catalog (has ys) k) inside done.0 done.1 fault h.1))
-            f;
-      }
+      in_list p (Comp v ys) at earlier fault (comp_reason catalog given s v ys fault (⊎_elim
+      (λ h. inl (record {
+        view = h.view;
+        among = h.among;
+        lower = λ u n m. finishes_at_comp p v ys k at a told u m (h.lower u n m);
+        refused = unfinished p s k a h.view (source_within catalog list old given is ok p v ys at h.view h.among) fault h.refused;
+      }))
+      (λ h. inr (λ u m. finishes_at_comp p v ys k at a told u m (h.0 u m), added p v ys s (finished catalog (has ys) k) inside done.0 done.1 fault h.1))
+      f))
 
   pub inst_refused : (p v : ℕ) (k : Kept) → At list p (Inst v) → Agrees catalog list old given p (before (graph_of catalog) given list old p) k → AreTold catalog list old given k
-      → ArePassedBelow catalog list old given p → (fault : MaintFault) → IsStepFaultIn catalog k (Inst v) fault → IsListFault catalog list old given fault
+      → ArePassedBelow catalog list old given p → (fault : MaintFault) → IsStepFaultIn catalog k (Inst v) fault → (fault ≡ Memory) ⊎ IsListFault catalog list old given fault
   inst_refused p v k at a told earlier fault f =
       let done = inst_done catalog list old given is ok p v k at a in
       let s : State = before (graph_of catalog) given list old p in
-      record {
-        place = p;
-        expression = Inst v;
-        there = at;
-        earlier = earlier;
-        refused = ⊎_elim
-            (λ h. inl (unfinished p s k a v (ok.views p v at) fault h))
-            (λ h. inr (
-              finishes_at_inst p v k at a told h.0,
-              subst (λ b. IsInstallFault v (s.tables v) b fault) done.1 (subst (λ b. IsInstallFault v b ((finished catalog (λ u. eqb v u) k).changes v) fault) (a.tables v) h.1),
-            ))
-            f;
-      }
+      in_list p (Inst v) at earlier fault (inst_reason catalog given s v fault (⊎_elim
+      (λ h. inl (unfinished p s k a v (ok.views p v at) fault h))
+      (λ h. inr (
+        finishes_at_inst p v k at a told h.0,
+        subst (λ b. IsInstallFault v (s.tables v) b fault) done.1 (subst (λ b. IsInstallFault v b ((finished catalog (λ u. eqb v u) k).changes v) fault) (a.tables v) h.1),
+      ))
+      f))

@@ -17,9 +17,9 @@ use Rattle.wh_maint.specs.Definition.{graph_of}
 use Rattle.wh_maint.specs.Contents.{if_base, contents, AreValues}
 use Rattle.wh_maint.proofs.Differences.{value_step, sum_assoc, sum-empty, same_tables}
 use Rattle.wh_maint.proofs.FitTables.{whole_change}
-use Rattle.wh_maint.proofs.FromScratch.{empty_or_not, based, derived, contents_are_values, contents_are_told_by_values, values_are_tables, catalogs_are_graphs}
+use Rattle.wh_maint.proofs.FromScratch.{empty_or_not, based, derived, contents_are_values, values_are_tables, catalogs_are_graphs}
 use Rattle.wh_night.specs.Carry.{State, at_first, change_in, step, carried, before, tables_after}
-use Rattle.wh_night.specs.Laws.{StrategiesEndInContents}
+use Rattle.wh_night.specs.Laws.{StrategiesEndInViews}
 use Rattle.wh_night.proofs.Prefixes.{take_whole, there, place_within, before_next, new_next, taken_next, inst_is_first, inst_after_comps, source_is_old, source_after_comps, taken_is_new}
 
 -- the new table where the test is true, else the old one
@@ -124,11 +124,10 @@ module _ (shape : List (List ℕ)) (views : ℕ → View) (list : List Expressio
       ∙ (stands_at (length list) (omega arith)).tables v
       ∙ (λ k. cond (new_after list (length list) i.0 v i.1 (place_within list i.0 (Inst v) i.1) k) (new v) (old v))
 
-pub strategies_end_in_contents : StrategiesEndInContents
-strategies_end_in_contents = λ catalog list tables changes is ok base_tables are v l.
+pub strategies_end_in_views : StrategiesEndInViews
+strategies_end_in_views = λ catalog list tables changes is ok base_tables are_old v l.
     let g : ViewGraph = graph_of catalog in
     let isg : IsViewGraph g = catalogs_are_graphs catalog is in
     let new : ℕ → Bag = contents g (changed tables changes) in
     let whole = contents_are_values g (changed tables changes) isg in
-    let are_old : AreValues g tables = (contents_are_told_by_values g tables isg).0 are in
     ends catalog.views.children g.views list tables new changes isg ok are_old whole.values (values_are_tables g tables isg base_tables are_old) (λ b e. sym (whole.bases b e)) v l

@@ -12,28 +12,51 @@ use Rattle.wh_maint.specs.Laws.{changed}
 use Rattle.wh_maint.specs.Size.{HaveTooMany, operand_rows_of}
 use Rattle.wh_maint.specs.Definition.{graph_of}
 use Rattle.wh_maint.specs.View.{ViewGraph}
-use Rattle.wh_maint.specs.Contents.{AreBaseTables, AreContents, HaveValuesOver, contents}
-use Rattle.wh_night.specs.Carry.{before, change_in, tables_after}
+use Rattle.wh_maint.specs.Contents.{AreBaseTables, AreContents, AreValues, HasContents, HaveValuesOver, contents}
+use Rattle.wh_night.specs.Carry.{State, before, change_in, tables_after}
 use Rattle.wh_night.specs.Fit.{AreFitFor}
 use Rattle.wh_night.specs.Steps.{rows_at}
 use Rattle.wh_night.specs.declared.report.CarryFault.{CarryFault}
-use Rattle.wh_night.specs.Refused.{AreAllowedBelow, ArePassedBelow, IsNightFault}
+use Rattle.wh_night.specs.Refused.{AreAllowedBelow, ArePassedBelow, HasValueAt, HaveValuesBelow, IsNightFault, IsPassed}
 
--- every correct strategy, one-way or not, carried out from the contents of a base, ends in the contents of the base with its changes
+-- every correct strategy, one-way or not, carried out from the contents of a base: where the changed base has tables and carrying out
+-- has a value at each expression, the changed base has contents, and each view's table at the end is the one that it has there
 abbrev pub StrategiesEndInContents : Type 0
 StrategiesEndInContents =
     (catalog : CatalogOf) (list : List Expression) (tables changes : ℕ → Bag)
     → IsCatalog catalog → IsCorrect catalog.views.children list
-    → AreBaseTables (graph_of catalog) tables → AreContents (graph_of catalog) tables
+    → AreContents (graph_of catalog) tables
+    → AreBaseTables (graph_of catalog) (changed tables changes) → HaveValuesBelow catalog list tables changes (length list)
+    → HasContents (graph_of catalog) (changed tables changes)
+    × ((v : ℕ) → v < length catalog.views.children → tables_after (graph_of catalog) changes list tables v ≡ contents (graph_of catalog) (changed tables changes) v)
+
+-- a step of this: in the contents of the changed base each derived view has a value
+abbrev pub NewContentsHaveValues : Type 0
+NewContentsHaveValues =
+    (catalog : CatalogOf) (list : List Expression) (tables changes : ℕ → Bag)
+    → IsCatalog catalog → IsCorrect catalog.views.children list
+    → AreContents (graph_of catalog) tables → HaveValuesBelow catalog list tables changes (length list)
+    → HaveValuesOver (graph_of catalog) (contents (graph_of catalog) (changed tables changes))
+
+-- another, which asks for no values: from tables that the derived views make of their children's, the strategy ends in such tables over the changed base
+abbrev pub StrategiesEndInViews : Type 0
+StrategiesEndInViews =
+    (catalog : CatalogOf) (list : List Expression) (tables changes : ℕ → Bag)
+    → IsCatalog catalog → IsCorrect catalog.views.children list
+    → AreBaseTables (graph_of catalog) tables → AreValues (graph_of catalog) tables
     → (v : ℕ) → v < length catalog.views.children
     → tables_after (graph_of catalog) changes list tables v ≡ contents (graph_of catalog) (changed tables changes) v
 
--- the contents of a base are fit for every correct strategy and all changes
+-- an expression that is passed has a value
+abbrev pub PassedHaveValues : Type 0
+PassedHaveValues = (catalog : CatalogOf) (changes : ℕ → Bag) (s : State) (e : Expression) → IsPassed catalog changes s e → HasValueAt catalog changes s e
+
+-- such tables are fit for every correct strategy and all changes, and so are the contents of a base
 abbrev pub ContentsAreFitForNights : Type 0
 ContentsAreFitForNights =
     (catalog : CatalogOf) (list : List Expression) (tables changes : ℕ → Bag)
     → IsCatalog catalog → IsCorrect catalog.views.children list
-    → AreBaseTables (graph_of catalog) tables → AreContents (graph_of catalog) tables
+    → AreBaseTables (graph_of catalog) tables → AreValues (graph_of catalog) tables
     → AreFitFor (graph_of catalog) changes list tables
 
 -- what a Comp reads and an Inst adds, in the state where it stands, is its part of the work at the true sizes
@@ -62,16 +85,15 @@ pub record OneIsRefused (catalog : CatalogOf) (list : List Expression) (tables c
 abbrev pub RefusalsAreOne : Type 0
 RefusalsAreOne = (catalog : CatalogOf) (list : List Expression) (tables changes : ℕ → Bag) → OneIsRefused catalog list tables changes
 
--- each derived view has a value over these tables of its children, of at most 2^56 combined rows
-pub record AreInRange (g : ViewGraph) (tables : ℕ → Bag) : Type 0 where
-  pub few : (v : ℕ) → ¬ (g.children v ≡ []) → ¬ (HaveTooMany (g.children v) tables)
-  pub valued : HaveValuesOver g tables
+-- the combined rows of each derived view's children number at most 2^56
+abbrev pub AreFew : ViewGraph → (ℕ → Bag) → Type 0
+AreFew g tables = (v : ℕ) → ¬ (g.children v ≡ []) → ¬ (HaveTooMany (g.children v) tables)
 
--- from the contents of a base that has values, a night in which each expression is passed ends in contents that have values
-abbrev pub NewContentsHaveValues : Type 0
-NewContentsHaveValues =
+-- from tables whose combined rows are so few, a night in which each expression is passed ends in such tables
+abbrev pub NewRowsAreFew : Type 0
+NewRowsAreFew =
     (catalog : CatalogOf) (list : List Expression) (tables changes : ℕ → Bag)
     → IsCatalog catalog → IsCorrect catalog.views.children list
-    → AreBaseTables (graph_of catalog) tables → AreContents (graph_of catalog) tables
-    → AreInRange (graph_of catalog) tables → ArePassedBelow catalog list tables changes (length list)
-    → AreInRange (graph_of catalog) (contents (graph_of catalog) (changed tables changes))
+    → AreBaseTables (graph_of catalog) tables → AreValues (graph_of catalog) tables
+    → AreFew (graph_of catalog) tables → ArePassedBelow catalog list tables changes (length list)
+    → AreFew (graph_of catalog) (contents (graph_of catalog) (changed tables changes))

@@ -6,7 +6,7 @@ ghost use Rattle.wh_strategy.specs.declared.expression.Expression.{Expression as
 ghost use Rattle.wh_strategy.specs.Rules.{IsCorrect};
 ghost use Rattle.wh_maint.specs.Asked.{AreBags};
 ghost use Rattle.wh_maint.specs.Comp.{bag_at};
-ghost use Rattle.wh_maint.specs.Contents.{AreContents, contents};
+ghost use Rattle.wh_maint.specs.Contents.{AreContents, AreContentsOf, AreValues, contents};
 ghost use Rattle.wh_maint.specs.Definition.{graph_of};
 ghost use Rattle.wh_maint.specs.Laws.{changed};
 ghost use Rattle.wh_night.specs.Carry.{tables_after};
@@ -47,7 +47,9 @@ pub fn carry<F: RowTest, G: RowValue>(
     ensures bags { IfOk result (λ c. AreBags catalog.now c.tables.items) }
     ensures tables { IfOk result (λ c. (v : ℕ) → v < length catalog.now.views.children
         → bag_at c.tables.items v ≡ tables_after (graph_of catalog.now) (bag_at changes.now) correct.now.list (bag_at tables.now) v) }
-    ensures contents { IfOk result (λ c. AreContents (graph_of catalog.now) (bag_at tables.now) → (v : ℕ) → v < length catalog.now.views.children
+    ensures contents { IfOk result (λ c. AreContents (graph_of catalog.now) (bag_at tables.now)
+        → AreContentsOf (graph_of catalog.now) (changed (bag_at tables.now) (bag_at changes.now)) (bag_at c.tables.items)) }
+    ensures views { IfOk result (λ c. AreValues (graph_of catalog.now) (bag_at tables.now) → (v : ℕ) → v < length catalog.now.views.children
         → bag_at c.tables.items v ≡ contents (graph_of catalog.now) (changed (bag_at tables.now) (bag_at changes.now)) v) }
     ensures version { IfOk result (λ c. c.report.version ≡ 1) }
     ensures steps { IfOk result (λ c. AreSteps catalog.now.views.children correct.now.list (bag_at tables.now)

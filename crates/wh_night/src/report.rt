@@ -28,6 +28,7 @@ pub struct Carried {
 pub struct CarryFault {
     /// What was refused.
     pub fault: MaintFault,
-    /// Whether the first expression had begun: not where a base change is refused, nor where memory is before it.
+    /// Whether the first expression had begun: false where a base change is refused, true where an expression is. Beside
+    /// a Memory that comes after the base changes it may be either.
     pub started: bool,
 }

@@ -5,23 +5,23 @@ use Rattle.wh_dag.specs.Catalog.{CatalogOf, IsCatalog, is_empty}
 use Rattle.wh_dag.specs.Shape.{children_of}
 use Rattle.wh_row.specs.Bag.{Bag, IsTable, sum_of, empty}
 use Rattle.wh_maint.specs.Comp.{bag_at}
-use Rattle.wh_maint.specs.Contents.{AreBaseTables, AreContents, IsFromScratch, contents}
+use Rattle.wh_maint.specs.Contents.{AreBaseTables, AreContents, AreContentsOf, IsFromScratch, contents}
 use Rattle.wh_maint.specs.Definition.{graph_of}
 use Rattle.wh_maint.specs.Finishing.{kind_in}
 use Rattle.wh_maint.specs.Fit.{IsFitTable}
 use Rattle.wh_maint.specs.Laws.{changed}
 use Rattle.wh_maint.specs.declared.fault.MaintFault.{MaintFault}
 use Rattle.wh_maint.specs.declared.fault.MaintFault.TheVariants.{Memory}
-use Rattle.wh_maint.proofs.FromScratch.{catalogs_are_graphs, contents_are_fit, contents_are_told_by_values, contents_are_unique, contents_are_values}
+use Rattle.wh_maint.proofs.FromScratch.{catalogs_are_graphs, contents_are_fit, contents_are_unique, contents_are_values}
 use Rattle.wh_maint.proofs.Differences.{same_tables}
 use Rattle.wh_maint.specs.Value.{view_value}
-use Rattle.wh_night.specs.Carry.{tables_after}
+use Rattle.wh_night.specs.Carry.{before, tables_after}
 use Rattle.wh_night.specs.Refused.{AreAllowedBelow, ArePassedBelow, IsNightFault}
 use Rattle.wh_night.specs.Steps.{AreSteps}
 use Rattle.wh_night.specs.declared.report.CarryFault.{CarryFault}
 use Rattle.wh_night.proofs.Agreeing.{past}
-use Rattle.wh_night.proofs.NewValues.{new_contents_have_values, not_base, within}
-use Rattle.wh_night.specs.Laws.{AreInRange}
+use Rattle.wh_night.proofs.NewValues.{new_contents_have_values, new_rows_are_few, not_base, passed_have_values, within}
+use Rattle.wh_night.specs.Laws.{AreFew}
 use Rattle.wh_strategy.specs.Rules.{IsCorrect, IsReason}
 use Rattle.wh_strategy.specs.declared.correct.CheckFault.{CheckFault}
 use Rattle.wh_strategy.specs.declared.correct.CheckFault.TheVariants as checked
@@ -83,13 +83,32 @@ module _ (cat : CatalogOf) (is : IsCatalog cat) (base old : List Bag) (each : le
       none_past : (v : ℕ) → length cat.views.children ≤ v → children_of cat.views.children v ≡ []
       none_past v m = past cat.views.children v [] m
 
-  are_contents : AreContents (graph_of cat) (bag_at old)
-  are_contents =
+  -- these are the contents of their own base tables
+  are_contents : AreReadTables cat base → HaveContentsBelow cat (bag_at base) (length cat.views.children) → AreContents (graph_of cat) (bag_at old)
+  are_contents read valued =
       let g = graph_of cat in
       let isg = catalogs_are_graphs cat is in
       let whole : IsFromScratch g (bag_at base) = contents_are_values g (bag_at base) isg in
-      (contents_are_told_by_values g (bag_at old) isg).1 (λ v some.
-      opened_everywhere v ∙ whole.values v some ∙ ap (view_value (g.views v)) (same_tables (g.children v) (contents g (bag_at base)) (bag_at old) (λ u t. sym (opened_everywhere u))))
+      let as_old : contents g (bag_at base) ≡ bag_at old = λ i u. sym (opened_everywhere u) i in
+      record {
+        counts = λ b e. subst IsTable (sym (opened_everywhere b ∙ whole.bases b e)) (base_tables cat is base read b e);
+        bases = λ b e. refl;
+        values = λ v some. opened_everywhere v ∙ whole.values v some ∙ ap (view_value (g.views v)) (same_tables (g.children v) (contents g (bag_at base)) (bag_at old) (λ u t. sym (opened_everywhere u)));
+        defined = λ v some. (subst (λ ts. HasValueOver cat ts v) as_old (valued v (within cat.views.children v some) (not_base (children_of cat.views.children v) some))).valued;
+      }
+
+  -- contents of their changed base are those of the base that was read, with its changes
+  of_read_base : (ch : ℕ → Bag) (tables : ℕ → Bag) → AreContentsOf (graph_of cat) (changed (bag_at old) ch) tables → AreContentsOf (graph_of cat) (changed (bag_at base) ch) tables
+  of_read_base ch tables are =
+      let g = graph_of cat in
+      let whole : IsFromScratch g (bag_at base) = contents_are_values g (bag_at base) (catalogs_are_graphs cat is) in
+      let same = λ (b : ℕ) (e : g.children b ≡ []). ap (λ t. sum_of t (ch b)) (opened_everywhere b ∙ whole.bases b e) in
+      record {
+        counts = λ b e. subst IsTable (same b e) (are.counts b e);
+        bases = λ b e. are.bases b e ∙ same b e;
+        values = are.values;
+        defined = are.defined;
+      }
 
   same_changed : (ch : ℕ → Bag) (v : ℕ) → contents (graph_of cat) (changed (bag_at old) ch) v ≡ contents (graph_of cat) (changed (bag_at base) ch) v
   same_changed ch v =
@@ -100,22 +119,20 @@ module _ (cat : CatalogOf) (is : IsCatalog cat) (base old : List Bag) (each : le
       contents_are_unique g (changed (bag_at base) ch) (contents g (changed (bag_at old) ch)) isg
       (λ b e. later.bases b e ∙ ap (λ t. sum_of t (ch b)) (opened_everywhere b ∙ whole.bases b e)) later.values v
 
-  -- as the old contents have values, and each expression is passed, the new ones have
+  -- as the old contents have values of few combined rows, and each expression is passed, so have the new ones
   new_valued : (list : List Expression) (ch : ℕ → Bag) → IsCorrect cat.views.children list → AreReadTables cat base
       → HaveContentsBelow cat (bag_at base) (length cat.views.children) → ArePassedBelow cat list (bag_at old) ch (length list)
       → HaveContentsBelow cat (changed (bag_at base) ch) (length cat.views.children)
   new_valued list ch ok read valued passed =
       let g = graph_of cat in
-      let whole : IsFromScratch g (bag_at base) = contents_are_values g (bag_at base) (catalogs_are_graphs cat is) in
       let as_old : contents g (bag_at base) ≡ bag_at old = λ i u. sym (opened_everywhere u) i in
       let as_new : contents g (changed (bag_at old) ch) ≡ contents g (changed (bag_at base) ch) = λ i u. same_changed ch u i in
-      let tables : AreBaseTables g (bag_at old) = λ b e. subst IsTable (sym (opened_everywhere b ∙ whole.bases b e)) (base_tables cat is base read b e) in
-      let had : (v : ℕ) → ¬ (children_of cat.views.children v ≡ []) → HasValueOver cat (bag_at old) v = λ v some.
-      subst (λ ts. HasValueOver cat ts v) as_old (valued v (within cat.views.children v some) (not_base (children_of cat.views.children v) some)) in
-      let has : AreInRange g (contents g (changed (bag_at old) ch)) =
-      new_contents_have_values cat list (bag_at old) ch is ok tables are_contents (record { few = λ v some. (had v some).few; valued = λ v some. (had v some).valued }) passed in
+      let are : AreContents g (bag_at old) = are_contents read valued in
+      let few : AreFew g (bag_at old) = λ v some. (subst (λ ts. HasValueOver cat ts v) as_old (valued v (within cat.views.children v some) (not_base (children_of cat.views.children v) some))).few in
+      let has = new_contents_have_values cat list (bag_at old) ch is ok are (λ p e l at. passed_have_values cat ch (before g ch list (bag_at old) p) e (passed p e l at)) in
+      let stay = new_rows_are_few cat list (bag_at old) ch is ok are.counts are.values few passed in
       λ v l d.
-      subst (λ ts. HasValueOver cat ts v) as_new (record { few = has.few v (some_children (children_of cat.views.children v) d); valued = has.valued v (some_children (children_of cat.views.children v) d) })
+      subst (λ ts. HasValueOver cat ts v) as_new (record { few = stay v (some_children (children_of cat.views.children v) d); valued = has v (some_children (children_of cat.views.children v) d) })
 
 -- what the parts of a night answer, over a catalogue, tables, changes and a list
 pub record CarryFacts (N : Night) (old new : List Bag) (steps : List (Expression × ℕ)) (cat : CatalogOf) (ts ch : List Bag) (list : List Expression) : Type 0 where
@@ -128,7 +145,7 @@ pub record CarryFacts (N : Night) (old new : List Bag) (steps : List (Expression
   pub allowed : AreAllowedBelow cat (bag_at ts) (bag_at ch) (length cat.views.children)
   pub passed : ArePassedBelow cat list (bag_at ts) (bag_at ch) (length list)
   pub carried : (v : ℕ) → v < length cat.views.children → bag_at new v ≡ tables_after (graph_of cat) (bag_at ch) list (bag_at ts) v
-  pub contents_after : AreContents (graph_of cat) (bag_at ts) → (v : ℕ) → v < length cat.views.children → bag_at new v ≡ contents (graph_of cat) (changed (bag_at ts) (bag_at ch)) v
+  pub contents_after : AreContents (graph_of cat) (bag_at ts) → AreContentsOf (graph_of cat) (changed (bag_at ts) (bag_at ch)) (bag_at new)
   pub reported : AreSteps cat.views.children list (bag_at ts) (tables_after (graph_of cat) (bag_at ch) list (bag_at ts)) steps
 
 told_from : (N : Night) (old new : List Bag) (steps : List (Expression × ℕ)) (text : List ℕ) (status : ℕ)
@@ -139,8 +156,8 @@ told_from N old new steps text status f printed ended =
       allowed = f.allowed;
       passed = f.passed;
       carried = f.carried;
-      contents = λ v l. f.contents_after (are_contents (catalog_in N) f.is N.opening.tables old f.read.bags.each f.length_old f.opened) v l
-          ∙ same_changed (catalog_in N) f.is N.opening.tables old f.read.bags.each f.length_old f.opened (bag_at N.opening.changes) v;
+      contents = of_read_base (catalog_in N) f.is N.opening.tables old f.read.bags.each f.length_old f.opened (bag_at N.opening.changes) (bag_at new)
+          (f.contents_after (are_contents (catalog_in N) f.is N.opening.tables old f.read.bags.each f.length_old f.opened f.read f.valued));
       valued = new_valued (catalog_in N) f.is N.opening.tables old f.read.bags.each f.length_old f.opened N.opening.list (bag_at N.opening.changes) f.correct f.read f.valued f.passed;
       reported = f.reported;
     }) printed ended

@@ -99,13 +99,15 @@ one_carried : (night : Night) (old new other_old other_new : List Bag) (steps ot
     → IsCarriedOut night old new steps → IsCarriedOut night other_old other_new others → carried_text night steps (bag_at new) ≡ carried_text night others (bag_at other_new)
 one_carried night old new other_old other_new steps others each a b =
     let opened : other_old ≡ old = one_opening night other_old old b.opened a.opened in
-    let reported = subst (λ bags. AreSteps night.shape.children night.opening.list (bag_at bags)
-    (tables_after (graph_in night) (bag_at night.opening.changes) night.opening.list (bag_at bags)) others) opened b.reported in
+    let list = night.opening.list in
+    let changes = bag_at night.opening.changes in
+    let reported = subst (λ bags. AreSteps night.shape.children list (bag_at bags) (tables_after (graph_in night) changes list (bag_at bags)) others) opened b.reported in
+    let carried = subst (λ bags. (view : ℕ) → view < length night.shape.children → bag_at other_new view ≡ tables_after (graph_in night) changes list (bag_at bags) view) opened b.carried in
     ap (λ s. report_text night.shape.names s ++ views_text night.opening.texts night.shape.names 0 night.opening.views (bag_at new))
-    (one_report night.shape.children night.opening.list (bag_at old) (tables_after (graph_in night) (bag_at night.opening.changes) night.opening.list (bag_at old)) steps others a.reported reported)
+    (one_report night.shape.children list (bag_at old) (tables_after (graph_in night) changes list (bag_at old)) steps others a.reported reported)
     ∙ ap (λ t. report_text night.shape.names others ++ t)
     (one_text_of_tables night.opening.texts night.shape.names 0 night.opening.views (bag_at new) (bag_at other_new)
-    (λ k l m. (let within : k < length night.shape.children = omega (arith, m, each) in a.contents k within ∙ sym (b.contents k within))))
+    (λ k l m. (let within : k < length night.shape.children = omega (arith, m, each) in a.carried k within ∙ sym (carried k within))))
 
 -- ---- one refusal
 

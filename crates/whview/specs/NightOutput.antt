@@ -8,7 +8,7 @@ use Rattle.wh_load.specs.ExpressionText.{expression_text}
 use Rattle.wh_load.specs.FormulaKinds.{Texts}
 use Rattle.wh_load.specs.TableWritten.{table_text}
 use Rattle.wh_maint.specs.Comp.{bag_at}
-use Rattle.wh_maint.specs.Contents.{contents}
+use Rattle.wh_maint.specs.Contents.{AreContentsOf, contents}
 use Rattle.wh_maint.specs.Definition.{graph_of}
 use Rattle.wh_maint.specs.Laws.{changed}
 use Rattle.wh_maint.specs.Size.{capped}
@@ -78,10 +78,6 @@ graph_in night = graph_of (catalog_in night)
 abbrev pub old_contents : Night → ℕ → Bag
 old_contents night = contents (graph_in night) (bag_at night.opening.tables)
 
--- the contents of the base with its changes
-abbrev pub new_contents : Night → ℕ → Bag
-new_contents night = contents (graph_in night) (changed (bag_at night.opening.tables) (bag_at night.opening.changes))
-
 -- these lists are the contents of the base that was read
 pub record AreOpened (night : Night) (tables : List Bag) : Type 0 where
   pub each : length tables ≡ length night.shape.children
@@ -89,15 +85,15 @@ pub record AreOpened (night : Night) (tables : List Bag) : Type 0 where
   pub valued : HaveContentsBelow (catalog_in night) (bag_at night.opening.tables) (length night.shape.children)
 
 -- The strategy, carried out from the contents of the base that was read, makes these tables in these steps, and nothing in it
--- is refused. The tables are the contents of the base with its changes, whatever the strategy is, and each derived view has a
--- value there.
+-- is refused. The tables are the contents of the base with its changes, whatever the strategy is, so that each derived view has
+-- a value there, which is also of at most 2^56 combined rows.
 pub record IsCarriedOut (night : Night) (old new : List Bag) (steps : List (Expression × ℕ)) : Type 0 where
   pub opened : AreOpened night old
   pub allowed : AreAllowedBelow (catalog_in night) (bag_at old) (bag_at night.opening.changes) (length night.shape.children)
   pub passed : ArePassedBelow (catalog_in night) night.opening.list (bag_at old) (bag_at night.opening.changes) (length night.opening.list)
   pub carried : (view : ℕ) → view < length night.shape.children
       → bag_at new view ≡ tables_after (graph_in night) (bag_at night.opening.changes) night.opening.list (bag_at old) view
-  pub contents : (view : ℕ) → view < length night.shape.children → bag_at new view ≡ new_contents night view
+  pub contents : AreContentsOf (graph_in night) (changed (bag_at night.opening.tables) (bag_at night.opening.changes)) (bag_at new)
   pub valued : HaveContentsBelow (catalog_in night) (changed (bag_at night.opening.tables) (bag_at night.opening.changes)) (length night.shape.children)
   pub reported : AreSteps night.shape.children night.opening.list (bag_at old)
       (tables_after (graph_in night) (bag_at night.opening.changes) night.opening.list (bag_at old)) steps

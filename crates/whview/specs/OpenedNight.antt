@@ -17,7 +17,7 @@ pub record HasValueOver (catalog : CatalogOf) (tables : ℕ → Bag) (view : ℕ
   pub few : ¬ (HaveTooMany (children_of catalog.views.children view) tables)
   pub valued : HasValue (view_of (definition_of catalog view)) (map tables (children_of catalog.views.children view))
 
--- each derived view below this number has one over the contents of this base
+-- each derived view below this number has one over the contents of this base: those views have contents, and they can be worked out
 abbrev pub HaveContentsBelow : CatalogOf → (ℕ → Bag) → ℕ → Type 0
 HaveContentsBelow catalog base n =
     (view : ℕ) → view < n → is_base catalog view ≡ false → HasValueOver catalog (contents (graph_of catalog) base) view
@@ -30,7 +30,7 @@ IsValueFault catalog tables view (Range v) = (v ≡ view) × (¬ (HaveTooMany (c
 IsValueFault catalog tables view (Absent v row) = ⊥
 IsValueFault catalog tables view Memory = ⊥
 
--- the first derived view that has none, and why
+-- the first derived view that has none, and why: the base has no contents, or too many combined rows for them to be worked out
 pub record HasNoContents (catalog : CatalogOf) (base : ℕ → Bag) (fault : MaintFault) : Type 0 where
   pub view : ℕ
   pub there : view < length catalog.views.children

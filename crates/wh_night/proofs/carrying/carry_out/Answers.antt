@@ -1,4 +1,4 @@
-use Rattle.std.proofs.Common.{◌≡◌, ◌+◌, sym, ap, subst, ◌∙◌, refl, length, List, [], ◌∷◌, ◌++◌, arith, inr}
+use Rattle.std.proofs.Common.{◌≡◌, ◌+◌, sym, ap, subst, ◌∙◌, refl, length, List, [], ◌∷◌, ◌++◌, arith}
 use Rattle.wh_strategy.proofs.PlaceCosts.{stands}
 use Rattle.std.proofs.lemmas.Option.{same_Some}
 use Rattle.wh_strategy.specs.declared.expression.Expression.{Expression}
@@ -29,9 +29,9 @@ step-requires-clause-expression g c κs within =
 
 pub returns-in-Err-clause-refused : goal.returns-in-Err-clause-refused
 returns-in-Err-clause-refused g c = λ old changes f.
-    inr (refused_next c.args.catalog.now c.args.list.now old changes c.requires.parts.catalogue c.requires.correct c.loop-place.place c.index-list-place.result (kept c.loop-place.state) c.in-Err.fault
+    refused_next c.args.catalog.now c.args.list.now old changes c.requires.parts.catalogue c.requires.correct c.loop-place.place c.index-list-place.result (kept c.loop-place.state) c.in-Err.fault
     (stands c.args.list.now c.loop-place.place c.index-list-place.result _ (omega arith) c.index-list-place.is refl)
-    (c.loop-place.invariant.agrees old changes f) (c.loop-place.invariant.told old changes f) (c.loop-place.invariant.passed old changes f) c.in-Err.ensures.refused)
+    (c.loop-place.invariant.agrees old changes f) (c.loop-place.invariant.told old changes f) (c.loop-place.invariant.passed old changes f) c.in-Err.ensures.refused
 
 pub loop-place-preserved : goal.loop-place-preserved
 loop-place-preserved g c =

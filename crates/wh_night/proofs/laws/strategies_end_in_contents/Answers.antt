@@ -1,4 +1,4 @@
-use Rattle.wh_night.proofs.Stands.{strategies_end_in_contents}
+use Rattle.wh_night.proofs.NewValues.{strategies_end_in_contents}
 use Rattle.wh_night.proofs.laws.strategies_end_in_contents.Goals as goal
 
 pub returns : goal.returns
