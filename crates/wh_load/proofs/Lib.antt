@@ -48,3 +48,5 @@ pub mod TextLemmas
 pub mod TreeGrowths
 pub mod WholeNumbers
 pub mod WholeTrees
+pub mod WrittenExprs
+pub mod WrittenForms
