@@ -30,14 +30,14 @@ position-last : {X : Type 0} (p : X → Bool) (xs : List X) (y : X) → p y ≡ 
 position-last p [] y passes = rw passes refl
 position-last p (x ∷ xs) y passes = rw (position-last p xs y passes) refl
 
-has-text : (texts : List (List ℕ)) (text : List ℕ) → list_any (bytes_eq text) (with_text texts text) ≡ true
+pub has-text : (texts : List (List ℕ)) (text : List ℕ) → list_any (bytes_eq text) (with_text texts text) ≡ true
 has-text texts text = by (cases_Bool (list_any (bytes_eq text) texts))
   where
     by : (list_any (bytes_eq text) texts ≡ true) ⊎ (list_any (bytes_eq text) texts ≡ false) → list_any (bytes_eq text) (with_text texts text) ≡ true
     by (inl found) = rw found found
     by (inr new) = rw (new, list_any-append (bytes_eq text) texts (text ∷ []), new, same-text text) refl
 
-number-own : (texts : List (List ℕ)) (text : List ℕ) → number_of_text (with_text texts text) text ≡ number_of_text texts text
+pub number-own : (texts : List (List ℕ)) (text : List ℕ) → number_of_text (with_text texts text) text ≡ number_of_text texts text
 number-own texts text = by (cases_Bool (list_any (bytes_eq text) texts))
   where
     by : (list_any (bytes_eq text) texts ≡ true) ⊎ (list_any (bytes_eq text) texts ≡ false) → number_of_text (with_text texts text) text ≡ number_of_text texts text

@@ -50,3 +50,5 @@ pub mod TextLemmas
 pub mod TreeGrowths
 pub mod WholeNumbers
 pub mod WholeTrees
+pub mod WrittenExprs
+pub mod WrittenForms

@@ -50,3 +50,5 @@ pub mod TreeText
 pub mod Unread
 pub mod WholeNumber
 pub mod Words
+pub mod WrittenFormula
+pub mod WrittenLaws

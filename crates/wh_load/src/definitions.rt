@@ -23,6 +23,7 @@ mod reference;
 mod typed_pairs;
 mod view;
 pub mod views;
+pub mod written_law;
 
 use crate::catalogue::{document, views_of};
 use crate::dict::Dict;

@@ -1,0 +1,11 @@
+// Laws of what the formulas of a catalogue mean.
+ghost use Rattle.wh_load.specs.WrittenLaws.{ExprsReadBack, ReadExprsAreWritten};
+
+/// A law of the definitions: an expression that is written as the format says (the left side first, `+`, `-` or `*` before
+/// the two, a column by its reference, a text in a table of the key `text`) is read as that expression, and what is read as
+/// an expression is so written. It asks for columns with distinct references, texts of which none stands twice and at most
+/// [`wh_formula::MAX_DEPTH`] levels.
+pub fn exprs_read_back_law()
+    ensures back { ExprsReadBack }
+    ensures written { ReadExprsAreWritten }
+{}
