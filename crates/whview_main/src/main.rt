@@ -1,28 +1,12 @@
-//! The program `whview`: judges strategies of a warehouse's night, plans one of least work, judges the certificates of
-//! plans, and carries a night out.
-//!
-//! [`run`] is the whole program over a reader and a writer. Its words ask for a command, the reader has a bundle, and what
-//! is written is the command's answer, built whole.
+//! The program `whview`: hands the words of the command line, standard input and standard output to [`whview::run`].
 #![tactic(auto)]
 
-mod answer;
-mod budget;
-mod certification;
-mod command_line;
-mod laws;
-mod night;
-mod planning;
-mod program;
-mod reading;
-mod verdict;
-mod words;
-
-use program::{run, want_of_memory, words_without_text};
 use std::alloc::AllocError;
 use std::io::ErrorKind;
 use std::process::ExitCode;
 use std::rt::Env;
 use std::{env, io};
+use whview::{run, want_of_memory, words_without_text};
 
 /// The words of the command line after the program's name. It fails where one of them is not UTF-8 (`InvalidData`), and
 /// where memory is refused.
