@@ -1,4 +1,4 @@
--- What a night is given by the bytes of a bundle.
+-- What a bundle gives to be carried out: its views, their tables, and the night's changes and strategy.
 use Rattle.std.specs.Prelude.{◌++◌, ℕ, List, [], ◌∷◌, length, Bool, true, false, Option, Some, None, slice_get, option_and_then, option_map, Result, Ok, codes, if◌then◌else◌}
 use Rattle.std.specs.Option.{option_or}
 use Rattle.wh_dag.specs.Catalog.{CatalogOf, DefinitionOf}
@@ -10,7 +10,8 @@ use Rattle.wh_load.specs.Columns.{NamedKind}
 use Rattle.wh_load.specs.Definitions.{ViewOf, definitions_of}
 use Rattle.wh_load.specs.Find.{found}
 use Rattle.wh_load.specs.FormulaKinds.{Texts}
-use Rattle.wh_load.specs.ReadCatalog.{catalog_of}
+use Rattle.wh_load.specs.ReadCatalog.{AreDefinitions, catalog_of}
+use Rattle.wh_load.specs.ReadingParts.{parts_in, text_in}
 use Rattle.wh_load.specs.StrategyText.{strategy_of}
 use Rattle.wh_load.specs.TableRead.{changes_give, table_gives}
 use Rattle.wh_load.specs.TableText.{or_fault}
@@ -22,21 +23,23 @@ use Rattle.wh_load.specs.declared.bundle.part.Part.{Part}
 use Rattle.wh_load.specs.declared.fault.LoadFault.{LoadFault}
 use Rattle.wh_load.specs.declared.fault.LoadFault.TheVariants as fault
 use Rattle.wh_strategy.specs.declared.expression.Expression.{Expression}
-use Rattle.whview.specs.CheckOutput.{parts_in, text_in}
 
--- what a night begins from: the base views' tables and changes, which are empty for derived views, the texts that their cells
--- stand for, and the strategy
+-- what nights begin from: the views, the texts that cells stand for, and the base views' tables, which are empty for derived views
 pub record Opening : Type 0 where
   pub views : List ViewOf
   pub texts : Texts
   pub tables : List Bag
+
+-- what is given of one night: the base views' changes, which are empty for derived views, and the strategy
+pub record GivenNight : Type 0 where
   pub changes : List Bag
   pub list : List Expression
 
--- a shape, and what a night over it begins from
+-- a shape, what a night over it begins from, and what is given of the night
 pub record Night : Type 0 where
   pub shape : Views
   pub opening : Opening
+  pub given : GivenNight
 
 -- the catalogue of its views
 abbrev pub catalog_in : Night → CatalogOf
@@ -79,20 +82,20 @@ first_stray names views (part ∷ rest) = option_or (option_map fault.Part (stra
 
 -- ---- tables and changes
 
--- the rows of a base view: its table, or its changes in the night
+-- the rows of a base view: its table, or its changes in a night, which count from 0
 pub data Rows : Type 0 where
   TableRows : Rows
-  ChangeRows : Rows
+  ChangeRows : ℕ → Rows
 
--- the heading of the part that has these rows of this view
-abbrev pub rows_heading : Rows → List ℕ → Heading
-rows_heading TableRows name = heading.Data name
-rows_heading ChangeRows name = heading.Changes name
+-- the part that has these rows of this view
+abbrev pub rows_found : Rows → List ℕ → List Part → Option Part
+rows_found TableRows name parts = found (heading.Data name) 0 parts
+rows_found (ChangeRows night) name parts = found (heading.Changes name) night parts
 
 -- what the text of such a part gives
 abbrev pub rows_given : Rows → List NamedKind → Texts → List ℕ → Result (Bag × Texts) LoadFault
 rows_given TableRows columns texts text = table_gives columns texts text
-rows_given ChangeRows columns texts text = changes_give columns texts text
+rows_given (ChangeRows night) columns texts text = changes_give columns texts text
 
 -- what a part writes, and no rows where there is none
 abbrev pub rows_written : Rows → List NamedKind → Option Part → Texts → Result (Bag × Texts) LoadFault
@@ -104,7 +107,7 @@ abbrev pub rows_of : Rows → List Part → List ℕ → ViewOf → Texts → Re
 rows_of kind parts name view texts = of_definition view.definition
   where
     of_definition : Option DefinitionOf → Result (Bag × Texts) LoadFault
-    of_definition None = rows_written kind view.columns (found (rows_heading kind name) 0 parts) texts
+    of_definition None = rows_written kind view.columns (rows_found kind name parts) texts
     of_definition (Some definition) = Ok (empty, texts)
 
 -- after the rows of the views before, those of these, in the order of the views; or the first fault
@@ -117,7 +120,7 @@ rows_after kind parts names before (view ∷ rest) texts = do
 -- (of calls in the program) tables have no negative count
 abbrev pub IsTableIfTable : Rows → Bag → Type 0
 IsTableIfTable TableRows bag = IsTable bag
-IsTableIfTable ChangeRows bag = Unit {0}
+IsTableIfTable (ChangeRows night) bag = Unit {0}
 
 -- (of calls in the program) there are rows of each of these views, of its columns
 abbrev pub AreReadRows : Rows → List ViewOf → List Bag → Type 0
@@ -126,25 +129,38 @@ AreReadRows kind [] (bag ∷ bags) = ⊥
 AreReadRows kind (view ∷ views) [] = ⊥
 AreReadRows kind (view ∷ views) (bag ∷ bags) = (HasWidth bag (length view.columns) × IsTableIfTable kind bag) × AreReadRows kind views bags
 
+-- (of calls in the program) the views make a catalogue over the shape, and there are tables and changes of each
+pub record AreReadFor (shape : Views) (views : List ViewOf) (tables changes : List Bag) : Type 0 where
+  pub definitions : AreDefinitions shape views
+  pub before : AreReadRows TableRows views tables
+  pub brought : AreReadRows (ChangeRows 0) views changes
+
 -- ---- all of it
 
--- what a night over these views begins from, or its first fault: rows of no base view, then the data, the changes, the strategy
-abbrev pub opening_in : List Part → List (List ℕ) → List ViewOf → Texts → List ℕ → Result Opening LoadFault
-opening_in parts names views texts strategy = do
-  tables ← or_fault (first_stray names views parts) (rows_after TableRows parts names [] views texts)
-  changes ← rows_after ChangeRows parts names [] views tables.1
-  list ← strategy_of names strategy
-  Ok (record { views = views; texts = changes.1; tables = tables.0; changes = changes.0; list = list })
+-- a night over these views
+abbrev pub night_with : Views → List ViewOf → Texts → List Bag → List Bag → List Expression → Night
+night_with shape views texts tables changes list = record {
+  shape = shape;
+  opening = record { views = views; texts = texts; tables = tables };
+  given = record { changes = changes; list = list };
+}
 
--- what the parts of a bundle say, or their first fault: a part that is missing, the catalogue's, then what the night begins from
+-- what a night over these views is given, or its first fault: rows of no base view, then the data, the changes, the strategy
+abbrev pub night_over : List Part → Views → List ViewOf → Texts → List ℕ → Result Night LoadFault
+night_over parts shape views texts strategy = do
+  tables ← or_fault (first_stray shape.names views parts) (rows_after TableRows parts shape.names [] views texts)
+  changes ← rows_after (ChangeRows 0) parts shape.names [] views tables.1
+  list ← strategy_of shape.names strategy
+  Ok (night_with shape views changes.1 tables.0 changes.0 list)
+
+-- what the parts of a bundle say, or their first fault: a part that is missing, the catalogue's, then what the night is given
 abbrev pub night_in : List Part → Result Night LoadFault
 night_in parts = do
-  catalogue ← text_in parts heading.Catalogue (codes "catalogue")
-  strategy ← text_in parts heading.Strategy (codes "strategy")
+  catalogue ← text_in parts heading.Catalogue 0 (codes "catalogue")
+  strategy ← text_in parts heading.Strategy 0 (codes "strategy")
   shape ← shape_of catalogue
   written ← definitions_of shape catalogue []
-  opening ← opening_in parts shape.names written.0 written.1 strategy
-  Ok (record { shape = shape; opening = opening })
+  night_over parts shape written.0 written.1 strategy
 
 -- what the bytes of a bundle of one night say, or their first fault
 abbrev pub night_of : List ℕ → Result Night LoadFault

@@ -1,8 +1,8 @@
 use Rattle.std.proofs.Common.{map}
 use Rattle.wh_load.specs.Definitions.{shown_view}
-use Rattle.whview.specs.GivenNight.{TableRows, ChangeRows}
-use Rattle.whview.proofs.ReadRows.{read_rows}
-use Rattle.whview.proofs.night.parts.rows_in.Goals as goal
+use Rattle.wh_load.specs.ReadingNight.{TableRows, ChangeRows}
+use Rattle.wh_load.proofs.ReadingRows.{read_rows}
+use Rattle.wh_load.proofs.reading.night.rows_in.Goals as goal
 
 pub returns-clause-tables : goal.returns-clause-tables
 returns-clause-tables c =
@@ -10,4 +10,4 @@ returns-clause-tables c =
 
 pub returns-clause-changes : goal.returns-clause-changes
 returns-clause-changes c =
-    read_rows ChangeRows c.args.bundle.now c.args.shape.now.names (map shown_view c.args.views.now) c.tables_in.new.texts c.changes_in.new.texts c.in_ok-changes.changes.items c.in_ok-changes.ensures.ok
+    read_rows (ChangeRows 0) c.args.bundle.now c.args.shape.now.names (map shown_view c.args.views.now) c.tables_in.new.texts c.changes_in.new.texts c.in_ok-changes.changes.items c.in_ok-changes.ensures.ok

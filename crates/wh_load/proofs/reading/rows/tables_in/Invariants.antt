@@ -1,7 +1,7 @@
 use Rattle.std.proofs.Common.{◌≡◌, [], drop, map, vec_len}
 use Rattle.wh_load.specs.Definitions.{shown_view}
-use Rattle.whview.specs.GivenNight.{TableRows, rows_after}
-use Rattle.whview.proofs.night.parts.tables_in.Given as goal
+use Rattle.wh_load.specs.ReadingNight.{TableRows, rows_after}
+use Rattle.wh_load.proofs.reading.rows.tables_in.Given as goal
 
 abbrev pub invariant-loop-view : goal.invariant-loop-view
 invariant-loop-view l = record {
