@@ -8,7 +8,7 @@ from pathlib import Path
 from typing import NamedTuple
 
 ROOT = Path(__file__).resolve().parent.parent
-BUILT = ROOT / "crates/whview/out/whview"
+BUILT = ROOT / "crates/whview_main/out/whview_main"
 
 
 class Example(NamedTuple):

@@ -1,0 +1,21 @@
+//! What the program `whview` does: it judges strategies of a warehouse's night, plans one of least work, judges the
+//! certificates of plans, and carries a night out.
+//!
+//! [`run`] is the whole program over a reader and a writer. Its words ask for a command, the reader has a bundle, and what
+//! is written is the command's answer, built whole. What stands above it, `whview_main`, hands it the words of the command
+//! line, standard input and standard output.
+#![tactic(auto)]
+
+mod answer;
+mod budget;
+mod certification;
+mod command_line;
+mod laws;
+mod night;
+mod planning;
+mod program;
+mod verdict;
+mod words;
+
+pub use laws::{a_printed_plan_is_certified, one_answer_law};
+pub use program::{run, want_of_memory, words_without_text};

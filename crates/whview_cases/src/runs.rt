@@ -1,0 +1,81 @@
+// The program over readers and writers of every kind.
+
+use crate::given::{ANSWER, BUNDLE, CARRIED, ENDLESS, Endless, NIGHT, Sink, Source};
+use std::test::Fail;
+use whview::{run, want_of_memory, words_without_text};
+
+#[test]
+fn a_reader_that_gives_a_byte_at_a_time_is_answered(rt: HostRuntime) -> Result<(), Fail> {
+    for (command, bundle, answer) in [("check", BUNDLE, ANSWER), ("night", NIGHT, CARRIED)] {
+        let mut input = Source::new(bundle.as_bytes(), 1);
+        let mut out = Sink::new(rt.alloc(), ENDLESS, true);
+        let status = run(&rt, rt.alloc(), &[command], &mut input, &mut out);
+        assert_eq!(&rt; status, 0, "of {command}");
+        assert!(&rt; out.text.as_slice() == answer.as_bytes(), "of {command}");
+    }
+    Ok(())
+}
+
+#[test]
+fn the_first_line_gives_the_words_a_byte_at_a_time(rt: HostRuntime) -> Result<(), Fail> {
+    let text = format!(in rt.alloc(); "check --comp-cost 2\r\n{BUNDLE}")?;
+    let mut input = Source::new(text.as_bytes(), 1);
+    let mut out = Sink::new(rt.alloc(), ENDLESS, true);
+    assert_eq!(&rt; run(&rt, rt.alloc(), &[], &mut input, &mut out), 0);
+    // The Comps read 114 rows, and the Insts write 40.
+    assert!(&rt; out.text.as_slice() == b"correct\nwork 268\n".as_slice());
+    Ok(())
+}
+
+#[test]
+fn a_read_that_fails_is_a_fault_whichever_it_is(rt: HostRuntime) {
+    let step = BUNDLE.len() / 4 + 1;
+    // Four reads give the bytes and the fifth has none; where none fails, that is all.
+    for at in 1..=6 {
+        let mut input = Source::failing(BUNDLE.as_bytes(), step, at);
+        let mut out = Sink::new(rt.alloc(), ENDLESS, true);
+        let status = run(&rt, rt.alloc(), &["check"], &mut input, &mut out);
+        let (wanted, text) = if at <= 5 { (3, "fault read\n") } else { (0, ANSWER) };
+        assert_eq!(&rt; status, wanted, "at {at}");
+        assert!(&rt; out.text.as_slice() == text.as_bytes(), "at {at}");
+        assert_eq!(&rt; input.reads(), at.min(5), "at {at}");
+    }
+}
+
+#[test]
+fn a_writer_that_fails_ends_with_5_wherever_it_does(rt: HostRuntime) {
+    for room in 0..=ANSWER.len() {
+        let mut input = Source::new(BUNDLE.as_bytes(), 4096);
+        let mut out = Sink::new(rt.alloc(), room, room < ANSWER.len());
+        let status = run(&rt, rt.alloc(), &["check"], &mut input, &mut out);
+        assert_eq!(&rt; status, 5, "with room for {room}");
+        assert!(&rt; ANSWER.as_bytes().starts_with(&out.text), "with room for {room}");
+    }
+    let mut full = Sink::new(rt.alloc(), 0, true);
+    assert_eq!(&rt; want_of_memory(&mut full), 5);
+    assert_eq!(&rt; words_without_text(&mut full), 5);
+}
+
+#[test]
+fn words_that_are_refused_leave_the_reader_unread(rt: HostRuntime) {
+    let mut input = Source::new(BUNDLE.as_bytes(), 4096);
+    let mut out = Sink::new(rt.alloc(), ENDLESS, true);
+    assert_eq!(&rt; run(&rt, rt.alloc(), &["check", "now"], &mut input, &mut out), 2);
+    assert_eq!(&rt; input.reads(), 0);
+}
+
+#[test]
+fn a_reader_without_an_end_is_stopped_at_the_limit(rt: HostRuntime) {
+    let mut out = Sink::new(rt.alloc(), ENDLESS, true);
+    let status = run(&rt, rt.alloc(), &["check"], &mut Endless, &mut out);
+    assert_eq!(&rt; status, 3);
+    assert!(&rt; out.text.as_slice() == b"fault toolong\n".as_slice());
+}
+
+#[test]
+fn what_has_no_words_or_no_memory_is_told(rt: HostRuntime) {
+    let mut out = Sink::new(rt.alloc(), ENDLESS, true);
+    assert_eq!(&rt; words_without_text(&mut out), 2);
+    assert_eq!(&rt; want_of_memory(&mut out), 4);
+    assert!(&rt; out.text.as_slice() == b"fault words\nmemory\n".as_slice());
+}
