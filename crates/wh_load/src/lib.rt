@@ -12,6 +12,7 @@ mod definitions;
 mod dict;
 mod expression;
 mod fault;
+mod line;
 mod name_form;
 mod names;
 mod plan;
