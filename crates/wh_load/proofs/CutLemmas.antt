@@ -4,7 +4,8 @@ use Rattle.std.specs.List.{onto_first, list_all, concat}
 use Rattle.std.proofs.Math.Seq.{take-add}
 use Rattle.std.proofs.lemmas.List.{drop-drop}
 use Rattle.std.proofs.lemmas.Bool.{and_parts, not-true, and_left, cond_both}
-use Rattle.wh_load.specs.Line.{whole_lines, is_plain, opens_part}
+use Rattle.wh_load.specs.Line.{whole_lines}
+use Rattle.wh_load.specs.PartLine.{is_plain, opens_part}
 use Rattle.wh_load.specs.Cut.{Cut, cut, cut_lines, preceded, on_top, bytes_of, bytes_of_parts}
 
 concat-onto_first : (b : ℕ) (ls : List (List ℕ)) → concat (onto_first b ls) ≡ b ∷ concat ls

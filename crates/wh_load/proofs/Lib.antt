@@ -27,6 +27,7 @@ pub mod NightLemmas
 pub mod NodeReadingBack
 pub mod OutputsFit
 pub mod PartsRead
+pub mod PlainLines
 pub mod PlanForms
 pub mod PlanGrammars
 pub mod PlanLines

@@ -4,7 +4,8 @@ use Rattle.std.specs.List.{list_all, concat, flat_map}
 use Rattle.std.proofs.Math.Seq.{take-add}
 use Rattle.std.proofs.lemmas.List.{drop-drop}
 use Rattle.std.proofs.lemmas.Bool.{and_parts, not-true, and_right, cond_both, false≢true}
-use Rattle.wh_load.specs.Line.{whole_lines, is_plain, is_escaped, has_cr, without_cr, unescaped}
+use Rattle.wh_load.specs.Line.{whole_lines}
+use Rattle.wh_load.specs.PartLine.{is_plain, is_escaped, has_cr, without_cr, unescaped}
 use Rattle.wh_load.specs.Text.{body_text, line_text}
 use Rattle.wh_load.proofs.CutLemmas.{concat-whole_lines}
 

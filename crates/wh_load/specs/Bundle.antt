@@ -2,7 +2,7 @@
 use Rattle.std.specs.Prelude.{◌||◌, ℕ, Bool, true, false, not, List, [], ◌∷◌, ◌++◌, Option, Some, None, option_map, unwrap_or, codes, count_by, if◌then◌else◌}
 use Rattle.std.specs.List.{list_any, after_last, cons_option}
 use Rattle.std.specs.Str.{bytes_eq}
-use Rattle.wh_load.specs.Line.{is_blank_text}
+use Rattle.wh_load.specs.PartLine.{is_blank_text}
 use Rattle.wh_load.specs.Cut.{RawPart, cut}
 use Rattle.wh_load.specs.Heading.{heading_text, heading_of, fault_word, is_night, scope_of}
 use Rattle.wh_load.specs.declared.bundle.heading.Heading.{Heading}

@@ -1,6 +1,7 @@
 -- Bytes cut into parts, each at a line that begins with one `@`.
 use Rattle.std.specs.Prelude.{ℕ, Bool, true, false, List, [], ◌∷◌, ◌++◌}
-use Rattle.wh_load.specs.Line.{whole_lines, opens_part}
+use Rattle.wh_load.specs.Line.{whole_lines}
+use Rattle.wh_load.specs.PartLine.{opens_part}
 
 -- a part as it stands: the line that opens it, and the bytes below that line
 pub record RawPart : Type 0 where

@@ -3,7 +3,8 @@ use Rattle.std.specs.Prelude.{◌-◌, ◌&&◌, ℕ, Bool, true, false, List, [
 use Rattle.std.specs.Option.{option_or}
 use Rattle.std.specs.List.{starts_with, suffix_len, prefix_len, before_first}
 use Rattle.std.specs.Str.{bytes_eq}
-use Rattle.wh_load.specs.Line.{is_blank, without_end}
+use Rattle.wh_load.specs.Line.{is_blank}
+use Rattle.wh_load.specs.PartLine.{without_end}
 use Rattle.wh_load.specs.declared.bundle.heading.Heading.{Heading}
 use Rattle.wh_load.specs.declared.bundle.heading.Heading.TheVariants.{Catalogue, Sizes, Strategy, Plan, Schedule, Night, Data, Changes}
 use Rattle.wh_load.specs.declared.bundle.heading.Scope.{Scope}

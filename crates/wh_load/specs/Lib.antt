@@ -26,6 +26,7 @@ pub mod NodeLine
 pub mod Output
 pub mod Pairs
 pub mod PartFault
+pub mod PartLine
 pub mod PlanGrammar
 pub mod PlanLine
 pub mod PlanReadsBack

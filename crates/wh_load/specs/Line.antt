@@ -1,6 +1,6 @@
 -- Bytes as lines, which are cut after each LF.
-use Rattle.std.specs.Prelude.{◌-◌, ◌==◌, ◌||◌, ◌&&◌, ℕ, Bool, not, List, [], ◌∷◌, ◌++◌, length, take, drop, if◌then◌else◌, nat_eq}
-use Rattle.std.specs.List.{onto_first, starts_with, ends_with, list_all}
+use Rattle.std.specs.Prelude.{◌-◌, ◌==◌, ◌||◌, ℕ, Bool, List, [], ◌∷◌, length, take, if◌then◌else◌, nat_eq}
+use Rattle.std.specs.List.{onto_first, ends_with}
 
 -- the lines of some bytes, each with the LF that ends it; what stands after the last LF is a line where it is not empty
 abbrev pub whole_lines : List ℕ → List (List ℕ)
@@ -11,42 +11,6 @@ whole_lines (b ∷ bs) = if b == 10 then (b ∷ []) ∷ whole_lines bs else onto
 abbrev pub without_lf : List ℕ → List ℕ
 without_lf line = if ends_with nat_eq line (10 ∷ []) then take (length line - 1) line else line
 
--- the line ends in CR LF
-abbrev pub has_cr : List ℕ → Bool
-has_cr line = ends_with nat_eq line (13 ∷ 10 ∷ [])
-
--- the line without the CR directly before its LF
-abbrev pub without_cr : List ℕ → List ℕ
-without_cr line = if has_cr line then take (length line - 2) line ++ 10 ∷ [] else line
-
--- the line without its end: the LF, and a CR directly before it
-abbrev pub without_end : List ℕ → List ℕ
-without_end line = if has_cr line then take (length line - 2) line else without_lf line
-
 -- a blank is a space or a tab
 abbrev pub is_blank : ℕ → Bool
 is_blank b = b == 32 || b == 9
-
--- the line has blanks alone
-abbrev pub is_blank_line : List ℕ → Bool
-is_blank_line line = list_all is_blank (without_end line)
-
--- each line has blanks alone
-abbrev pub is_blank_text : List ℕ → Bool
-is_blank_text bytes = list_all is_blank_line (whole_lines bytes)
-
--- the line begins with `@@`
-abbrev pub is_escaped : List ℕ → Bool
-is_escaped line = starts_with nat_eq line (64 ∷ 64 ∷ [])
-
--- the line begins with one `@`, and opens a part
-abbrev pub opens_part : List ℕ → Bool
-opens_part line = starts_with nat_eq line (64 ∷ []) && not (is_escaped line)
-
--- the line begins with no `@`
-abbrev pub is_plain : List ℕ → Bool
-is_plain line = not (starts_with nat_eq line (64 ∷ []))
-
--- what the line stands for in a part: `@@` for one `@`
-abbrev pub unescaped : List ℕ → List ℕ
-unescaped line = if is_escaped line then drop 1 line else line

@@ -1,7 +1,8 @@
 -- The text that a part's bytes stand for.
 use Rattle.std.specs.Prelude.{ℕ, Bool, List, if◌then◌else◌}
 use Rattle.std.specs.List.{flat_map}
-use Rattle.wh_load.specs.Line.{whole_lines, unescaped, without_cr}
+use Rattle.wh_load.specs.Line.{whole_lines}
+use Rattle.wh_load.specs.PartLine.{unescaped, without_cr}
 use Rattle.wh_load.specs.Heading.{is_csv}
 use Rattle.wh_load.specs.declared.bundle.part.Part.{Part}
 

@@ -7,7 +7,7 @@ ghost use Rattle.wh_load.specs.PartFault.{Names};
 mod cut;
 pub mod fault;
 pub mod heading;
-pub mod line;
+mod line;
 mod night;
 pub mod part;
 pub mod piece;

@@ -15,6 +15,7 @@ mod definitions;
 mod dict;
 mod expression;
 mod fault;
+mod line;
 mod name_form;
 mod names;
 mod plan;

@@ -2,7 +2,7 @@
 ghost use Rattle.std.specs.Prelude.{◌≡◌, ◌<◌, ◌∷◌, length, map, IfOk};
 ghost use Rattle.wh_load.specs.Words.{is_word, lines_of, word_at, words_of};
 
-use crate::bundle::line::{self, is_blank};
+use crate::line::{self, is_blank};
 use std::alloc::{AllocError, Global};
 
 /// The first line without its LF, and the text below it.

@@ -3,7 +3,8 @@ ghost use Rattle.std.specs.Prelude.{◌≡◌, ◌+◌, ◌<◌, ◌≤◌, [], 
 ghost use Rattle.wh_load.specs.Cut.{cut};
 ghost use Rattle.wh_load.specs.RawPart.{shown};
 
-use super::line::{first_line, opens_part, plain_len};
+use super::line::{opens_part, plain_len};
+use crate::line::first_line;
 
 /// A part as it stands.
 #[derive(Clone, Copy)]

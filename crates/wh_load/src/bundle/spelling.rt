@@ -5,7 +5,8 @@ ghost use Rattle.wh_load.specs.Line.{is_blank};
 ghost use Rattle.wh_load.specs.Heading.{heading_text, first_word, fault_word, name_after, single_heading, without_blank_end};
 
 use super::heading::Heading;
-use super::line::{is_blank, without_end};
+use super::line::without_end;
+use crate::line::is_blank;
 
 /// The heading that is a single word, where the text is one.
 pub fn single_heading<'a>(text: &[u8]) -> Option<Heading<'a>>

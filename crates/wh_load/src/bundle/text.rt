@@ -3,7 +3,8 @@ ghost use Rattle.std.specs.Prelude.{◌≡◌, ◌+◌, ◌<◌, ◌≤◌, ◌+
 ghost use Rattle.std.specs.Cow.{cow_slice_items, IsBorrowedSlice};
 ghost use Rattle.wh_load.specs.Text.{body_text, line_text};
 
-use super::line::{first_line, has_cr, is_escaped, plain_len};
+use super::line::{has_cr, is_escaped, plain_len};
+use crate::line::first_line;
 use std::alloc::{AllocError, Global};
 use std::borrow::CowSlice;
 

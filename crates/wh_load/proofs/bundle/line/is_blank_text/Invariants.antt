@@ -1,5 +1,5 @@
 use Rattle.std.proofs.Common.{◌≡◌, length}
-use Rattle.wh_load.specs.Line.{is_blank_text}
+use Rattle.wh_load.specs.PartLine.{is_blank_text}
 use Rattle.wh_load.proofs.bundle.line.is_blank_text.Given as goal
 
 -- what is left decides

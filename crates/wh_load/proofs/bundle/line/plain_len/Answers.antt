@@ -1,6 +1,6 @@
 use Rattle.std.proofs.Common.{◌+◌, ◌∙◌, arith, sym, length-drop}
 use Rattle.std.proofs.lemmas.List.{get_or-drop, take_rest}
-use Rattle.wh_load.proofs.LineLemmas.{unmarked_start, unmarked_past, unmarked_to, unmarked_all, lines_at_mark}
+use Rattle.wh_load.proofs.PlainLines.{unmarked_start, unmarked_past, unmarked_to, unmarked_all, lines_at_mark}
 use Rattle.wh_load.proofs.bundle.line.plain_len.Goals as goal
 
 pub loop-gap-init : goal.loop-gap-init

@@ -1,5 +1,5 @@
 use Rattle.std.proofs.Common.{◌≡◌, ◌≤◌, ◌-◌, true, take, length}
-use Rattle.wh_load.proofs.LineLemmas.{unmarked}
+use Rattle.wh_load.proofs.PlainLines.{unmarked}
 use Rattle.wh_load.proofs.bundle.line.plain_len.Given as goal
 
 -- no line up to here begins with an `@`

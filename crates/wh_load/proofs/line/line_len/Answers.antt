@@ -1,7 +1,7 @@
 use Rattle.std.proofs.Common.{length, arith, add-one}
 use Rattle.wh_load.proofs.LineLemmas.{whole_lines-at, whole_lines-none}
 use Rattle.std.proofs.lemmas.List.{take_all, drop_all}
-use Rattle.wh_load.proofs.bundle.line.line_len.Goals as goal
+use Rattle.wh_load.proofs.line.line_len.Goals as goal
 
 pub returns-in-Some-clause-lines : goal.returns-in-Some-clause-lines
 returns-in-Some-clause-lines c =
