@@ -1,12 +1,10 @@
-use Rattle.std.proofs.Common.{◌≡◌, ◌<◌, length, sym, ap, subst, ◌∙◌, below_more, arith}
+use Rattle.std.proofs.Common.{◌≡◌, ◌<◌, length, sym, subst, ◌∙◌, below_more, arith}
 use Rattle.wh_row.specs.Bag.{Bag, empty, count}
 use Rattle.std.specs.Prelude.{FitsSigned}
 use Rattle.std.specs.Int.{w128}
 use Rattle.wh_maint.specs.Comp.{bag_at}
-use Rattle.wh_maint.specs.Refused.{SumsTogetherFit}
 use Rattle.wh_maint.proofs.Children.{same_default}
 use Rattle.wh_maint.proofs.BothSums.{fits_none}
-use Rattle.wh_maint.proofs.NoRows.{empty_past}
 use Rattle.wh_maint.proofs.both_sums.bring_nothing.Goals as goal
 
 pub loop-j-preserved : goal.loop-j-preserved
