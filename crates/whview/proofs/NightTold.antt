@@ -90,11 +90,13 @@ module _ (cat : CatalogOf) (is : IsCatalog cat) (base old : List Bag) (each : le
       let isg = catalogs_are_graphs cat is in
       let whole : IsFromScratch g (bag_at base) = contents_are_values g (bag_at base) isg in
       let as_old : contents g (bag_at base) ≡ bag_at old = λ i u. sym (opened_everywhere u) i in
+      let had : (v : ℕ) → ¬ (children_of cat.views.children v ≡ []) → HasValueOver cat (bag_at old) v = λ v some.
+      subst (λ ts. HasValueOver cat ts v) as_old (valued v (within cat.views.children v some) (not_base (children_of cat.views.children v) some)) in
       record {
         counts = λ b e. subst IsTable (sym (opened_everywhere b ∙ whole.bases b e)) (base_tables cat is base read b e);
         bases = λ b e. refl;
         values = λ v some. opened_everywhere v ∙ whole.values v some ∙ ap (view_value (g.views v)) (same_tables (g.children v) (contents g (bag_at base)) (bag_at old) (λ u t. sym (opened_everywhere u)));
-        defined = λ v some. (subst (λ ts. HasValueOver cat ts v) as_old (valued v (within cat.views.children v some) (not_base (children_of cat.views.children v) some))).valued;
+        defined = λ v some. (had v some).valued;
       }
 
   -- contents of their changed base are those of the base that was read, with its changes
@@ -128,7 +130,9 @@ module _ (cat : CatalogOf) (is : IsCatalog cat) (base old : List Bag) (each : le
       let as_old : contents g (bag_at base) ≡ bag_at old = λ i u. sym (opened_everywhere u) i in
       let as_new : contents g (changed (bag_at old) ch) ≡ contents g (changed (bag_at base) ch) = λ i u. same_changed ch u i in
       let are : AreContents g (bag_at old) = are_contents read valued in
-      let few : AreFew g (bag_at old) = λ v some. (subst (λ ts. HasValueOver cat ts v) as_old (valued v (within cat.views.children v some) (not_base (children_of cat.views.children v) some))).few in
+      let had : (v : ℕ) → ¬ (children_of cat.views.children v ≡ []) → HasValueOver cat (bag_at old) v = λ v some.
+      subst (λ ts. HasValueOver cat ts v) as_old (valued v (within cat.views.children v some) (not_base (children_of cat.views.children v) some)) in
+      let few : AreFew g (bag_at old) = λ v some. (had v some).few in
       let has = new_contents_have_values cat list (bag_at old) ch is ok are (λ p e l at. passed_have_values cat ch (before g ch list (bag_at old) p) e (passed p e l at)) in
       let stay = new_rows_are_few cat list (bag_at old) ch is ok are.counts are.values few passed in
       λ v l d.

@@ -20,5 +20,5 @@ returns-in-Err-clause-refused g c =
     let table = get_or_read c.args.tables.now v c.index-tables-view.result (omega arith) c.index-tables-view.is empty in
     let change = get_or_read c.args.changes.now v c.index-changes-view.result (omega arith) c.index-changes-view.is empty in
     base_reason cat (bag_at c.args.tables.now) (bag_at c.args.changes.now) v inside base c.loop-view.invariant c.in-Err.fault
-    (subst (λ t. IsChangeFault v t (bag_at c.args.changes.now v) c.in-Err.fault) (sym table)
-    (subst (λ d. IsChangeFault v c.index-tables-view.result d c.in-Err.fault) (sym change) c.in-Err.ensures.refused))
+    (subst (λ t. IsChangeFault v t (bag_at c.args.changes.now v) c.in-Err.fault) table
+    (subst (λ d. IsChangeFault v c.index-tables-view.result d c.in-Err.fault) change c.in-Err.ensures.refused))
