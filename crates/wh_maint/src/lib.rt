@@ -31,10 +31,10 @@ pub use laws::{
     adding_stays_within, catalogs_are_graphs, changes_are_differences, changes_are_whole,
     changes_go_by_groups, changes_have_width, columns_have_width, comps_are_differences,
     comps_in_any_order, contents_are_fit, contents_are_one, contents_are_told_by_values,
-    contents_are_unique, contents_are_values, fit_is_told_by_rows, folds_add_up, groups_stand_together, met_rows_count,
-    new_rows_have_values, new_sums_fit, products_are_linear, sizes_multiply,
-    summaries_show_accumulators, tables_have_width, terms_are_within, terms_give_values,
-    terms_meet_old_or_new_rows, values_are_fit,
+    contents_are_unique, contents_are_values, fit_is_told_by_rows, folds_add_up,
+    groups_stand_together, met_rows_count, new_rows_have_values, new_sums_fit, products_are_linear,
+    sizes_multiply, summaries_show_accumulators, tables_have_width, terms_are_within,
+    terms_give_values, terms_meet_old_or_new_rows, values_are_fit,
 };
 pub use pending::Pending;
 pub use size::operand_rows;

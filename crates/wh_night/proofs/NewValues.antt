@@ -176,8 +176,8 @@ module _ (catalog : CatalogOf) (list : List Expression) (old new changes : ℕ �
   -- what a view's Comps keep over the tables of its children holds over the new ones
   module _ (v : ℕ) (P : (ℕ → Bag) → Type 0) (same : (f g : ℕ → Bag) → ((u : ℕ) → has (children_of catalog.views.children v) u ≡ true → f u ≡ g u) → P f → P g)
       (keeps : (p : ℕ) (ys : List ℕ) (new : ℕ → Bag) → At list p (Comp v ys)
-          → ((y : ℕ) → has ys y ≡ true → new y ≡ sum_of ((before (graph_of catalog) changes list old p).tables y) (change_in (graph_of catalog) changes (before (graph_of catalog) changes list old p) y))
-          → P (before (graph_of catalog) changes list old p).tables → P (at_set ys new (before (graph_of catalog) changes list old p).tables)) where
+      → ((y : ℕ) → has ys y ≡ true → new y ≡ sum_of ((before (graph_of catalog) changes list old p).tables y) (change_in (graph_of catalog) changes (before (graph_of catalog) changes list old p) y))
+      → P (before (graph_of catalog) changes list old p).tables → P (at_set ys new (before (graph_of catalog) changes list old p).tables)) where
     at_own_comp : (p : ℕ) (ys : List ℕ) → p ≤ length list → At list p (Comp v ys) → P (mix list old new v p) → P (mix list old new v (suc p))
     at_own_comp p ys l at r =
         let shape : List (List ℕ) = catalog.views.children in
