@@ -1,6 +1,6 @@
 //! The graph of decided couples.
 
-ghost use Rattle.std.specs.Prelude.{◌≡◌, IfOk, IfErr};
+ghost use Rattle.std.specs.Prelude.{◌≡◌, ◌<◌, length, IfOk, IfErr, OnErr};
 ghost use Rattle.wh_dag.specs.Shape.{IsShape};
 ghost use Rattle.wh_minwork.specs.Nodes.{leads, AreNodes};
 
@@ -100,7 +100,8 @@ impl<'a> Graph<'a> {
 
     /// All nodes, rising: the Comps by target, then by source, before the Insts by number.
     fn nodes(&self, alloc: Global) -> Result<Vec<Node>, AllocError>
-        ensures { IfOk result (λ nodes. AreNodes self.now.children nodes.items) }
+        ensures nodes { IfOk result (λ nodes. AreNodes self.now.children nodes.items) }
+        ensures memory { OnErr result (0 < length self.now.children) }
     {
         let mut nodes = Vec::new(alloc);
         for v in 0..self.children.len() {
@@ -122,6 +123,9 @@ impl<'a> Graph<'a> {
         ensures sorted { IfOk result (IsSorted self.now.children self.now.decided) }
         ensures acyclic { IfOk result (λ _. IsAcyclic self.now.children self.now.decided) }
         ensures err { IfErr result (IsUnsorted self.now.children self.now.decided) }
+
+        // Without a view there is no node: nothing is refused, and no memory is taken.
+        ensures some { OnErr result (0 < length self.now.children) }
     {
         let nodes = self.nodes(alloc)?;
         let mut rest = Unplaced::new(alloc, self, nodes)?;
