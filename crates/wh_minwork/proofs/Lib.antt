@@ -9,5 +9,6 @@ pub mod Placing
 pub mod SiblingViews
 pub mod Sorting
 pub mod Tables
+pub mod Views
 pub mod Waiting
 pub mod Walking

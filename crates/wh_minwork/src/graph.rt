@@ -1,6 +1,6 @@
 //! The graph of decided couples.
 
-ghost use Rattle.std.specs.Prelude.{◌≡◌, IfOk, IfErr};
+ghost use Rattle.std.specs.Prelude.{◌≡◌, ◌<◌, length, IfOk, IfErr, OnErr};
 ghost use Rattle.wh_dag.specs.Shape.{IsShape};
 ghost use Rattle.wh_minwork.specs.Nodes.{leads, AreNodes};
 
@@ -18,8 +18,7 @@ use wh_strategy::{Expression, Strategy};
 #[derive(Debug, Drop)]
 pub enum SortFault {
     /// A cycle of the graph: each expression has an edge to the next, and the last one to the first; none stands twice.
-    /// From the smallest expression that could not be placed it is found by going back, each time to the smallest that
-    /// leads there.
+    /// Which cycle it is, of several, is left open.
     Cycle(Vec<Expression>),
     /// Memory was refused.
     Memory,
@@ -100,7 +99,8 @@ impl<'a> Graph<'a> {
 
     /// All nodes, rising: the Comps by target, then by source, before the Insts by number.
     fn nodes(&self, alloc: Global) -> Result<Vec<Node>, AllocError>
-        ensures { IfOk result (λ nodes. AreNodes self.now.children nodes.items) }
+        ensures nodes { IfOk result (λ nodes. AreNodes self.now.children nodes.items) }
+        ensures memory { OnErr result (0 < length self.now.children) }
     {
         let mut nodes = Vec::new(alloc);
         for v in 0..self.children.len() {
@@ -116,16 +116,19 @@ impl<'a> Graph<'a> {
         Ok(nodes)
     }
 
-    /// Each node once, with each edge forward: the smallest node that is ready goes next. The smaller of two is a Comp
-    /// before an Inst, then the one of the lower target, then the one of the lower source.
+    /// Each node once, with each edge forward. Which such order it is, of several, is left open.
     pub fn sorted(&self, alloc: Global) -> Result<Strategy, SortFault>
         ensures sorted { IfOk result (IsSorted self.now.children self.now.decided) }
         ensures acyclic { IfOk result (λ _. IsAcyclic self.now.children self.now.decided) }
         ensures err { IfErr result (IsUnsorted self.now.children self.now.decided) }
+
+        // Without a view there is no node: nothing is refused, and no memory is taken.
+        ensures some { OnErr result (0 < length self.now.children) }
     {
         let nodes = self.nodes(alloc)?;
         let mut rest = Unplaced::new(alloc, self, nodes)?;
         let mut placed = Vec::new(alloc);
+        // The smallest node that is ready: a Comp before an Inst, then the lower target, then the lower source.
         while let Some(i) = rest.ready() {
             placed.push(rest.place(self, i))?;
         }

@@ -1,6 +1,6 @@
 //! MinWork: a plan of least work, where the ordered graph has no cycle.
 
-ghost use Rattle.std.specs.Prelude.{◌≡◌, length, IfOk, IfErr, OnOk, List, ℕ};
+ghost use Rattle.std.specs.Prelude.{◌≡◌, ◌<◌, length, IfOk, IfErr, OnOk, OnErr, List, ℕ};
 ghost use Rattle.wh_dag.specs.Shape.{IsShape};
 ghost use Rattle.wh_strategy.specs.declared.expression.Expression.{Expression};
 ghost use Rattle.wh_strategy.specs.Rules.{IsCorrect, IsOneWay};
@@ -58,6 +58,7 @@ fn ordered_strategy(alloc: Global, shape: &Shape, sizes: &Sizes) -> Result<Strat
     ensures sorted { IfOk result (IsSortedAsDesired shape.now.children (sizes_of sizes.now)) }
     ensures shape { OnOk result (IsShape shape.now.children) }
     ensures err { IfErr result (IsMinReason shape.now.children (sizes_of sizes.now)) }
+    ensures some { OnErr result (0 < length shape.now.children) }
 {
     let decided = Decided::by_desired_order(alloc, shape, sizes)?;
     match Graph::of(shape, &decided).sorted(alloc) {
@@ -85,6 +86,9 @@ pub fn min_work(
     ensures scope { IfOk result (λ p. p.scope ≡ Scope.All) }
     ensures accepted { IfOk result (λ p. IsJudged shape.now.children (sizes_of sizes.now) costs.comp costs.inst p.work p.certificate Verdict.All) }
     ensures err { IfErr result (IsMinReason shape.now.children (sizes_of sizes.now)) }
+
+    // Without a view nothing is refused: the plan has no expression, and takes no memory.
+    ensures some { OnErr result (0 < length shape.now.children) }
 {
     let strategy = match ordered_strategy(alloc, shape, sizes) {
         Ok(strategy) => strategy,

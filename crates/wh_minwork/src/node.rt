@@ -1,6 +1,6 @@
 //! The nodes of a graph.
 
-ghost use Rattle.std.specs.Prelude.{◌≡◌, IfOk, map};
+ghost use Rattle.std.specs.Prelude.{◌≡◌, ◌<◌, length, IfOk, OnErr, map};
 ghost use Rattle.wh_minwork.specs.Nodes.{expression_of};
 
 use std::alloc::{AllocError, Global};
@@ -30,7 +30,8 @@ impl Node {
 
 /// The expressions of these nodes, in their order.
 pub(crate) fn expressions(alloc: Global, nodes: &[Node]) -> Result<Vec<Expression>, AllocError>
-    ensures { IfOk result (λ list. list.items ≡ map expression_of nodes.now) }
+    ensures list { IfOk result (λ list. list.items ≡ map expression_of nodes.now) }
+    ensures memory { OnErr result (0 < length nodes.now) }
 {
     let mut list = Vec::new(alloc);
     for node in nodes {

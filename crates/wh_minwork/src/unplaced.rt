@@ -1,6 +1,6 @@
 //! The nodes that a sort has not placed yet.
 
-ghost use Rattle.std.specs.Prelude.{◌≡◌, ◌≢◌, ◌<◌, length, slice_index, slice_index_or, IfOk, MatchOption, All};
+ghost use Rattle.std.specs.Prelude.{◌≡◌, ◌≢◌, ◌<◌, length, slice_index, slice_index_or, IfOk, OnErr, MatchOption, All};
 ghost use Rattle.std.specs.List.{remove};
 ghost use Rattle.wh_minwork.specs.Nodes.{waits_for, AreCounts, AreCountsWith};
 
@@ -25,6 +25,7 @@ impl Unplaced {
     ) -> Result<Unplaced, AllocError>
         ensures nodes { IfOk result (λ u. u.nodes.items ≡ nodes.items) }
         ensures counted { IfOk result (λ u. AreCounts graph.now.children graph.now.decided nodes.items u.waits.items) }
+        ensures memory { OnErr result (0 < length nodes.items) }
     {
         let waits = counts(alloc, graph, &nodes)?;
         Ok(Unplaced { nodes, waits })
@@ -54,7 +55,8 @@ impl Unplaced {
 
 /// How many of these nodes lead to each of them.
 fn counts(alloc: Global, graph: &Graph, nodes: &[Node]) -> Result<Vec<usize>, AllocError>
-    ensures { IfOk result (λ waits. AreCounts graph.now.children graph.now.decided nodes.now waits.items) }
+    ensures counted { IfOk result (λ waits. AreCounts graph.now.children graph.now.decided nodes.now waits.items) }
+    ensures memory { OnErr result (0 < length nodes.now) }
 {
     let mut waits = Vec::new(alloc);
     for node in nodes {

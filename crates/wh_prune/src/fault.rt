@@ -1,6 +1,7 @@
 //! Why a search has no plan.
 
 ghost use Rattle.std.specs.Prelude.{◌≡◌};
+ghost use Rattle.wh_prune.specs.Fault.{fault_number};
 
 use std::alloc::{AllocError, AllocFailed};
 
@@ -16,6 +17,18 @@ pub enum PruneFault {
     },
     /// Memory was refused.
     Memory,
+}
+
+impl PruneFault {
+    /// The refusal's number, from 1.
+    pub fn number(&self) -> u8
+        ensures { result ≡ fault_number self.now }
+    {
+        match self {
+            PruneFault::Budget { .. } => 1,
+            PruneFault::Memory => 2,
+        }
+    }
 }
 
 impl From<AllocError> for PruneFault {

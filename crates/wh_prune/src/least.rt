@@ -1,6 +1,6 @@
 //! The plan of a night.
 
-ghost use Rattle.std.specs.Prelude.{◌≡◌, ◌↔◌, ◌≤◌, List, length, IfOk, IfErr};
+ghost use Rattle.std.specs.Prelude.{◌≡◌, ◌↔◌, ◌<◌, ◌≤◌, List, length, IfOk, IfErr, OnErr};
 ghost use Rattle.wh_strategy.specs.declared.expression.Expression.{Expression};
 ghost use Rattle.wh_strategy.specs.Rules.{IsCorrect, IsOneWay};
 ghost use Rattle.wh_strategy.specs.Sizes.{sizes_of};
@@ -71,6 +71,9 @@ pub fn plan(
     ensures cyclic { IfOk result (λ p. p.scope ≡ Scope.OneWay → IsCyclicAsDesired shape.now.children (sizes_of sizes.now)) }
     ensures sorted { IfOk result (λ p. IsAcyclicAsDesired shape.now.children (sizes_of sizes.now) → IsSortedAsDesired shape.now.children (sizes_of sizes.now) p.correct.list) }
     ensures err { IfErr result (IsPlanReason shape.now.children (sizes_of sizes.now) costs.comp costs.inst budget) }
+
+    // Without a view nothing is refused: the plan has no expression, and takes no memory.
+    ensures some { OnErr result (0 < length shape.now.children) }
 {
     match min_work(alloc, shape, sizes, costs) {
         Ok(planned) => Ok(certified(shape, sizes, costs, planned)),

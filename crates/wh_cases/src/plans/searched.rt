@@ -194,6 +194,16 @@ fn a_spent_budget_tells_a_work_that_was_found_later(rt: HostRuntime) -> Result<(
 }
 
 #[test]
+fn refusals_of_a_search_have_their_numbers(rt: HostRuntime) {
+    let spent = PruneFault::Budget {
+        opened: 1,
+        best: 490,
+    };
+    assert_eq!(rt; spent.number(), 1);
+    assert_eq!(rt; PruneFault::Memory.number(), 2);
+}
+
+#[test]
 fn a_plan_without_a_search_needs_no_budget(rt: HostRuntime) -> Result<(), Fail> {
     let alloc = rt.alloc();
     let b_first = ("V<B B V<A A V", Scope::All, 154, 1);

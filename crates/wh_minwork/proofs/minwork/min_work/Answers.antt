@@ -5,6 +5,8 @@ use Rattle.wh_strategy.specs.Work.{work_of}
 use Rattle.wh_strategy.proofs.Agreeing.{refused}
 use Rattle.wh_cert.specs.Bound.{pair_bound_of}
 use Rattle.wh_minwork.proofs.Ordering.{sorted_is_acyclic}
+use Rattle.wh_dag.proofs.SiblingLists.{on_err}
+use Rattle.wh_minwork.proofs.Views.{pair_view}
 use Rattle.wh_minwork.proofs.Sorting.{sorted_is_correct, sorted_is_one_way, sorted_costs}
 use Rattle.wh_minwork.proofs.minwork.min_work.Goals as goal
 
@@ -34,7 +36,7 @@ returns-in_ok-pair_mins-in-Ok-check-clause-accepted c =
     let reached : c.work.result ≡ pair_bound_of shape sizes c.args.costs.comp c.args.costs.inst = w ∙ ap (work_of shape sizes c.args.costs.comp c.args.costs.inst) c.in-Ok-check.ensures.ok.1
     ∙ sorted_costs shape sizes c.args.costs.comp c.args.costs.inst so.0 c.in-Ok.strategy c.in-Ok.ensures.shape so.2 so.1.0 so.1.1 in
     record {
-      right = c.in_ok-pair_mins-in-Ok-check.ensures;
+      right = c.in_ok-pair_mins-in-Ok-check.ensures.lines;
       reached = reached;
     }
 
@@ -44,3 +46,6 @@ unreachable-requires c =
     let so = c.in-Ok.ensures.sorted in
     let r = subst (λ z. IsReason shape c.in-Ok.strategy z) c.in-Err-Broken.field-0-is c.in-Err-Broken.ensures.err in
     refused c.in-Err-Broken.field-0-0 shape c.in-Ok.strategy c.in-Err-Broken.field-0-1 c.in-Ok.ensures.shape r (sorted_is_correct shape so.0 c.in-Ok.strategy c.in-Ok.ensures.shape so.2 so.1.0)
+
+pub returns-in_err-pair_mins-in-Ok-check-clause-some : goal.returns-in_err-pair_mins-in-Ok-check-clause-some
+returns-in_err-pair_mins-in-Ok-check-clause-some c = on_err _ (pair_view c.args.shape.now.children c.in_err-pair_mins-in-Ok-check.ensures.memory)

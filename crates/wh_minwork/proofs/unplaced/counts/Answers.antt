@@ -11,7 +11,7 @@ loop-node-preserved c =
     rw c.in_ok-push.ensures.items
     (first_more c.args.graph.now.children c.args.graph.now.decided c.args.nodes.now c.loop-node.waits.items c.loop-node.node-index c.count.result (Comp 0 0) c.loop-node.invariant c.loop-node-test.true c.count.ensures)
 
-pub returns : goal.returns
-returns c =
+pub returns-clause-counted : goal.returns-clause-counted
+returns-clause-counted c =
     let n : c.loop-node.node-index ≡ length c.args.nodes.now = omega arith in
     first_all c.args.graph.now.children c.args.graph.now.decided c.args.nodes.now c.loop-node.waits.items c.loop-node.node-index c.loop-node.invariant n

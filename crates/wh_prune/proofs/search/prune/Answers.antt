@@ -16,7 +16,7 @@ pub returns-in-Err-explore-clause-err : goal.returns-in-Err-explore-clause-err
 returns-in-Err-explore-clause-err c =
     let shape = c.args.shape.now.children in
     let sizes = sizes_of c.args.sizes.now in
-    let couples : c.deref-2.result.now ≡ couples_of shape = c.deref-2.ensures.value ∙ c.in_ok-couples.ensures in
+    let couples : c.deref-2.result.now ≡ couples_of shape = c.deref-2.ensures.value ∙ c.in_ok-couples.ensures.couples in
     let none = ap length c.in-Ok.ensures.nodes in
     let many = ap length couples in
     why_stopped shape sizes c.args.costs.comp c.args.costs.inst c.args.budget _ c.explore.new.self.best c.in-Ok.search.best c.explore.new.self.list c.in-Err-explore.fault c.in-Err-explore.ensures.err

@@ -41,8 +41,8 @@ loop-v-2-preserved c =
     rw c.in_ok-push-2.ensures.items
     (listed_inst c.args.self.now.children c.loop-v-2.nodes.items c.loop-v-2.v c.loop-v-2.invariant)
 
-pub returns : goal.returns
-returns c =
+pub returns-clause-nodes : goal.returns-clause-nodes
+returns-clause-nodes c =
     let shape = c.args.self.now.children in
     let is : c.self.inside.children.now ≡ shape = ap (λ (z : Drawn). z.children) c.self.view_is in
     let n : c.loop-v-2.v ≡ length c.self.inside.children.now = omega arith in
