@@ -50,3 +50,4 @@ pub mod WholeNumbers
 pub mod WholeTrees
 pub mod WrittenExprs
 pub mod WrittenForms
+pub mod WrittenPreds
