@@ -51,3 +51,4 @@ pub mod WholeNumber
 pub mod Words
 pub mod WrittenFormula
 pub mod WrittenLaws
+pub mod WrittenView
