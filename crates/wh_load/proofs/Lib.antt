@@ -54,3 +54,5 @@ pub mod WholeNumbers
 pub mod WholeTrees
 pub mod WrittenExprs
 pub mod WrittenForms
+pub mod WrittenJoins
+pub mod WrittenPreds

@@ -113,7 +113,7 @@ pub record IsOfExpr (columns : List NamedKind) (levels : ℕ) (value : Data) (be
   pub deep : depth typed.expr ≤ levels
   pub numbered : after ≡ texts_with before value
 
-no-texts : (before : Texts) → before ≡ with_texts before []
+pub no-texts : (before : Texts) → before ≡ with_texts before []
 unfolding with_texts
 no-texts before = refl
 

@@ -59,3 +59,4 @@ pub mod WholeNumber
 pub mod Words
 pub mod WrittenFormula
 pub mod WrittenLaws
+pub mod WrittenView

@@ -37,7 +37,7 @@ pub use catalogue::read_shape;
 pub use columns::{Column, Kind};
 pub use definitions::output::WrittenOutput;
 pub use definitions::views::{Written, WrittenDefinition, WrittenView};
-pub use definitions::written_law::exprs_read_back_law;
+pub use definitions::written_law::{exprs_read_back_law, joins_read_back_law, preds_read_back_law};
 pub use definitions::{definitions_fit_law, read_definitions};
 pub use dict::Dict;
 pub use expression::write_expression;
