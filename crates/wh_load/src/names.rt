@@ -1,5 +1,5 @@
 //! The names of the views of a shape.
-ghost use Rattle.std.specs.Prelude.{◌≡◌, ◌<◌, ℕ, List, Some, None, length, string_bytes, IfOk, OnOk, if◌then◌else◌};
+ghost use Rattle.std.specs.Prelude.{◌≡◌, ◌≢◌, ◌<◌, ℕ, List, [], Some, None, length, string_bytes, IfOk, OnOk, OnErr, if◌then◌else◌};
 ghost use Rattle.std.specs.Option.{option_or};
 ghost use Rattle.std.specs.Str.{bytes_eq};
 ghost use Rattle.wh_dag.specs.Written.{name_of, number_of};
@@ -31,9 +31,10 @@ impl Model for Names {
 }
 
 impl Names {
-    /// The names of the views of this shape.
+    /// The names of the views of this shape. Where it has no view, no memory is taken.
     pub fn of(alloc: Global, shape: &Shape) -> Result<Names, AllocError>
-        ensures { IfOk result (λ names. names ≡ shape.now.names) }
+        ensures names { IfOk result (λ names. names ≡ shape.now.names) }
+        ensures memory { OnErr result (shape.now.names ≢ []) }
     {
         let mut names = Vec::new(alloc);
         let mut numbers = IndexMap::new(alloc);

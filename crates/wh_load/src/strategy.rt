@@ -1,5 +1,5 @@
 //! A strategy as text: an expression a line.
-ghost use Rattle.std.specs.Prelude.{◌≡◌, ◌⊎◌, ◌++◌, List, Some, None, Ok, Err, IfOk, IfErr, OnOk, OnErr};
+ghost use Rattle.std.specs.Prelude.{◌≡◌, ◌≢◌, ◌⊎◌, ◌++◌, List, [], Some, None, Ok, Err, IfOk, IfErr, OnOk, OnErr};
 ghost use Rattle.wh_load.specs.Words.{words_of};
 ghost use Rattle.wh_load.specs.ReadsBack.{ReadsBack};
 ghost use Rattle.wh_load.specs.StrategyText.{said_by, strategy_of, strategy_text};
@@ -35,10 +35,11 @@ fn append_line(
 
 /// The strategy that the text is, over these views: a line `comp V from U ..` or `inst V` for each expression, where
 /// lines of spaces and tabs alone are skipped. The fault is `Strategy` with the first line that is neither, counted from 1,
-/// blank ones included. Whether the list is correct is for `check` to judge.
+/// blank ones included. Whether the list is correct is for `check` to judge. An empty text is an empty list, always.
 pub fn read_strategy(alloc: Global, names: &Names, text: &[u8]) -> Result<Strategy, LoadFault>
     ensures ok { IfOk result (λ strategy. strategy_of names.now text.now ≡ Ok strategy) }
     ensures err { IfErr result (λ f. (f ≡ LoadFault.Memory) ⊎ (strategy_of names.now text.now ≡ Err f)) }
+    ensures memory { OnErr result (text.now ≢ []) }
 {
     let mut list = Vec::new(alloc);
     let mut rest = text;
@@ -58,7 +59,8 @@ pub(crate) fn append_strategy(
     names: &Names,
     strategy: &Strategy,
 ) -> Result<(), AllocError>
-    ensures { OnOk result (out.new.items ≡ out.old.items ++ strategy_text names.now strategy.now) }
+    ensures ok { OnOk result (out.new.items ≡ out.old.items ++ strategy_text names.now strategy.now) }
+    ensures memory { OnErr result (strategy.now ≢ []) }
 {
     for expression in strategy.as_slice() {
         append_expression(out, names, expression)?;
@@ -67,7 +69,8 @@ pub(crate) fn append_strategy(
     Ok(())
 }
 
-/// Appends the list as it is written, a line for each expression. Where memory fails, nothing is appended.
+/// Appends the list as it is written, a line for each expression. Where memory fails, nothing is appended; an empty list
+/// takes none.
 pub fn write_strategy(
     out: &mut Vec<u8>,
     names: &Names,
@@ -75,6 +78,7 @@ pub fn write_strategy(
 ) -> Result<(), AllocError>
     ensures ok { OnOk result (out.new.items ≡ out.old.items ++ strategy_text names.now strategy.now) }
     ensures err { OnErr result (out.new.items ≡ out.old.items) }
+    ensures memory { OnErr result (strategy.now ≢ []) }
 {
     let mut text = Vec::new(*out.allocator());
     append_strategy(&mut text, names, strategy)?;

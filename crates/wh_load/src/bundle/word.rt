@@ -1,5 +1,5 @@
 //! A word of the input.
-ghost use Rattle.std.specs.Prelude.{◌≡◌, IfOk};
+ghost use Rattle.std.specs.Prelude.{◌≡◌, ◌≢◌, [], IfOk, OnErr};
 
 use std::alloc::{AllocError, Global};
 use std::marker::Model;
@@ -19,12 +19,14 @@ impl Model for Word {
 }
 
 impl Word {
-    /// A copy of these bytes.
+    /// A copy of these bytes. An empty one takes no memory.
     pub fn new(alloc: Global, bytes: &[u8]) -> Result<Word, AllocError>
-        ensures { IfOk result (λ word. word ≡ bytes.now) }
+        ensures word { IfOk result (λ word. word ≡ bytes.now) }
+        ensures memory { OnErr result (bytes.now ≢ []) }
     {
-        let bytes = Vec::from_slice(alloc, bytes)?;
-        Ok(Word { bytes })
+        let mut copy = Vec::new(alloc);
+        copy.extend_from_slice(bytes)?;
+        Ok(Word { bytes: copy })
     }
 
     /// The word that has these bytes.
