@@ -30,6 +30,7 @@ pub mod PlanGrammars
 pub mod PlanLines
 pub mod PlanReadingBack
 pub mod ReadingBack
+pub mod ReadingRows
 pub mod RecordLists
 pub mod RecordReads
 pub mod RecordsReadBack

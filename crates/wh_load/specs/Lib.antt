@@ -33,6 +33,12 @@ pub mod PredForm
 pub mod RawPart
 pub mod ReadCatalog
 pub mod Reading
+pub mod ReadingCheck
+pub mod ReadingClaim
+pub mod ReadingNight
+pub mod ReadingParts
+pub mod ReadingPlan
+pub mod ReadingShown
 pub mod ReadsBack
 pub mod Records
 pub mod Reference

@@ -1,0 +1,18 @@
+use Rattle.std.proofs.Common.{◌≡◌, map, subst, []}
+use Rattle.std.specs.Prelude.{Ok}
+use Rattle.std.specs.Cow.{cow_slice_items}
+use Rattle.wh_load.specs.Catalogue.{shape_of}
+use Rattle.wh_load.specs.Definitions.{definitions_of, shown_view}
+use Rattle.wh_load.specs.ReadingNight.{night_over}
+use Rattle.wh_load.specs.ReadingShown.{shown_night}
+use Rattle.wh_load.proofs.ReadingRows.{night_from}
+use Rattle.wh_load.proofs.reading.night.night_in.Goals as goal
+
+pub returns-clause-ok : goal.returns-clause-ok
+returns-clause-ok c =
+    night_from c.args.bundle.now (cow_slice_items c.in_ok-catalogue.catalogue) (cow_slice_items c.in_ok-strategy.strategy) c.in_ok-shape.shape (map shown_view c.in_ok-written.written.views.items) c.read_definitions.new.texts
+    (shown_night c.in_ok-night.night) c.in_ok-catalogue.ensures.ok c.in_ok-strategy.ensures.ok
+    (subst (λ t. shape_of t ≡ Ok c.in_ok-shape.shape) c.deref.ensures.value c.in_ok-shape.ensures.ok)
+    (subst (λ t. definitions_of c.in_ok-shape.shape t [] ≡ Ok (map shown_view c.in_ok-written.written.views.items, c.read_definitions.new.texts)) c.deref-2.ensures.value
+    (subst (λ ts. definitions_of c.in_ok-shape.shape c.deref-2.result.now ts ≡ Ok (map shown_view c.in_ok-written.written.views.items, c.read_definitions.new.texts)) c.new-texts.ensures c.in_ok-written.ensures.ok))
+    (subst (λ t. night_over c.args.bundle.now c.in_ok-shape.shape (map shown_view c.in_ok-written.written.views.items) c.read_definitions.new.texts t ≡ Ok (shown_night c.in_ok-night.night)) c.deref-3.ensures.value c.in_ok-night.ensures.ok)

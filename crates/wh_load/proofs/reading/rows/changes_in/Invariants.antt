@@ -1,0 +1,10 @@
+use Rattle.std.proofs.Common.{◌≡◌, [], drop, map, vec_len}
+use Rattle.wh_load.specs.Definitions.{shown_view}
+use Rattle.wh_load.specs.ReadingNight.{ChangeRows, rows_after}
+use Rattle.wh_load.proofs.reading.rows.changes_in.Given as goal
+
+abbrev pub invariant-loop-view : goal.invariant-loop-view
+invariant-loop-view l = record {
+  read : rows_after (ChangeRows l.night) l.bundle l.shape.names [] (map shown_view l.views) l.initial.texts ≡ rows_after (ChangeRows l.night) l.bundle l.shape.names l.changes.items (map shown_view (drop l.view-index l.views)) l.texts;
+  numbered : vec_len l.changes ≡ l.view-index;
+}

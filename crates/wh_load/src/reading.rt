@@ -1,0 +1,14 @@
+//! What each command reads of a bundle, by one call: what the command works on, or the first fault of the input.
+//!
+//! The order of the faults is the same in all: first that of the headings, from the top; then a part that is missing, the
+//! catalogue before the others; then the texts' own faults, the catalogue's first.
+
+mod base;
+pub mod certify;
+pub mod check;
+pub mod inputs;
+pub mod night;
+mod parts;
+pub mod plan;
+mod rows;
+mod texts;

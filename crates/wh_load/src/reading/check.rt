@@ -1,0 +1,71 @@
+//! What `check` reads: views, their sizes and a strategy.
+
+ghost use Rattle.std.specs.Prelude.{◌≡◌, ◌⊎◌, Ok, Err, IfOk, IfErr};
+ghost use Rattle.wh_load.specs.ReadingCheck.{check_texts_in, check_texts_of, inputs_in, inputs_of};
+ghost use Rattle.wh_load.specs.ReadingShown.{shown_check, shown_check_texts};
+ghost use Rattle.wh_load.specs.StrategyText.{strategy_of};
+
+use super::inputs::{CheckInput, MeasuredViews};
+use super::parts::{bundle_of, text_of};
+use super::plan::measured_texts_in;
+use super::texts::CheckTexts;
+use crate::bundle::Bundle;
+use crate::bundle::fault::Nights;
+use crate::bundle::heading::Heading;
+use crate::catalogue::read_shape;
+use crate::fault::LoadFault;
+use crate::names::Names;
+use crate::sizes::read_sizes;
+use crate::strategy::read_strategy;
+use std::alloc::Global;
+use wh_dag::Shape;
+use wh_strategy::Strategy;
+
+fn check_texts_in<'a>(alloc: Global, bundle: &Bundle<'a>) -> Result<CheckTexts<'a>, LoadFault>
+    ensures ok { IfOk result (λ t. check_texts_in bundle.now ≡ Ok (shown_check_texts t)) }
+    ensures err { IfErr result (λ f. (f ≡ LoadFault.Memory) ⊎ (check_texts_in bundle.now ≡ Err f)) }
+{
+    let measured = measured_texts_in(alloc, bundle)?;
+    match text_of(alloc, bundle, &Heading::Strategy, 0, b"strategy") {
+        Ok(strategy) => Ok(CheckTexts { measured, strategy }),
+        Err(fault) => Err(fault),
+    }
+}
+
+fn read_texts<'a>(alloc: Global, bytes: &'a [u8]) -> Result<CheckTexts<'a>, LoadFault>
+    ensures ok { IfOk result (λ t. check_texts_of bytes.now ≡ Ok (shown_check_texts t)) }
+    ensures err { IfErr result (λ f. (f ≡ LoadFault.Memory) ⊎ (check_texts_of bytes.now ≡ Err f)) }
+{
+    let bundle = bundle_of(alloc, bytes, Nights::First)?;
+    check_texts_in(alloc, &bundle)
+}
+
+fn listed(alloc: Global, shape: &Shape, text: &[u8]) -> Result<Strategy, LoadFault>
+    ensures ok { IfOk result (λ strategy. strategy_of shape.now.names text.now ≡ Ok strategy) }
+    ensures err { IfErr result (λ f. (f ≡ LoadFault.Memory) ⊎ (strategy_of shape.now.names text.now ≡ Err f)) }
+{
+    let names = Names::of(alloc, shape)?;
+    read_strategy(alloc, &names, text)
+}
+
+fn inputs_in(alloc: Global, texts: &CheckTexts<'_>) -> Result<CheckInput, LoadFault>
+    ensures ok { IfOk result (λ i. inputs_in (shown_check_texts texts.now) ≡ Ok (shown_check i)) }
+    ensures err { IfErr result (λ f. (f ≡ LoadFault.Memory) ⊎ (inputs_in (shown_check_texts texts.now) ≡ Err f)) }
+{
+    let shape = read_shape(alloc, &texts.measured.catalogue)?;
+    let strategy = listed(alloc, &shape, &texts.strategy)?;
+    let sizes = read_sizes(alloc, &shape, &texts.measured.sizes)?;
+    let measured = MeasuredViews { shape, sizes };
+    Ok(CheckInput { measured, strategy })
+}
+
+/// Reads what a bundle of one night has to be checked: its views, their sizes and its strategy. The fault is the first
+/// one: of the headings, from the top, a further night among them; the catalogue, the sizes or the strategy that are
+/// missing; of the catalogue's text; of the strategy's; of the sizes'. Memory may come at any point.
+pub fn read_check(alloc: Global, bytes: &[u8]) -> Result<CheckInput, LoadFault>
+    ensures ok { IfOk result (λ i. inputs_of bytes.now ≡ Ok (shown_check i)) }
+    ensures err { IfErr result (λ f. (f ≡ LoadFault.Memory) ⊎ (inputs_of bytes.now ≡ Err f)) }
+{
+    let texts = read_texts(alloc, bytes)?;
+    inputs_in(alloc, &texts)
+}

@@ -1,0 +1,69 @@
+//! What commands work on, as it was read.
+
+ghost use Rattle.std.specs.Prelude.{◌≡◌, length};
+
+use crate::definitions::views::WrittenView;
+use crate::dict::Dict;
+use crate::plan::Plan;
+use wh_dag::Shape;
+use wh_row::Bag;
+use wh_strategy::{Sizes, Strategy};
+
+/// Views and their sizes, for which a strategy is planned.
+#[derive(Drop)]
+pub struct MeasuredViews {
+    /// The views.
+    pub shape: Shape,
+    /// Their sizes, in the order of the views.
+    pub sizes: Sizes,
+    pub ghost sized: { length sizes ≡ length shape.children },
+}
+
+/// A strategy, and the views and sizes that it is checked over.
+#[derive(Drop)]
+pub struct CheckInput {
+    /// The views and their sizes.
+    pub measured: MeasuredViews,
+    /// The strategy, of which nothing is known but its form.
+    pub strategy: Strategy,
+}
+
+/// A plan, and the views and sizes that it is for.
+#[derive(Drop)]
+pub struct CertifyInput {
+    /// The views and their sizes.
+    pub measured: MeasuredViews,
+    /// The plan, of which nothing is known but its form.
+    pub plan: Plan,
+}
+
+/// What nights begin from, over the views of a shape.
+#[derive(Drop)]
+pub struct Opening {
+    /// The views, in the order of their numbers.
+    pub views: Vec<WrittenView>,
+    /// The texts that cells stand for, in formulas, tables and the changes of all nights.
+    pub texts: Dict,
+    /// A table for each view: of a base view as it was read, of a derived view without rows.
+    pub tables: Vec<Bag>,
+}
+
+/// What is given of one night.
+#[derive(Drop)]
+pub struct GivenNight {
+    /// The changes of each view: of a base view as they were read, of a derived view none.
+    pub changes: Vec<Bag>,
+    /// The strategy, of which nothing is known but its form.
+    pub strategy: Strategy,
+}
+
+/// One night: what it begins from and what is given of it.
+#[derive(Drop)]
+pub struct NightInput {
+    /// The views.
+    pub shape: Shape,
+    /// What the night begins from.
+    pub opening: Opening,
+    /// What is given of it.
+    pub given: GivenNight,
+}

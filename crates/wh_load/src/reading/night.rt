@@ -1,0 +1,124 @@
+//! What `night` reads: views, their definitions and tables, and the changes and the strategy of a night.
+
+ghost use Rattle.std.specs.Prelude.{◌≡◌, ◌⊎◌, length, map, Ok, Err, IfOk, IfErr};
+ghost use Rattle.wh_load.specs.Definitions.{shown_view};
+ghost use Rattle.wh_load.specs.ReadCatalog.{AreDefinitions};
+ghost use Rattle.wh_load.specs.ReadingNight.{AreReadRows, ChangeRows, TableRows, night_in, night_of, night_over, night_with};
+ghost use Rattle.wh_load.specs.ReadingShown.{IsReadNight, shown_night};
+
+use super::base::only_base_parts;
+use super::inputs::{GivenNight, NightInput, Opening};
+use super::parts::{bundle_of, text_of};
+use super::rows::{changes_in, tables_in};
+use crate::bundle::Bundle;
+use crate::bundle::fault::Nights;
+use crate::bundle::heading::Heading;
+use crate::catalogue::read_shape;
+use crate::definitions::read_definitions;
+use crate::definitions::views::{Written, WrittenView};
+use crate::dict::Dict;
+use crate::fault::LoadFault;
+use crate::names::Names;
+use crate::strategy::read_strategy;
+use std::alloc::Global;
+use wh_dag::Shape;
+use wh_row::Bag;
+use wh_strategy::Strategy;
+
+/// What is read beside a catalogue.
+#[derive(Drop)]
+struct Rows {
+    tables: Vec<Bag>,
+    changes: Vec<Bag>,
+    strategy: Strategy,
+}
+
+/// The tables and changes of these views, and the strategy.
+fn rows_in(
+    alloc: Global,
+    bundle: &Bundle<'_>,
+    shape: &Shape,
+    views: &[WrittenView],
+    texts: &mut Dict,
+    strategy: &[u8],
+) -> Result<Rows, LoadFault>
+    requires { length views.now ≡ length shape.now.children }
+    ensures ok { IfOk result (λ r. night_over bundle.now shape.now (map shown_view views.now) texts.old strategy.now
+        ≡ Ok (night_with shape.now (map shown_view views.now) texts.new r.tables.items r.changes.items r.strategy)) }
+    ensures tables { IfOk result (λ r. AreReadRows TableRows (map shown_view views.now) r.tables.items) }
+    ensures changes { IfOk result (λ r. AreReadRows (ChangeRows 0) (map shown_view views.now) r.changes.items) }
+    ensures err { IfErr result (λ f. (f ≡ LoadFault.Memory) ⊎ (night_over bundle.now shape.now (map shown_view views.now) texts.old strategy.now ≡ Err f)) }
+{
+    let names = Names::of(alloc, shape)?;
+    only_base_parts(alloc, bundle, &names, views)?;
+    let tables = tables_in(alloc, bundle, shape, views, texts)?;
+    let changes = changes_in(alloc, bundle, 0, shape, views, texts)?;
+    let strategy = read_strategy(alloc, &names, strategy)?;
+    Ok(Rows {
+        tables,
+        changes,
+        strategy,
+    })
+}
+
+/// What a night over these views is given.
+fn night_over(
+    alloc: Global,
+    bundle: &Bundle<'_>,
+    shape: Shape,
+    views: Vec<WrittenView>,
+    texts: Dict,
+    strategy: &[u8],
+) -> Result<NightInput, LoadFault>
+    requires definitions { AreDefinitions shape (map shown_view views.items) }
+    requires each { length views.items ≡ length shape.children }
+    ensures ok { IfOk result (λ n. night_over bundle.now shape (map shown_view views.items) texts strategy.now ≡ Ok (shown_night n)) }
+    ensures fit { IfOk result IsReadNight }
+    ensures err { IfErr result (λ f. (f ≡ LoadFault.Memory) ⊎ (night_over bundle.now shape (map shown_view views.items) texts strategy.now ≡ Err f)) }
+{
+    let mut texts = texts;
+    let rows = rows_in(alloc, bundle, &shape, &views, &mut texts, strategy)?;
+    let Rows {
+        tables,
+        changes,
+        strategy,
+    } = rows;
+    Ok(NightInput {
+        shape,
+        opening: Opening {
+            views,
+            texts,
+            tables,
+        },
+        given: GivenNight { changes, strategy },
+    })
+}
+
+fn night_in(alloc: Global, bundle: &Bundle<'_>) -> Result<NightInput, LoadFault>
+    ensures ok { IfOk result (λ n. night_in bundle.now ≡ Ok (shown_night n)) }
+    ensures fit { IfOk result IsReadNight }
+    ensures err { IfErr result (λ f. (f ≡ LoadFault.Memory) ⊎ (night_in bundle.now ≡ Err f)) }
+{
+    let catalogue = text_of(alloc, bundle, &Heading::Catalogue, 0, b"catalogue")?;
+    let strategy = text_of(alloc, bundle, &Heading::Strategy, 0, b"strategy")?;
+    let shape = read_shape(alloc, &catalogue)?;
+    let mut texts = Dict::new(alloc);
+    let written = read_definitions(alloc, &catalogue, &shape, &mut texts)?;
+    let Written { views } = written;
+    let night = night_over(alloc, bundle, shape, views, texts, &strategy)?;
+    Ok(night)
+}
+
+/// Reads what a bundle of one night has to be carried out. The fault is the first one: of the headings, from the top, a
+/// further night among them; the catalogue or the strategy that are missing; of the catalogue's text; rows of no base view;
+/// of the tables, view by view; of the changes; of the strategy's text. Memory may come at any point.
+///
+/// What is read makes a catalogue over the shape, and there are a table and changes of each view, of its columns.
+pub fn read_night(alloc: Global, bytes: &[u8]) -> Result<NightInput, LoadFault>
+    ensures ok { IfOk result (λ n. night_of bytes.now ≡ Ok (shown_night n)) }
+    ensures fit { IfOk result IsReadNight }
+    ensures err { IfErr result (λ f. (f ≡ LoadFault.Memory) ⊎ (night_of bytes.now ≡ Err f)) }
+{
+    let bundle = bundle_of(alloc, bytes, Nights::First)?;
+    night_in(alloc, &bundle)
+}

@@ -1,0 +1,42 @@
+//! The parts of a bundle, and their texts.
+
+ghost use Rattle.std.specs.Prelude.{◌≡◌, ◌⊎◌, Ok, Err, IfOk, IfErr};
+ghost use Rattle.std.specs.Cow.{cow_slice_items};
+ghost use Rattle.wh_load.specs.ReadingParts.{parts_in, text_in};
+
+use crate::bundle::fault::{Nights, PartFault};
+use crate::bundle::heading::Heading;
+use crate::bundle::word::Word;
+use crate::bundle::{Bundle, parts};
+use crate::fault::LoadFault;
+use std::alloc::Global;
+use std::borrow::CowSlice;
+
+/// The parts of a bundle of which these nights are read.
+pub fn bundle_of<'a>(alloc: Global, bytes: &'a [u8], nights: Nights) -> Result<Bundle<'a>, LoadFault>
+    ensures ok { IfOk result (λ bundle. parts_in nights bytes.now ≡ Ok bundle) }
+    ensures err { IfErr result (λ f. (f ≡ LoadFault.Memory) ⊎ (parts_in nights bytes.now ≡ Err f)) }
+{
+    match parts(alloc, bytes, nights) {
+        Ok(bundle) => Ok(bundle),
+        Err(PartFault::Part(word)) => Err(LoadFault::Part(word)),
+        Err(PartFault::Memory) => Err(LoadFault::Memory),
+    }
+}
+
+/// The text of the part with this heading, in this night where it may stand in each. A missing part is named by this word.
+pub fn text_of<'a>(
+    alloc: Global,
+    bundle: &Bundle<'a>,
+    heading: &Heading<'_>,
+    night: usize,
+    word: &[u8],
+) -> Result<CowSlice<'a, u8>, LoadFault>
+    ensures ok { IfOk result (λ text. text_in bundle.now heading.now night word.now ≡ Ok (cow_slice_items text)) }
+    ensures err { IfErr result (λ f. (f ≡ LoadFault.Memory) ⊎ (text_in bundle.now heading.now night word.now ≡ Err f)) }
+{
+    match bundle.find(heading, night) {
+        Some(part) => Ok(part.text(alloc)?),
+        None => Err(LoadFault::Part(Word::new(alloc, word)?)),
+    }
+}

@@ -1,0 +1,61 @@
+//! What `plan` reads: views and their sizes.
+
+ghost use Rattle.std.specs.Prelude.{◌≡◌, ◌⊎◌, Ok, Err, IfOk, IfErr};
+ghost use Rattle.wh_load.specs.ReadingPlan.{measured_in, measured_of, measured_texts_in, measured_texts_of};
+ghost use Rattle.wh_load.specs.ReadingShown.{shown_measured, shown_measured_texts};
+
+use super::inputs::MeasuredViews;
+use super::parts::{bundle_of, text_of};
+use super::texts::MeasuredTexts;
+use crate::bundle::Bundle;
+use crate::bundle::fault::Nights;
+use crate::bundle::heading::Heading;
+use crate::catalogue::read_shape;
+use crate::fault::LoadFault;
+use crate::sizes::read_sizes;
+use std::alloc::Global;
+
+pub(super) fn measured_texts_in<'a>(
+    alloc: Global,
+    bundle: &Bundle<'a>,
+) -> Result<MeasuredTexts<'a>, LoadFault>
+    ensures ok { IfOk result (λ t. measured_texts_in bundle.now ≡ Ok (shown_measured_texts t)) }
+    ensures err { IfErr result (λ f. (f ≡ LoadFault.Memory) ⊎ (measured_texts_in bundle.now ≡ Err f)) }
+{
+    let catalogue = text_of(alloc, bundle, &Heading::Catalogue, 0, b"catalogue")?;
+    match text_of(alloc, bundle, &Heading::Sizes, 0, b"sizes") {
+        Ok(sizes) => Ok(MeasuredTexts { catalogue, sizes }),
+        Err(fault) => Err(fault),
+    }
+}
+
+pub(super) fn measured_in(
+    alloc: Global,
+    texts: &MeasuredTexts<'_>,
+) -> Result<MeasuredViews, LoadFault>
+    ensures ok { IfOk result (λ m. measured_in (shown_measured_texts texts.now) ≡ Ok (shown_measured m)) }
+    ensures err { IfErr result (λ f. (f ≡ LoadFault.Memory) ⊎ (measured_in (shown_measured_texts texts.now) ≡ Err f)) }
+{
+    let shape = read_shape(alloc, &texts.catalogue)?;
+    let sizes = read_sizes(alloc, &shape, &texts.sizes)?;
+    Ok(MeasuredViews { shape, sizes })
+}
+
+fn read_texts<'a>(alloc: Global, bytes: &'a [u8]) -> Result<MeasuredTexts<'a>, LoadFault>
+    ensures ok { IfOk result (λ t. measured_texts_of bytes.now ≡ Ok (shown_measured_texts t)) }
+    ensures err { IfErr result (λ f. (f ≡ LoadFault.Memory) ⊎ (measured_texts_of bytes.now ≡ Err f)) }
+{
+    let bundle = bundle_of(alloc, bytes, Nights::Ignored)?;
+    measured_texts_in(alloc, &bundle)
+}
+
+/// Reads what a bundle has to be planned for: its views and their sizes. Nights are not looked at. The fault is the first
+/// one: of the headings, from the top; the catalogue or the sizes that are missing; of the catalogue's text; of the sizes'.
+/// Memory may come at any point.
+pub fn read_planning(alloc: Global, bytes: &[u8]) -> Result<MeasuredViews, LoadFault>
+    ensures ok { IfOk result (λ m. measured_of bytes.now ≡ Ok (shown_measured m)) }
+    ensures err { IfErr result (λ f. (f ≡ LoadFault.Memory) ⊎ (measured_of bytes.now ≡ Err f)) }
+{
+    let texts = read_texts(alloc, bytes)?;
+    measured_in(alloc, &texts)
+}

@@ -1,0 +1,106 @@
+//! The tables and the changes of base views.
+
+ghost use Rattle.std.specs.Prelude.{◌≡◌, ◌⊎◌, [], length, map, Ok, Err, IfOk, IfErr};
+ghost use Rattle.wh_load.specs.Definitions.{shown_view};
+ghost use Rattle.wh_load.specs.ReadingNight.{AreReadRows, ChangeRows, TableRows, rows_after, rows_of};
+
+use crate::bundle::Bundle;
+use crate::bundle::heading::Heading;
+use crate::bundle::piece::Piece;
+use crate::definitions::views::WrittenView;
+use crate::dict::Dict;
+use crate::fault::LoadFault;
+use crate::table::{read_changes, read_table};
+use std::alloc::Global;
+use wh_dag::Shape;
+use wh_row::Bag;
+
+/// The table of a view: of a base view what its part writes, and no rows where there is none.
+fn table_of(
+    alloc: Global,
+    bundle: &Bundle<'_>,
+    name: &[u8],
+    view: &WrittenView,
+    texts: &mut Dict,
+) -> Result<Bag, LoadFault>
+    ensures ok { IfOk result (λ bag. rows_of TableRows bundle.now name.now (shown_view view.now) texts.old ≡ Ok (bag, texts.new)) }
+    ensures err { IfErr result (λ f. (f ≡ LoadFault.Memory) ⊎ (rows_of TableRows bundle.now name.now (shown_view view.now) texts.old ≡ Err f)) }
+{
+    if view.definition.is_some() {
+        return Ok(Bag::new(alloc));
+    }
+    match bundle.find(&Heading::Data(Piece::new(name)), 0) {
+        Some(part) => {
+            let text = part.text(alloc)?;
+            read_table(alloc, &view.columns, &text, texts)
+        }
+        None => Ok(Bag::new(alloc)),
+    }
+}
+
+/// The changes of a view in a night: of a base view what its part writes, and none where there is none.
+fn changes_of(
+    alloc: Global,
+    bundle: &Bundle<'_>,
+    night: usize,
+    name: &[u8],
+    view: &WrittenView,
+    texts: &mut Dict,
+) -> Result<Bag, LoadFault>
+    ensures ok { IfOk result (λ bag. rows_of (ChangeRows night) bundle.now name.now (shown_view view.now) texts.old ≡ Ok (bag, texts.new)) }
+    ensures err { IfErr result (λ f. (f ≡ LoadFault.Memory) ⊎ (rows_of (ChangeRows night) bundle.now name.now (shown_view view.now) texts.old ≡ Err f)) }
+{
+    if view.definition.is_some() {
+        return Ok(Bag::new(alloc));
+    }
+    match bundle.find(&Heading::Changes(Piece::new(name)), night) {
+        Some(part) => {
+            let text = part.text(alloc)?;
+            read_changes(alloc, &view.columns, &text, texts)
+        }
+        None => Ok(Bag::new(alloc)),
+    }
+}
+
+/// The tables of these views, in the order of the views.
+pub fn tables_in(
+    alloc: Global,
+    bundle: &Bundle<'_>,
+    shape: &Shape,
+    views: &[WrittenView],
+    texts: &mut Dict,
+) -> Result<Vec<Bag>, LoadFault>
+    requires { length views.now ≡ length shape.now.children }
+    ensures ok { IfOk result (λ rows. rows_after TableRows bundle.now shape.now.names [] (map shown_view views.now) texts.old ≡ Ok (rows.items, texts.new)) }
+    ensures err { IfErr result (λ f. (f ≡ LoadFault.Memory) ⊎ (rows_after TableRows bundle.now shape.now.names [] (map shown_view views.now) texts.old ≡ Err f)) }
+{
+    let mut tables = Vec::new(alloc);
+    for view in views {
+        let name = shape.name(tables.len()).as_bytes();
+        let own = table_of(alloc, bundle, name, view, texts)?;
+        tables.push(own)?;
+    }
+    Ok(tables)
+}
+
+/// The changes of these views in a night, which counts from 0, in the order of the views.
+pub fn changes_in(
+    alloc: Global,
+    bundle: &Bundle<'_>,
+    night: usize,
+    shape: &Shape,
+    views: &[WrittenView],
+    texts: &mut Dict,
+) -> Result<Vec<Bag>, LoadFault>
+    requires { length views.now ≡ length shape.now.children }
+    ensures ok { IfOk result (λ rows. rows_after (ChangeRows night) bundle.now shape.now.names [] (map shown_view views.now) texts.old ≡ Ok (rows.items, texts.new)) }
+    ensures err { IfErr result (λ f. (f ≡ LoadFault.Memory) ⊎ (rows_after (ChangeRows night) bundle.now shape.now.names [] (map shown_view views.now) texts.old ≡ Err f)) }
+{
+    let mut changes = Vec::new(alloc);
+    for view in views {
+        let name = shape.name(changes.len()).as_bytes();
+        let own = changes_of(alloc, bundle, night, name, view, texts)?;
+        changes.push(own)?;
+    }
+    Ok(changes)
+}

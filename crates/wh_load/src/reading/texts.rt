@@ -1,0 +1,24 @@
+//! The texts of the parts that commands read, which the bundle lends where it can.
+
+use std::borrow::CowSlice;
+
+/// The texts of views and their sizes.
+#[derive(Drop)]
+pub struct MeasuredTexts<'a> {
+    pub catalogue: CowSlice<'a, u8>,
+    pub sizes: CowSlice<'a, u8>,
+}
+
+/// Those and that of a strategy.
+#[derive(Drop)]
+pub struct CheckTexts<'a> {
+    pub measured: MeasuredTexts<'a>,
+    pub strategy: CowSlice<'a, u8>,
+}
+
+/// Those of views and sizes and that of a plan.
+#[derive(Drop)]
+pub struct ClaimTexts<'a> {
+    pub measured: MeasuredTexts<'a>,
+    pub plan: CowSlice<'a, u8>,
+}
