@@ -10,7 +10,6 @@ pub mod SingleAnswers
 pub mod SingleFaults
 pub mod SingleNights
 pub mod SinglePlans
-pub mod Texts
 pub mod Told
 pub mod Verdicts
 pub mod NamesRead

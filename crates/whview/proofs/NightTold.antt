@@ -4,6 +4,7 @@ use Rattle.std.proofs.lemmas.Bool.{cases_lt}
 use Rattle.wh_dag.specs.Catalog.{CatalogOf, IsCatalog, is_empty}
 use Rattle.wh_dag.specs.Shape.{children_of}
 use Rattle.wh_row.specs.Bag.{Bag, IsTable, sum_of, empty}
+use Rattle.wh_load.specs.ReadingNight.{Night, catalog_in}
 use Rattle.wh_maint.specs.Comp.{bag_at}
 use Rattle.wh_maint.specs.Contents.{AreBaseTables, AreContents, IsFromScratch, contents}
 use Rattle.wh_maint.specs.Definition.{graph_of}
@@ -27,17 +28,16 @@ use Rattle.wh_strategy.specs.declared.correct.CheckFault.{CheckFault}
 use Rattle.wh_strategy.specs.declared.correct.CheckFault.TheVariants as checked
 use Rattle.wh_strategy.specs.declared.expression.Expression.{Expression}
 use Rattle.whview.specs.CheckOutput.{IsRefusalShown}
-use Rattle.whview.specs.GivenNight.{Night, catalog_in}
 use Rattle.whview.specs.NightOutput.{AreOpened, IsNightTold, broken, carried, carried_text, left_text, no_contents, refused, refused_text}
 use Rattle.whview.specs.OpenedNight.{AreReadTables, HasNoContents, HasValueOver, HaveContentsBelow}
 use Rattle.whview.proofs.OpenedContents.{some_children}
 use Rattle.whview.proofs.ReadRows.{none_negative}
 
-pub told_broken : (N : Night) (f : CheckFault) (text : List ℕ) (status : ℕ) → IsReason N.shape.children N.opening.list f → IsRefusalShown f text status → IsNightTold N text status
+pub told_broken : (N : Night) (f : CheckFault) (text : List ℕ) (status : ℕ) → IsReason N.shape.children N.given.list f → IsRefusalShown f text status → IsNightTold N text status
 told_broken N (checked.Broken rule place) text status first shown = broken rule place first shown.0 shown.1
 told_broken N checked.Memory text status first shown = absurd shown
 
-pub told_no_contents : (N : Night) (cat : CatalogOf) → cat ≡ catalog_in N → (fault : MaintFault) (text : List ℕ) (status : ℕ) → IsCorrect N.shape.children N.opening.list
+pub told_no_contents : (N : Night) (cat : CatalogOf) → cat ≡ catalog_in N → (fault : MaintFault) (text : List ℕ) (status : ℕ) → IsCorrect N.shape.children N.given.list
     → (fault ≡ Memory) ⊎ HasNoContents cat (bag_at N.opening.tables) fault → fault ≢ Memory → text ≡ refused_text N.shape.names fault → status ≡ 1 → IsNightTold N text status
 told_no_contents N cat e fault text status ok why not printed ended =
     ⊎_elim
@@ -120,7 +120,7 @@ module _ (cat : CatalogOf) (is : IsCatalog cat) (base old : List Bag) (each : le
 -- what the parts of a night answer, over a catalogue, tables, changes and a list
 pub record CarryFacts (N : Night) (old new : List Bag) (steps : List (Expression × ℕ)) (cat : CatalogOf) (ts ch : List Bag) (list : List Expression) : Type 0 where
   pub is : IsCatalog cat
-  pub correct : IsCorrect N.shape.children N.opening.list
+  pub correct : IsCorrect N.shape.children N.given.list
   pub read : AreReadTables cat N.opening.tables
   pub length_old : length old ≡ length cat.views.children
   pub opened : (v : ℕ) → v < length cat.views.children → bag_at old v ≡ contents (graph_of cat) (bag_at N.opening.tables) v
@@ -132,7 +132,7 @@ pub record CarryFacts (N : Night) (old new : List Bag) (steps : List (Expression
   pub reported : AreSteps cat.views.children list (bag_at ts) (tables_after (graph_of cat) (bag_at ch) list (bag_at ts)) steps
 
 told_from : (N : Night) (old new : List Bag) (steps : List (Expression × ℕ)) (text : List ℕ) (status : ℕ)
-    → CarryFacts N old new steps (catalog_in N) old N.opening.changes N.opening.list → text ≡ carried_text N steps (bag_at new) → status ≡ 0 → IsNightTold N text status
+    → CarryFacts N old new steps (catalog_in N) old N.given.changes N.given.list → text ≡ carried_text N steps (bag_at new) → status ≡ 0 → IsNightTold N text status
 told_from N old new steps text status f printed ended =
     carried old new steps f.correct (record {
       opened = record { each = f.length_old; opened = f.opened; valued = f.valued };
@@ -140,19 +140,19 @@ told_from N old new steps text status f printed ended =
       passed = f.passed;
       carried = f.carried;
       contents = λ v l. f.contents_after (are_contents (catalog_in N) f.is N.opening.tables old f.read.bags.each f.length_old f.opened) v l
-          ∙ same_changed (catalog_in N) f.is N.opening.tables old f.read.bags.each f.length_old f.opened (bag_at N.opening.changes) v;
-      valued = new_valued (catalog_in N) f.is N.opening.tables old f.read.bags.each f.length_old f.opened N.opening.list (bag_at N.opening.changes) f.correct f.read f.valued f.passed;
+          ∙ same_changed (catalog_in N) f.is N.opening.tables old f.read.bags.each f.length_old f.opened (bag_at N.given.changes) v;
+      valued = new_valued (catalog_in N) f.is N.opening.tables old f.read.bags.each f.length_old f.opened N.given.list (bag_at N.given.changes) f.correct f.read f.valued f.passed;
       reported = f.reported;
     }) printed ended
 
 pub told_carried : (N : Night) (old new : List Bag) (steps : List (Expression × ℕ)) (text : List ℕ) (status : ℕ) (cat : CatalogOf) (ts ch : List Bag) (list : List Expression)
-    → cat ≡ catalog_in N → ts ≡ old → ch ≡ N.opening.changes → list ≡ N.opening.list
+    → cat ≡ catalog_in N → ts ≡ old → ch ≡ N.given.changes → list ≡ N.given.list
     → CarryFacts N old new steps cat ts ch list → text ≡ carried_text N steps (bag_at new) → status ≡ 0 → IsNightTold N text status
 told_carried N old new steps text status cat ts ch list e same same_changes same_list f printed ended =
     told_from N old new steps text status
-    (subst (λ k. CarryFacts N old new steps k old N.opening.changes N.opening.list) e
-    (subst (λ xs. CarryFacts N old new steps cat xs N.opening.changes N.opening.list) same
-    (subst (λ xs. CarryFacts N old new steps cat ts xs N.opening.list) same_changes
+    (subst (λ k. CarryFacts N old new steps k old N.given.changes N.given.list) e
+    (subst (λ xs. CarryFacts N old new steps cat xs N.given.changes N.given.list) same
+    (subst (λ xs. CarryFacts N old new steps cat ts xs N.given.list) same_changes
     (subst (λ xs. CarryFacts N old new steps cat ts ch xs) same_list f))))
     printed ended
 
@@ -165,7 +165,7 @@ opened_by : (N : Night) (old : List Bag) → AreOpenedBy N old (catalog_in N) �
 opened_by N old o = record { each = o.each; opened = o.opened; valued = o.valued }
 
 pub told_refused : (N : Night) (old : List Bag) (fault : CarryFault) (text : List ℕ) (status : ℕ) (cat : CatalogOf) (ts ch : List Bag) (list : List Expression)
-    → cat ≡ catalog_in N → ts ≡ old → ch ≡ N.opening.changes → list ≡ N.opening.list → IsCorrect N.shape.children N.opening.list
+    → cat ≡ catalog_in N → ts ≡ old → ch ≡ N.given.changes → list ≡ N.given.list → IsCorrect N.shape.children N.given.list
     → length old ≡ length cat.views.children → ((v : ℕ) → v < length cat.views.children → bag_at old v ≡ contents (graph_of cat) (bag_at N.opening.tables) v)
     → HaveContentsBelow cat (bag_at N.opening.tables) (length cat.views.children)
     → IsNightFault cat list (bag_at ts) (bag_at ch) fault → fault.fault ≢ Memory → text ≡ left_text N.shape.names fault → status ≡ 1 → IsNightTold N text status
@@ -173,8 +173,8 @@ told_refused N old fault text status cat ts ch list e same same_changes same_lis
     refused old fault ok
     (opened_by N old (subst (AreOpenedBy N old) e (record { each = each; opened = opened; valued = valued })))
     not
-    (subst (λ k. IsNightFault k N.opening.list (bag_at old) (bag_at N.opening.changes) fault) e
-    (subst (λ xs. IsNightFault cat N.opening.list (bag_at xs) (bag_at N.opening.changes) fault) same
-    (subst (λ xs. IsNightFault cat N.opening.list (bag_at ts) (bag_at xs) fault) same_changes
+    (subst (λ k. IsNightFault k N.given.list (bag_at old) (bag_at N.given.changes) fault) e
+    (subst (λ xs. IsNightFault cat N.given.list (bag_at xs) (bag_at N.given.changes) fault) same
+    (subst (λ xs. IsNightFault cat N.given.list (bag_at ts) (bag_at xs) fault) same_changes
     (subst (λ xs. IsNightFault cat xs (bag_at ts) (bag_at ch) fault) same_list why))))
     printed ended

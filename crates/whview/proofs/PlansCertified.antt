@@ -27,6 +27,8 @@ use Rattle.wh_load.specs.Catalogue.{◌>>=◌, shape_of}
 use Rattle.wh_load.specs.PlanText.{plan_of, plan_text}
 use Rattle.wh_load.specs.declared.plan.Plan.{Plan}
 use Rattle.wh_load.specs.PlanReadsBack.{IsCertificateWritable, IsNodeWithin, IsPairWithin, IsWritable}
+use Rattle.wh_load.specs.ReadingClaim.{claim_in, claim_of}
+use Rattle.wh_load.specs.ReadingPlan.{Measured, MeasuredTexts, measured_in, measured_of, measured_texts_of}
 use Rattle.wh_load.specs.ReadsBack.{IsWithin}
 use Rattle.wh_load.specs.SizesText.{sizes_of_text}
 use Rattle.wh_prune.specs.Plan.{accepted_for}
@@ -40,9 +42,9 @@ use Rattle.wh_strategy.specs.declared.sizes.SizeRow.{SizeRow}
 use Rattle.whview.proofs.NamesRead.{AreNames, are_names, are_sizes, name-plain, name-unparted}
 use Rattle.whview.proofs.SmallWorks.{small_size, work_fits}
 use Rattle.whview.specs.CheckOutput.{IsFaultShown}
-use Rattle.whview.specs.CertifyOutput.{IsJudgement, claim_in, claim_of, judged}
+use Rattle.whview.specs.CertifyOutput.{IsJudgement, judged}
 use Rattle.whview.specs.PlanCertified.{LeastPlanIsCertified, PrintedPlanIsCertified, PrintedPlanIsReadBack, accepted_text, claim_with, plan_with, texts_with}
-use Rattle.whview.specs.PlanOutput.{IsLeastPlan, Measured, MeasuredTexts, measured_in, measured_of, measured_texts_of}
+use Rattle.whview.specs.PlanOutput.{IsLeastPlan}
 use Rattle.wh_load.specs.NameForm.{is_name}
 
 -- ---- the list is of views
@@ -228,12 +230,7 @@ least_plan_is_certified costs measured work scope.OneWay list certificate least 
 -- what is read of the texts, and of that of a plan
 claim_read : (texts : MeasuredTexts) (measured : Measured) (text : List ℕ) (plan : Plan) → measured_in texts ≡ Ok measured → plan_of measured.shape.names text ≡ Ok plan
     → claim_in (texts_with texts text) ≡ Ok (claim_with measured plan)
-claim_read texts measured text plan read planned =
-    let shape = from_step (shape_of texts.catalogue) _ measured read in
-    let sizes = from_step (sizes_of_text shape.0.names texts.sizes) _ measured shape.2 in
-    let same : record { shape = shape.0; sizes = sizes.0 } ≡ measured = same_Ok _ _ _ refl sizes.2 in
-    let own : plan_of shape.0.names text ≡ Ok plan = subst (λ m. plan_of m.shape.names text ≡ Ok plan) (sym same) planned in
-    rw (shape.1, sizes.1, own) (ap (λ m. Ok (claim_with m plan)) same)
+claim_read texts measured text plan read planned = rw (read, planned) refl
 
 pub printed_plan_is_certified : PrintedPlanIsCertified
 printed_plan_is_certified costs bytes bundle texts measured work own list certificate found read least given =

@@ -5,6 +5,9 @@ use Rattle.clap.specs.Words.{IsAmong, Kinds, Row, Text, fault_of, first_of}
 use Rattle.clap.specs.declared.error.kind.ErrorKind.{ErrorKind}
 use Rattle.wh_dag.specs.Shape.{IsShape}
 use Rattle.wh_load.specs.Catalogue.{shape_of}
+use Rattle.wh_load.specs.ReadingCheck.{Inputs, check_texts_of, inputs_in, inputs_of}
+use Rattle.wh_load.specs.ReadingClaim.{Claim, claim_in, claim_of, claim_texts_of}
+use Rattle.wh_load.specs.ReadingPlan.{measured_in}
 use Rattle.wh_load.specs.SizesText.{sizes_of_text}
 use Rattle.wh_load.specs.StrategyText.{strategy_of}
 use Rattle.wh_load.specs.declared.fault.LoadFault.{LoadFault}
@@ -18,8 +21,8 @@ use Rattle.wh_cert.specs.declared.certificate.Verdict.{Verdict}
 use Rattle.wh_cert.specs.declared.certificate.Verdict.TheVariants.{All, OneWay, Rejected}
 use Rattle.wh_cert.proofs.OneVerdict.{verdicts_same}
 use Rattle.wh_load.specs.PlanText.{plan_of}
-use Rattle.whview.specs.CertifyOutput.{Claim, IsCertifyOutput, IsJudgement, IsLeastBy, broken as broken_claim, claim_in, claim_of, claim_texts_of, judged, other_work, verdict_status, verdict_text, work_at}
-use Rattle.whview.specs.CheckOutput.{Inputs, IsCheckOutput, IsFaultShown, IsVerdict, broken, correct, correct_text, inputs_in, inputs_of, texts_of}
+use Rattle.whview.specs.CertifyOutput.{IsCertifyOutput, IsJudgement, IsLeastBy, broken as broken_claim, judged, other_work, verdict_status, verdict_text, work_at}
+use Rattle.whview.specs.CheckOutput.{IsCheckOutput, IsFaultShown, IsVerdict, broken, correct, correct_text}
 use Rattle.whview.specs.CommandLine.{AsksBy, IsAsked, whview_app}
 use Rattle.whview.specs.FirstLine.{after_first_line, first_line_of, words_in}
 use Rattle.whview.proofs.SingleFaults.{one_broken, one_shown}
@@ -33,7 +36,7 @@ use Rattle.wh_load.proofs.ShapesRead.{from_step, is_shape, same_Ok}
 
 -- ---- one verdict
 
-one_verdict : (costs : Costs) (inputs : Inputs) (text other : List ℕ) (status ended : ℕ) → IsShape inputs.shape.children
+one_verdict : (costs : Costs) (inputs : Inputs) (text other : List ℕ) (status ended : ℕ) → IsShape inputs.measured.shape.children
     → IsVerdict costs inputs text status → IsVerdict costs inputs other ended → AreSame text status other ended
 one_verdict costs inputs text other status ended sh (correct is t s) (correct is' u e) = record { texts = t ∙ sym u; statuses = s ∙ sym e }
 one_verdict costs inputs text other status ended sh (correct is t s) (broken rule place f u e) = absurd (refused_list rule _ _ place sh f is)
@@ -44,19 +47,19 @@ one_verdict costs inputs text other status ended sh (broken rule place f t s) (b
 -- ---- one output of a check
 
 -- what is read of a bundle has a shape
-shape_read : (bytes : List ℕ) (inputs : Inputs) → inputs_of bytes ≡ Ok inputs → IsShape inputs.shape.children
+shape_read : (bytes : List ℕ) (inputs : Inputs) → inputs_of bytes ≡ Ok inputs → IsShape inputs.measured.shape.children
 shape_read bytes inputs e =
-    let texts = from_step (texts_of bytes) inputs_in inputs e in
-    let shape = from_step (shape_of texts.0.catalogue) _ inputs texts.2 in
+    let texts = from_step (check_texts_of bytes) inputs_in inputs e in
+    let shape = from_step (shape_of texts.0.measured.catalogue) _ inputs texts.2 in
     let list = from_step (strategy_of shape.0.names texts.0.strategy) _ inputs shape.2 in
-    let sizes = from_step (sizes_of_text shape.0.names texts.0.sizes) _ inputs list.2 in
+    let sizes = from_step (sizes_of_text shape.0.names texts.0.measured.sizes) _ inputs list.2 in
     let same = same_Ok _ _ _ refl sizes.2 in
-    subst (λ i. IsShape i.shape.children) same (is_shape texts.0.catalogue shape.0 shape.1)
+    subst (λ i. IsShape i.measured.shape.children) same (is_shape texts.0.measured.catalogue shape.0 shape.1)
 
 pub one_check : OneCheckOutput
 one_check costs bytes text other status ended = go (inputs_of bytes) (shape_read bytes)
   where
-    go : (r : Result Inputs LoadFault) → ((inputs : Inputs) → r ≡ Ok inputs → IsShape inputs.shape.children)
+    go : (r : Result Inputs LoadFault) → ((inputs : Inputs) → r ≡ Ok inputs → IsShape inputs.measured.shape.children)
         → MatchResult r (λ inputs. IsVerdict costs inputs text status) (λ fault. IsFaultShown fault text status)
         → MatchResult r (λ inputs. IsVerdict costs inputs other ended) (λ fault. IsFaultShown fault other ended)
         → AreSame text status other ended
@@ -65,7 +68,7 @@ one_check costs bytes text other status ended = go (inputs_of bytes) (shape_read
 
 -- ---- one output of a certification
 
-one_judgement : (costs : Costs) (claim : Claim) (text other : List ℕ) (status ended : ℕ) → IsShape claim.shape.children
+one_judgement : (costs : Costs) (claim : Claim) (text other : List ℕ) (status ended : ℕ) → IsShape claim.measured.shape.children
     → IsJudgement costs claim text status → IsJudgement costs claim other ended → AreSame text status other ended
 one_judgement costs claim text other status ended sh (broken_claim rule place f t s) (broken_claim rule' place' f' t' s') = record { texts = t ∙ one_broken _ _ rule rule' place place' f f' ∙ sym t'; statuses = s ∙ sym s' }
 one_judgement costs claim text other status ended sh (broken_claim rule place f t s) (other_work is' n' t' s') = absurd (refused_list rule _ _ place sh f is')
@@ -80,19 +83,22 @@ one_judgement costs claim text other status ended sh (judged verdict is w j l t 
     record { texts = t ∙ ap (verdict_text claim.plan.work) same ∙ sym t'; statuses = s ∙ ap verdict_status same ∙ sym s' }
 
 -- what is read of a claim has a shape
-claim_shape_read : (bytes : List ℕ) (claim : Claim) → claim_of bytes ≡ Ok claim → IsShape claim.shape.children
+claim_shape_read : (bytes : List ℕ) (claim : Claim) → claim_of bytes ≡ Ok claim → IsShape claim.measured.shape.children
 claim_shape_read bytes claim e =
     let texts = from_step (claim_texts_of bytes) claim_in claim e in
-    let shape = from_step (shape_of texts.0.catalogue) _ claim texts.2 in
-    let sizes = from_step (sizes_of_text shape.0.names texts.0.sizes) _ claim shape.2 in
-    let plan = from_step (plan_of shape.0.names texts.0.plan) _ claim sizes.2 in
+    let measured = from_step (measured_in texts.0.measured) _ claim texts.2 in
+    let shape = from_step (shape_of texts.0.measured.catalogue) _ measured.0 measured.1 in
+    let sizes = from_step (sizes_of_text shape.0.names texts.0.measured.sizes) _ measured.0 shape.2 in
+    let plan = from_step (plan_of measured.0.shape.names texts.0.plan) _ claim measured.2 in
+    let read = same_Ok _ _ _ refl sizes.2 in
     let same = same_Ok _ _ _ refl plan.2 in
-    subst (λ c. IsShape c.shape.children) same (is_shape texts.0.catalogue shape.0 shape.1)
+    subst (λ c. IsShape c.measured.shape.children) same
+    (subst (λ m. IsShape m.shape.children) read (is_shape texts.0.measured.catalogue shape.0 shape.1))
 
 pub one_certification : OneCertifyOutput
 one_certification costs bytes text other status ended = go (claim_of bytes) (claim_shape_read bytes)
   where
-    go : (r : Result Claim LoadFault) → ((claim : Claim) → r ≡ Ok claim → IsShape claim.shape.children)
+    go : (r : Result Claim LoadFault) → ((claim : Claim) → r ≡ Ok claim → IsShape claim.measured.shape.children)
         → MatchResult r (λ claim. IsJudgement costs claim text status) (λ fault. IsFaultShown fault text status)
         → MatchResult r (λ claim. IsJudgement costs claim other ended) (λ fault. IsFaultShown fault other ended)
         → AreSame text status other ended
@@ -103,21 +109,21 @@ one_certification costs bytes text other status ended = go (claim_of bytes) (cla
 
 -- the same work at the same numbers
 same_work_of : (costs other : Costs) (claim : Claim) (list : List Expression) → other.comp ≡ costs.comp → other.inst ≡ costs.inst
-    → work_of claim.shape.children (sizes_of claim.sizes) other.comp other.inst list ≡ work_of claim.shape.children (sizes_of claim.sizes) costs.comp costs.inst list
+    → work_of claim.measured.shape.children (sizes_of claim.measured.sizes) other.comp other.inst list ≡ work_of claim.measured.shape.children (sizes_of claim.measured.sizes) costs.comp costs.inst list
 same_work_of costs other claim list e f =
-    ap (λ c. work_of claim.shape.children (sizes_of claim.sizes) c other.inst list) e
-    ∙ ap (λ i. work_of claim.shape.children (sizes_of claim.sizes) costs.comp i list) f
+    ap (λ c. work_of claim.measured.shape.children (sizes_of claim.measured.sizes) c other.inst list) e
+    ∙ ap (λ i. work_of claim.measured.shape.children (sizes_of claim.measured.sizes) costs.comp i list) f
 
 same_work : (costs other : Costs) (claim : Claim) → other.comp ≡ costs.comp → other.inst ≡ costs.inst → work_at other claim ≡ work_at costs claim
 same_work costs other claim e f = same_work_of costs other claim claim.plan.strategy e f
 
 judged_at : (costs other : Costs) (claim : Claim) (verdict : Verdict) → other.comp ≡ costs.comp → other.inst ≡ costs.inst
-    → IsJudged claim.shape.children (sizes_of claim.sizes) other.comp other.inst (work_at other claim) claim.plan.certificate verdict
-    → IsJudged claim.shape.children (sizes_of claim.sizes) costs.comp costs.inst (work_at costs claim) claim.plan.certificate verdict
+    → IsJudged claim.measured.shape.children (sizes_of claim.measured.sizes) other.comp other.inst (work_at other claim) claim.plan.certificate verdict
+    → IsJudged claim.measured.shape.children (sizes_of claim.measured.sizes) costs.comp costs.inst (work_at costs claim) claim.plan.certificate verdict
 judged_at costs other claim verdict e f j =
-    subst (λ w. IsJudged claim.shape.children (sizes_of claim.sizes) costs.comp costs.inst w claim.plan.certificate verdict) (same_work costs other claim e f)
-    (subst (λ i. IsJudged claim.shape.children (sizes_of claim.sizes) costs.comp i (work_at other claim) claim.plan.certificate verdict) f
-    (subst (λ c. IsJudged claim.shape.children (sizes_of claim.sizes) c other.inst (work_at other claim) claim.plan.certificate verdict) e j))
+    subst (λ w. IsJudged claim.measured.shape.children (sizes_of claim.measured.sizes) costs.comp costs.inst w claim.plan.certificate verdict) (same_work costs other claim e f)
+    (subst (λ i. IsJudged claim.measured.shape.children (sizes_of claim.measured.sizes) costs.comp i (work_at other claim) claim.plan.certificate verdict) f
+    (subst (λ c. IsJudged claim.measured.shape.children (sizes_of claim.measured.sizes) c other.inst (work_at other claim) claim.plan.certificate verdict) e j))
 
 least_at : (costs other : Costs) (claim : Claim) (verdict : Verdict) → other.comp ≡ costs.comp → other.inst ≡ costs.inst → IsLeastBy other claim verdict → IsLeastBy costs claim verdict
 least_at costs other claim All e f least = λ list is. subst (λ work. claim.plan.work ≤ work) (same_work_of costs other claim list e f) (least list is)
@@ -144,7 +150,7 @@ as_certification costs other bytes text status e f = go (claim_of bytes)
 as_costs : (costs other : Costs) (inputs : Inputs) (text : List ℕ) (status : ℕ) → other.comp ≡ costs.comp → other.inst ≡ costs.inst
     → IsVerdict other inputs text status → IsVerdict costs inputs text status
 as_costs costs other inputs text status e f (correct is t s) =
-    correct is (t ∙ ap (λ c. correct_text (work_of inputs.shape.children (sizes_of inputs.sizes) c other.inst inputs.list)) e ∙ ap (λ i. correct_text (work_of inputs.shape.children (sizes_of inputs.sizes) costs.comp i inputs.list)) f) s
+    correct is (t ∙ ap (λ c. correct_text (work_of inputs.measured.shape.children (sizes_of inputs.measured.sizes) c other.inst inputs.list)) e ∙ ap (λ i. correct_text (work_of inputs.measured.shape.children (sizes_of inputs.measured.sizes) costs.comp i inputs.list)) f) s
 as_costs costs other inputs text status e f (broken rule place is t s) = broken rule place is t s
 
 as_check : (costs other : Costs) (bytes text : List ℕ) (status : ℕ) → other.comp ≡ costs.comp → other.inst ≡ costs.inst

@@ -5,13 +5,15 @@ use Rattle.std.proofs.lemmas.Bool.{cases_lt}
 use Rattle.std.proofs.lemmas.List.{ext_get_or, length-map, same_lists}
 use Rattle.std.proofs.lemmas.Option.{get_or_from_slice_get}
 use Rattle.wh_dag.specs.Catalog.{CatalogOf}
-use Rattle.wh_dag.specs.Shape.{IsShape}
+use Rattle.wh_dag.specs.Shape.{IsShape, Views}
 use Rattle.wh_dag.specs.Written.{name_of}
 use Rattle.wh_load.proofs.DefinitionsFit.{are-definitions}
 use Rattle.wh_load.proofs.ShapesRead.{from_step, same_Ok}
 use Rattle.wh_load.specs.Catalogue.{shape_of}
 use Rattle.wh_load.specs.Definitions.{ViewOf, definitions_of}
 use Rattle.wh_load.specs.FormulaKinds.{Texts}
+use Rattle.wh_load.specs.ReadingNight.{ChangeRows, Night, TableRows, catalog_in, first_stray, night_in, night_of, night_over, rows_after}
+use Rattle.wh_load.specs.ReadingParts.{parts_in, text_in}
 use Rattle.wh_load.specs.StrategyText.{strategy_of}
 use Rattle.wh_load.specs.TableText.{or_fault}
 use Rattle.wh_load.specs.declared.bundle.fault.Nights.TheVariants as nights
@@ -33,8 +35,7 @@ use Rattle.wh_row.specs.Bag.{Bag, empty}
 use Rattle.wh_strategy.proofs.Agreeing.{refused as not_correct}
 use Rattle.wh_strategy.specs.declared.expression.Expression.{Expression}
 use Rattle.whview.proofs.SingleFaults.{one_broken, one_shown}
-use Rattle.whview.specs.CheckOutput.{IsFaultShown, parts_in, text_in}
-use Rattle.whview.specs.GivenNight.{Night, Opening, TableRows, ChangeRows, catalog_in, first_stray, night_in, night_of, opening_in, rows_after}
+use Rattle.whview.specs.CheckOutput.{IsFaultShown}
 use Rattle.whview.specs.NightOutput.{AreOpened, IsCarriedOut, IsNightTold, broken, carried, carried_text, graph_in, left_text, no_contents, refused, refused_text, report_text, view_text, views_text}
 use Rattle.whview.specs.OneAnswer.{AreSame, OneNightOutput}
 use Rattle.whview.specs.OpenedNight.{HasNoContents, HasValueOver, IsValueFault}
@@ -99,10 +100,10 @@ one_carried : (night : Night) (old new other_old other_new : List Bag) (steps ot
     → IsCarriedOut night old new steps → IsCarriedOut night other_old other_new others → carried_text night steps (bag_at new) ≡ carried_text night others (bag_at other_new)
 one_carried night old new other_old other_new steps others each a b =
     let opened : other_old ≡ old = one_opening night other_old old b.opened a.opened in
-    let reported = subst (λ bags. AreSteps night.shape.children night.opening.list (bag_at bags)
-    (tables_after (graph_in night) (bag_at night.opening.changes) night.opening.list (bag_at bags)) others) opened b.reported in
+    let reported = subst (λ bags. AreSteps night.shape.children night.given.list (bag_at bags)
+    (tables_after (graph_in night) (bag_at night.given.changes) night.given.list (bag_at bags)) others) opened b.reported in
     ap (λ s. report_text night.shape.names s ++ views_text night.opening.texts night.shape.names 0 night.opening.views (bag_at new))
-    (one_report night.shape.children night.opening.list (bag_at old) (tables_after (graph_in night) (bag_at night.opening.changes) night.opening.list (bag_at old)) steps others a.reported reported)
+    (one_report night.shape.children night.given.list (bag_at old) (tables_after (graph_in night) (bag_at night.given.changes) night.given.list (bag_at old)) steps others a.reported reported)
     ∙ ap (λ t. report_text night.shape.names others ++ t)
     (one_text_of_tables night.opening.texts night.shape.names 0 night.opening.views (bag_at new) (bag_at other_new)
     (λ k l m. (let within : k < length night.shape.children = omega (arith, m, each) in a.contents k within ∙ sym (b.contents k within))))
@@ -110,20 +111,20 @@ one_carried night old new other_old other_new steps others each a b =
 -- ---- one refusal
 
 one_refusal : (night : Night) (old other_old : List Bag) (fault other : CarryFault) → AreOpened night old → AreOpened night other_old → fault.fault ≢ Memory → other.fault ≢ Memory
-    → IsNightFault (catalog_in night) night.opening.list (bag_at old) (bag_at night.opening.changes) fault
-    → IsNightFault (catalog_in night) night.opening.list (bag_at other_old) (bag_at night.opening.changes) other → fault ≡ other
+    → IsNightFault (catalog_in night) night.given.list (bag_at old) (bag_at night.given.changes) fault
+    → IsNightFault (catalog_in night) night.given.list (bag_at other_old) (bag_at night.given.changes) other → fault ≡ other
 one_refusal night old other_old fault other a b m n f g =
     let opened : other_old ≡ old = one_opening night other_old old b a in
-    (refusals_are_one (catalog_in night) night.opening.list (bag_at old) (bag_at night.opening.changes)).one fault other f
-    (subst (λ bags. IsNightFault (catalog_in night) night.opening.list (bag_at bags) (bag_at night.opening.changes) other) opened g) m n
+    (refusals_are_one (catalog_in night) night.given.list (bag_at old) (bag_at night.given.changes)).one fault other f
+    (subst (λ bags. IsNightFault (catalog_in night) night.given.list (bag_at bags) (bag_at night.given.changes) other) opened g) m n
 
 -- what is carried out is not refused
 not_refused : (night : Night) (old new other_old : List Bag) (steps : List (Expression × ℕ)) (fault : CarryFault) → IsCarriedOut night old new steps → AreOpened night other_old → fault.fault ≢ Memory
-    → IsNightFault (catalog_in night) night.opening.list (bag_at other_old) (bag_at night.opening.changes) fault → ⊥
+    → IsNightFault (catalog_in night) night.given.list (bag_at other_old) (bag_at night.given.changes) fault → ⊥
 not_refused night old new other_old steps fault a b m f =
     let opened : other_old ≡ old = one_opening night other_old old b a.opened in
-    m ((refusals_are_one (catalog_in night) night.opening.list (bag_at old) (bag_at night.opening.changes)).none a.allowed a.passed fault
-    (subst (λ bags. IsNightFault (catalog_in night) night.opening.list (bag_at bags) (bag_at night.opening.changes) fault) opened f))
+    m ((refusals_are_one (catalog_in night) night.given.list (bag_at old) (bag_at night.given.changes)).none a.allowed a.passed fault
+    (subst (λ bags. IsNightFault (catalog_in night) night.given.list (bag_at bags) (bag_at night.given.changes) fault) opened f))
 
 -- ---- one answer
 
@@ -153,27 +154,33 @@ one_told night text other status ended is (carried old new steps ok c t s) (refu
 one_told night text other status ended is (carried old new steps ok c t s) (carried old' new' steps' ok' c' t' s') =
     record { texts = t ∙ one_carried night old new old' new' steps steps' is.each c c' ∙ sym t'; statuses = s ∙ sym s' }
 
--- its views are those that were read
-opened_views : (parts : List Part) (names : List (List ℕ)) (views : List ViewOf) (texts : Texts) (strategy : List ℕ) (opening : Opening) → opening_in parts names views texts strategy ≡ Ok opening → opening.views ≡ views
-opened_views parts names views texts strategy opening e =
-    let tables = from_step (or_fault (first_stray names views parts) (rows_after TableRows parts names [] views texts)) _ opening e in
-    let changes = from_step (rows_after ChangeRows parts names [] views tables.0.1) _ opening tables.2 in
-    let list = from_step (strategy_of names strategy) _ opening changes.2 in
-    ap (λ o. o.views) (sym (same_Ok _ _ _ refl list.2))
+-- its shape and its views are those that were read
+record IsOver (shape : Views) (views : List ViewOf) (night : Night) : Type 0 where
+  shapes : night.shape ≡ shape
+  viewed : night.opening.views ≡ views
+
+over_views : (parts : List Part) (shape : Views) (views : List ViewOf) (texts : Texts) (strategy : List ℕ) (night : Night) → night_over parts shape views texts strategy ≡ Ok night → IsOver shape views night
+over_views parts shape views texts strategy night e =
+    let tables = from_step (or_fault (first_stray shape.names views parts) (rows_after TableRows parts shape.names [] views texts)) _ night e in
+    let changes = from_step (rows_after (ChangeRows 0) parts shape.names [] views tables.0.1) _ night tables.2 in
+    let list = from_step (strategy_of shape.names strategy) _ night changes.2 in
+    let same = same_Ok _ _ _ refl list.2 in
+    record { shapes = ap (λ n. n.shape) (sym same); viewed = ap (λ n. n.opening.views) (sym same) }
 
 read_night : (bytes : List ℕ) (night : Night) → night_of bytes ≡ Ok night → IsReadNight night
 read_night bytes night e =
     let parts = from_step (parts_in nights.First bytes) night_in night e in
-    let catalogue = from_step (text_in parts.0 heading.Catalogue (codes "catalogue")) _ night parts.2 in
-    let strategy = from_step (text_in parts.0 heading.Strategy (codes "strategy")) _ night catalogue.2 in
+    let catalogue = from_step (text_in parts.0 heading.Catalogue 0 (codes "catalogue")) _ night parts.2 in
+    let strategy = from_step (text_in parts.0 heading.Strategy 0 (codes "strategy")) _ night catalogue.2 in
     let shape = from_step (shape_of catalogue.0) _ night strategy.2 in
     let written = from_step (definitions_of shape.0 catalogue.0 []) _ night shape.2 in
-    let opening = from_step (opening_in parts.0 shape.0.names written.0.0 written.0.1 strategy.0) _ night written.2 in
-    let same = same_Ok _ _ _ refl opening.2 in
     let definitions = are-definitions catalogue.0 shape.0 [] written.0.1 written.0.0 shape.1 written.1 in
-    let views = opened_views parts.0 shape.0.names written.0.0 written.0.1 strategy.0 opening.0 opening.1 in
+    let over = over_views parts.0 shape.0 written.0.0 written.0.1 strategy.0 night written.2 in
     let each = sym (length-map written.0.0 (λ view. length view.columns)) ∙ definitions.catalog.each_width in
-    subst IsReadNight same (record { shape = definitions.catalog.shape; each = ap (λ vs. length vs) views ∙ each })
+    record {
+      shape = subst (λ s. IsShape s.children) (sym over.shapes) definitions.catalog.shape;
+      each = ap (λ vs. length vs) over.viewed ∙ each ∙ ap (λ s. length s.children) (sym over.shapes);
+    }
 
 pub one_night : OneNightOutput
 one_night bytes text other status ended = go (night_of bytes) (read_night bytes)

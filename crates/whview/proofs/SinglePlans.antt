@@ -9,6 +9,7 @@ use Rattle.wh_cert.specs.declared.certificate.Scope.TheVariants as scope
 use Rattle.wh_cert.specs.declared.certificate.Verdict.TheVariants as verdict
 use Rattle.wh_cert.specs.declared.tree.TreeNode.{TreeNode}
 use Rattle.wh_load.specs.PlanText.{plan_text}
+use Rattle.wh_load.specs.ReadingPlan.{Measured, measured_of}
 use Rattle.wh_load.specs.declared.fault.LoadFault.{LoadFault}
 use Rattle.wh_prune.specs.Plan.{IsCyclicAsDesired}
 use Rattle.wh_prune.specs.Spent.{IsSpent}
@@ -17,7 +18,7 @@ use Rattle.wh_strategy.specs.declared.costs.Costs.{Costs}
 use Rattle.wh_strategy.specs.declared.expression.Expression.{Expression}
 use Rattle.whview.specs.CheckOutput.{IsFaultShown}
 use Rattle.whview.specs.OneAnswer.{AreOnePlan, IsPlanBesideSpent, MaySpend, OnePlanOutput, one_text, plan_and_spent, spent_and_plan, two_of_all, two_one_way, two_spent}
-use Rattle.whview.specs.PlanOutput.{IsLeastPlan, IsPlanOutput, IsPlanned, Measured, measured_of, planned, spent, spent_text}
+use Rattle.whview.specs.PlanOutput.{IsLeastPlan, IsPlanOutput, IsPlanned, planned, spent, spent_text}
 
 -- ---- two plans
 

@@ -3,13 +3,11 @@ pub mod CheckOutput
 pub mod CommandFault
 pub mod CommandLine
 pub mod FirstLine
-pub mod GivenNight
+pub mod FitNight
 pub mod NightOutput
 pub mod OneAnswer
 pub mod OpenedNight
 pub mod Output
 pub mod PlanCertified
 pub mod PlanOutput
-pub mod Shown
-pub mod ShownNight
 pub mod StoredClosures

@@ -6,6 +6,7 @@ use Rattle.wh_row.specs.Bag.{Bag}
 use Rattle.wh_load.specs.Definitions.{ViewOf}
 use Rattle.wh_load.specs.ExpressionText.{expression_text}
 use Rattle.wh_load.specs.FormulaKinds.{Texts}
+use Rattle.wh_load.specs.ReadingNight.{Night, catalog_in, night_of}
 use Rattle.wh_load.specs.TableWritten.{table_text}
 use Rattle.wh_maint.specs.Comp.{bag_at}
 use Rattle.wh_maint.specs.Contents.{contents}
@@ -23,7 +24,6 @@ use Rattle.wh_strategy.specs.Rules.{IsCorrect, IsFirstBroken}
 use Rattle.wh_strategy.specs.declared.expression.Expression.{Expression}
 use Rattle.wh_strategy.specs.declared.rule.Rule.{Rule}
 use Rattle.whview.specs.CheckOutput.{IsFaultShown, broken_text, line}
-use Rattle.whview.specs.GivenNight.{Night, catalog_in, night_of}
 use Rattle.whview.specs.OpenedNight.{HasNoContents, HaveContentsBelow}
 
 -- ---- texts
@@ -80,7 +80,7 @@ old_contents night = contents (graph_in night) (bag_at night.opening.tables)
 
 -- the contents of the base with its changes
 abbrev pub new_contents : Night → ℕ → Bag
-new_contents night = contents (graph_in night) (changed (bag_at night.opening.tables) (bag_at night.opening.changes))
+new_contents night = contents (graph_in night) (changed (bag_at night.opening.tables) (bag_at night.given.changes))
 
 -- these lists are the contents of the base that was read
 pub record AreOpened (night : Night) (tables : List Bag) : Type 0 where
@@ -93,27 +93,27 @@ pub record AreOpened (night : Night) (tables : List Bag) : Type 0 where
 -- value there.
 pub record IsCarriedOut (night : Night) (old new : List Bag) (steps : List (Expression × ℕ)) : Type 0 where
   pub opened : AreOpened night old
-  pub allowed : AreAllowedBelow (catalog_in night) (bag_at old) (bag_at night.opening.changes) (length night.shape.children)
-  pub passed : ArePassedBelow (catalog_in night) night.opening.list (bag_at old) (bag_at night.opening.changes) (length night.opening.list)
+  pub allowed : AreAllowedBelow (catalog_in night) (bag_at old) (bag_at night.given.changes) (length night.shape.children)
+  pub passed : ArePassedBelow (catalog_in night) night.given.list (bag_at old) (bag_at night.given.changes) (length night.given.list)
   pub carried : (view : ℕ) → view < length night.shape.children
-      → bag_at new view ≡ tables_after (graph_in night) (bag_at night.opening.changes) night.opening.list (bag_at old) view
+      → bag_at new view ≡ tables_after (graph_in night) (bag_at night.given.changes) night.given.list (bag_at old) view
   pub contents : (view : ℕ) → view < length night.shape.children → bag_at new view ≡ new_contents night view
-  pub valued : HaveContentsBelow (catalog_in night) (changed (bag_at night.opening.tables) (bag_at night.opening.changes)) (length night.shape.children)
-  pub reported : AreSteps night.shape.children night.opening.list (bag_at old)
-      (tables_after (graph_in night) (bag_at night.opening.changes) night.opening.list (bag_at old)) steps
+  pub valued : HaveContentsBelow (catalog_in night) (changed (bag_at night.opening.tables) (bag_at night.given.changes)) (length night.shape.children)
+  pub reported : AreSteps night.shape.children night.given.list (bag_at old)
+      (tables_after (graph_in night) (bag_at night.given.changes) night.given.list (bag_at old)) steps
 
 -- ---- what is printed
 
 -- What is printed of a night, and the status. A night is refused for the first reason that its base changes, and then its
 -- expressions, meet; want of memory is told as such and is none of these.
 pub data IsNightTold (night : Night) (text : List ℕ) (status : ℕ) : Type 0 where
-  broken : (rule : Rule) (place : ℕ) → IsFirstBroken night.shape.children night.opening.list rule place → text ≡ broken_text rule place → status ≡ 1 → IsNightTold night text status
-  no_contents : (fault : MaintFault) → IsCorrect night.shape.children night.opening.list → HasNoContents (catalog_in night) (bag_at night.opening.tables) fault
+  broken : (rule : Rule) (place : ℕ) → IsFirstBroken night.shape.children night.given.list rule place → text ≡ broken_text rule place → status ≡ 1 → IsNightTold night text status
+  no_contents : (fault : MaintFault) → IsCorrect night.shape.children night.given.list → HasNoContents (catalog_in night) (bag_at night.opening.tables) fault
       → text ≡ refused_text night.shape.names fault → status ≡ 1 → IsNightTold night text status
-  refused : (old : List Bag) (fault : CarryFault) → IsCorrect night.shape.children night.opening.list → AreOpened night old → fault.fault ≢ Memory
-      → IsNightFault (catalog_in night) night.opening.list (bag_at old) (bag_at night.opening.changes) fault
+  refused : (old : List Bag) (fault : CarryFault) → IsCorrect night.shape.children night.given.list → AreOpened night old → fault.fault ≢ Memory
+      → IsNightFault (catalog_in night) night.given.list (bag_at old) (bag_at night.given.changes) fault
       → text ≡ left_text night.shape.names fault → status ≡ 1 → IsNightTold night text status
-  carried : (old new : List Bag) (steps : List (Expression × ℕ)) → IsCorrect night.shape.children night.opening.list → IsCarriedOut night old new steps
+  carried : (old new : List Bag) (steps : List (Expression × ℕ)) → IsCorrect night.shape.children night.given.list → IsCarriedOut night old new steps
       → text ≡ carried_text night steps (bag_at new) → status ≡ 0 → IsNightTold night text status
 
 -- what `night` prints for a bundle's bytes, and the status

@@ -7,6 +7,7 @@ use Rattle.wh_cert.specs.declared.certificate.Scope.TheVariants as scope
 use Rattle.wh_cert.specs.declared.tree.TreeNode.{TreeNode}
 use Rattle.wh_dag.specs.Siblings.{couples_of}
 use Rattle.wh_load.specs.PlanText.{plan_text}
+use Rattle.wh_load.specs.ReadingPlan.{Measured, measured_of}
 use Rattle.wh_prune.specs.Plan.{IsCyclicAsDesired}
 use Rattle.wh_strategy.specs.Sizes.{sizes_of}
 use Rattle.wh_strategy.specs.declared.costs.Costs.{Costs}
@@ -16,7 +17,7 @@ use Rattle.whview.specs.CheckOutput.{IsCheckOutput}
 use Rattle.whview.specs.FirstLine.{after_first_line, first_line_of, words_in}
 use Rattle.whview.specs.NightOutput.{IsNightOutput}
 use Rattle.whview.specs.Output.{AskFor, Bytes, Failed, IsHandedOutput, IsInputOutput, IsRefused, Reading, ReadsInput}
-use Rattle.whview.specs.PlanOutput.{IsPlanOutput, Measured, measured_of, spent_text}
+use Rattle.whview.specs.PlanOutput.{IsPlanOutput, spent_text}
 use Rattle.whview.specs.declared.command_line.Asked.{Asked}
 use Rattle.whview.specs.declared.command_line.Asked.TheVariants as asked
 

@@ -3,12 +3,14 @@ use Rattle.std.specs.Prelude.{◌≡◌, ℕ, List, Ok}
 use Rattle.wh_cert.specs.declared.certificate.Certificate.{Certificate}
 use Rattle.wh_cert.specs.declared.certificate.Scope.{Scope}
 use Rattle.wh_load.specs.PlanText.{plan_of, plan_text}
+use Rattle.wh_load.specs.ReadingClaim.{Claim, ClaimTexts, claim_texts_of}
+use Rattle.wh_load.specs.ReadingPlan.{Measured, MeasuredTexts, measured_in, measured_of, measured_texts_of}
 use Rattle.wh_load.specs.declared.plan.Plan.{Plan}
 use Rattle.wh_strategy.specs.declared.costs.Costs.{Costs}
 use Rattle.wh_strategy.specs.declared.expression.Expression.{Expression}
 use Rattle.wh_prune.specs.Plan.{accepted_for}
-use Rattle.whview.specs.CertifyOutput.{Claim, ClaimTexts, IsCertifyOutput, IsJudgement, claim_texts_of, verdict_text}
-use Rattle.whview.specs.PlanOutput.{IsLeastPlan, Measured, MeasuredTexts, measured_in, measured_of, measured_texts_of}
+use Rattle.whview.specs.CertifyOutput.{IsCertifyOutput, IsJudgement, verdict_text}
+use Rattle.whview.specs.PlanOutput.{IsLeastPlan}
 
 -- the plan of this scope, work, list and certificate
 abbrev pub plan_with : Scope → ℕ → List Expression → Certificate → Plan
@@ -16,7 +18,7 @@ plan_with scope work list certificate = record { scope = scope; work = work; str
 
 -- this plan for these views and sizes
 abbrev pub claim_with : Measured → Plan → Claim
-claim_with measured plan = record { shape = measured.shape; sizes = measured.sizes; plan = plan }
+claim_with measured plan = record { measured = measured; plan = plan }
 
 -- what `certify` prints of a plan of this scope and work that it accepts
 abbrev pub accepted_text : Scope → ℕ → List ℕ
@@ -38,7 +40,7 @@ LeastPlanIsCertified =
 
 -- these texts, and this one of a plan
 abbrev pub texts_with : MeasuredTexts → List ℕ → ClaimTexts
-texts_with texts plan = record { catalogue = texts.catalogue; sizes = texts.sizes; plan = plan }
+texts_with texts plan = record { measured = texts; plan = plan }
 
 -- so `certify` says of a bundle with the texts of catalogue and sizes that a plan was printed for, and with what was printed as
 -- its plan, that it is certified at the same costs

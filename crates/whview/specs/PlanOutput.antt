@@ -1,60 +1,21 @@
 -- What `plan` prints for the bytes of a bundle, and the status that it ends with.
-use Rattle.std.specs.Prelude.{◌≡◌, ◌↔◌, ◌≤◌, ◌++◌, ℕ, List, Result, Ok, codes, decimal, MatchResult}
-use Rattle.wh_dag.specs.Shape.{Views}
+use Rattle.std.specs.Prelude.{◌≡◌, ◌↔◌, ◌≤◌, ◌++◌, ℕ, List, codes, decimal, MatchResult}
 use Rattle.wh_cert.specs.Bound.{pair_bound_of}
 use Rattle.wh_cert.specs.Certificate.{IsJudged}
 use Rattle.wh_cert.specs.declared.certificate.Certificate.{Certificate}
 use Rattle.wh_cert.specs.declared.certificate.Scope.{Scope}
 use Rattle.wh_cert.specs.declared.certificate.Scope.TheVariants.{All, OneWay}
-use Rattle.wh_load.specs.Catalogue.{◌>>=◌, shape_of}
 use Rattle.wh_load.specs.PlanText.{plan_text}
-use Rattle.wh_load.specs.SizesText.{sizes_of_text}
-use Rattle.wh_load.specs.declared.bundle.fault.Nights.TheVariants as nights
-use Rattle.wh_load.specs.declared.bundle.heading.Heading.TheVariants as heading
-use Rattle.wh_load.specs.declared.bundle.part.Part.{Part}
-use Rattle.wh_load.specs.declared.fault.LoadFault.{LoadFault}
+use Rattle.wh_load.specs.ReadingPlan.{Measured, measured_of}
 use Rattle.wh_minwork.specs.Plan.{IsAcyclicAsDesired, IsSortedAsDesired}
 use Rattle.wh_prune.specs.Plan.{IsCyclicAsDesired, IsWithinBudget, accepted_for}
 use Rattle.wh_prune.specs.Spent.{IsSpent}
 use Rattle.wh_strategy.specs.declared.costs.Costs.{Costs}
 use Rattle.wh_strategy.specs.declared.expression.Expression.{Expression}
-use Rattle.wh_strategy.specs.declared.sizes.SizeRow.{SizeRow}
 use Rattle.wh_strategy.specs.Rules.{IsCorrect, IsOneWay}
 use Rattle.wh_strategy.specs.Sizes.{sizes_of}
 use Rattle.wh_strategy.specs.Work.{work_of}
-use Rattle.whview.specs.CheckOutput.{IsFaultShown, line, parts_in, text_in}
-
--- what is planned for: the views, and their sizes
-pub record Measured : Type 0 where
-  pub shape : Views
-  pub sizes : List SizeRow
-
--- the texts of the parts that this reads
-pub record MeasuredTexts : Type 0 where
-  pub catalogue : List ℕ
-  pub sizes : List ℕ
-
--- these texts among the parts of a bundle; the first that is missing, in the order of the headings, is a fault
-abbrev pub measured_texts_in : List Part → Result MeasuredTexts LoadFault
-measured_texts_in parts = do
-  catalogue ← text_in parts heading.Catalogue (codes "catalogue")
-  sizes ← text_in parts heading.Sizes (codes "sizes")
-  Ok (record { catalogue = catalogue; sizes = sizes })
-
--- what these texts say, or their first fault: the catalogue's, the sizes'
-abbrev pub measured_in : MeasuredTexts → Result Measured LoadFault
-measured_in texts = do
-  shape ← shape_of texts.catalogue
-  sizes ← sizes_of_text shape.names texts.sizes
-  Ok (record { shape = shape; sizes = sizes })
-
--- these texts in a bundle of any nights, or its first fault
-abbrev pub measured_texts_of : List ℕ → Result MeasuredTexts LoadFault
-measured_texts_of bytes = parts_in nights.Ignored bytes >>= measured_texts_in
-
--- what the bytes of a bundle have to be planned for, or their first fault
-abbrev pub measured_of : List ℕ → Result Measured LoadFault
-measured_of bytes = measured_texts_of bytes >>= measured_in
+use Rattle.whview.specs.CheckOutput.{IsFaultShown, line}
 
 -- A plan of least work at costs of a Comp's row and an Inst's row: its list is correct, each Comp of it is from one view, the work
 -- is that of the list, and the certificate is accepted for its scope. The scope is All exactly where the work is the pair bound,

@@ -14,7 +14,6 @@ mod laws;
 mod night;
 mod planning;
 mod program;
-mod reading;
 mod verdict;
 mod words;
 

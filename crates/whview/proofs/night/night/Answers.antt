@@ -1,0 +1,9 @@
+use Rattle.std.proofs.Common.{map}
+use Rattle.wh_load.specs.Definitions.{shown_view}
+use Rattle.whview.proofs.ReadRows.{read_fit}
+use Rattle.whview.proofs.night.night.Goals as goal
+
+pub answer_of-requires : goal.answer_of-requires
+answer_of-requires c =
+    let input = c.in-Ok.input in
+    read_fit input.shape (map shown_view input.opening.views.items) input.opening.tables.items input.given.changes.items c.in-Ok.ensures.fit

@@ -1,7 +1,0 @@
-use Rattle.std.proofs.Common.{◌≡◌, drop, map}
-use Rattle.wh_load.specs.Definitions.{shown_view}
-use Rattle.whview.specs.GivenNight.{first_stray}
-use Rattle.whview.proofs.night.parts.only_base_parts.Given as goal
-
-abbrev pub invariant-loop-part : goal.invariant-loop-part
-invariant-loop-part l = first_stray l.names (map shown_view l.views) l.bundle ≡ first_stray l.names (map shown_view l.views) (drop l.part-index l.bundle)
