@@ -8,17 +8,17 @@ use Rattle.wh_row.specs.Row.{Row, row_cmp}
 use Rattle.wh_dag.specs.Catalog.{DefinitionOf}
 use Rattle.wh_dag.specs.Shape.{Views}
 use Rattle.wh_dag.specs.Written.{name_of}
-use Rattle.wh_load.specs.Catalogue.{◌>>=◌, shape_of}
-use Rattle.wh_load.specs.Columns.{NamedKind}
-use Rattle.wh_load.specs.Definitions.{ViewOf, definitions_of}
-use Rattle.wh_load.specs.FormulaKinds.{Texts}
+use Rattle.wh_text.specs.Columns.{NamedKind}
+use Rattle.wh_text.specs.declared.fault.LoadFault.{LoadFault}
+use Rattle.wh_bundle.specs.Text.{text_of}
+use Rattle.wh_bundle.specs.declared.bundle.heading.Heading.TheVariants as heading
+use Rattle.wh_bundle.specs.declared.bundle.part.Part.{Part}
+use Rattle.wh_catalogue_text.specs.Catalogue.{◌>>=◌, shape_of}
+use Rattle.wh_catalogue_text.specs.Definitions.{ViewOf, definitions_of}
+use Rattle.wh_catalogue_text.specs.FormulaKinds.{Texts}
+use Rattle.wh_table_text.proofs.TablesRead.{answer-table, answer-width}
 use Rattle.wh_load.specs.ReadingNight.{AreReadRows, ChangeRows, IsTableIfTable, Night, Rows, TableRows, night_in, night_over, rows_after, rows_found, rows_of, rows_written}
 use Rattle.wh_load.specs.ReadingParts.{text_in}
-use Rattle.wh_load.specs.Text.{text_of}
-use Rattle.wh_load.specs.declared.bundle.heading.Heading.TheVariants as heading
-use Rattle.wh_load.specs.declared.bundle.part.Part.{Part}
-use Rattle.wh_load.specs.declared.fault.LoadFault.{LoadFault}
-use Rattle.wh_load.proofs.TablesRead.{answer-table, answer-width}
 
 count-empty : (q : Row) → count empty q ≡ pos 0
 count-empty q = ap number (fin.get-empty row_cmp q)

@@ -4,49 +4,11 @@
 //! part has a reader: [`read_shape`] and [`read_definitions`], [`read_strategy`], [`read_sizes`]. A reader answers the
 //! value that its text says, or the text's first fault as a [`LoadFault`], whose number and printed line are exact.
 //!
-//! What a command reads is read by one call, from the bytes of a bundle: [`read_check`], [`read_planning`],
-//! [`read_certification`], [`read_night`].
+//! The readers and writers stand in crates below, which know nothing of one another.
 #![tactic(auto)]
 
-mod bundle;
-mod catalogue;
-mod columns;
-mod definitions;
-mod dict;
-mod expression;
-mod fault;
-mod line;
-mod name_form;
-mod names;
-mod plan;
-mod read;
 mod reading;
-mod records;
-mod sizes;
-mod strategy;
-mod table;
-mod words;
 
-pub use bundle::fault::{Nights, PartFault};
-pub use bundle::heading::{Heading, Scope};
-pub use bundle::part::Part;
-pub use bundle::piece::Piece;
-pub use bundle::word::Word;
-pub use bundle::{Bundle, parts};
-pub use catalogue::read_shape;
-pub use columns::{Column, Kind};
-pub use definitions::output::WrittenOutput;
-pub use definitions::views::{Written, WrittenDefinition, WrittenView};
-pub use definitions::written_law::{exprs_read_back_law, joins_read_back_law, preds_read_back_law};
-pub use definitions::{definitions_fit_law, read_definitions};
-pub use dict::Dict;
-pub use expression::write_expression;
-pub use fault::{Key, LoadFault};
-pub use names::Names;
-pub use plan::{
-    Plan, plan_grammar_law, plan_reads_back_law, read_plan, tree_lines_law, write_plan,
-};
-pub use read::{ReadFault, read_all};
 pub use reading::certify::read_certification;
 pub use reading::check::read_check;
 pub use reading::inputs::{
@@ -54,8 +16,18 @@ pub use reading::inputs::{
 };
 pub use reading::night::read_night;
 pub use reading::plan::read_planning;
-pub use sizes::read_sizes;
-pub use strategy::{read_strategy, reads_back_law, write_strategy};
-pub use table::{
-    changes_read_back_law, read_changes, read_table, table_reads_back_law, write_table,
+pub use wh_bundle::{
+    Bundle, Heading, Nights, Part, PartFault, Piece, ReadFault, Scope, parts, read_all,
 };
+pub use wh_catalogue_text::{
+    Written, WrittenDefinition, WrittenOutput, WrittenView, definitions_fit_law,
+    exprs_read_back_law, joins_read_back_law, preds_read_back_law, read_definitions, read_shape,
+};
+pub use wh_plan_text::{
+    Plan, plan_grammar_law, plan_reads_back_law, read_plan, read_strategy, reads_back_law,
+    tree_lines_law, write_expression, write_plan, write_strategy,
+};
+pub use wh_table_text::{
+    changes_read_back_law, read_changes, read_sizes, read_table, table_reads_back_law, write_table,
+};
+pub use wh_text::{Column, Dict, Key, Kind, LoadFault, Names, Word};

@@ -12,19 +12,19 @@ use Rattle.wh_dag.specs.Fault.{first_fault}
 use Rattle.wh_dag.specs.Shape.{Views}
 use Rattle.wh_dag.specs.Written.{children_written}
 use Rattle.wh_dag.specs.declared.fault.ShapeFault.{ShapeFault}
-use Rattle.wh_load.proofs.ShapesRead.{from_step, same_Ok, same_length}
-use Rattle.wh_load.proofs.SizeLimits.{given_by-sizes}
-use Rattle.wh_load.specs.Catalogue.{WrittenViews, document_of, judged, name_in, named, shape_of, view_over, views_of, written_views}
-use Rattle.wh_load.specs.Line.{is_blank}
-use Rattle.wh_load.specs.NameForm.{begins_name, continues_name, is_name, underscore}
-use Rattle.wh_load.specs.NodeLine.{is_parting}
-use Rattle.wh_load.specs.PlanReadsBack.{is_unparted}
-use Rattle.wh_load.specs.ReadsBack.{is_plain}
-use Rattle.wh_load.specs.SizesText.{given_by, records_fault, rows_of, sizes_of_text, unless_fault}
-use Rattle.wh_load.specs.Records.{records_of}
-use Rattle.wh_load.specs.declared.fault.Key.TheVariants as key
-use Rattle.wh_load.specs.declared.fault.LoadFault.{LoadFault}
-use Rattle.wh_load.specs.declared.fault.LoadFault.TheVariants as fault
+use Rattle.wh_text.specs.Line.{is_blank}
+use Rattle.wh_text.specs.NameForm.{begins_name, continues_name, is_name, underscore}
+use Rattle.wh_text.specs.declared.fault.Key.TheVariants as key
+use Rattle.wh_text.specs.declared.fault.LoadFault.{LoadFault}
+use Rattle.wh_text.specs.declared.fault.LoadFault.TheVariants as fault
+use Rattle.wh_catalogue_text.proofs.ShapesRead.{from_step, same_Ok, same_length}
+use Rattle.wh_catalogue_text.specs.Catalogue.{WrittenViews, document_of, judged, name_in, named, shape_of, view_over, views_of, written_views}
+use Rattle.wh_table_text.proofs.SizeLimits.{given_by-sizes}
+use Rattle.wh_table_text.specs.SizesText.{given_by, records_fault, rows_of, sizes_of_text, unless_fault}
+use Rattle.wh_table_text.specs.Records.{records_of}
+use Rattle.wh_plan_text.specs.NodeLine.{is_parting}
+use Rattle.wh_plan_text.specs.PlanReadsBack.{is_unparted}
+use Rattle.wh_plan_text.specs.ReadsBack.{is_plain}
 use Rattle.wh_strategy.specs.Sizes.{AreSizes}
 use Rattle.wh_strategy.specs.declared.sizes.SizeRow.{SizeRow}
 

@@ -21,16 +21,16 @@ use Rattle.wh_dag.specs.Shape.{IsShape, children_of, has}
 use Rattle.wh_dag.specs.Siblings.{have_parent, is_couple, is_sibling_pair, sibling_pairs_of, triples_below}
 use Rattle.wh_dag.specs.declared.siblings.Couple.{Couple}
 use Rattle.wh_dag.specs.declared.siblings.SiblingPair.{SiblingPair}
-use Rattle.wh_load.proofs.PlanReadingBack.{plan_reads_back}
-use Rattle.wh_load.proofs.ShapesRead.{from_step, is_shape, same_Ok}
-use Rattle.wh_load.specs.Catalogue.{◌>>=◌, shape_of}
-use Rattle.wh_load.specs.PlanText.{plan_of, plan_text}
-use Rattle.wh_load.specs.declared.plan.Plan.{Plan}
-use Rattle.wh_load.specs.PlanReadsBack.{IsCertificateWritable, IsNodeWithin, IsPairWithin, IsWritable}
+use Rattle.wh_catalogue_text.proofs.ShapesRead.{from_step, is_shape, same_Ok}
+use Rattle.wh_catalogue_text.specs.Catalogue.{◌>>=◌, shape_of}
+use Rattle.wh_table_text.specs.SizesText.{sizes_of_text}
+use Rattle.wh_plan_text.proofs.PlanReadingBack.{plan_reads_back}
+use Rattle.wh_plan_text.specs.PlanText.{plan_of, plan_text}
+use Rattle.wh_plan_text.specs.declared.plan.Plan.{Plan}
+use Rattle.wh_plan_text.specs.PlanReadsBack.{IsCertificateWritable, IsNodeWithin, IsPairWithin, IsWritable}
+use Rattle.wh_plan_text.specs.ReadsBack.{IsWithin}
 use Rattle.wh_load.specs.ReadingClaim.{claim_in, claim_of}
 use Rattle.wh_load.specs.ReadingPlan.{Measured, MeasuredTexts, measured_in, measured_of, measured_texts_of}
-use Rattle.wh_load.specs.ReadsBack.{IsWithin}
-use Rattle.wh_load.specs.SizesText.{sizes_of_text}
 use Rattle.wh_prune.specs.Plan.{accepted_for}
 use Rattle.wh_strategy.proofs.Found.{has-head, has-tail, has_within}
 use Rattle.wh_strategy.specs.Expression.{At}
@@ -45,7 +45,7 @@ use Rattle.whview.specs.CheckOutput.{IsFaultShown}
 use Rattle.whview.specs.CertifyOutput.{IsJudgement, judged}
 use Rattle.whview.specs.PlanCertified.{LeastPlanIsCertified, PrintedPlanIsCertified, PrintedPlanIsReadBack, accepted_text, claim_with, plan_with, texts_with}
 use Rattle.whview.specs.PlanOutput.{IsLeastPlan}
-use Rattle.wh_load.specs.NameForm.{is_name}
+use Rattle.wh_text.specs.NameForm.{is_name}
 
 -- ---- the list is of views
 

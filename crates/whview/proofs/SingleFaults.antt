@@ -1,7 +1,7 @@
 -- The first broken rule of a strategy, and the first fault of an input, are told in one text.
 use Rattle.std.proofs.Common.{◌≡◌, ◌+◌, ◌∙◌, ℕ, List, ap, refl, subst, sym, ⊎_elim}
 use Rattle.std.proofs.lemmas.Bool.{cases_order}
-use Rattle.wh_load.specs.declared.fault.LoadFault.{LoadFault}
+use Rattle.wh_text.specs.declared.fault.LoadFault.{LoadFault}
 use Rattle.wh_strategy.specs.declared.expression.Expression.{Expression}
 use Rattle.wh_strategy.specs.declared.rule.Rule.{Rule}
 use Rattle.wh_strategy.specs.declared.rule.Rule.TheVariants.{S1, S2, S3, S4, S5, S6}

@@ -7,19 +7,19 @@ use Rattle.std.proofs.lemmas.Option.{get_or_from_slice_get}
 use Rattle.wh_dag.specs.Catalog.{CatalogOf}
 use Rattle.wh_dag.specs.Shape.{IsShape, Views}
 use Rattle.wh_dag.specs.Written.{name_of}
-use Rattle.wh_load.proofs.DefinitionsFit.{are-definitions}
-use Rattle.wh_load.proofs.ShapesRead.{from_step, same_Ok}
-use Rattle.wh_load.specs.Catalogue.{shape_of}
-use Rattle.wh_load.specs.Definitions.{ViewOf, definitions_of}
-use Rattle.wh_load.specs.FormulaKinds.{Texts}
+use Rattle.wh_text.specs.declared.fault.LoadFault.{LoadFault}
+use Rattle.wh_bundle.specs.declared.bundle.fault.Nights.TheVariants as nights
+use Rattle.wh_bundle.specs.declared.bundle.heading.Heading.TheVariants as heading
+use Rattle.wh_bundle.specs.declared.bundle.part.Part.{Part}
+use Rattle.wh_catalogue_text.proofs.DefinitionsFit.{are-definitions}
+use Rattle.wh_catalogue_text.proofs.ShapesRead.{from_step, same_Ok}
+use Rattle.wh_catalogue_text.specs.Catalogue.{shape_of}
+use Rattle.wh_catalogue_text.specs.Definitions.{ViewOf, definitions_of}
+use Rattle.wh_catalogue_text.specs.FormulaKinds.{Texts}
+use Rattle.wh_table_text.specs.TableText.{or_fault}
+use Rattle.wh_plan_text.specs.StrategyText.{strategy_of}
 use Rattle.wh_load.specs.ReadingNight.{ChangeRows, Night, TableRows, catalog_in, first_stray, night_in, night_of, night_over, rows_after}
 use Rattle.wh_load.specs.ReadingParts.{parts_in, text_in}
-use Rattle.wh_load.specs.StrategyText.{strategy_of}
-use Rattle.wh_load.specs.TableText.{or_fault}
-use Rattle.wh_load.specs.declared.bundle.fault.Nights.TheVariants as nights
-use Rattle.wh_load.specs.declared.bundle.heading.Heading.TheVariants as heading
-use Rattle.wh_load.specs.declared.bundle.part.Part.{Part}
-use Rattle.wh_load.specs.declared.fault.LoadFault.{LoadFault}
 use Rattle.wh_maint.specs.Comp.{bag_at}
 use Rattle.wh_maint.specs.Contents.{contents}
 use Rattle.wh_maint.specs.Definition.{graph_of}

@@ -1,8 +1,8 @@
 -- What `check` prints for the bytes of a bundle, and the status that it ends with.
 use Rattle.std.specs.Prelude.{◌≡◌, ◌++◌, ℕ, List, [], ◌∷◌, codes, decimal, MatchResult}
-use Rattle.wh_load.specs.FaultText.{fault_text}
+use Rattle.wh_text.specs.FaultText.{fault_text}
+use Rattle.wh_text.specs.declared.fault.LoadFault.{LoadFault}
 use Rattle.wh_load.specs.ReadingCheck.{Inputs, inputs_of}
-use Rattle.wh_load.specs.declared.fault.LoadFault.{LoadFault}
 use Rattle.wh_strategy.specs.declared.correct.CheckFault.{CheckFault}
 use Rattle.wh_strategy.specs.declared.correct.CheckFault.TheVariants.{Broken, Memory}
 use Rattle.wh_strategy.specs.declared.rule.Rule.{Rule}

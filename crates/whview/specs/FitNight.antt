@@ -3,8 +3,8 @@
 use Rattle.std.specs.Prelude.{List, map}
 use Rattle.wh_dag.specs.Shape.{Views}
 use Rattle.wh_row.specs.Bag.{Bag}
-use Rattle.wh_load.specs.Definitions.{ViewOf, shown_view}
-use Rattle.wh_load.specs.ReadCatalog.{AreDefinitions, catalog_of}
+use Rattle.wh_catalogue_text.specs.Definitions.{ViewOf, shown_view}
+use Rattle.wh_catalogue_text.specs.ReadCatalog.{AreDefinitions, catalog_of}
 use Rattle.wh_load.specs.declared.reading.inputs.NightInput.{NightInput}
 use Rattle.wh_maint.specs.Asked.{AreBags}
 use Rattle.whview.specs.OpenedNight.{AreReadTables}

@@ -3,11 +3,11 @@ use Rattle.std.specs.Prelude.{◌≡◌, ◌≢◌, ◌<◌, ◌+◌, ◌++◌, 
 use Rattle.wh_dag.specs.Catalog.{DefinitionOf}
 use Rattle.wh_dag.specs.Written.{name_of}
 use Rattle.wh_row.specs.Bag.{Bag}
-use Rattle.wh_load.specs.Definitions.{ViewOf}
-use Rattle.wh_load.specs.ExpressionText.{expression_text}
-use Rattle.wh_load.specs.FormulaKinds.{Texts}
+use Rattle.wh_catalogue_text.specs.Definitions.{ViewOf}
+use Rattle.wh_catalogue_text.specs.FormulaKinds.{Texts}
+use Rattle.wh_table_text.specs.TableWritten.{table_text}
+use Rattle.wh_plan_text.specs.ExpressionText.{expression_text}
 use Rattle.wh_load.specs.ReadingNight.{Night, catalog_in, night_of}
-use Rattle.wh_load.specs.TableWritten.{table_text}
 use Rattle.wh_maint.specs.Comp.{bag_at}
 use Rattle.wh_maint.specs.Contents.{AreContentsOf, contents}
 use Rattle.wh_maint.specs.Definition.{graph_of}

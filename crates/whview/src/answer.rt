@@ -1,8 +1,8 @@
 //! What the program writes, and the status that it ends with.
 
 ghost use Rattle.std.specs.Prelude.{◌≡◌, IfOk, decimal, string_bytes};
-ghost use Rattle.wh_load.specs.FaultText.{fault_text};
-ghost use Rattle.wh_load.specs.PlanText.{plan_text};
+ghost use Rattle.wh_text.specs.FaultText.{fault_text};
+ghost use Rattle.wh_plan_text.specs.PlanText.{plan_text};
 ghost use Rattle.whview.specs.CertifyOutput.{verdict_status, verdict_text};
 ghost use Rattle.whview.specs.CheckOutput.{IsFaultShown, correct_text, broken_text, line};
 ghost use Rattle.whview.specs.PlanOutput.{spent_text};

@@ -3,8 +3,8 @@
 ghost use Rattle.std.specs.Prelude.{◌≡◌, map, length, IsTrue, IfOk};
 ghost use Rattle.wh_formula.specs.Expr.{fits as fits_expr};
 ghost use Rattle.wh_formula.specs.Pred.{fits as fits_pred};
-ghost use Rattle.wh_load.specs.Definitions.{shown_view};
-ghost use Rattle.wh_load.specs.ReadCatalog.{catalog_of};
+ghost use Rattle.wh_catalogue_text.specs.Definitions.{shown_view};
+ghost use Rattle.wh_catalogue_text.specs.ReadCatalog.{catalog_of};
 ghost use Rattle.wh_load.specs.ReadingShown.{shown_given, shown_night, shown_opening};
 ghost use Rattle.whview.specs.FitNight.{IsFitNight};
 ghost use Rattle.whview.specs.NightOutput.{IsNightOutput, IsNightTold};

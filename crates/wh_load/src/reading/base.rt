@@ -1,16 +1,13 @@
 //! Whether the parts of rows are of base views.
 
 ghost use Rattle.std.specs.Prelude.{◌≡◌, ◌⊎◌, map, option_map, None, Some, IfErr, OnOk};
-ghost use Rattle.wh_load.specs.Definitions.{shown_view};
+ghost use Rattle.wh_catalogue_text.specs.Definitions.{shown_view};
 ghost use Rattle.wh_load.specs.ReadingNight.{first_stray, is_base_name, stray_word, unless_base_name};
 
-use crate::bundle::Bundle;
-use crate::bundle::heading::Heading;
-use crate::bundle::word::Word;
-use crate::definitions::views::WrittenView;
-use crate::fault::LoadFault;
-use crate::names::Names;
 use std::alloc::Global;
+use wh_bundle::{Bundle, Heading};
+use wh_catalogue_text::WrittenView;
+use wh_text::{LoadFault, Names, Word};
 
 /// Whether this word is the name of a base view.
 fn is_base_name(names: &Names, views: &[WrittenView], word: &[u8]) -> bool

@@ -1,7 +1,7 @@
 //! What `certify` reads: views, their sizes and a plan.
 
 ghost use Rattle.std.specs.Prelude.{◌≡◌, ◌⊎◌, Ok, Err, IfOk, IfErr};
-ghost use Rattle.wh_load.specs.PlanText.{plan_of};
+ghost use Rattle.wh_plan_text.specs.PlanText.{plan_of};
 ghost use Rattle.wh_load.specs.ReadingClaim.{claim_in, claim_of, claim_texts_in, claim_texts_of};
 ghost use Rattle.wh_load.specs.ReadingShown.{shown_claim, shown_claim_texts};
 
@@ -9,14 +9,11 @@ use super::inputs::CertifyInput;
 use super::parts::{bundle_of, text_of};
 use super::plan::{measured_in, measured_texts_in};
 use super::texts::ClaimTexts;
-use crate::bundle::Bundle;
-use crate::bundle::fault::Nights;
-use crate::bundle::heading::Heading;
-use crate::fault::LoadFault;
-use crate::names::Names;
-use crate::plan::{Plan, read_plan};
 use std::alloc::Global;
+use wh_bundle::{Bundle, Heading, Nights};
 use wh_dag::Shape;
+use wh_plan_text::{Plan, read_plan};
+use wh_text::{LoadFault, Names};
 
 fn claim_texts_in<'a>(alloc: Global, bundle: &Bundle<'a>) -> Result<ClaimTexts<'a>, LoadFault>
     ensures ok { IfOk result (λ t. claim_texts_in bundle.now ≡ Ok (shown_claim_texts t)) }

@@ -2,12 +2,12 @@
 
 ghost use Rattle.std.specs.Prelude.{◌≡◌, length};
 
-use crate::definitions::views::WrittenView;
-use crate::dict::Dict;
-use crate::plan::Plan;
+use wh_catalogue_text::WrittenView;
 use wh_dag::Shape;
+use wh_plan_text::Plan;
 use wh_row::Bag;
 use wh_strategy::{Sizes, Strategy};
+use wh_text::Dict;
 
 /// Views and their sizes, for which a strategy is planned.
 #[derive(Drop)]

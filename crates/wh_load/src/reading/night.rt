@@ -1,8 +1,8 @@
 //! What `night` reads: views, their definitions and tables, and the changes and the strategy of a night.
 
 ghost use Rattle.std.specs.Prelude.{◌≡◌, ◌⊎◌, length, map, Ok, Err, IfOk, IfErr};
-ghost use Rattle.wh_load.specs.Definitions.{shown_view};
-ghost use Rattle.wh_load.specs.ReadCatalog.{AreDefinitions};
+ghost use Rattle.wh_catalogue_text.specs.Definitions.{shown_view};
+ghost use Rattle.wh_catalogue_text.specs.ReadCatalog.{AreDefinitions};
 ghost use Rattle.wh_load.specs.ReadingNight.{AreReadRows, ChangeRows, TableRows, night_in, night_of, night_over, night_with};
 ghost use Rattle.wh_load.specs.ReadingShown.{IsReadNight, shown_night};
 
@@ -10,20 +10,14 @@ use super::base::only_base_parts;
 use super::inputs::{GivenNight, NightInput, Opening};
 use super::parts::{bundle_of, text_of};
 use super::rows::{changes_in, tables_in};
-use crate::bundle::Bundle;
-use crate::bundle::fault::Nights;
-use crate::bundle::heading::Heading;
-use crate::catalogue::read_shape;
-use crate::definitions::read_definitions;
-use crate::definitions::views::{Written, WrittenView};
-use crate::dict::Dict;
-use crate::fault::LoadFault;
-use crate::names::Names;
-use crate::strategy::read_strategy;
 use std::alloc::Global;
+use wh_bundle::{Bundle, Heading, Nights};
+use wh_catalogue_text::{Written, WrittenView, read_definitions, read_shape};
 use wh_dag::Shape;
+use wh_plan_text::read_strategy;
 use wh_row::Bag;
 use wh_strategy::Strategy;
+use wh_text::{Dict, LoadFault, Names};
 
 /// What is read beside a catalogue.
 #[derive(Drop)]

@@ -4,16 +4,17 @@ ghost use Rattle.std.specs.Prelude.{◌≡◌, ◌⊎◌, Ok, Err, IfOk, IfErr};
 ghost use Rattle.std.specs.Cow.{cow_slice_items};
 ghost use Rattle.wh_load.specs.ReadingParts.{parts_in, text_in};
 
-use crate::bundle::fault::{Nights, PartFault};
-use crate::bundle::heading::Heading;
-use crate::bundle::word::Word;
-use crate::bundle::{Bundle, parts};
-use crate::fault::LoadFault;
 use std::alloc::Global;
 use std::borrow::CowSlice;
+use wh_bundle::{Bundle, Heading, Nights, PartFault, parts};
+use wh_text::{LoadFault, Word};
 
 /// The parts of a bundle of which these nights are read.
-pub fn bundle_of<'a>(alloc: Global, bytes: &'a [u8], nights: Nights) -> Result<Bundle<'a>, LoadFault>
+pub fn bundle_of<'a>(
+    alloc: Global,
+    bytes: &'a [u8],
+    nights: Nights,
+) -> Result<Bundle<'a>, LoadFault>
     ensures ok { IfOk result (λ bundle. parts_in nights bytes.now ≡ Ok bundle) }
     ensures err { IfErr result (λ f. (f ≡ LoadFault.Memory) ⊎ (parts_in nights bytes.now ≡ Err f)) }
 {

@@ -7,13 +7,11 @@ ghost use Rattle.wh_load.specs.ReadingShown.{shown_measured, shown_measured_text
 use super::inputs::MeasuredViews;
 use super::parts::{bundle_of, text_of};
 use super::texts::MeasuredTexts;
-use crate::bundle::Bundle;
-use crate::bundle::fault::Nights;
-use crate::bundle::heading::Heading;
-use crate::catalogue::read_shape;
-use crate::fault::LoadFault;
-use crate::sizes::read_sizes;
 use std::alloc::Global;
+use wh_bundle::{Bundle, Heading, Nights};
+use wh_catalogue_text::read_shape;
+use wh_table_text::read_sizes;
+use wh_text::LoadFault;
 
 pub(super) fn measured_texts_in<'a>(
     alloc: Global,

@@ -1,19 +1,16 @@
 //! The tables and the changes of base views.
 
 ghost use Rattle.std.specs.Prelude.{◌≡◌, ◌⊎◌, [], length, map, Ok, Err, IfOk, IfErr};
-ghost use Rattle.wh_load.specs.Definitions.{shown_view};
+ghost use Rattle.wh_catalogue_text.specs.Definitions.{shown_view};
 ghost use Rattle.wh_load.specs.ReadingNight.{AreReadRows, ChangeRows, TableRows, rows_after, rows_of};
 
-use crate::bundle::Bundle;
-use crate::bundle::heading::Heading;
-use crate::bundle::piece::Piece;
-use crate::definitions::views::WrittenView;
-use crate::dict::Dict;
-use crate::fault::LoadFault;
-use crate::table::{read_changes, read_table};
 use std::alloc::Global;
+use wh_bundle::{Bundle, Heading, Piece};
+use wh_catalogue_text::WrittenView;
 use wh_dag::Shape;
 use wh_row::Bag;
+use wh_table_text::{read_changes, read_table};
+use wh_text::{Dict, LoadFault};
 
 /// The table of a view: of a base view what its part writes, and no rows where there is none.
 fn table_of(

@@ -2,7 +2,7 @@
 
 ghost use Rattle.std.specs.Prelude.{◌≡◌, ◌≢◌, ◌<◌, ◌++◌, ℕ, codes, decimal, drop, flat_map, length, map, sum_by, IfOk, OnOk};
 ghost use Rattle.wh_dag.specs.Written.{name_of};
-ghost use Rattle.wh_load.specs.Definitions.{shown_view};
+ghost use Rattle.wh_catalogue_text.specs.Definitions.{shown_view};
 ghost use Rattle.wh_maint.specs.Comp.{bag_at};
 ghost use Rattle.whview.specs.CheckOutput.{line};
 ghost use Rattle.whview.specs.NightOutput.{left_text, refused_text, report_text, step_text, view_text, views_text, work_in};

@@ -1,6 +1,6 @@
 use Rattle.std.proofs.Common.{◌∙◌, ◌++◌, ap, subst, map}
 use Rattle.wh_dag.specs.Shape.{Views}
-use Rattle.wh_load.specs.Definitions.{shown_view}
+use Rattle.wh_catalogue_text.specs.Definitions.{shown_view}
 use Rattle.wh_load.specs.ReadingShown.{shown_given, shown_opening}
 use Rattle.wh_maint.specs.Comp.{bag_at}
 use Rattle.wh_strategy.specs.Rules.{IsCorrect, IsReason}

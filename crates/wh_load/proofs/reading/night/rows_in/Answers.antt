@@ -1,5 +1,5 @@
 use Rattle.std.proofs.Common.{map}
-use Rattle.wh_load.specs.Definitions.{shown_view}
+use Rattle.wh_catalogue_text.specs.Definitions.{shown_view}
 use Rattle.wh_load.specs.ReadingNight.{TableRows, ChangeRows}
 use Rattle.wh_load.proofs.ReadingRows.{read_rows}
 use Rattle.wh_load.proofs.reading.night.rows_in.Goals as goal

@@ -1,0 +1,6 @@
+pub mod CutLemmas
+pub mod NightLemmas
+pub mod PartsRead
+pub mod PlainLines
+pub mod SeenHeadings
+pub mod TextLemmas

@@ -1,0 +1,83 @@
+-- What the line that opens a part says.
+use Rattle.std.specs.Prelude.{◌-◌, ◌&&◌, ℕ, Bool, true, false, List, [], ◌∷◌, length, take, drop, Option, Some, None, option_map, codes, if◌then◌else◌, nat_eq, nat_lt}
+use Rattle.std.specs.Option.{option_or}
+use Rattle.std.specs.List.{starts_with, suffix_len, prefix_len, before_first}
+use Rattle.std.specs.Str.{bytes_eq}
+use Rattle.wh_text.specs.Line.{is_blank}
+use Rattle.wh_bundle.specs.PartLine.{without_end}
+use Rattle.wh_bundle.specs.declared.bundle.heading.Heading.{Heading}
+use Rattle.wh_bundle.specs.declared.bundle.heading.Heading.TheVariants.{Catalogue, Sizes, Strategy, Plan, Schedule, Night, Data, Changes}
+use Rattle.wh_bundle.specs.declared.bundle.heading.Scope.{Scope}
+use Rattle.wh_bundle.specs.declared.bundle.heading.Scope.TheVariants as scope
+
+-- a text without the blanks at its end
+abbrev pub without_blank_end : List ℕ → List ℕ
+without_blank_end text = take (length text - suffix_len is_blank text) text
+
+-- a heading's text: the line that opens the part, without its `@`, its end and the blanks before that
+abbrev pub heading_text : List ℕ → List ℕ
+heading_text opening = without_blank_end (drop 1 (without_end opening))
+
+-- the heading that is a single word, where the text is one
+abbrev pub single_heading : List ℕ → Option Heading
+single_heading text =
+    if bytes_eq text (codes "catalogue") then Some Catalogue else
+    (if bytes_eq text (codes "sizes") then Some Sizes else
+    (if bytes_eq text (codes "strategy") then Some Strategy else
+    (if bytes_eq text (codes "plan") then Some Plan else
+    (if bytes_eq text (codes "schedule") then Some Schedule else
+    (if bytes_eq text (codes "night") then Some Night else None)))))
+
+-- what stands after a front, where there is anything
+abbrev pub name_after : List ℕ → List ℕ → Option (List ℕ)
+name_after front text =
+    if starts_with nat_eq text front && nat_lt (length front) (length text) then Some (drop (length front) text) else None
+
+-- the heading that a text spells, if any: a single word, `data NAME` or `changes NAME`
+abbrev pub heading_of : List ℕ → Option Heading
+heading_of text =
+    option_or (single_heading text) (option_or (option_map Data (name_after (codes "data ") text)) (option_map Changes (name_after (codes "changes ") text)))
+
+-- how often a heading may stand
+abbrev pub scope_of : Heading → Scope
+scope_of Strategy = scope.Night
+scope_of (Changes name) = scope.Night
+scope_of Night = scope.Any
+scope_of _ = scope.Bundle
+
+-- the heading opens a night
+abbrev pub is_night : Heading → Bool
+is_night Night = true
+is_night _ = false
+
+-- two headings are the same: their words, and their names where they have one
+abbrev pub same_heading : Heading → Heading → Bool
+same_heading Catalogue Catalogue = true
+same_heading Sizes Sizes = true
+same_heading Strategy Strategy = true
+same_heading Plan Plan = true
+same_heading Schedule Schedule = true
+same_heading Night Night = true
+same_heading (Data name) (Data other) = bytes_eq name other
+same_heading (Changes name) (Changes other) = bytes_eq name other
+same_heading _ _ = false
+
+-- whether the part is read as CSV, which keeps its CRs
+abbrev pub is_csv : Heading → Bool
+is_csv Sizes = true
+is_csv (Data name) = true
+is_csv (Changes name) = true
+is_csv _ = false
+
+-- the first word of a text, which blanks part from the next
+abbrev pub first_word : List ℕ → List ℕ
+first_word text = before_first is_blank (drop (prefix_len is_blank text) text)
+
+-- a word, or `text` in place of none
+abbrev pub word_or_text : List ℕ → List ℕ
+word_or_text [] = codes "text"
+word_or_text (b ∷ bs) = b ∷ bs
+
+-- how a fault names a heading: by its first word, or by `text` where it has none
+abbrev pub fault_word : List ℕ → List ℕ
+fault_word text = word_or_text (first_word text)

@@ -1,0 +1,10 @@
+pub mod Bundle
+pub mod Cut
+pub mod Find
+pub mod Heading
+pub mod PartFault
+pub mod PartLine
+pub mod RawPart
+pub mod Reading
+pub mod Seen
+pub mod Text

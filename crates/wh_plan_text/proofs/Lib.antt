@@ -1,0 +1,14 @@
+pub mod BegunTrees
+pub mod CycleParts
+pub mod ExpressionPieces
+pub mod Lists
+pub mod Naturals
+pub mod NodeReadingBack
+pub mod PlanForms
+pub mod PlanGrammars
+pub mod PlanLines
+pub mod PlanReadingBack
+pub mod ReadingBack
+pub mod Spelled
+pub mod TreeGrowths
+pub mod WholeTrees

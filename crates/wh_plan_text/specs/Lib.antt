@@ -1,0 +1,12 @@
+pub mod ExpressionText
+pub mod Natural
+pub mod NodeLine
+pub mod PlanGrammar
+pub mod PlanLine
+pub mod PlanReadsBack
+pub mod PlanText
+pub mod ReadsBack
+pub mod StrategyText
+pub mod TreeGrowth
+pub mod TreeText
+pub mod Words

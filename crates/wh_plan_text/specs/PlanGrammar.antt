@@ -1,0 +1,77 @@
+-- Which texts are plans, and where a text stops being one.
+use Rattle.std.specs.Prelude.{◌≡◌, ◌↔◌, ◌⊎◌, ◌+◌, ◌++◌, ◌==◌, ℕ, List, [], ◌∷◌, length, map, Option, Some, Result, Ok, Err, if◌then◌else◌}
+use Rattle.std.specs.List.{flat_map}
+use Rattle.wh_cert.specs.Tree.{CaseTree, IsTreeOf}
+use Rattle.wh_cert.specs.declared.certificate.Certificate.{Certificate}
+use Rattle.wh_cert.specs.declared.certificate.Certificate.TheVariants.{Pairs, Search}
+use Rattle.wh_cert.specs.declared.certificate.Scope.{Scope}
+use Rattle.wh_cert.specs.declared.certificate.Scope.TheVariants as scope
+use Rattle.wh_text.specs.declared.fault.LoadFault.{LoadFault}
+use Rattle.wh_text.specs.declared.fault.LoadFault.TheVariants.{Plan as PlanFault}
+use Rattle.wh_plan_text.specs.PlanLine.{plan_line_of}
+use Rattle.wh_plan_text.specs.PlanText.{nodes_of, plan_of}
+use Rattle.wh_plan_text.specs.TreeGrowth.{IsBegun}
+use Rattle.wh_plan_text.specs.Words.{lines_of, words_of}
+use Rattle.wh_plan_text.specs.declared.plan.Plan.{Plan}
+use Rattle.wh_plan_text.specs.declared.plan.line.PlanLine.{PlanLine}
+use Rattle.wh_plan_text.specs.declared.plan.line.PlanLine.TheVariants.{Scoped, Worked, Listed, Paired, Searched}
+
+-- what a line says in a plan over views of these names: nothing where it has no words, and None where it is a line of no plan
+abbrev pub told_by : List (List ℕ) → List ℕ → List (Option PlanLine)
+told_by names line = if length (words_of line) == 0 then [] else plan_line_of names line (words_of line) ∷ []
+
+-- what lines say, one after another
+abbrev pub told_in : List (List ℕ) → List (List ℕ) → List (Option PlanLine)
+told_in names lines = flat_map (told_by names) lines
+
+-- the lines of a certificate
+abbrev pub certificate_lines : Certificate → List PlanLine
+certificate_lines (Pairs pairs) = map Paired pairs
+certificate_lines (Search nodes) = map Searched nodes
+
+-- the lines of a plan: its scope, its work, its list and its certificate
+abbrev pub plan_lines : Plan → List PlanLine
+plan_lines plan = Scoped plan.scope ∷ Worked plan.work ∷ (map Listed plan.strategy ++ certificate_lines plan.certificate)
+
+-- the certificate is one for this scope: pairs for all, nodes for one-way
+abbrev pub IsForScope : Scope → Certificate → Type 0
+IsForScope scope.All (Pairs pairs) = Unit {0}
+IsForScope scope.OneWay (Search nodes) = Unit {0}
+IsForScope scope.All (Search nodes) = ⊥
+IsForScope scope.OneWay (Pairs pairs) = ⊥
+
+-- the nodes of a certificate, if it has some, are those of a tree at most 1,000 deep
+abbrev pub IsWhole : Certificate → Type 0
+IsWhole (Pairs pairs) = Unit {0}
+IsWhole (Search nodes) = (tree : CaseTree) × IsTreeOf nodes tree
+
+-- the lines say this plan
+pub record SayPlan (names : List (List ℕ)) (lines : List (List ℕ)) (plan : Plan) : Type 0 where
+  pub told : told_in names lines ≡ map Some (plan_lines plan)
+  pub for_scope : IsForScope plan.scope plan.certificate
+  pub whole : IsWhole plan.certificate
+
+-- the lines say the first lines of some plan, and the nodes among them begin a tree, none of them more than 1,000 deep
+pub record BeginPlan (names : List (List ℕ)) (lines : List (List ℕ)) : Type 0 where
+  pub plan : Plan
+  pub first : List PlanLine
+  pub rest : List PlanLine
+  pub parts : plan_lines plan ≡ first ++ rest
+  pub for_scope : IsForScope plan.scope plan.certificate
+  pub told : told_in names lines ≡ map Some first
+  pub begun : IsBegun (nodes_of first)
+
+-- where lines stop being a plan, as the number of a line, counted from 1
+pub data StopAt (names : List (List ℕ)) (lines : List (List ℕ)) (number : ℕ) : Type 0 where
+  -- a line with which those above it no longer begin a plan
+  wrong_line : (above below : List (List ℕ)) (line : List ℕ) → lines ≡ above ++ line ∷ below → number ≡ length above + 1 → BeginPlan names above → (BeginPlan names (above ++ line ∷ []) → ⊥) → StopAt names lines number
+  -- after the last line, where all of them begin a plan and are none
+  too_short : number ≡ length lines + 1 → BeginPlan names lines → ((plan : Plan) → SayPlan names lines plan → ⊥) → StopAt names lines number
+
+-- a text is read as the plan that its lines say, and as none where they say none
+abbrev pub PlanGrammar : Type 0
+PlanGrammar = (names : List (List ℕ)) (text : List ℕ) (plan : Plan) → (plan_of names text ≡ Ok plan) ↔ SayPlan names (lines_of text) plan
+
+-- a text that is no plan is at fault where its lines stop being one
+abbrev pub PlanFaults : Type 0
+PlanFaults = (names : List (List ℕ)) (text : List ℕ) (fault : LoadFault) → plan_of names text ≡ Err fault → (number : ℕ) × (fault ≡ PlanFault number) × StopAt names (lines_of text) number

@@ -1,0 +1,14 @@
+pub mod Cells
+pub mod ChangesReadingBack
+pub mod NamesText
+pub mod RecordLists
+pub mod RecordReads
+pub mod RecordsReadBack
+pub mod SizeLimits
+pub mod SizeRows
+pub mod TableLines
+pub mod TableReadingBack
+pub mod TableRow
+pub mod TableRows
+pub mod TableSums
+pub mod TablesRead

@@ -1,0 +1,13 @@
+//! The texts in CSV: tables, changes and sizes.
+//!
+//! [`read_table`], [`read_changes`] and [`read_sizes`] read a record at a time; [`write_table`] writes a table.
+#![tactic(auto)]
+
+mod records;
+mod sizes;
+mod table;
+
+pub use sizes::read_sizes;
+pub use table::{
+    changes_read_back_law, read_changes, read_table, table_reads_back_law, write_table,
+};

@@ -1,0 +1,224 @@
+//! The sizes of the views, from a CSV part: a header, and a row of each view, in any order.
+
+ghost use Rattle.std.specs.Prelude.{◌≡◌, ◌⊎◌, ◌+◌, ◌^◌, ◌<◌, ◌≤◌, length, map, slice_index_or, IfOk, IfErr, IfSome, OnOk, Ok, Err, Some, None, vec_len, []};
+ghost use Rattle.std.specs.List.{filter_map, range_with_len};
+ghost use Rattle.std.specs.Option.{option_or};
+ghost use Rattle.csv.specs.Records.{fields_of};
+ghost use Rattle.wh_dag.specs.Written.{number_of};
+ghost use Rattle.wh_table_text.specs.SizesText.{Places, cells_fault, counts_of, given_by, header_fault, missing_fault, name_fault, number_fault, range_fault, row_size, rows_fault, rows_in, rows_of, size_of, sizes_of_text};
+
+use crate::records::{Records, are_cells, cell, whole_number};
+use csv::StringRecord;
+use std::alloc::{AllocError, Global};
+use wh_dag::Shape;
+use wh_strategy::{MAX_ROWS, SizeRow, Sizes};
+use wh_text::{LoadFault, Word};
+
+const HEADER: [&str; 4] = ["view", "pre", "post", "change"];
+
+// The numbers of a row, as they are written.
+#[derive(Clone, Copy)]
+struct Counts {
+    pre: i64,
+    post: i64,
+    change: i64,
+}
+
+#[tactic(auto, using(wh_text::proofs::WholeNumbers::whole_numbers), unfolding(crate::specs::SizesText::counts_of))]
+fn written_counts(row: &StringRecord) -> Option<Counts>
+    ensures { result ≡ counts_of (fields_of row.now) }
+{
+    let pre = whole_number(cell(row, 1))?;
+    let post = whole_number(cell(row, 2))?;
+    let change = whole_number(cell(row, 3))?;
+    Some(Counts { pre, post, change })
+}
+
+fn rows_within(count: i64) -> Option<u64>
+    ensures value { result ≡ rows_in count }
+    ensures few { IfSome result (λ rows. rows ≤ 2 ^ 40) }
+{
+    let rows = u64::try_from(count).ok()?;
+    if rows <= MAX_ROWS { Some(rows) } else { None }
+}
+
+#[tactic(auto, unfolding(crate::specs::SizesText::size_of))]
+fn size_within(counts: Counts) -> Option<SizeRow>
+    ensures { result ≡ size_of counts }
+{
+    let pre = rows_within(counts.pre)?;
+    let post = rows_within(counts.post)?;
+    let change = rows_within(counts.change)?;
+    if post <= pre + change && pre <= post + change {
+        Some(SizeRow { pre, post, change })
+    } else {
+        None
+    }
+}
+
+fn sizes_fault(alloc: Global, name: &str) -> LoadFault
+    ensures { (result ≡ LoadFault.Memory) ⊎ (result ≡ LoadFault.Sizes name.now) }
+{
+    match Word::new(alloc, name.as_bytes()) {
+        Ok(word) => LoadFault::Sizes(word),
+        Err(_) => LoadFault::Memory,
+    }
+}
+
+// The sizes that a row writes: its numbers are judged before their ranges.
+#[tactic(auto, unfolding(crate::specs::SizesText::row_size))]
+fn written_size(alloc: Global, number: usize, row: &StringRecord) -> Result<SizeRow, LoadFault>
+    ensures ok { IfOk result (λ size. row_size (fields_of row.now) ≡ Some size) }
+    ensures faultless { OnOk result (option_or (number_fault number (fields_of row.now)) (range_fault (fields_of row.now)) ≡ None) }
+    ensures err { IfErr result (λ f. (f ≡ LoadFault.Memory) ⊎ (option_or (number_fault number (fields_of row.now)) (range_fault (fields_of row.now)) ≡ Some f)) }
+{
+    let Some(counts) = written_counts(row) else {
+        return Err(LoadFault::Number(number));
+    };
+    let Some(size) = size_within(counts) else {
+        return Err(sizes_fault(alloc, cell(row, 0)));
+    };
+    Ok(size)
+}
+
+fn view_named(shape: &Shape, name: &str) -> Option<usize>
+    ensures value { result ≡ number_of shape.now.names name.now }
+    ensures within { IfSome result (λ view. view < length shape.now.children) }
+{
+    for view in 0..shape.len() {
+        if shape.name(view) == name {
+            return Some(view);
+        }
+    }
+    None
+}
+
+// The view of this name, which must not have been given sizes.
+fn fresh_view(
+    alloc: Global,
+    shape: &Shape,
+    given: &[Option<SizeRow>],
+    name: &str,
+) -> Result<usize, LoadFault>
+    requires { length given.now ≡ length shape.now.children }
+    ensures ok { IfOk result (λ view. number_of shape.now.names name.now ≡ Some view) }
+    ensures within { IfOk result (λ view. view < length given.now) }
+    ensures absent { IfOk result (λ view. slice_index_or given.now view None ≡ None) }
+    ensures err { IfErr result (λ f. (f ≡ LoadFault.Memory) ⊎ (name_fault shape.now.names given.now name.now ≡ Some f)) }
+{
+    let Some(view) = view_named(shape, name) else {
+        return Err(sizes_fault(alloc, name));
+    };
+    if given[view].is_some() {
+        return Err(sizes_fault(alloc, name));
+    }
+    Ok(view)
+}
+
+// Gives the view of this row the sizes that it writes.
+fn place_row(
+    alloc: Global,
+    shape: &Shape,
+    given: &mut [Option<SizeRow>],
+    number: usize,
+    row: &StringRecord,
+) -> Result<(), LoadFault>
+    requires { length given.old ≡ length shape.now.children }
+    ensures ok { OnOk result (Places shape.now.names given.old (fields_of row.now) given.new) }
+    ensures faultless { OnOk result (cells_fault shape.now.names given.old number (fields_of row.now) ≡ None) }
+    ensures err { IfErr result (λ f. (f ≡ LoadFault.Memory) ⊎ (cells_fault shape.now.names given.old number (fields_of row.now) ≡ Some f)) }
+{
+    let view = fresh_view(alloc, shape, given, cell(row, 0))?;
+    let size = written_size(alloc, number, row)?;
+    given[view] = Some(size);
+    Ok(())
+}
+
+fn no_sizes(alloc: Global, views: usize) -> Result<Vec<Option<SizeRow>>, AllocError>
+    ensures { IfOk result (λ given. given.items ≡ map (λ _. None) (range_with_len 0 views)) }
+{
+    let mut given = Vec::new(alloc);
+    for _view in 0..views {
+        given.push(None)?;
+    }
+    Ok(given)
+}
+
+fn read_header(records: &mut Records<'_>, cells: &mut StringRecord) -> Result<(), LoadFault>
+    requires { records.old.given ≡ 0 }
+    ensures ok { OnOk result (header_fault records.old.left ≡ None) }
+    ensures rest { OnOk result (rows_of records.old.left ≡ records.new.left) }
+    ensures given { OnOk result (records.new.given ≡ 1) }
+    ensures err { IfErr result (λ f. (f ≡ LoadFault.Memory) ⊎ (header_fault records.old.left ≡ Some f)) }
+{
+    if !records.read(cells)? || !are_cells(cells, &HEADER) {
+        return Err(LoadFault::Header);
+    }
+    Ok(())
+}
+
+// What the rows give the views.
+fn read_rows(
+    alloc: Global,
+    shape: &Shape,
+    records: &mut Records<'_>,
+    cells: &mut StringRecord,
+) -> Result<Vec<Option<SizeRow>>, LoadFault>
+    requires { records.old.given ≡ 1 }
+    ensures ok { IfOk result (λ given. given.items ≡ given_by shape.now.names records.old.left) }
+    ensures len { IfOk result (λ given. vec_len given ≡ length shape.now.children) }
+    ensures faultless { OnOk result (rows_fault shape.now.names [] records.old.left ≡ None) }
+    ensures err { IfErr result (λ f. (f ≡ LoadFault.Memory) ⊎ (rows_fault shape.now.names [] records.old.left ≡ Some f)) }
+{
+    let Ok(mut given) = no_sizes(alloc, shape.len()) else {
+        return Err(LoadFault::Memory);
+    };
+    'rows: while records.read_row(HEADER.len(), cells)? {
+        place_row(alloc, shape, &mut given, records.number(), cells)?;
+    }
+    Ok(given)
+}
+
+// The sizes of all views, of which each must have been given its own.
+fn covered(
+    alloc: Global,
+    shape: &Shape,
+    given: &[Option<SizeRow>],
+) -> Result<Vec<SizeRow>, LoadFault>
+    requires { length given.now ≡ length shape.now.children }
+    ensures ok { IfOk result (λ rows. rows.items ≡ filter_map (λ size. size) given.now) }
+    ensures len { IfOk result (λ rows. vec_len rows ≡ length given.now) }
+    ensures faultless { OnOk result (missing_fault shape.now.names given.now ≡ None) }
+    ensures err { IfErr result (λ f. (f ≡ LoadFault.Memory) ⊎ (missing_fault shape.now.names given.now ≡ Some f)) }
+{
+    let mut rows = Vec::new(alloc);
+    for (view, size) in given.iter().enumerate() {
+        let Some(size) = size else {
+            return Err(sizes_fault(alloc, shape.name(view)));
+        };
+        if rows.push(*size).is_err() {
+            return Err(LoadFault::Memory);
+        }
+    }
+    Ok(rows)
+}
+
+/// The sizes of the shape's views, by their numbers, or the text's first fault, record by record: `Csv` (the record's
+/// form), then `Header`, or of a row `Sizes` (no view's name, or a second row of a view), `Number`, `Sizes` (out of
+/// range); after the last record `Sizes` of the first view without a row.
+#[tactic(auto, unfolding(crate::specs::SizesText::sizes_of_text))]
+pub fn read_sizes(alloc: Global, shape: &Shape, text: &[u8]) -> Result<Sizes, LoadFault>
+    ensures sizes { IfOk result (λ sizes. sizes_of_text shape.now.names text.now ≡ Ok sizes) }
+    ensures len { IfOk result (λ sizes. length sizes ≡ length shape.now.children) }
+    ensures fault { IfErr result (λ f. (f ≡ LoadFault.Memory) ⊎ (sizes_of_text shape.now.names text.now ≡ Err f)) }
+{
+    let mut records = Records::new(alloc, text);
+    let mut cells = StringRecord::new(alloc);
+    read_header(&mut records, &mut cells)?;
+    let given = read_rows(alloc, shape, &mut records, &mut cells)?;
+    let rows = covered(alloc, shape, &given)?;
+    match Sizes::new(rows) {
+        Ok(sizes) => Ok(sizes),
+        Err(_) => unreachable!(),
+    }
+}

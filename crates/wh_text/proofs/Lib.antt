@@ -1,0 +1,5 @@
+pub mod DictGrowth
+pub mod DictTexts
+pub mod LineLemmas
+pub mod Named
+pub mod WholeNumbers

@@ -1,0 +1,48 @@
+//! Bytes as lines, which are cut after each LF.
+ghost use Rattle.std.specs.Prelude.{◌≡◌, ◌+◌, ◌<◌, ◌≤◌, ◌∷◌, length, take, drop};
+ghost use Rattle.wh_text.specs.Line.{whole_lines, without_lf, is_blank};
+
+use memchr::memchr;
+
+// The length of the first line, with its LF.
+fn line_len(text: &[u8]) -> usize
+    requires { 0 < length text.now }
+    ensures some { 0 < result }
+    ensures within { result ≤ length text.now }
+    ensures lines { whole_lines text.now ≡ take result text.now ∷ whole_lines (drop result text.now) }
+{
+    match memchr(b'\n', text) {
+        Some(place) => place + 1,
+        None => text.len(),
+    }
+}
+
+/// The first line with its LF, and what stands below it.
+pub fn first_line(text: &[u8]) -> (&[u8], &[u8])
+    requires { 0 < length text.now }
+    ensures some { 0 < length result.0.now }
+    ensures shorter { length result.0.now + length result.1.now ≡ length text.now }
+    ensures line { result.0.now ≡ take (length result.0.now) text.now }
+    ensures below { result.1.now ≡ drop (length result.0.now) text.now }
+    ensures lines { whole_lines text.now ≡ result.0.now ∷ whole_lines result.1.now }
+{
+    text.split_at(line_len(text))
+}
+
+/// The line without the LF that ends it.
+pub fn without_lf(line: &[u8]) -> &[u8]
+    ensures { result.now ≡ without_lf line.now }
+{
+    if line.ends_with(b"\n") {
+        &line[..line.len() - 1]
+    } else {
+        line
+    }
+}
+
+/// Whether the byte is a blank.
+pub fn is_blank(byte: u8) -> bool
+    ensures { result ≡ is_blank byte }
+{
+    byte == b' ' || byte == b'\t'
+}
