@@ -35,7 +35,11 @@ fn a_read_that_fails_is_a_fault_whichever_it_is(rt: HostRuntime) {
         let mut input = Source::failing(BUNDLE.as_bytes(), step, at);
         let mut out = Sink::new(rt.alloc(), ENDLESS, true);
         let status = run(&rt, rt.alloc(), &["check"], &mut input, &mut out);
-        let (wanted, text) = if at <= 5 { (3, "fault read\n") } else { (0, ANSWER) };
+        let (wanted, text) = if at <= 5 {
+            (3, "fault read\n")
+        } else {
+            (0, ANSWER)
+        };
         assert_eq!(&rt; status, wanted, "at {at}");
         assert!(&rt; out.text.as_slice() == text.as_bytes(), "at {at}");
         assert_eq!(&rt; input.reads(), at.min(5), "at {at}");
@@ -49,7 +53,10 @@ fn a_writer_that_fails_ends_with_5_wherever_it_does(rt: HostRuntime) {
         let mut out = Sink::new(rt.alloc(), room, room < ANSWER.len());
         let status = run(&rt, rt.alloc(), &["check"], &mut input, &mut out);
         assert_eq!(&rt; status, 5, "with room for {room}");
-        assert!(&rt; ANSWER.as_bytes().starts_with(&out.text), "with room for {room}");
+        assert!(&rt;
+            ANSWER.as_bytes().starts_with(&out.text),
+            "with room for {room}"
+        );
     }
     let mut full = Sink::new(rt.alloc(), 0, true);
     assert_eq!(&rt; want_of_memory(&mut full), 5);
@@ -60,7 +67,10 @@ fn a_writer_that_fails_ends_with_5_wherever_it_does(rt: HostRuntime) {
 fn words_that_are_refused_leave_the_reader_unread(rt: HostRuntime) {
     let mut input = Source::new(BUNDLE.as_bytes(), 4096);
     let mut out = Sink::new(rt.alloc(), ENDLESS, true);
-    assert_eq!(&rt; run(&rt, rt.alloc(), &["check", "now"], &mut input, &mut out), 2);
+    assert_eq!(&rt;
+        run(&rt, rt.alloc(), &["check", "now"], &mut input, &mut out),
+        2
+    );
     assert_eq!(&rt; input.reads(), 0);
 }
 
