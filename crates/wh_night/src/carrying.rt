@@ -17,12 +17,12 @@ ghost use Rattle.wh_night.specs.Steps.{AreSteps};
 
 use crate::report::{Carried, CarryFault, Report};
 use crate::state::State;
-use std::alloc::{AllocError, Global};
+use std::alloc::Global;
 use wh_dag::Catalog;
 use wh_formula::{RowTest, RowValue};
 use wh_maint::{MaintFault, changed};
 use wh_row::Bag;
-use wh_strategy::{Correct, Expression, Sources};
+use wh_strategy::{Correct, Expression};
 
 /// Carries a night out, on copies of the tables: what any correct strategy, one-way or not, makes of them with these
 /// changes of the base views. There is a table and a change for each view; the changes of derived views are not read.
@@ -129,7 +129,7 @@ fn carry_out<F: RowTest, G: RowValue>(
             Ok(rows) => rows,
             Err(fault) => return Err(fault),
         };
-        let Ok(expression) = same_expression(alloc, &list[place]) else {
+        let Ok(expression) = list[place].copy(alloc) else {
             return Err(MaintFault::Memory);
         };
         let Ok(()) = steps.push((expression, rows)) else {
@@ -137,16 +137,4 @@ fn carry_out<F: RowTest, G: RowValue>(
         };
     }
     Ok(steps)
-}
-
-fn same_expression(alloc: Global, expression: &Expression) -> Result<Expression, AllocError>
-    ensures { IfOk result (λ same. same ≡ expression.now) }
-{
-    match expression {
-        Expression::Comp(view, sources) => {
-            let views = Vec::from_slice(alloc, sources.as_slice())?;
-            Ok(Expression::Comp(*view, Sources::new(views)))
-        }
-        Expression::Inst(view) => Ok(Expression::Inst(*view)),
-    }
 }

@@ -1,5 +1,5 @@
 -- Expressions and the places where they stand.
-use Rattle.std.specs.Prelude.{◌≡◌, ℕ, List, take, slice_get, Some, Bool, false, ◌==◌}
+use Rattle.std.specs.Prelude.{◌≡◌, ◌≢◌, ℕ, List, [], take, slice_get, Some, Bool, false, ◌==◌}
 use Rattle.std.specs.List.{list_any}
 use Rattle.wh_strategy.specs.declared.expression.Expression.{Expression}
 use Rattle.wh_strategy.specs.declared.expression.Expression.TheVariants.{Comp, Inst}
@@ -7,6 +7,11 @@ use Rattle.wh_strategy.specs.declared.expression.Expression.TheVariants.{Comp, I
 -- this expression stands at this place of the list, counted from 0
 abbrev pub At : List Expression → ℕ → Expression → Type 0
 At list place e = slice_get list place ≡ Some e
+
+-- the expression is a Comp from some view
+abbrev pub HasSources : Expression → Type 0
+HasSources (Comp v ys) = ys ≢ []
+HasSources (Inst v) = ⊥
 
 -- the expression installs u
 abbrev pub is_inst : ℕ → Expression → Bool

@@ -1,7 +1,9 @@
 //! Expressions and lists of them.
 
-ghost use Rattle.std.specs.Prelude.{◌≡◌, length};
+ghost use Rattle.std.specs.Prelude.{◌≡◌, ◌≢◌, [], IfOk, OnErr};
+ghost use Rattle.wh_strategy.specs.Expression.{HasSources};
 
+use std::alloc::{AllocError, Global};
 use std::marker::Model;
 
 /// The views whose changes a Comp reads, in the order written. Seen as the list of their numbers.
@@ -33,6 +35,16 @@ impl Sources {
         &self.views
     }
 
+    /// A copy of the views. Takes no memory where there is none.
+    pub fn copy(&self, alloc: Global) -> Result<Sources, AllocError>
+        ensures copy { IfOk result (λ copy. copy ≡ self.now) }
+        ensures memory { OnErr result (self.now ≢ []) }
+    {
+        let mut views = Vec::with_capacity(alloc, self.views.len())?;
+        views.extend_from_slice(&self.views)?;
+        Ok(Sources { views })
+    }
+
     /// Gives the views back.
     pub fn into_vec(self) -> Vec<usize>
         ensures { result.items ≡ self }
@@ -48,6 +60,19 @@ pub enum Expression {
     Comp(usize, Sources),
     /// Installs the changes of a view.
     Inst(usize),
+}
+
+impl Expression {
+    /// Another expression of the same form. An Inst and a Comp without sources take no memory.
+    pub fn copy(&self, alloc: Global) -> Result<Expression, AllocError>
+        ensures copy { IfOk result (λ copy. copy ≡ self.now) }
+        ensures memory { OnErr result (HasSources self.now) }
+    {
+        match self {
+            Expression::Comp(view, sources) => Ok(Expression::Comp(*view, sources.copy(alloc)?)),
+            Expression::Inst(view) => Ok(Expression::Inst(*view)),
+        }
+    }
 }
 
 /// A list of expressions, correct or not.

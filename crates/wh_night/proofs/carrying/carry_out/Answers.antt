@@ -44,7 +44,7 @@ loop-place-preserved g c =
     let again : Expression = c.index-list-place-in-loop-place.result in
     let at : At list p e = stands list p e e (omega arith) c.index-list-place.is refl in
     let at_again : At list p again = stands list p again again (omega arith) c.index-list-place-in-loop-place.is refl in
-    let same : c.in-Ok-same_expression.expression ≡ e = c.in-Ok-same_expression.ensures ∙ same_Some again e (sym at_again ∙ at) in
+    let same : c.in-Ok-copy.expression ≡ e = c.in-Ok-copy.ensures.copy ∙ same_Some again e (sym at_again ∙ at) in
     record {
       parts = c.in-Ok.ensures.parts;
       fit = c.in-Ok.ensures.fit;
