@@ -19,6 +19,19 @@ pub struct SizeRow {
     pub change: u64,
 }
 
+impl SizeRow {
+    /// Whether no size is above [`MAX_ROWS`], and post no further from pre than the change.
+    pub fn is_within(&self) -> bool
+        ensures { IsTrue result ↔ IsSize self.now }
+    {
+        self.pre <= MAX_ROWS
+            && self.post <= MAX_ROWS
+            && self.change <= MAX_ROWS
+            && self.post <= self.pre + self.change
+            && self.pre <= self.post + self.change
+    }
+}
+
 /// The first view whose sizes are above 2^40, or whose post size is further from pre than the change.
 #[derive(Debug, Clone, Copy, PartialEq, Eq)]
 pub struct OutOfRange(pub usize);
@@ -41,16 +54,6 @@ impl Model for Sizes {
     ghost invariant = { λ s. AreSizes s.rows.items };
 }
 
-fn is_size(row: &SizeRow) -> bool
-    ensures { IsTrue result ↔ IsSize row.now }
-{
-    row.pre <= MAX_ROWS
-        && row.post <= MAX_ROWS
-        && row.change <= MAX_ROWS
-        && row.post <= row.pre + row.change
-        && row.pre <= row.post + row.change
-}
-
 impl Sizes {
     /// Takes the rows, one for each view by its number. Takes no memory; rows that are refused are dropped.
     pub fn new(rows: Vec<SizeRow>) -> Result<Sizes, OutOfRange>
@@ -58,7 +61,7 @@ impl Sizes {
         ensures err { IfErr result (λ e. IsFirstOutside rows.items e.0) }
     {
         for (view, row) in rows.iter().enumerate() {
-            if !is_size(row) {
+            if !row.is_within() {
                 return Err(OutOfRange(view));
             }
         }
