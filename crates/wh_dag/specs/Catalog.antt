@@ -17,6 +17,11 @@ abbrev pub columns : OutputOf → ℕ
 columns (Keep kept) = length kept
 columns (Sums group sums) = length group + 1 + length sums
 
+-- how many sums these have: a joined view has none
+abbrev pub sums_in : OutputOf → ℕ
+sums_in (Keep kept) = 0
+sums_in (Sums group sums) = length sums
+
 -- how a derived view is made of combined rows, which have `width` cells: of those rows whose cells at the two places of
 -- each pair are equal and that meet the filter, it has this output
 pub record DefinitionOf : Type 0 where

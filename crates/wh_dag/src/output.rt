@@ -2,7 +2,7 @@
 ghost use Rattle.std.specs.Prelude.{◌≡◌, ◌<◌, ◌↔◌, ◌==◌, ◌&&◌, IsTrue, All, nat_lt};
 ghost use Rattle.std.specs.List.{list_all};
 ghost use Rattle.wh_formula.specs.Expr.{fits};
-ghost use Rattle.wh_dag.specs.Catalog.{columns};
+ghost use Rattle.wh_dag.specs.Catalog.{columns, sums_in};
 ghost use Rattle.wh_dag.specs.Output.{output_of, IsOver};
 
 use wh_formula::{Combiner, RowValue};
@@ -30,6 +30,16 @@ impl<G: RowValue> Output<G> {
         match self {
             Output::Keep(kept) => kept.len(),
             Output::Sums { group, sums } => group.len() + 1 + sums.len(),
+        }
+    }
+
+    /// How many sums there are: a joined view has none.
+    pub fn sums(&self) -> usize
+        ensures { result ≡ sums_in (output_of self.now) }
+    {
+        match self {
+            Output::Keep(_) => 0,
+            Output::Sums { group: _, sums } => sums.len(),
         }
     }
 
