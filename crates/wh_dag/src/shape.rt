@@ -85,12 +85,14 @@ impl Shape {
         self.children.is_empty()
     }
 
-    /// The name of the view.
+    /// The name of the view; a number that is no view's has none.
     pub fn name(&self, view: usize) -> &str
-        requires { view < length self.now.children }
         ensures { result.now ≡ name_of self.now.names view }
     {
-        self.names[view].as_str()
+        match self.names.get(view) {
+            Some(name) => name.as_str(),
+            None => "",
+        }
     }
 
     /// The views that this one is over, in the order written: none for a base view.
