@@ -8,13 +8,6 @@ use crate::decisions::decides;
 use wh_dag::ChildLists;
 use wh_strategy::{Expression, Sources};
 
-/// Whether this view is over that one; a number that is no view's is over none.
-fn is_over(children: &ChildLists, view: usize, child: usize) -> bool
-    ensures { result ≡ has (children_of children.now view) child }
-{
-    view < children.len() && children.is_over(view, child)
-}
-
 /// Whether the sources are this view alone.
 fn is_just(sources: &Sources, view: usize) -> bool
     ensures { IsTrue result ↔ (sources.now ≡ view ∷ []) }
@@ -31,7 +24,7 @@ fn is_node(children: &ChildLists, expression: &Expression) -> bool
 {
     match expression {
         Expression::Comp(view, sources) => match sources.as_slice() {
-            [source] => is_over(children, *view, *source),
+            [source] => children.is_over(*view, *source),
             _ => false,
         },
         Expression::Inst(view) => *view < children.len(),
@@ -49,7 +42,7 @@ fn waits_for_inst(
     ensures { IsTrue result ↔ ((w : ℕ) × (sources.now ≡ w ∷ []) × (has (children_of children.now view) installed ≡ true) × (decides decided.now installed w ≡ true)) }
 {
     match sources.as_slice() {
-        [source] => is_over(children, view, installed) && decides(decided, installed, *source),
+        [source] => children.is_over(view, installed) && decides(decided, installed, *source),
         _ => false,
     }
 }

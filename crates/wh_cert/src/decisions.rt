@@ -3,8 +3,9 @@
 ghost use Rattle.std.specs.Prelude.{◌≡◌};
 ghost use Rattle.wh_cert.specs.Graph.{decides};
 
-use crate::relation::{Relation, VIEWS};
+use crate::relation::Relation;
 use std::marker::Model;
+use wh_dag::MAX_VIEWS;
 
 /// Decided couples, with a table in which two views are looked up in one step.
 #[derive(Drop)]
@@ -41,7 +42,7 @@ impl<'a> Decisions<'a> {
         ensures { result ≡ decides self.now first second }
     {
         // Numbers that no view has stand in no table, but may stand among the couples.
-        if first < VIEWS && second < VIEWS {
+        if first < MAX_VIEWS && second < MAX_VIEWS {
             self.first.has(first, second)
         } else {
             decides(self.couples, first, second)

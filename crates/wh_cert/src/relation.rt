@@ -7,13 +7,10 @@ ghost use Rattle.wh_cert.specs.Graph.{decides};
 ghost use Rattle.wh_cert.specs.Relations.{related};
 
 use std::marker::Model;
-use wh_dag::ChildLists;
+use wh_dag::{ChildLists, MAX_VIEWS};
 
-/// How many views a relation is between: as many as a shape can have.
-pub(crate) const VIEWS: usize = 64;
-
-/// A row of [`VIEWS`] for each view.
-const CELLS: usize = 4096;
+/// A row of [`MAX_VIEWS`] for each view.
+const CELLS: usize = MAX_VIEWS * MAX_VIEWS;
 
 /// A relation between views, as a table of 4 KB: looking two views up takes one step. It lies where it is made, and takes
 /// no memory besides.
@@ -68,7 +65,7 @@ impl Relation {
     {
         let mut first = Relation::new();
         for (u, w) in couples {
-            if *u < VIEWS && *w < VIEWS {
+            if *u < MAX_VIEWS && *w < MAX_VIEWS {
                 first.insert(*u, *w);
             }
         }
@@ -80,7 +77,7 @@ impl Relation {
     pub fn has(&self, u: usize, w: usize) -> bool
         ensures { result ≡ related self.now u w }
     {
-        u < VIEWS && w < VIEWS && self.cells[VIEWS * u + w]
+        u < MAX_VIEWS && w < MAX_VIEWS && self.cells[MAX_VIEWS * u + w]
     }
 
     fn insert(&mut self, u: usize, w: usize)
@@ -88,7 +85,7 @@ impl Relation {
         requires w { w < 64 }
         ensures { (a b : ℕ) → related self.new a b ≡ (((u == a) && (w == b)) || related self.old a b) }
     {
-        self.cells[VIEWS * u + w] = true;
+        self.cells[MAX_VIEWS * u + w] = true;
     }
 
     fn insert_row(&mut self, u: usize, row: &[usize])

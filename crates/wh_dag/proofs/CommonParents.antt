@@ -1,5 +1,5 @@
 -- A view that is over both of two, and the test for it.
-use Rattle.std.proofs.Common.{◌≡◌, ℕ, zero, suc, List, [], ◌∷◌, Bool, true, false, refl, ◌&&◌, ⊎_elim}
+use Rattle.std.proofs.Common.{◌≡◌, ℕ, zero, suc, List, [], ◌∷◌, true, ⊎_elim}
 use Rattle.std.proofs.lemmas.Bool.{false≢true, or_left, or_right, or_cases, and_parts, and_from}
 use Rattle.wh_dag.specs.Shape.{has, children_of}
 use Rattle.wh_dag.specs.Siblings.{have_parent}

@@ -4,6 +4,7 @@ ghost use Rattle.wh_dag.specs.Shape.{IsShape, has, children_of};
 ghost use Rattle.wh_dag.specs.Siblings.{have_parent};
 ghost use Rattle.wh_dag.specs.Lists.{lists_of};
 
+use crate::views::has_view;
 use std::alloc::{AllocError, Global};
 use std::marker::Model;
 
@@ -55,12 +56,12 @@ impl ChildLists {
         &self.lists[view]
     }
 
-    /// Whether this view is over that one.
+    /// Whether this view is over that one; a number that is no view's is over none.
+    #[tactic(auto, unfolding(crate::specs::Shape::children_of, crate::specs::Shape::has))]
     pub fn is_over(&self, view: usize, child: usize) -> bool
-        requires { view < length self.now }
         ensures { result ≡ has (children_of self.now view) child }
     {
-        is_over(self.of(view), child)
+        view < self.len() && has_view(self.of(view), child)
     }
 
     /// Whether a view is over both of these.
@@ -87,21 +88,13 @@ impl ChildLists {
     }
 }
 
-/// Whether this view is among the children.
-#[tactic(auto, unfolding(crate::specs::Shape::has))]
-pub(crate) fn is_over(own: &[usize], view: usize) -> bool
-    ensures { result ≡ has own.now view }
-{
-    own.iter().any(|child| *child == view)
-}
-
 #[tactic(auto, unfolding(crate::specs::Siblings::have_parent))]
 fn any_over_both(lists: &[Vec<usize>], first: usize, second: usize) -> bool
     ensures { result ≡ have_parent (lists_of lists.now) first second }
 {
     lists
         .iter()
-        .any(|own| is_over(own, first) && is_over(own, second))
+        .any(|own| has_view(own, first) && has_view(own, second))
 }
 
 fn copied(alloc: Global, lists: &[Vec<usize>]) -> Result<Vec<Vec<usize>>, AllocError>

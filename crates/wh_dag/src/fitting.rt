@@ -4,12 +4,9 @@ ghost use Rattle.wh_dag.specs.Catalog.{total_width};
 ghost use Rattle.wh_dag.specs.CatalogParts.{FitTogether, FitIsShown};
 
 use crate::definition::Definition;
+use crate::limits::{MAX_COLUMNS, MAX_VIEWS};
 use crate::shape::Shape;
 use wh_formula::{RowTest, RowValue};
-
-const MAX_VIEWS: usize = 64;
-
-const MAX_COLUMNS: usize = 64;
 
 // How many cells a row of each of these views have together, none having more than 64.
 fn total_width(widths: &[usize], views: &[usize]) -> usize

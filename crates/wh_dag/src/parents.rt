@@ -2,7 +2,7 @@
 ghost use Rattle.std.specs.Prelude.{◌≡◌, ◌≢◌, [], IfOk, OnErr};
 ghost use Rattle.wh_dag.specs.Parents.{parents_of};
 
-use crate::child_lists::{ChildLists, is_over};
+use crate::child_lists::ChildLists;
 use std::alloc::{AllocError, Global};
 
 /// The views over this one, rising.
@@ -17,7 +17,7 @@ pub(crate) fn parents_of_view(
 {
     let mut parents = Vec::new(alloc);
     for parent in 0..shape.len() {
-        if is_over(shape.of(parent), view) {
+        if shape.is_over(parent, view) {
             parents.push(parent)?;
         }
     }

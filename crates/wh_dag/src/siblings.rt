@@ -20,7 +20,6 @@ pub struct SiblingPair {
 impl SiblingPair {
     /// Whether the parent is over both in this shape, the lower number being the lower one.
     pub fn is_of(self, shape: &ChildLists) -> bool
-        requires { self.parent < length shape.now }
         ensures { result ≡ is_sibling_pair shape.now self }
     {
         self.lower < self.higher
@@ -54,7 +53,6 @@ fn add_with(
     parent: usize,
     lower: usize,
 ) -> Result<(), AllocError>
-    requires { parent < length shape.now }
     ensures added { OnOk result (pairs.new.items ≡ pairs.old.items ++ filter (is_sibling_pair shape.now) (triples_with parent lower (length shape.now))) }
     ensures memory { OnErr result (filter (is_sibling_pair shape.now) (triples_with parent lower (length shape.now)) ≢ []) }
 {
@@ -73,7 +71,6 @@ fn add_with(
 
 /// Adds the sibling pairs of this parent.
 fn add_of(pairs: &mut Vec<SiblingPair>, shape: &ChildLists, parent: usize) -> Result<(), AllocError>
-    requires { parent < length shape.now }
     ensures added { OnOk result (pairs.new.items ≡ pairs.old.items ++ filter (is_sibling_pair shape.now) (triples_of parent (length shape.now))) }
     ensures memory { OnErr result (filter (is_sibling_pair shape.now) (triples_of parent (length shape.now)) ≢ []) }
 {

@@ -5,12 +5,9 @@ ghost use Rattle.wh_dag.specs.Written.{texts, written, written_list, name_of, is
 ghost use Rattle.wh_dag.specs.Fault.{child_fault, children_fault, over_fault, view_fault, first_fault};
 
 use crate::fault::ShapeFault;
+use crate::limits::{MAX_CHILDREN, MAX_VIEWS};
 use crate::name::Name;
 use std::alloc::{AllocError, Global};
-
-const MAX_VIEWS: usize = 64;
-
-const MAX_CHILDREN: usize = 6;
 
 fn name_from(alloc: Global, text: &str) -> Result<Name, AllocError>
     ensures { IfOk result (λ name. name ≡ text.now) }

@@ -11,9 +11,8 @@ ghost use Rattle.wh_maint.specs.Finishing.{kind_in, IsPendingFor};
 use crate::combined::sums_in;
 use crate::group_change::{group_in, note, old_cell};
 use crate::pending::Pending;
-use crate::size::has_view;
 use std::alloc::{AllocError, Global};
-use wh_dag::{Catalog, Output};
+use wh_dag::{Catalog, Output, has_view};
 use wh_formula::{RowTest, RowValue};
 use wh_row::Bag;
 

@@ -8,14 +8,12 @@ ghost use Rattle.wh_strategy.specs.Tests.{is_installed, is_taken, reads};
 ghost use Rattle.wh_strategy.specs.declared.expression.Expression.{Expression};
 
 use crate::expression::Expression;
-
-/// More views no shape has.
-const VIEWS: usize = 64;
+use wh_dag::{MAX_VIEWS, has_view};
 
 /// The views that are installed earlier.
 #[derive(Drop)]
 pub struct Installed {
-    flags: [bool; VIEWS],
+    flags: [bool; MAX_VIEWS],
 }
 
 impl Installed {
@@ -24,7 +22,7 @@ impl Installed {
         ensures { TellsInstalled result.flags [] }
     {
         Installed {
-            flags: [false; VIEWS],
+            flags: [false; MAX_VIEWS],
         }
     }
 
@@ -33,7 +31,7 @@ impl Installed {
         ensures { (before : List Expression) → TellsInstalled self.old.flags before → TellsInstalled self.new.flags (before ++ e.now ∷ []) }
     {
         if let Expression::Inst(u) = e {
-            if *u < VIEWS {
+            if *u < MAX_VIEWS {
                 self.flags[*u] = true;
             }
         }
@@ -44,7 +42,7 @@ impl Installed {
         requires { TellsInstalled self.now.flags before.now }
         ensures { result ≡ is_installed before.now u }
     {
-        if u < VIEWS {
+        if u < MAX_VIEWS {
             self.flags[u]
         } else {
             installs(before, u)
@@ -64,7 +62,7 @@ fn installs(before: &[Expression], u: usize) -> bool
 /// The sources that earlier Comps of each view took.
 #[derive(Drop)]
 pub struct Taken {
-    rows: [[bool; VIEWS]; VIEWS],
+    rows: [[bool; MAX_VIEWS]; MAX_VIEWS],
 }
 
 impl Taken {
@@ -73,7 +71,7 @@ impl Taken {
         ensures { TellsTaken result.rows [] }
     {
         Taken {
-            rows: [[false; VIEWS]; VIEWS],
+            rows: [[false; MAX_VIEWS]; MAX_VIEWS],
         }
     }
 
@@ -82,7 +80,7 @@ impl Taken {
         ensures { (before : List Expression) → TellsTaken self.old.rows before → TellsTaken self.new.rows (before ++ e.now ∷ []) }
     {
         if let Expression::Comp(v, ys) = e {
-            if *v < VIEWS {
+            if *v < MAX_VIEWS {
                 mark(&mut self.rows[*v], ys.as_slice());
             }
         }
@@ -93,7 +91,7 @@ impl Taken {
         requires { TellsTaken self.now.rows before.now }
         ensures { result ≡ is_taken before.now v u }
     {
-        if v < VIEWS && u < VIEWS {
+        if v < MAX_VIEWS && u < MAX_VIEWS {
             self.rows[v][u]
         } else {
             takes(before, v, u)
@@ -101,12 +99,12 @@ impl Taken {
     }
 }
 
-fn mark(row: &mut [bool; VIEWS], views: &[usize])
+fn mark(row: &mut [bool; MAX_VIEWS], views: &[usize])
     ensures many { length row.new ≡ length row.old }
     ensures marked { (u : ℕ) → u < 64 → slice_index_or row.new u false ≡ (slice_index_or row.old u false || has views.now u) }
 {
     for u in views {
-        if *u < VIEWS {
+        if *u < MAX_VIEWS {
             row[*u] = true;
         }
     }
@@ -125,7 +123,7 @@ fn takes(before: &[Expression], v: usize, u: usize) -> bool
 /// The views whose changes earlier Comps read.
 #[derive(Drop)]
 pub struct Read {
-    flags: [bool; VIEWS],
+    flags: [bool; MAX_VIEWS],
 }
 
 impl Read {
@@ -134,7 +132,7 @@ impl Read {
         ensures { TellsRead result.flags [] }
     {
         Read {
-            flags: [false; VIEWS],
+            flags: [false; MAX_VIEWS],
         }
     }
 
@@ -152,7 +150,7 @@ impl Read {
         requires { TellsRead self.now.flags before.now }
         ensures { result ≡ list_any (reads v) before.now }
     {
-        if v < VIEWS {
+        if v < MAX_VIEWS {
             self.flags[v]
         } else {
             reads_view(before, v)
@@ -201,12 +199,4 @@ impl Tables {
         self.taken.note(e);
         self.read.note(e);
     }
-}
-
-/// Whether the view is one of these.
-#[tactic(auto, unfolding(wh_dag::specs::Shape::has))]
-pub fn has_view(views: &[usize], u: usize) -> bool
-    ensures { result ≡ has views.now u }
-{
-    views.iter().any(|w| *w == u)
 }

@@ -6,10 +6,10 @@ ghost use Rattle.wh_dag.specs.Shape.{has, children_of};
 ghost use Rattle.wh_strategy.specs.Earlier.{Tells, TellsInstalled, TellsTaken};
 ghost use Rattle.wh_strategy.specs.Tests.{is_doubled, is_installed, is_taken, leaves_open, is_stray, is_broken, lacks_comp, lacks_inst, lacks, place_from};
 
-use crate::earlier::{Installed, Tables, Taken, has_view};
+use crate::earlier::{Installed, Tables, Taken};
 use crate::expression::Expression;
 use crate::rule::Rule;
-use wh_dag::ChildLists;
+use wh_dag::{ChildLists, has_view};
 
 #[tactic(auto, unfolding(crate::specs::Tests::is_doubled))]
 fn doubled(views: &[usize]) -> bool

@@ -11,10 +11,10 @@ ghost use Rattle.wh_strategy.specs.Work.{state, term, read_of, cost_at, work_of}
 
 use crate::correct::Correct;
 use crate::costs::Costs;
-use crate::earlier::{Installed, has_view};
+use crate::earlier::Installed;
 use crate::expression::Expression;
 use crate::sizes::Sizes;
-use wh_dag::{ChildLists, Shape};
+use wh_dag::{ChildLists, Shape, has_view};
 
 #[tactic(auto, unfolding(crate::specs::Sizes::sizes_of, crate::specs::Expression::is_new))]
 fn state_rows(

@@ -8,10 +8,8 @@ use crate::catalogue::array_of;
 use crate::name_form::is_name;
 use std::alloc::{AllocError, Global};
 use toml::Value;
+use wh_dag::MAX_COLUMNS;
 use wh_text::{Column, Key, Kind, LoadFault};
-
-/// The most columns of a view.
-pub(crate) const MAX_COLUMNS: usize = 64;
 
 fn kind_named(word: &str) -> Option<Kind>
     ensures { result ≡ kind_named word.now }

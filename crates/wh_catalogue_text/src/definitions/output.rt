@@ -6,7 +6,7 @@ ghost use Rattle.wh_text.specs.Dict.{Grows};
 ghost use Rattle.wh_catalogue_text.specs.Output.{count_column, count_written, group_written, groups, groups_of, kept, kept_alone, output_of, shown_outcome, summed, summed_at, sums_at, sums_in, sums_of};
 ghost use Rattle.wh_catalogue_text.specs.Pairs.{seen_pair, typed_columns};
 
-use super::base_columns::{MAX_COLUMNS, is_few};
+use super::base_columns::is_few;
 use super::column_names::fresh_name;
 use super::header::Header;
 use super::pairs::{Pair, are_exprs, are_references, known_pairs, pairs_written};
@@ -15,6 +15,7 @@ use crate::name_form::is_name;
 use indexmap::IndexSet;
 use std::alloc::Global;
 use toml::Value;
+use wh_dag::MAX_COLUMNS;
 use wh_formula::Expr;
 use wh_text::{Column, Dict, Key, Kind, LoadFault};
 

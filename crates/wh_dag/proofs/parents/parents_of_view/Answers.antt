@@ -8,8 +8,7 @@ use Rattle.wh_dag.proofs.parents.parents_of_view.Goals.{then-is_over+in_ok-push,
 
 pub loop-parent-preserved : goal.loop-parent-preserved
 loop-parent-preserved c =
-    let test : has (children_of c.args.shape.now c.loop-parent.parent) c.args.view ≡ c.is_over.result =
-    ap (λ own. has own c.args.view) (sym c.of.ensures.children) ∙ sym c.is_over.ensures in
+    let test : has (children_of c.args.shape.now c.loop-parent.parent) c.args.view ≡ c.is_over.result = sym c.is_over.ensures in
     elim c.if-is_over.branch [
       | then-is_over+in_ok-push w ↦
           filter_range_in (λ parent. has (children_of c.args.shape.now parent) c.args.view) c.loop-parent.parent _ _
@@ -26,4 +25,4 @@ returns-in_err-push-clause-memory c =
     let low : c.loop-parent.parent < length c.args.shape.now = omega arith in
     on_err _
     (some_below (λ parent. has (children_of c.args.shape.now parent) c.args.view) (length c.args.shape.now) c.loop-parent.parent low
-    (ap (λ own. has own c.args.view) (sym c.of.ensures.children) ∙ sym c.is_over.ensures ∙ c.if-is_over.true))
+    (sym c.is_over.ensures ∙ c.if-is_over.true))
