@@ -1,4 +1,5 @@
 pub mod CutLemmas
+pub mod Fronts
 pub mod NightLemmas
 pub mod PartsRead
 pub mod PlainLines

@@ -1,5 +1,5 @@
 -- What the line that opens a part says.
-use Rattle.std.specs.Prelude.{◌-◌, ◌&&◌, ℕ, Bool, true, false, List, [], ◌∷◌, length, take, drop, Option, Some, None, option_map, codes, if◌then◌else◌, nat_eq, nat_lt}
+use Rattle.std.specs.Prelude.{◌-◌, ◌&&◌, ◌++◌, ℕ, Bool, true, false, List, [], ◌∷◌, length, take, drop, find, Option, Some, None, option_map, codes, if◌then◌else◌, nat_eq, nat_lt}
 use Rattle.std.specs.Option.{option_or}
 use Rattle.std.specs.List.{starts_with, suffix_len, prefix_len, before_first}
 use Rattle.std.specs.Str.{bytes_eq}
@@ -18,25 +18,34 @@ without_blank_end text = take (length text - suffix_len is_blank text) text
 abbrev pub heading_text : List ℕ → List ℕ
 heading_text opening = without_blank_end (drop 1 (without_end opening))
 
+-- the word that a heading begins with
+abbrev pub word_of : Heading → List ℕ
+word_of Catalogue = codes "catalogue"
+word_of Sizes = codes "sizes"
+word_of Strategy = codes "strategy"
+word_of Plan = codes "plan"
+word_of Schedule = codes "schedule"
+word_of Night = codes "night"
+word_of (Data name) = codes "data"
+word_of (Changes name) = codes "changes"
+
 -- the heading that is a single word, where the text is one
 abbrev pub single_heading : List ℕ → Option Heading
-single_heading text =
-    if bytes_eq text (codes "catalogue") then Some Catalogue else
-    (if bytes_eq text (codes "sizes") then Some Sizes else
-    (if bytes_eq text (codes "strategy") then Some Strategy else
-    (if bytes_eq text (codes "plan") then Some Plan else
-    (if bytes_eq text (codes "schedule") then Some Schedule else
-    (if bytes_eq text (codes "night") then Some Night else None)))))
+single_heading text = find (λ heading. bytes_eq text (word_of heading)) (Catalogue ∷ Sizes ∷ Strategy ∷ Plan ∷ Schedule ∷ Night ∷ [])
 
 -- what stands after a front, where there is anything
-abbrev pub name_after : List ℕ → List ℕ → Option (List ℕ)
-name_after front text =
+abbrev pub rest_after : List ℕ → List ℕ → Option (List ℕ)
+rest_after front text =
     if starts_with nat_eq text front && nat_lt (length front) (length text) then Some (drop (length front) text) else None
+
+-- what stands after a word and a blank, where there is anything
+abbrev pub name_after : List ℕ → List ℕ → Option (List ℕ)
+name_after word text = rest_after (word ++ codes " ") text
 
 -- the heading that a text spells, if any: a single word, `data NAME` or `changes NAME`
 abbrev pub heading_of : List ℕ → Option Heading
 heading_of text =
-    option_or (single_heading text) (option_or (option_map Data (name_after (codes "data ") text)) (option_map Changes (name_after (codes "changes ") text)))
+    option_or (single_heading text) (option_or (option_map Data (name_after (word_of (Data [])) text)) (option_map Changes (name_after (word_of (Changes [])) text)))
 
 -- how often a heading may stand
 abbrev pub scope_of : Heading → Scope

@@ -2,6 +2,11 @@
 use super::piece::Piece;
 use super::spelling::{name_after, single_heading};
 
+/// The words of headings that go on with a name.
+const DATA: &[u8] = b"data";
+
+const CHANGES: &[u8] = b"changes";
+
 /// How often a heading may stand.
 #[derive(Clone, Copy, Debug, PartialEq, Eq)]
 pub enum Scope {
@@ -36,7 +41,7 @@ pub enum Heading<'a> {
 
 impl<'a> Heading<'a> {
     ghost use Rattle.std.specs.Prelude.{◌≡◌};
-    ghost use Rattle.wh_bundle.specs.Heading.{heading_of, is_csv, is_night, same_heading, scope_of};
+    ghost use Rattle.wh_bundle.specs.Heading.{heading_of, is_csv, is_night, same_heading, scope_of, word_of};
 
     /// The heading that a text spells, or `None`.
     pub fn of(text: &'a [u8]) -> Option<Heading<'a>>
@@ -45,11 +50,27 @@ impl<'a> Heading<'a> {
         if let Some(heading) = single_heading(text) {
             return Some(heading);
         }
-        if let Some(name) = name_after(b"data ", text) {
+        if let Some(name) = name_after(DATA, text) {
             return Some(Heading::Data(Piece::new(name)));
         }
-        let name = name_after(b"changes ", text)?;
+        let name = name_after(CHANGES, text)?;
         Some(Heading::Changes(Piece::new(name)))
+    }
+
+    /// The word that it begins with.
+    pub fn word(&self) -> &'static [u8]
+        ensures { result.now ≡ word_of self.now }
+    {
+        match self {
+            Heading::Catalogue => b"catalogue",
+            Heading::Sizes => b"sizes",
+            Heading::Strategy => b"strategy",
+            Heading::Plan => b"plan",
+            Heading::Schedule => b"schedule",
+            Heading::Night => b"night",
+            Heading::Data(_) => DATA,
+            Heading::Changes(_) => CHANGES,
+        }
     }
 
     /// How often it may stand.

@@ -1,40 +1,45 @@
 //! How a heading is spelled.
-ghost use Rattle.std.specs.Prelude.{◌≡◌, ◌≤◌, length, option_copied};
+ghost use Rattle.std.specs.Prelude.{◌≡◌, ◌≤◌, length, option_copied, Some, None, if◌then◌else◌};
 ghost use Rattle.std.specs.List.{prefix_len, position_or_len};
+ghost use Rattle.std.specs.Str.{bytes_eq};
 ghost use Rattle.wh_text.specs.Line.{is_blank};
-ghost use Rattle.wh_bundle.specs.Heading.{heading_text, first_word, fault_word, name_after, single_heading, without_blank_end};
+ghost use Rattle.wh_bundle.specs.Heading.{heading_text, first_word, fault_word, name_after, single_heading, without_blank_end, word_of};
 
 use super::heading::Heading;
 use super::line::without_end;
 use wh_text::line::is_blank;
 
-/// The heading that is a single word, where the text is one.
-pub fn single_heading<'a>(text: &[u8]) -> Option<Heading<'a>>
-    ensures { result ≡ single_heading text.now }
+// The heading, where the text is its word.
+fn if_word<'a>(heading: Heading<'a>, text: &[u8]) -> Option<Heading<'a>>
+    ensures { result ≡ (if bytes_eq text.now (word_of heading.entry) then Some heading.entry else None) }
 {
-    if text == b"catalogue".as_slice() {
-        Some(Heading::Catalogue)
-    } else if text == b"sizes".as_slice() {
-        Some(Heading::Sizes)
-    } else if text == b"strategy".as_slice() {
-        Some(Heading::Strategy)
-    } else if text == b"plan".as_slice() {
-        Some(Heading::Plan)
-    } else if text == b"schedule".as_slice() {
-        Some(Heading::Schedule)
-    } else if text == b"night".as_slice() {
-        Some(Heading::Night)
+    if text == heading.word() {
+        Some(heading)
     } else {
         None
     }
 }
 
-/// What stands after a front, where there is anything.
-pub fn name_after<'a>(front: &[u8], text: &'a [u8]) -> Option<&'a [u8]>
-    ensures { option_copied result ≡ name_after front.now text.now }
+/// The heading that is a single word, where the text is one.
+#[tactic(auto, using(crate::proofs::Fronts::or_cond))]
+pub fn single_heading<'a>(text: &[u8]) -> Option<Heading<'a>>
+    ensures { result ≡ single_heading text.now }
 {
-    if text.starts_with(front) && front.len() < text.len() {
-        Some(&text[front.len()..])
+    if_word(Heading::Catalogue, text)
+        .or(if_word(Heading::Sizes, text))
+        .or(if_word(Heading::Strategy, text))
+        .or(if_word(Heading::Plan, text))
+        .or(if_word(Heading::Schedule, text))
+        .or(if_word(Heading::Night, text))
+}
+
+/// What stands after a word and a blank, where there is anything.
+pub fn name_after<'a>(word: &[u8], text: &'a [u8]) -> Option<&'a [u8]>
+    ensures { option_copied result ≡ name_after word.now text.now }
+{
+    let at = word.len() + 1;
+    if text.starts_with(word) && at < text.len() && text[word.len()] == b' ' {
+        Some(&text[at..])
     } else {
         None
     }
