@@ -13,3 +13,5 @@ mod formulas;
 mod nights;
 #[cfg(test)]
 mod plans;
+#[cfg(test)]
+mod versions;

@@ -5,6 +5,7 @@ pub mod CountLaws
 pub mod BagWeights
 pub mod WrittenLaws
 pub mod OneRow
+pub mod RangeLaws
 pub mod BagLaws
 mod Machine
 mod StoredLaws

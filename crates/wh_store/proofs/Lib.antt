@@ -1,0 +1,6 @@
+mod Shown
+mod Sets
+mod Lists
+mod Pages
+mod PageLaws
+mod VersionLaws
