@@ -19,6 +19,7 @@ mod Matched
 pub mod MetRows
 mod NewGroups
 mod NewRows
+mod NewSums
 pub mod NoNegative
 mod NoRows
 mod OldGroups
@@ -32,5 +33,6 @@ mod Standing
 pub mod Summaries
 pub mod Telescope
 mod TermSums
+mod Unchanged
 mod ViewsEvaluated
 pub mod Widths

@@ -3,11 +3,12 @@ use Rattle.std.specs.Prelude.{◌≡◌, ◌≢◌, ℕ, suc, pos, ◌+ℤ◌, L
 use Rattle.std.specs.Int.{w128}
 use Rattle.std.specs.declared.cmp.Ordering.TheVariants.{Less}
 use Rattle.wh_row.specs.Row.{Row, row_cmp}
-use Rattle.wh_row.specs.Bag.{Bag, SumFits, HasRowsOf, count, empty}
+use Rattle.wh_row.specs.Bag.{Bag, SumFits, HasRowsOf, count}
 use Rattle.wh_maint.specs.declared.fault.MaintFault.{MaintFault}
 use Rattle.wh_maint.specs.declared.fault.MaintFault.TheVariants.{Large, Range, Memory, Absent}
-use Rattle.wh_maint.specs.View.{Kind}
+use Rattle.wh_maint.specs.View.{View, Kind, sums_of}
 use Rattle.wh_maint.specs.Comp.{bag_at}
+use Rattle.wh_maint.specs.Size.{HaveNoRows}
 use Rattle.wh_maint.specs.Value.{NewCountsFit, ChangeHasValue}
 use Rattle.wh_maint.specs.Fit.{IsAbsent, IsFirstAbsent}
 
@@ -41,6 +42,11 @@ IsFinishFault view kind table pending (Range v) = (v ≡ view) × NewCountsFit k
 IsFinishFault view kind table pending Memory = NewCountsFit kind table pending
 IsFinishFault view kind table pending (Absent v row) = ⊥
 
+-- of a Comp: no source has a change, and the view has no sums
+pub record AddsNothing (v : View) (sources : List ℕ) (change : ℕ → Bag) : Type 0 where
+  pub unchanged : HaveNoRows sources change
+  pub joined : sums_of v.kind ≡ 0
+
 -- each row's sums in both bags together are an i128
 abbrev pub SumsTogetherFit : Bag → Bag → Type 0
 SumsTogetherFit sums others = (row : Row) → FitsSigned w128 (count sums row +ℤ count others row)
@@ -50,10 +56,9 @@ pub record MergedFit (columns others : List Bag) : Type 0 where
   pub counts : SumFits (bag_at columns 0) (bag_at others 0)
   pub sums : (j : ℕ) → SumsTogetherFit (bag_at columns (suc j)) (bag_at others (suc j))
 
--- another Comp brings no row or group that is not there, and no sums
-pub record BringsNothing (columns others : List Bag) : Type 0 where
-  pub counts : HasRowsOf (bag_at columns 0) (bag_at others 0)
-  pub sums : (j : ℕ) → bag_at others (suc j) ≡ empty
+-- in no column another Comp brings a row or group that is not there
+abbrev pub BringsNothing : List Bag → List Bag → Type 0
+BringsNothing columns others = (j : ℕ) → HasRowsOf (bag_at columns j) (bag_at others j)
 
 -- of what is pending and is to have that of another Comp: a count or a sum leaves its range; memory may be refused before that is known
 abbrev pub IsMergeFault : ℕ → List Bag → List Bag → MaintFault → Type 0

@@ -1,82 +1,55 @@
-//! The sums of two Comps together.
+//! The columns of two Comps together, in place.
+//!
+//! In each column the rows that are new get their sums first, since they alone take memory. Where it is refused, or a
+//! later column refuses, they go again; once nothing can be refused any more, the sums of all other rows are added.
 
-ghost use Rattle.std.specs.Prelude.{◌≡◌, ◌↔◌, ℕ, ◌<◌, length, IsTrue, IfOk, OnOk};
-ghost use Rattle.wh_row.specs.Bag.{sum_of};
-ghost use Rattle.wh_maint.specs.Comp.{bag_at, merged, AreEmpty};
-ghost use Rattle.wh_maint.specs.Refused.{SumsTogetherFit};
+ghost use Rattle.std.specs.Prelude.{◌≡◌, ◌≢◌, ◌↔◌, ◌∷◌, ℤ, pos, ◌+ℤ◌, List, FitsSigned, length, IsTrue, IfOk, OnOk, OnErr};
+ghost use mir.Syntax.{w128};
+ghost use Rattle.wh_row.specs.Bag.{empty, sum_of, plus, count as count_of, HasRowsOf};
+ghost use Rattle.wh_maint.specs.Comp.{merged};
+ghost use Rattle.wh_maint.specs.Refused.{SumsTogetherFit, MergedFit, BringsNothing};
+ghost use Rattle.wh_maint.specs.NewSums.{AreNewRows};
 
+use crate::column::{add_new, add_others, fit, new_rows, take_back};
 use std::alloc::Global;
-use wh_row::{BagFault, Sums};
+use wh_row::{Bag, BagFault, Sums};
 
-/// Whether the others have no sums, so that those of both are these alone.
-pub(crate) fn bring_nothing(sums: &[Sums], others: &[Sums]) -> bool
-    requires { length others.now ≡ length sums.now }
-    ensures none { IsTrue result ↔ AreEmpty others.now }
-    ensures fit { IsTrue result → (j : ℕ) → j < length sums.now → SumsTogetherFit (bag_at sums.now j) (bag_at others.now j) }
-{
-    for j in 0..others.len() {
-        sums[j].sums_fit();
-        if !others[j].is_empty() {
-            return false;
-        }
-    }
-    true
-}
-
-/// The sums of both, column by column.
-pub(crate) fn in_each_column(
+/// Adds other sums column by column, and other counts. A refusal changes nothing.
+pub(crate) fn add_columns(
     alloc: Global,
-    sums: &[Sums],
+    counts: &mut Bag,
+    sums: &mut [Sums],
+    more: &Bag,
     others: &[Sums],
-) -> Result<Vec<Sums>, BagFault>
-    requires { length others.now ≡ length sums.now }
-    ensures both { IfOk result (λ both. both.items ≡ merged sums.now others.now) }
-    ensures fits { OnOk result ((j : ℕ) → j < length sums.now → SumsTogetherFit (bag_at sums.now j) (bag_at others.now j)) }
-    ensures large { result ≡ Err BagFault.Large → ¬ ((j : ℕ) → j < length sums.now → SumsTogetherFit (bag_at sums.now j) (bag_at others.now j)) }
+) -> Result<(), BagFault>
+    requires { length others.now ≡ length sums.old }
+    ensures counts { OnOk result (counts.new ≡ sum_of counts.old more.now) }
+    ensures sums { OnOk result (sums.new ≡ merged sums.old others.now) }
+    ensures fits { OnOk result (MergedFit (counts.old ∷ sums.old) (more.now ∷ others.now)) }
+    ensures large { result ≡ Err BagFault.Large → ¬ (MergedFit (counts.old ∷ sums.old) (more.now ∷ others.now)) }
+    ensures memory { result ≡ Err BagFault.Memory → ¬ (BringsNothing (counts.old ∷ sums.old) (more.now ∷ others.now)) }
+    ensures counts_err { OnErr result (counts.new ≡ counts.old) }
+    ensures sums_err { OnErr result (sums.new ≡ sums.old) }
 {
-    let mut both = Vec::new(alloc);
-    for j in 0..sums.len() {
-        let column = match of_both(alloc, &sums[j], &others[j]) {
-            Ok(column) => column,
-            Err(fault) => return Err(fault),
-        };
-        let Ok(()) = both.push(column) else {
-            return Err(BagFault::Memory);
-        };
+    let Some((other, others)) = others.split_first() else {
+        return counts.merge(more);
+    };
+    let Some((first, rest)) = sums.split_first_mut() else {
+        unreachable!()
+    };
+    if !fit(first, other) {
+        return Err(BagFault::Large);
     }
-    Ok(both)
-}
-
-/// At each row the sums of both together.
-fn of_both(alloc: Global, sums: &Sums, others: &Sums) -> Result<Sums, BagFault>
-    ensures both { IfOk result (λ both. both ≡ sum_of sums.now others.now) }
-    ensures fits { OnOk result (SumsTogetherFit sums.now others.now) }
-    ensures large { result ≡ Err BagFault.Large → ¬ (SumsTogetherFit sums.now others.now) }
-{
-    sums.sums_fit();
-    let mut both = Sums::new(alloc);
-    match add_all(&mut both, sums) {
-        Ok(()) => {}
-        Err(BagFault::Memory) => return Err(BagFault::Memory),
-        Err(BagFault::Large) => unreachable!(),
+    let Ok(new) = new_rows(alloc, first, other) else {
+        return Err(BagFault::Memory);
+    };
+    let Ok(()) = add_new(first, &new) else {
+        return Err(BagFault::Memory);
+    };
+    if let Err(fault) = add_columns(alloc, counts, rest, more, others) {
+        take_back(first, &new);
+        return Err(fault);
     }
-    match add_all(&mut both, others) {
-        Ok(()) => Ok(both),
-        Err(fault) => Err(fault),
-    }
-}
-
-/// Adds other sums row by row. After a refusal some may have been added.
-fn add_all(sums: &mut Sums, others: &Sums) -> Result<(), BagFault>
-    ensures sum { OnOk result (sums.new ≡ sum_of sums.old others.now) }
-    ensures fits { OnOk result (SumsTogetherFit sums.old others.now) }
-    ensures large { result ≡ Err BagFault.Large → ¬ (SumsTogetherFit sums.old others.now) }
-{
-    for (row, more) in others.rows() {
-        if let Err(fault) = sums.add(row.as_slice(), *more) {
-            return Err(fault);
-        }
-    }
-    sums.sums_fit();
+    add_others(first, other, &new);
     Ok(())
 }

@@ -8,6 +8,7 @@
 mod asked;
 mod base_change;
 mod both_sums;
+mod column;
 mod combined;
 mod comps;
 mod evaluated;

@@ -3,11 +3,11 @@
 ghost use Rattle.std.specs.Prelude.{◌≡◌, ℕ, suc, ◌<◌, ◌≤◌, ℤ, pos, ◌+ℤ◌, ◌*ℤ◌, FitsSigned, length, map, IfOk, IfErr, OnOk, OnErr, slice_index_or};
 ghost use Rattle.std.specs.List.{range_with_len};
 ghost use mir.Syntax.{w64, w128};
-ghost use Rattle.wh_row.specs.Bag.{count as count_of, empty, plus, HasRowsOf};
+ghost use Rattle.wh_row.specs.Bag.{count as count_of, empty, plus};
 ghost use Rattle.wh_maint.specs.Comp.{bag_at, merged};
-ghost use Rattle.wh_maint.specs.Refused.{SumsTogetherFit, MergedFit, BringsNothing, IsMergeFault};
+ghost use Rattle.wh_maint.specs.Refused.{MergedFit, BringsNothing, IsMergeFault};
 
-use crate::both_sums::{bring_nothing, in_each_column};
+use crate::both_sums::add_columns;
 use crate::fault::{MaintFault, RowFault};
 use std::alloc::{AllocError, Global};
 use std::marker::Model;
@@ -89,41 +89,14 @@ impl Pending {
         ensures fits { OnOk result (MergedFit self.old.columns other.now.columns) }
         ensures refused { IfErr result (IsMergeFault self.old.view self.old.columns other.now.columns) }
 
-        // Memory may come before Large, but only for a row or a group that is not there, or for sums.
+        // Memory may come before Large, but only for a row or a group that is not there.
         ensures memory { result ≡ Err MaintFault.Memory → ¬ (BringsNothing self.old.columns other.now.columns) }
         ensures err { OnErr result (self.new ≡ self.old) }
     {
-        let columns = self.sums.as_slice();
+        let sums = self.sums.as_mut_slice();
         let others = other.sums.as_slice();
-        if bring_nothing(columns, others) {
-            return self.merge_counts(other);
-        }
-        let sums = match in_each_column(self.alloc, columns, others) {
-            Ok(sums) => sums,
-            Err(fault) => return Err(MaintFault::of_bag(fault, self.view)),
-        };
-        match self.counts.merge(&other.counts) {
-            Ok(()) => {
-                self.sums = sums;
-                Ok(())
-            }
-            Err(fault) => Err(MaintFault::of_bag(fault, self.view)),
-        }
-    }
-
-    /// Adds the counts of another Comp that has no sums.
-    fn merge_counts(&mut self, other: &Pending) -> Result<(), MaintFault>
-        requires columns { length other.now.columns ≡ length self.old.columns }
-        requires none { (j : ℕ) → bag_at other.now.columns (suc j) ≡ empty }
-        requires fit { (j : ℕ) → SumsTogetherFit (bag_at self.old.columns (suc j)) (bag_at other.now.columns (suc j)) }
-        ensures view { self.new.view ≡ self.old.view }
-        ensures sum { OnOk result (self.new.columns ≡ merged self.old.columns other.now.columns) }
-        ensures fits { OnOk result (MergedFit self.old.columns other.now.columns) }
-        ensures refused { IfErr result (IsMergeFault self.old.view self.old.columns other.now.columns) }
-        ensures memory { result ≡ Err MaintFault.Memory → ¬ (HasRowsOf (bag_at self.old.columns 0) (bag_at other.now.columns 0)) }
-        ensures err { OnErr result (self.new ≡ self.old) }
-    {
-        if let Err(fault) = self.counts.merge(&other.counts) {
+        let counts = &mut self.counts;
+        if let Err(fault) = add_columns(self.alloc, counts, sums, &other.counts, others) {
             return Err(MaintFault::of_bag(fault, self.view));
         }
         Ok(())

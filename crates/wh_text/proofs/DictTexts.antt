@@ -1,13 +1,14 @@
 -- A search in a list of texts, and in the strings that hold them.
-use Rattle.std.proofs.Common.{String, Global, string_bytes, if◌then◌else◌, ◌≡◌, ℕ, Bool, true, false, cond, ◌||◌, List, [], ◌∷◌, ◌++◌, map, length, position, Some, None, refl, ap, nat_lt}
+use Rattle.std.proofs.Common.{String, Global, string_bytes, if◌then◌else◌, ◌≡◌, ℕ, Bool, true, false, cond, ◌||◌, List, [], ◌∷◌, ◌++◌, map, length, position, Some, None, refl, sym, ap, ◌∙◌, nat_lt}
 use Rattle.std.specs.List.{AllByRecursion, IsDistinct}
 use Rattle.std.specs.List.{list_any, position_or_len}
 use Rattle.std.proofs.lemmas.Option.{same_Some}
+use Rattle.std.proofs.lemmas.Bool.{false≢true}
 use Rattle.std.proofs.lemmas.List.{map-append}
 use Rattle.std.specs.Str.{bytes_eq}
 use Rattle.std.specs.String.{string_eq}
 use Rattle.indexmap.specs.IndexSet.{insert_key}
-use Rattle.wh_text.specs.Dict.{with_text}
+use Rattle.wh_text.specs.Dict.{with_text, HasText}
 
 pub list_any-map : {X Y : Type 0} (p : Y → Bool) (f : X → Y) (xs : List X) → list_any p (map f xs) ≡ list_any (λ x. p (f x)) xs
 list_any-map p f [] = refl
@@ -41,3 +42,7 @@ pub IsDistinct-texts : (keys : List (String Global)) → IsDistinct string_eq ke
 unfolding IsDistinct
 IsDistinct-texts [] distinct = tt
 IsDistinct-texts (key ∷ keys) distinct = (apart-texts key keys distinct.0, IsDistinct-texts keys distinct.1)
+
+-- a text that none of the strings holds
+pub new_text : (keys : List (String Global)) (texts : List (List ℕ)) (text : List ℕ) → map string_bytes keys ≡ texts → false ≡ list_any (λ k. bytes_eq text (string_bytes k)) keys → ¬ (HasText texts text)
+new_text keys texts text is found has = false≢true (found ∙ sym (list_any-map (bytes_eq text) string_bytes keys) ∙ ap (list_any (bytes_eq text)) is ∙ has)

@@ -1,7 +1,11 @@
 -- The numbers of texts.
-use Rattle.std.specs.Prelude.{◌≡◌, ℕ, ℤ, pos, negsuc, List, [], ◌∷◌, ◌++◌, Option, None, slice_get, if◌then◌else◌}
+use Rattle.std.specs.Prelude.{◌≡◌, true, ℕ, ℤ, pos, negsuc, List, [], ◌∷◌, ◌++◌, Option, None, slice_get, if◌then◌else◌}
 use Rattle.std.specs.List.{list_any, position_or_len}
 use Rattle.std.specs.Str.{bytes_eq}
+
+-- the text is among them
+abbrev pub HasText : List (List ℕ) → List ℕ → Type 0
+HasText texts text = list_any (bytes_eq text) texts ≡ true
 
 -- the texts once this one has its number: they stay if it is among them, and else it goes last
 abbrev pub with_text : List (List ℕ) → List ℕ → List (List ℕ)

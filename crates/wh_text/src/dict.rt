@@ -2,7 +2,7 @@
 ghost use Rattle.std.specs.Prelude.{◌≡◌, ◌≤◌, ◌<◌, ◌^◌, List, [], All, pos, length, take, IfOk, IsTrue, ◌↔◌, OnOk, OnErr, IsUtf8, option_map};
 ghost use Rattle.std.specs.List.{IsDistinct};
 ghost use Rattle.std.specs.Str.{bytes_eq};
-ghost use Rattle.wh_text.specs.Dict.{number_of_text, text_of_cell, with_text};
+ghost use Rattle.wh_text.specs.Dict.{number_of_text, text_of_cell, with_text, HasText};
 
 use indexmap::IndexSet;
 use std::alloc::{AllocError, Global};
@@ -48,10 +48,11 @@ impl Dict {
         self.texts.is_empty()
     }
 
-    /// The number of a text, which gets the next one where it is new.
+    /// The number of a text, which gets the next one where it is new. Only a new text takes memory.
     pub fn number(&mut self, alloc: Global, text: &str) -> Result<i64, AllocError>
         ensures number { IfOk result (λ number. number ≡ pos (number_of_text self.old text.now)) }
         ensures texts { OnOk result (self.new ≡ with_text self.old text.now) }
+        ensures memory { OnErr result (¬ (HasText self.old text.now)) }
         ensures err { OnErr result (self.new ≡ self.old) }
     {
         let place = self.place(alloc, text)?;
@@ -63,6 +64,7 @@ impl Dict {
         ensures place { IfOk result (λ place. place ≡ number_of_text self.old text.now) }
         ensures within { IfOk result (λ place. place < length self.new) }
         ensures texts { OnOk result (self.new ≡ with_text self.old text.now) }
+        ensures memory { OnErr result (¬ (HasText self.old text.now)) }
         ensures err { OnErr result (self.new ≡ self.old) }
     {
         if let Some(place) = self.texts.get_index_of(text) {

@@ -1,7 +1,7 @@
-use Rattle.std.proofs.Common.{◌∙◌, refl, ap, string_bytes, map}
+use Rattle.std.proofs.Common.{rules, ◌∙◌, refl, ap, string_bytes, map}
 use Rattle.std.specs.Str.{bytes_eq}
-use Rattle.wh_text.specs.Dict.{with_text}
-use Rattle.wh_text.proofs.DictTexts.{list_any-map, position_or_len-map, position-first, map-insert_key}
+use Rattle.wh_text.specs.Dict.{with_text, HasText}
+use Rattle.wh_text.proofs.DictTexts.{list_any-map, position_or_len-map, position-first, map-insert_key, new_text}
 use Rattle.wh_text.proofs.dict.Dict.place.Goals as goal
 
 pub returns-in-Some-clause-place : goal.returns-in-Some-clause-place
@@ -23,3 +23,11 @@ returns-clause-texts c =
     let texts = c.self.inside.texts.keys in
     ap (map string_bytes) c.in_ok-place.ensures.keys ∙ map-insert_key texts c.in_ok-text.text
     ∙ ap (with_text (map string_bytes texts)) c.in_ok-text.ensures.ok ∙ ap (λ t. with_text t c.args.text.now) c.self.view_is
+
+pub returns-in_err-text-clause-memory : goal.returns-in_err-text-clause-memory
+returns-in_err-text-clause-memory c =
+    let new : ¬ (HasText c.args.self.now c.args.text.now) = new_text c.self.inside.texts.keys c.args.self.now c.args.text.now c.self.view_is c.in_default.ensures.found in search (rules, new)
+
+pub returns-in_err-place-clause-memory : goal.returns-in_err-place-clause-memory
+returns-in_err-place-clause-memory c =
+    let new : ¬ (HasText c.args.self.now c.args.text.now) = new_text c.self.inside.texts.keys c.args.self.now c.args.text.now c.self.view_is c.in_default.ensures.found in search (rules, new)
