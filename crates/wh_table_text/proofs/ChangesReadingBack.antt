@@ -3,31 +3,31 @@ use Rattle.std.proofs.Common.{◌≡◌, ◌≢◌, ℕ, zero, suc, ◌+◌, ◌
 use Rattle.std.specs.Prelude.{IfSome, IsUtf8, slice_get}
 use Rattle.std.specs.Cmp.Lexicographic.{pointwise_decides}
 use Rattle.std.specs.Int.{w64}
-use Rattle.std.specs.List.{AllByRecursion, AllZip, IsDistinct, list_all, list_any}
+use Rattle.std.specs.List.{AllByRecursion, AllZip, IsDistinct}
 use Rattle.std.specs.List.Sorted.{IsStrictlySortedBy}
 use Rattle.std.specs.Str.{bytes_eq}
 use Rattle.std.specs.declared.cmp.Ordering.TheVariants.{Less}
 use Rattle.std.proofs.lemmas.Int.{ints}
 use Rattle.std.proofs.lemmas.List.{append-nil}
-use Rattle.std.proofs.lemmas.List.Folds.{list_all-append}
 use Rattle.std.proofs.lemmas.Slice.Eq.{bytes_eq-Decides}
-use Rattle.wh_row.specs.Bag.{count, written}
+use Rattle.wh_row.specs.Bag.{written}
 use Rattle.wh_row.specs.Records.{EachSumFits, running_sum}
 use Rattle.wh_row.specs.Row.{Row, AreRising, row_cmp}
 use Rattle.wh_row.specs.Weigh.{Counted, count_in}
 use Rattle.wh_row.proofs.BagLaws.{count_in-append, count_in-written, each_entry, itself, rising-written}
-use Rattle.wh_text.specs.Columns.{kinds_of, names_of}
+use Rattle.wh_text.specs.Columns.{NamedKind, kinds_of, names_of}
 use Rattle.wh_text.specs.declared.columns.Kind.{Kind}
 use Rattle.wh_table_text.specs.ChangesReadBack.{ChangesReadBack}
+use Rattle.wh_table_text.specs.Part.{below_header, part_gives}
 use Rattle.wh_table_text.specs.Records.{form_fault}
 use Rattle.wh_table_text.specs.TableReadsBack.{IsCell}
-use Rattle.wh_table_text.specs.TableText.{IsSound, ReadTo, counted_header, counting_of, dictionary_after, entries_of, entry_of, header_gives, non_zero, rows_give, sums_of, text_gives, texts_in, texts_in_row}
+use Rattle.wh_table_text.specs.TableText.{bag_read, counted_header, counting_of, entry_of, entry_scheme, non_zero, table_scheme, text_gives, texts_after, texts_in_row}
 use Rattle.wh_table_text.specs.TableWritten.{cell_texts, record_of}
 use Rattle.wh_table_text.specs.declared.table.header.Content.TheVariants.{Changes}
 use Rattle.wh_table_text.specs.declared.table.header.Counting.TheVariants.{NonZero}
 use Rattle.wh_table_text.proofs.RecordsReadBack.{records-back}
-use Rattle.wh_table_text.proofs.TableReadingBack.{all_among, bag-back, decimal-utf8, hash-utf8, kept-cells, names-utf8, row-among, row-back, row-length, row-utf8, whole-decimal, with-known}
-use Rattle.wh_table_text.proofs.TableSums.{sums-ok}
+use Rattle.wh_table_text.proofs.TableReadingBack.{IsBack, bag-back, decimal-utf8, hash-utf8, header-wide, kept-cells, names-utf8, row-among, row-back, row-length, row-utf8, rows-back, whole-decimal, with-known}
+use Rattle.wh_table_text.proofs.TableSums.{part-added}
 
 -- Records.
 
@@ -46,14 +46,11 @@ non_zero-back (negsuc n) some = refl
 change-back : (texts : List (List ℕ)) (kinds : List Kind) (entry : Row × ℤ) → IsDistinct bytes_eq texts → IsChangeOver texts kinds entry.0 entry.1 → entry_of NonZero texts kinds (record_of texts kinds entry) ≡ Some entry
 change-back texts kinds entry distinct is = rw (whole-decimal entry.1 is.fits, non_zero-back entry.1 is.some, row-back texts kinds entry.0 distinct is.cells) refl
 
-form-back : (texts : List (List ℕ)) (kinds : List Kind) (entry : Row × ℤ) (number : ℕ) → All IsUtf8 texts → IsChangeOver texts kinds entry.0 entry.1 → form_fault (1 + length kinds) number (record_of texts kinds entry) ≡ None
-form-back texts kinds entry number utf8 is =
+form-back : (texts : List (List ℕ)) (kinds : List Kind) (entry : Row × ℤ) (width number : ℕ) → width ≡ 1 + length kinds → All IsUtf8 texts → IsChangeOver texts kinds entry.0 entry.1 → form_fault width number (record_of texts kinds entry) ≡ None
+form-back texts kinds entry width number many utf8 is =
     let long = row-length texts kinds entry.0 in
-    let wide : (length (record_of texts kinds entry) == 1 + length kinds) ≡ true = eq-eqb (length (record_of texts kinds entry)) (1 + length kinds) (omega arith) in
+    let wide : (length (record_of texts kinds entry) == width) ≡ true = eq-eqb (length (record_of texts kinds entry)) width (omega arith) in
     rw (decimal-utf8 entry.1 is.fits, row-utf8 texts kinds entry.0 utf8 is.cells, wide) refl
-
-sound-back : (texts : List (List ℕ)) (kinds : List Kind) (entry : Row × ℤ) → IsDistinct bytes_eq texts → All IsUtf8 texts → IsChangeOver texts kinds entry.0 entry.1 → IsSound NonZero texts kinds (record_of texts kinds entry)
-sound-back texts kinds entry distinct utf8 is = λ number. rw (form-back texts kinds entry number utf8 is, change-back texts kinds entry distinct is) refl
 
 -- All records.
 
@@ -61,19 +58,17 @@ sound-back texts kinds entry distinct utf8 is = λ number. rw (form-back texts k
 abbrev AreChanges : List (List ℕ) → List Kind → Counted → Type 0
 AreChanges texts kinds es = AllByRecursion (λ (e : Row × ℤ). IsChangeOver texts kinds e.0 e.1) es
 
-changes-back : (texts : List (List ℕ)) (kinds : List Kind) (es : Counted) → IsDistinct bytes_eq texts → AreChanges texts kinds es → entries_of NonZero texts kinds (map (record_of texts kinds) es) ≡ es
-changes-back texts kinds [] distinct all = refl
-changes-back texts kinds (e ∷ es) distinct all = rw (change-back texts kinds e distinct all.0) (ap (λ rest. e ∷ rest) (changes-back texts kinds es distinct all.1))
+is-back : (columns : List NamedKind) (texts : List (List ℕ)) (width : ℕ) (entry : Row × ℤ) → width ≡ 1 + length (kinds_of columns) → IsDistinct bytes_eq texts → All IsUtf8 texts → IsChangeOver texts (kinds_of columns) entry.0 entry.1
+    → IsBack Changes columns texts NonZero width entry
+is-back columns texts width entry many distinct utf8 is = λ number before.
+    let kinds = kinds_of columns in
+    let known : texts_after NonZero kinds texts (record_of texts kinds entry) ≡ texts = with-known texts (texts_in_row kinds (cell_texts texts kinds entry.0)) (row-among texts kinds entry.0 is.cells) in
+    rw (form-back texts kinds entry width number many utf8 is, known, change-back texts kinds entry distinct is) refl
 
-all-sound : (texts : List (List ℕ)) (kinds : List Kind) (es : Counted) → IsDistinct bytes_eq texts → All IsUtf8 texts → AreChanges texts kinds es → AllByRecursion (IsSound NonZero texts kinds) (map (record_of texts kinds) es)
-all-sound texts kinds [] distinct utf8 all = tt
-all-sound texts kinds (e ∷ es) distinct utf8 all = (sound-back texts kinds e distinct utf8 all.0, all-sound texts kinds es distinct utf8 all.1)
-
-all-texts-among : (texts : List (List ℕ)) (kinds : List Kind) (es : Counted) → AreChanges texts kinds es → all_among texts (texts_in NonZero kinds (map (record_of texts kinds) es)) ≡ true
-all-texts-among texts kinds [] all = refl
-all-texts-among texts kinds (e ∷ es) all =
-    rw (list_all-append (λ text. list_any (bytes_eq text) texts) (texts_in_row kinds (cell_texts texts kinds e.0)) (texts_in NonZero kinds (map (record_of texts kinds) es)), row-among texts kinds e.0 all.0.cells)
-    (all-texts-among texts kinds es all.1)
+all-back : (columns : List NamedKind) (texts : List (List ℕ)) (width : ℕ) (es : Counted) → width ≡ 1 + length (kinds_of columns) → IsDistinct bytes_eq texts → All IsUtf8 texts → AreChanges texts (kinds_of columns) es
+    → AllByRecursion (IsBack Changes columns texts NonZero width) es
+all-back columns texts width [] many distinct utf8 all = tt
+all-back columns texts width (e ∷ es) many distinct utf8 all = (is-back columns texts width e many distinct utf8 all.0, all-back columns texts width es many distinct utf8 all.1)
 
 -- Sums on the way: a row stands once, so its running sum is its own count.
 
@@ -100,8 +95,10 @@ each-sum-fits before (e ∷ es) rising fits (suc place) =
 
 -- The header.
 
-header-given : (names : List (List ℕ)) (rows : List (List (List ℕ))) → All IsUtf8 names → header_gives Changes names (counted_header names ∷ rows) ≡ Ok (NonZero, rows)
-header-given names rows utf8 =
+header-given : (columns : List NamedKind) (rows : List (List (List ℕ))) → All IsUtf8 (names_of columns)
+    → below_header (entry_scheme Changes columns) (counted_header (names_of columns) ∷ rows) ≡ Ok (record { kind = NonZero; width = length (counted_header (names_of columns)); rows = rows })
+header-given columns rows utf8 =
+    let names = names_of columns in
     let wide : (length (counted_header names) == length (counted_header names)) ≡ true = eq-eqb (length (counted_header names)) (length (counted_header names)) refl in
     let form : form_fault (length (counted_header names)) 1 (counted_header names) ≡ None = rw (hash-utf8, names-utf8 names utf8, wide) refl in
     let counting : counting_of Changes names (counted_header names) ≡ Some NonZero = rw ((pointwise_decides bytes_eq-Decides (counted_header names) (counted_header names)).1 refl) refl in
@@ -113,21 +110,12 @@ pub changes-read-back : ChangesReadBack
 unfolding text_gives
 changes-read-back columns texts bag is =
     let kinds = kinds_of columns in
+    let width = length (counted_header (names_of columns)) in
     let rows = map (record_of texts kinds) (written bag) in
     let changes : AreChanges texts kinds (written bag) =
     each_entry (IsChangeOver texts kinds) bag (λ row some. record { cells = is.rows row some; some = some; fits = is.counts row }) in
-    let dictionary : dictionary_after NonZero kinds texts rows ≡ texts = with-known texts (texts_in NonZero kinds rows) (all-texts-among texts kinds (written bag) changes) in
-    let read : ReadTo NonZero texts kinds rows (written bag) None = record {
-      before = rows;
-      rest = [];
-      parts = sym (append-nil rows);
-      sound = all-sound texts kinds (written bag) is.texts_distinct is.texts_utf8 changes;
-      counted = sym (changes-back texts kinds (written bag) is.texts_distinct changes);
-      ends = refl;
-    } in
+    let read = rows-back Changes columns texts NonZero width 2 [] (written bag) (all-back columns texts width (written bag) (header-wide columns) is.texts_distinct is.texts_utf8 changes) in
     let fits : EachSumFits (written bag) = each-sum-fits [] (written bag) (rising-written bag) (λ q. rw (count_in-written bag q) (is.counts q)) in
-    ap (λ records. rows_give kinds texts (header_gives Changes (names_of columns) records)) (records-back (names_of columns) rows (kept-cells texts kinds (written bag)))
-    ∙ ap (rows_give kinds texts) (header-given (names_of columns) rows is.names)
-    ∙ ap (λ after. sums_of NonZero after kinds rows) dictionary
-    ∙ sums-ok NonZero texts kinds rows (written bag) read fits
+    ap (λ records. bag_read (part_gives (table_scheme Changes columns) (record { texts = texts; entries = [] }) records)) (records-back (names_of columns) rows (kept-cells texts kinds (written bag)))
+    ∙ ap bag_read (part-added Changes columns (counted_header (names_of columns) ∷ rows) (record { texts = texts; entries = [] }) (record { texts = texts; entries = written bag }) _ (header-given columns rows is.names) read fits)
     ∙ ap (λ b. Ok (b, texts)) (bag-back bag)

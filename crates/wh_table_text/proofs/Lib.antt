@@ -1,11 +1,11 @@
 pub mod Cells
 pub mod ChangesReadingBack
 pub mod NamesText
+pub mod PartReads
 pub mod RecordLists
 pub mod RecordReads
 pub mod RecordsReadBack
 pub mod SizeLimits
-pub mod SizeRows
 pub mod TableLines
 pub mod TableReadingBack
 pub mod TableRow

@@ -1,15 +1,19 @@
 -- The sizes that rows give are within their limits.
-use Rattle.std.proofs.Common.{◌≡◌, ◌≤◌, ◌+◌, ◌^◌, ℕ, ℤ, pos, negsuc, zero, suc, Bool, true, false, List, [], ◌∷◌, length, map, Option, Some, None, ◌⊎◌, inl, inr, refl, subst, arith}
-use Rattle.std.specs.Prelude.{IfSome, ◌&&◌, nat_le, if◌then◌else◌, option_and_then}
-use Rattle.std.specs.List.{filter_map, range_with_len}
-use Rattle.std.specs.Option.{option_or}
+use Rattle.std.proofs.Common.{◌≡◌, ◌≤◌, ◌+◌, ◌^◌, ℕ, ℤ, pos, negsuc, zero, suc, true, false, List, [], ◌∷◌, length, set, replicate, Option, Some, None, Ok, ◌⊎◌, inl, inr, refl, subst, arith}
+use Rattle.std.specs.Prelude.{IfSome, ◌&&◌, nat_le, if◌then◌else◌, ok_or, option_and_then}
+use Rattle.std.specs.List.{AllByRecursion, filter_map}
 use Rattle.std.proofs.lemmas.Bool.{cases_Bool}
 use Rattle.std.proofs.lemmas.Bool.Decides.{nat_tests}
 use Rattle.std.proofs.lemmas.Option.{same_Some}
 use Rattle.wh_strategy.specs.Sizes.{AreSizes, IsSize}
 use Rattle.wh_strategy.specs.declared.sizes.SizeRow.{SizeRow}
-use Rattle.wh_table_text.specs.SizesText.{counts_of, given_by, is_of, row_size, rows_in, size_in, size_of}
+use Rattle.wh_text.specs.declared.fault.LoadFault.TheVariants.{Number, Sizes}
+use Rattle.wh_table_text.specs.Part.{below_header, part_of, record_gives, records_give}
+use Rattle.wh_table_text.specs.Records.{cell, form_fault, records_of}
+use Rattle.wh_table_text.specs.RowSizes.{counts_of, rows_in, size_of}
+use Rattle.wh_table_text.specs.SizesText.{all_sizes, fresh_view, missing_fault, placed, size_written, sizes_of_text, sizes_scheme}
 use Rattle.wh_table_text.specs.declared.sizes.Counts.{Counts}
+use Rattle.wh_table_text.proofs.PartReads.{from_step, or_fault-ok, same_Ok, some-or}
 
 few-rows : (z : ℤ) → IfSome (rows_in z) (λ n. n ≤ 2 ^ 40)
 few-rows (pos n) = by (cases_Bool (nat_le n (2 ^ 40)))
@@ -45,36 +49,58 @@ size_of-within counts size e = by (rows_in counts.pre) (rows_in counts.post) (ro
     by (Some pre) (Some post) None fa fb fc e = cc e
     by (Some pre) (Some post) (Some change) fa fb fc e = within pre post change size fa fb fc e
 
-row_size-within : (row : List (List ℕ)) (size : SizeRow) → row_size row ≡ Some size → IsSize size
-unfolding row_size
-row_size-within row size e = by (counts_of row) e
-  where
-    by : (o : Option Counts) → option_and_then size_of o ≡ Some size → IsSize size
-    by None h = cc h
-    by (Some counts) h = size_of-within counts size h
+size_written-within : (number : ℕ) (row : List (List ℕ)) (size : SizeRow) → size_written number row ≡ Ok size → IsSize size
+size_written-within number row size e =
+    let counts = from_step (ok_or (counts_of row) (Number number)) (λ counts. ok_or (size_of counts) (Sizes (cell row 0))) size e in
+    size_of-within counts.0 size (some-or (size_of counts.0) (Sizes (cell row 0)) size counts.2)
 
-size_in-within : (names : List (List ℕ)) (rows : List (List (List ℕ))) (view : ℕ) (size : SizeRow) → size_in names rows view ≡ Some size → IsSize size
-unfolding size_in
-size_in-within names [] view size e = cc e
-size_in-within names (row ∷ rows) view size e = by (is_of names view row) (row_size row) (λ s. row_size-within row s) (size_in-within names rows view size) e
-  where
-    by : (own : Bool) (o : Option SizeRow) → ((s : SizeRow) → o ≡ Some s → IsSize s) → (size_in names rows view ≡ Some size → IsSize size)
-        → option_or (if own then o else None) (size_in names rows view) ≡ Some size → IsSize size
-    by true None here later h = later h
-    by true (Some s) here later h = subst IsSize (same_Some _ _ h) (here s refl)
-    by false o here later h = later h
+-- each view that was given sizes has some within their limits
+abbrev AreWithin : List (Option SizeRow) → Type 0
+AreWithin given = AllByRecursion (λ size. IfSome size IsSize) given
+
+none-within : (views : ℕ) → AreWithin (replicate views None)
+none-within zero = tt
+none-within (suc views) = (tt, none-within views)
+
+set-within : (given : List (Option SizeRow)) (view : ℕ) (size : SizeRow) → AreWithin given → IsSize size → AreWithin (set given view (Some size))
+set-within [] view size are is = tt
+set-within (o ∷ given) zero size are is = (is, are.1)
+set-within (o ∷ given) (suc view) size are is = (are.0, set-within given view size are.1 is)
+
+placed-within : (names : List (List ℕ)) (kind : Unit {0}) (given after : List (Option SizeRow)) (number : ℕ) (row : List (List ℕ)) → AreWithin given → placed names kind given number row ≡ Ok after → AreWithin after
+placed-within names kind given after number row are e =
+    let view = from_step (fresh_view names given (cell row 0)) _ after e in
+    let size = from_step (size_written number row) _ after view.2 in
+    subst AreWithin (same_Ok _ _ _ refl size.2) (set-within given view.0 size.0 are (size_written-within number row size.0 size.1))
+
+rows-within : (names : List (List ℕ)) (kind : Unit {0}) (width number : ℕ) (given after : List (Option SizeRow)) (rows : List (List (List ℕ))) → AreWithin given
+    → records_give (sizes_scheme names) width kind number given rows ≡ Ok after → AreWithin after
+unfolding records_give
+rows-within names kind width number given after [] are e = subst AreWithin (same_Ok _ _ _ refl e) are
+rows-within names kind width number given after (row ∷ rows) are e =
+    let next = from_step (record_gives (sizes_scheme names) width kind given number row) _ after e in
+    let own = or_fault-ok (form_fault width number row) (placed names kind given number row) next.0 next.1 in
+    rows-within names kind width (number + 1) next.0 after rows (placed-within names kind given next.0 number row are own) next.2
 
 first-size : (s : SizeRow) (rows : List SizeRow) → IsSize s → AreSizes rows → AreSizes (s ∷ rows)
 first-size s rows is more zero row there = subst IsSize (same_Some _ _ there) is
 first-size s rows is more (suc u) row there = more u row there
 
-found : (f : ℕ → Option SizeRow) → ((view : ℕ) (size : SizeRow) → f view ≡ Some size → IsSize size) → (views : List ℕ) → AreSizes (filter_map (λ size. size) (map f views))
-found f each [] = λ u row there. cc there
-found f each (view ∷ views) = by (f view) (λ s. each view s) (found f each views)
-  where
-    by : (o : Option SizeRow) → ((s : SizeRow) → o ≡ Some s → IsSize s) → AreSizes (filter_map (λ size. size) (map f views)) → AreSizes (filter_map (λ size. size) (o ∷ map f views))
-    by None here more = more
-    by (Some s) here more = first-size s (filter_map (λ size. size) (map f views)) (here s refl) more
+found : (given : List (Option SizeRow)) → AreWithin given → AreSizes (filter_map (λ size. size) given)
+found [] are = λ u row there. cc there
+found (None ∷ given) are = found given are.1
+found (Some size ∷ given) are = first-size size (filter_map (λ s. s) given) are.0 (found given are.1)
 
-pub given_by-sizes : (names : List (List ℕ)) (rows : List (List (List ℕ))) → AreSizes (filter_map (λ size. size) (given_by names rows))
-given_by-sizes names rows = found (size_in names rows) (λ view size e. size_in-within names rows view size e) (range_with_len 0 (length names))
+-- what the rows of a part give the views
+pub given-sizes : (names : List (List ℕ)) (text : List ℕ) (given : List (Option SizeRow)) → part_of (sizes_scheme names) (replicate (length names) None) text ≡ Ok given → AreSizes (filter_map (λ size. size) given)
+given-sizes names text given e =
+    let below = from_step (below_header (sizes_scheme names) (records_of text)) _ given e in
+    found given (rows-within names below.0.kind below.0.width 2 (replicate (length names) None) given below.0.rows (none-within (length names)) below.2)
+
+-- the sizes that a text gives
+pub text-sizes : (names : List (List ℕ)) (text : List ℕ) (rows : List SizeRow) → sizes_of_text names text ≡ Ok rows → AreSizes rows
+unfolding sizes_of_text
+text-sizes names text rows e =
+    let given = from_step (part_of (sizes_scheme names) (replicate (length names) None) text) (all_sizes names) rows e in
+    let all = or_fault-ok (missing_fault names given.0) (Ok (filter_map (λ size. size) given.0)) rows given.2 in
+    subst AreSizes (same_Ok _ _ _ refl all) (given-sizes names text given.0 given.1)

@@ -14,7 +14,7 @@ use Rattle.std.proofs.lemmas.Bool.{and_parts, both_ways, cases_Bool, false_from_
 use Rattle.std.proofs.lemmas.Bool.Decides.{Decides-and}
 use Rattle.std.proofs.lemmas.Fmt.{IsAscii-signed, parse-signed_decimal}
 use Rattle.std.proofs.lemmas.Int.{ints}
-use Rattle.std.proofs.lemmas.List.{append-nil}
+use Rattle.std.proofs.lemmas.List.{append-nil, length-map}
 use Rattle.std.proofs.lemmas.List.Folds.{list_all-append}
 use Rattle.std.proofs.lemmas.List.Sums.{position_or_len_is}
 use Rattle.std.proofs.lemmas.Map.Made.{AllPairs-from_IsDistinct}
@@ -28,19 +28,22 @@ use Rattle.wh_row.specs.Row.{Row, is_row}
 use Rattle.wh_row.specs.Weigh.{Counted, count_in}
 use Rattle.wh_row.proofs.BagLaws.{count-bag_of, count_in-append, count_in-written, each_entry, itself, same_bag}
 use Rattle.wh_text.specs.Dict.{number_of_text, with_texts}
-use Rattle.wh_text.specs.Columns.{kinds_of, names_of}
+use Rattle.wh_text.specs.Columns.{NamedKind, kinds_of, names_of}
 use Rattle.wh_text.specs.WholeNumber.{are_digits, is_i64, whole_number}
 use Rattle.wh_text.specs.declared.columns.Kind.{Kind}
 use Rattle.wh_text.specs.declared.columns.Kind.TheVariants as of_kind
 use Rattle.wh_text.proofs.WholeNumbers.{are_digits-decides, is_i64-decides, whole_number-parse}
+use Rattle.wh_table_text.specs.Part.{◌>>=◌, below_header, part_gives, record_gives, records_give}
 use Rattle.wh_table_text.specs.Records.{form_fault}
 use Rattle.wh_table_text.specs.TableReadsBack.{IsCell, TableReadsBack}
-use Rattle.wh_table_text.specs.TableText.{IsSound, ReadTo, cell_number, counted_header, counting_of, dictionary_after, entries_of, entry_of, header_gives, positive, row_of, rows_give, sums_of, text_gives, text_in, texts_in, texts_in_row}
+use Rattle.wh_table_text.specs.TableText.{bag_read, cell_number, counted_header, counting_of, entry_of, entry_scheme, positive, row_of, table_scheme, text_gives, text_in, texts_after, texts_in_row}
 use Rattle.wh_table_text.specs.TableWritten.{cell_text, cell_texts, record_of}
+use Rattle.wh_table_text.specs.declared.table.header.Content.{Content}
 use Rattle.wh_table_text.specs.declared.table.header.Content.TheVariants.{Table}
+use Rattle.wh_table_text.specs.declared.table.header.Counting.{Counting}
 use Rattle.wh_table_text.specs.declared.table.header.Counting.TheVariants.{Positive}
 use Rattle.wh_table_text.proofs.RecordsReadBack.{records-back}
-use Rattle.wh_table_text.proofs.TableSums.{sums-ok}
+use Rattle.wh_table_text.proofs.TableSums.{part-added}
 
 -- Numbers.
 
@@ -170,34 +173,11 @@ positive-back (negsuc n) least some = absurd (omega (arith, ints))
 entry-back : (texts : List (List ℕ)) (kinds : List Kind) (entry : Row × ℤ) → IsDistinct bytes_eq texts → IsEntryOver texts kinds entry.0 entry.1 → entry_of Positive texts kinds (record_of texts kinds entry) ≡ Some entry
 entry-back texts kinds entry distinct is = rw (whole-decimal entry.1 is.fits, positive-back entry.1 is.least is.some, row-back texts kinds entry.0 distinct is.cells) refl
 
-form-back : (texts : List (List ℕ)) (kinds : List Kind) (entry : Row × ℤ) (number : ℕ) → All IsUtf8 texts → IsEntryOver texts kinds entry.0 entry.1 → form_fault (1 + length kinds) number (record_of texts kinds entry) ≡ None
-form-back texts kinds entry number utf8 is =
+form-back : (texts : List (List ℕ)) (kinds : List Kind) (entry : Row × ℤ) (width number : ℕ) → width ≡ 1 + length kinds → All IsUtf8 texts → IsEntryOver texts kinds entry.0 entry.1 → form_fault width number (record_of texts kinds entry) ≡ None
+form-back texts kinds entry width number many utf8 is =
     let long = row-length texts kinds entry.0 in
-    let wide : (length (record_of texts kinds entry) == 1 + length kinds) ≡ true = eq-eqb (length (record_of texts kinds entry)) (1 + length kinds) (omega arith) in
+    let wide : (length (record_of texts kinds entry) == width) ≡ true = eq-eqb (length (record_of texts kinds entry)) width (omega arith) in
     rw (decimal-utf8 entry.1 is.fits, row-utf8 texts kinds entry.0 utf8 is.cells, wide) refl
-
-sound-back : (texts : List (List ℕ)) (kinds : List Kind) (entry : Row × ℤ) → IsDistinct bytes_eq texts → All IsUtf8 texts → IsEntryOver texts kinds entry.0 entry.1 → IsSound Positive texts kinds (record_of texts kinds entry)
-sound-back texts kinds entry distinct utf8 is = λ number. rw (form-back texts kinds entry number utf8 is, entry-back texts kinds entry distinct is) refl
-
--- All records.
-
--- each is an entry of a table
-abbrev pub AreEntries : List (List ℕ) → List Kind → Counted → Type 0
-AreEntries texts kinds es = AllByRecursion (λ (e : Row × ℤ). IsEntryOver texts kinds e.0 e.1) es
-
-entries-back : (texts : List (List ℕ)) (kinds : List Kind) (es : Counted) → IsDistinct bytes_eq texts → AreEntries texts kinds es → entries_of Positive texts kinds (map (record_of texts kinds) es) ≡ es
-entries-back texts kinds [] distinct all = refl
-entries-back texts kinds (e ∷ es) distinct all = rw (entry-back texts kinds e distinct all.0) (ap (λ rest. e ∷ rest) (entries-back texts kinds es distinct all.1))
-
-all-sound : (texts : List (List ℕ)) (kinds : List Kind) (es : Counted) → IsDistinct bytes_eq texts → All IsUtf8 texts → AreEntries texts kinds es → AllByRecursion (IsSound Positive texts kinds) (map (record_of texts kinds) es)
-all-sound texts kinds [] distinct utf8 all = tt
-all-sound texts kinds (e ∷ es) distinct utf8 all = (sound-back texts kinds e distinct utf8 all.0, all-sound texts kinds es distinct utf8 all.1)
-
-all-texts-among : (texts : List (List ℕ)) (kinds : List Kind) (es : Counted) → AreEntries texts kinds es → all_among texts (texts_in Positive kinds (map (record_of texts kinds) es)) ≡ true
-all-texts-among texts kinds [] all = refl
-all-texts-among texts kinds (e ∷ es) all =
-    rw (list_all-append (λ text. list_any (bytes_eq text) texts) (texts_in_row kinds (cell_texts texts kinds e.0)) (texts_in Positive kinds (map (record_of texts kinds) es)), row-among texts kinds e.0 all.0.cells)
-    (all-texts-among texts kinds es all.1)
 
 -- texts that have numbers add none
 pub with-known : (texts more : List (List ℕ)) → all_among texts more ≡ true → with_texts texts more ≡ texts
@@ -210,6 +190,38 @@ with-known texts (text ∷ more) all =
 pub kept-cells : (texts : List (List ℕ)) (kinds : List Kind) (es : Counted) → map read_back (map (record_of texts kinds) es) ≡ map (record_of texts kinds) es
 kept-cells texts kinds [] = refl
 kept-cells texts kinds (e ∷ es) = ap (λ rest. record_of texts kinds e ∷ rest) (kept-cells texts kinds es)
+
+-- All records.
+
+-- the record of an entry puts it last, whatever its number and what was read before
+abbrev pub IsBack : Content → List NamedKind → List (List ℕ) → Counting → ℕ → Row × ℤ → Type 0
+IsBack content columns texts count width entry = (number : ℕ) (before : Counted)
+    → record_gives (entry_scheme content columns) width count (record { texts = texts; entries = before }) number (record_of texts (kinds_of columns) entry) ≡ Ok (record { texts = texts; entries = before ++ entry ∷ [] })
+
+pub rows-back : (content : Content) (columns : List NamedKind) (texts : List (List ℕ)) (count : Counting) (width number : ℕ) (before es : Counted) → AllByRecursion (IsBack content columns texts count width) es
+    → records_give (entry_scheme content columns) width count number (record { texts = texts; entries = before }) (map (record_of texts (kinds_of columns)) es) ≡ Ok (record { texts = texts; entries = before ++ es })
+unfolding records_give
+rows-back content columns texts count width number before [] all = ap (λ es. Ok (record { texts = texts; entries = es })) (sym (append-nil before))
+rows-back content columns texts count width number before (e ∷ es) all =
+    ap (λ r. r >>= (λ after. records_give (entry_scheme content columns) width count (number + 1) after (map (record_of texts (kinds_of columns)) es))) (all.0 number before)
+    ∙ rows-back content columns texts count width (number + 1) (before ++ e ∷ []) es all.1
+    ∙ ap (λ all. Ok (record { texts = texts; entries = all })) (append_assoc before (e ∷ []) es)
+
+-- each is an entry of a table
+abbrev pub AreEntries : List (List ℕ) → List Kind → Counted → Type 0
+AreEntries texts kinds es = AllByRecursion (λ (e : Row × ℤ). IsEntryOver texts kinds e.0 e.1) es
+
+is-back : (columns : List NamedKind) (texts : List (List ℕ)) (width : ℕ) (entry : Row × ℤ) → width ≡ 1 + length (kinds_of columns) → IsDistinct bytes_eq texts → All IsUtf8 texts → IsEntryOver texts (kinds_of columns) entry.0 entry.1
+    → IsBack Table columns texts Positive width entry
+is-back columns texts width entry many distinct utf8 is = λ number before.
+    let kinds = kinds_of columns in
+    let known : texts_after Positive kinds texts (record_of texts kinds entry) ≡ texts = with-known texts (texts_in_row kinds (cell_texts texts kinds entry.0)) (row-among texts kinds entry.0 is.cells) in
+    rw (form-back texts kinds entry width number many utf8 is, known, entry-back texts kinds entry distinct is) refl
+
+all-back : (columns : List NamedKind) (texts : List (List ℕ)) (width : ℕ) (es : Counted) → width ≡ 1 + length (kinds_of columns) → IsDistinct bytes_eq texts → All IsUtf8 texts → AreEntries texts (kinds_of columns) es
+    → AllByRecursion (IsBack Table columns texts Positive width) es
+all-back columns texts width [] many distinct utf8 all = tt
+all-back columns texts width (e ∷ es) many distinct utf8 all = (is-back columns texts width e many distinct utf8 all.0, all-back columns texts width es many distinct utf8 all.1)
 
 -- Sums on the way.
 
@@ -273,11 +285,20 @@ hash-ascii (suc i) = omega arith
 pub hash-utf8 : is_utf8 (codes "#") ≡ true
 hash-utf8 = is_utf8-from_IsUtf8 (codes "#") (IsUtf8-from_ascii (codes "#") hash-ascii)
 
-header-given : (names : List (List ℕ)) (rows : List (List (List ℕ))) → All IsUtf8 names → header_gives Table names (counted_header names ∷ rows) ≡ Ok (Positive, rows)
-header-given names rows utf8 =
+header-given : (columns : List NamedKind) (rows : List (List (List ℕ))) → All IsUtf8 (names_of columns)
+    → below_header (entry_scheme Table columns) (counted_header (names_of columns) ∷ rows) ≡ Ok (record { kind = Positive; width = length (counted_header (names_of columns)); rows = rows })
+header-given columns rows utf8 =
+    let names = names_of columns in
     let wide : (length (counted_header names) == length (counted_header names)) ≡ true = eq-eqb (length (counted_header names)) (length (counted_header names)) refl in
     let form : form_fault (length (counted_header names)) 1 (counted_header names) ≡ None = rw (hash-utf8, names-utf8 names utf8, wide) refl in
     rw (form, header-back names) refl
+
+-- a header with a count is as long as the record of a row
+pub header-wide : (columns : List NamedKind) → length (counted_header (names_of columns)) ≡ 1 + length (kinds_of columns)
+header-wide columns =
+    let names = length-map columns (λ (column : NamedKind). column.name) in
+    let kinds = length-map columns (λ (column : NamedKind). column.kind) in
+    omega arith
 
 -- The whole table.
 
@@ -288,21 +309,12 @@ pub table-reads-back : TableReadsBack
 unfolding text_gives
 table-reads-back columns texts bag is =
     let kinds = kinds_of columns in
+    let width = length (counted_header (names_of columns)) in
     let rows = map (record_of texts kinds) (written bag) in
     let entries : AreEntries texts kinds (written bag) =
     each_entry (IsEntryOver texts kinds) bag (λ row some. record { cells = is.rows row some; least = is.table row; some = some; fits = is.counts row }) in
-    let dictionary : dictionary_after Positive kinds texts rows ≡ texts = with-known texts (texts_in Positive kinds rows) (all-texts-among texts kinds (written bag) entries) in
-    let read : ReadTo Positive texts kinds rows (written bag) None = record {
-      before = rows;
-      rest = [];
-      parts = sym (append-nil rows);
-      sound = all-sound texts kinds (written bag) is.texts_distinct is.texts_utf8 entries;
-      counted = sym (entries-back texts kinds (written bag) is.texts_distinct entries);
-      ends = refl;
-    } in
+    let read = rows-back Table columns texts Positive width 2 [] (written bag) (all-back columns texts width (written bag) (header-wide columns) is.texts_distinct is.texts_utf8 entries) in
     let fits : EachSumFits (written bag) = each-sum-fits texts kinds [] (written bag) tt entries (λ q. rw (count_in-written bag q) (is.counts q)) in
-    ap (λ records. rows_give kinds texts (header_gives Table (names_of columns) records)) (records-back (names_of columns) rows (kept-cells texts kinds (written bag)))
-    ∙ ap (rows_give kinds texts) (header-given (names_of columns) rows is.names)
-    ∙ ap (λ after. sums_of Positive after kinds rows) dictionary
-    ∙ sums-ok Positive texts kinds rows (written bag) read fits
+    ap (λ records. bag_read (part_gives (table_scheme Table columns) (record { texts = texts; entries = [] }) records)) (records-back (names_of columns) rows (kept-cells texts kinds (written bag)))
+    ∙ ap bag_read (part-added Table columns (counted_header (names_of columns) ∷ rows) (record { texts = texts; entries = [] }) (record { texts = texts; entries = written bag }) _ (header-given columns rows is.names) read fits)
     ∙ ap (λ b. Ok (b, texts)) (bag-back bag)

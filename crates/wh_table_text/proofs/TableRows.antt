@@ -1,187 +1,105 @@
--- The records below a header, read one by one.
-use Rattle.std.proofs.Common.{◌≡◌, ◌<◌, ◌^◌, ℕ, ◌+◌, ℤ, true, false, List, [], ◌∷◌, ◌++◌, length, Some, None, ◌⊎◌, inl, inr, refl, sym, ap, ◌∙◌, arith, append_assoc, length-append}
-use Rattle.std.specs.Prelude.{◌&&◌, ◌==◌}
-use Rattle.std.specs.List.{AllByRecursion, filter_map, list_all}
-use Rattle.std.specs.Str.{is_utf8}
+-- What one record of a table adds to what was read.
+use Rattle.std.proofs.Common.{◌≡◌, ◌∙◌, ℕ, ◌+◌, ℤ, true, List, [], ◌∷◌, ◌++◌, length, take, Some, None, Ok, Err, Option, ◌⊎◌, inl, inr, refl, sym, ap, subst, arith}
+use Rattle.std.specs.Cmp.Lexicographic.{pointwise, pointwise_decides}
+use Rattle.std.specs.Prelude.{ok_or, false, OnErr, Result}
+use Rattle.std.specs.Str.{bytes_eq}
 use Rattle.std.proofs.lemmas.Bool.{cases_Bool}
-use Rattle.std.proofs.lemmas.Grind.{flat_map-append}
-use Rattle.std.proofs.lemmas.List.{append-nil}
-use Rattle.std.proofs.lemmas.List.Elements.{filter_map-append}
+use Rattle.std.proofs.Math.Seq.{take-append_seam}
+use Rattle.std.proofs.lemmas.List.{length-map}
+use Rattle.std.proofs.lemmas.Slice.Eq.{bytes_eq-Decides}
 use Rattle.wh_row.specs.Row.{Row}
 use Rattle.wh_row.specs.Weigh.{Counted}
+use Rattle.wh_text.specs.Columns.{NamedKind, kinds_of, names_of}
 use Rattle.wh_text.specs.Dict.{BeginsWith, with_texts}
 use Rattle.wh_text.specs.declared.columns.Kind.{Kind}
 use Rattle.wh_text.specs.declared.fault.LoadFault.{LoadFault}
-use Rattle.wh_text.specs.declared.fault.LoadFault.TheVariants.{Csv, Memory, Number}
-use Rattle.wh_text.proofs.DictGrowth.{begins-same, begins-trans, with_texts-append}
+use Rattle.wh_text.specs.declared.fault.LoadFault.TheVariants.{Memory, Number}
+use Rattle.wh_text.proofs.DictGrowth.{begins-same, begins-texts, begins-trans}
+use Rattle.wh_table_text.specs.Part.{IsReadTo, IsWidthOf, record_gives, records_give}
 use Rattle.wh_table_text.specs.Records.{form_fault}
-use Rattle.wh_table_text.specs.TableText.{EndsBy, IsSound, ReadTo, count_cells, dictionary_after, entries_of, entry_of, row_cells, row_fault, texts_in, texts_in_row}
-use Rattle.wh_table_text.specs.Unread.{FailsNext, Unread}
+use Rattle.wh_table_text.specs.TableText.{EntriesRead, count_cells, counted_header, counting_of, entered, entry_of, entry_scheme, row_cells, texts_after, texts_in_row, with_entry}
+use Rattle.wh_table_text.specs.declared.table.header.Content.{Content}
+use Rattle.wh_table_text.specs.declared.table.header.Content.TheVariants.{Changes, Table}
 use Rattle.wh_table_text.specs.declared.table.header.Counting.{Counting}
+use Rattle.wh_table_text.specs.declared.table.header.Counting.TheVariants.{NonZero, Once, Positive}
+use Rattle.wh_table_text.proofs.PartReads.{from_step, or_fault-ok, same_Ok}
 
--- how far the records have been read: these before, of all
-pub record IsRead (count : Counting) (kinds : List Kind) (all before : List (List (List ℕ))) (old : List (List ℕ)) (records : Unread) (dict : List (List ℕ)) (counted : Counted) : Type 0 where
-  pub parts : all ≡ before ++ records.left
-  pub given : records.given ≡ length before + 1
-  pub few : length before + 1 < 2 ^ 64
-  pub long : length counted ≡ length before
-  pub entries : counted ≡ entries_of count (dictionary_after count kinds old all) kinds before
-  pub sound : AllByRecursion (IsSound count (dictionary_after count kinds old all) kinds) before
-  pub texts : dict ≡ with_texts old (texts_in count kinds before)
-  pub begins : BeginsWith old dict
-
--- before any record
-pub IsRead-start : (count : Counting) (kinds : List Kind) (old : List (List ℕ)) (records : Unread) → records.given ≡ 1 → IsRead count kinds records.left [] old records old []
+-- a record that has an entry puts it last
+pub entered-ok : (kinds : List Kind) (count : Counting) (texts after : List (List ℕ)) (entries more : Counted) (number : ℕ) (cells : List (List ℕ)) (entry : Row × ℤ)
+    → after ≡ with_texts texts (texts_in_row kinds (row_cells count cells)) → ((later : List (List ℕ)) → entry_of count (with_texts after later) kinds cells ≡ Some entry) → more ≡ entries ++ entry ∷ []
+    → entered kinds count (record { texts = texts; entries = entries }) number cells ≡ Ok (record { texts = after; entries = more })
 unfolding with_texts
-IsRead-start count kinds old records given = record {
-  parts = refl;
-  given = given;
-  few = omega arith;
-  long = refl;
-  entries = refl;
-  sound = tt;
-  texts = refl;
-  begins = begins-same old;
-}
+entered-ok kinds count texts after entries more number cells entry grown is pushed =
+    let own : entry_of count after kinds cells ≡ Some entry = is [] in
+    let there : entry_of count (texts_after count kinds texts cells) kinds cells ≡ Some entry = ap (λ t. entry_of count t kinds cells) (sym grown) ∙ own in
+    rw (there, grown, pushed) refl
 
--- a form without fault has none under any number
-formed : (width number other : ℕ) (cells : List (List ℕ)) → form_fault width number cells ≡ None → form_fault width other cells ≡ None
-formed width number other cells none = by (cases_Bool (list_all is_utf8 cells && (length cells == width))) none
+-- one that has none has a fault
+pub entered-err : (kinds : List Kind) (count : Counting) (read : EntriesRead) (number : ℕ) (cells : List (List ℕ)) (f : LoadFault)
+    → (f ≡ Memory) ⊎ ((f ≡ Number number) × ((texts : List (List ℕ)) → entry_of count texts kinds cells ≡ None))
+    → (f ≡ Memory) ⊎ (entered kinds count read number cells ≡ Err f)
+entered-err kinds count read number cells f (inl e) = inl e
+entered-err kinds count read number cells f (inr bad) = inr (rw (bad.1 (texts_after count kinds read.texts cells), bad.0) refl)
+
+-- texts that were taken back are those before
+pub taken-back : (texts after kept : List (List ℕ)) (n : ℕ) → BeginsWith texts after → n ≡ length texts → kept ≡ take n after → kept ≡ texts
+taken-back texts after kept n begins long is = is ∙ ap (λ k. take k after) long ∙ ap (λ all. take (length texts) all) begins.parts ∙ take-append_seam texts begins.more
+
+-- what holds after any error
+pub back-on-err : {A : Type 0} (answer : Result A LoadFault) (texts kept : List (List ℕ)) → kept ≡ texts → OnErr answer (kept ≡ texts)
+back-on-err (Ok x) texts kept same = tt
+back-on-err (Err f) texts kept same = same
+
+same-length : (header names : List (List ℕ)) → pointwise bytes_eq header names ≡ true → length header ≡ length names
+same-length header names e = ap length ((pointwise_decides bytes_eq-Decides header names).0 e)
+
+-- a header of a table or of changes is as long as each record
+header-length : (content : Content) (names header : List (List ℕ)) (count : Counting) → counting_of content names header ≡ Some count → length header ≡ count_cells count + length names
+header-length Table names header count e = by (cases_Bool (pointwise bytes_eq header names)) (cases_Bool (pointwise bytes_eq header (counted_header names)))
   where
-    by : ((list_all is_utf8 cells && (length cells == width)) ≡ true) ⊎ ((list_all is_utf8 cells && (length cells == width)) ≡ false) → form_fault width number cells ≡ None → form_fault width other cells ≡ None
-    by (inl good) e = rw good refl
-    by (inr bad) e = absurd (let no : Some (Csv number) ≡ None = rw bad at e in cc)
-
--- a record of good form that has an entry is sound
-is-sound : (count : Counting) (texts : List (List ℕ)) (kinds : List Kind) (number : ℕ) (cells : List (List ℕ)) (entry : Row × ℤ)
-    → form_fault (count_cells count + length kinds) number cells ≡ None → entry_of count texts kinds cells ≡ Some entry → IsSound count texts kinds cells
-is-sound count texts kinds number cells entry form is = λ other. rw (formed (count_cells count + length kinds) number other cells form, is) refl
-
--- the dictionary after all records is the one after these and this one, with the texts of those that are left
-dictionary-next : (count : Counting) (kinds : List Kind) (before : List (List (List ℕ))) (row : List (List ℕ)) (left : List (List (List ℕ))) (old dict next : List (List ℕ))
-    → dict ≡ with_texts old (texts_in count kinds before) → next ≡ with_texts dict (texts_in_row kinds (row_cells count row))
-    → dictionary_after count kinds old (before ++ row ∷ left) ≡ with_texts next (texts_in count kinds left)
-dictionary-next count kinds before row left old dict next so_far grown =
-    ap (λ texts. with_texts old texts) (flat_map-append (λ cells. texts_in_row kinds (row_cells count cells)) before (row ∷ left))
-    ∙ with_texts-append old (texts_in count kinds before) (texts_in_row kinds (row_cells count row) ++ texts_in count kinds left)
-    ∙ with_texts-append (with_texts old (texts_in count kinds before)) (texts_in_row kinds (row_cells count row)) (texts_in count kinds left)
-    ∙ ap (λ d. with_texts (with_texts d (texts_in_row kinds (row_cells count row))) (texts_in count kinds left)) (sym so_far)
-    ∙ ap (λ d. with_texts d (texts_in count kinds left)) (sym grown)
-
-texts-next : (count : Counting) (kinds : List Kind) (before : List (List (List ℕ))) (row : List (List ℕ)) (old dict next : List (List ℕ))
-    → dict ≡ with_texts old (texts_in count kinds before) → next ≡ with_texts dict (texts_in_row kinds (row_cells count row))
-    → next ≡ with_texts old (texts_in count kinds (before ++ row ∷ []))
-unfolding with_texts
-texts-next count kinds before row old dict next so_far grown = sym (dictionary-next count kinds before row [] old dict next so_far grown)
-
-all-next : {X : Type 0} (P : X → Type 0) (xs : List X) (x : X) → AllByRecursion P xs → P x → AllByRecursion P (xs ++ x ∷ [])
-all-next P [] x all own = (own, tt)
-all-next P (y ∷ xs) x all own = (all.0, all-next P xs x all.1 own)
-
--- what the entry of the next record is by the dictionary after all
-entry-after : (count : Counting) (kinds : List Kind) (all before : List (List (List ℕ))) (row : List (List ℕ)) (left : List (List (List ℕ))) (old dict next : List (List ℕ)) (entry : Row × ℤ)
-    → all ≡ before ++ row ∷ left → dict ≡ with_texts old (texts_in count kinds before) → next ≡ with_texts dict (texts_in_row kinds (row_cells count row))
-    → ((more : List (List ℕ)) → entry_of count (with_texts next more) kinds row ≡ Some entry)
-    → entry_of count (dictionary_after count kinds old all) kinds row ≡ Some entry
-entry-after count kinds all before row left old dict next entry parts so_far grown is =
-    ap (λ rows. entry_of count (dictionary_after count kinds old rows) kinds row) parts
-    ∙ ap (λ texts. entry_of count texts kinds row) (dictionary-next count kinds before row left old dict next so_far grown)
-    ∙ is (texts_in count kinds left)
-
--- one record more
-pub IsRead-next : (count : Counting) (kinds : List Kind) (all before : List (List (List ℕ))) (old : List (List ℕ)) (records new : Unread) (dict next : List (List ℕ)) (counted : Counted) (row : List (List ℕ)) (entry : Row × ℤ)
-    → IsRead count kinds all before old records dict counted → records.left ≡ row ∷ new.left → new.given ≡ records.given + 1 → new.given < 2 ^ 64
-    → form_fault (count_cells count + length kinds) new.given row ≡ None
-    → ((more : List (List ℕ)) → entry_of count (with_texts next more) kinds row ≡ Some entry)
-    → next ≡ with_texts dict (texts_in_row kinds (row_cells count row)) → BeginsWith dict next
-    → IsRead count kinds all (before ++ row ∷ []) old new next (counted ++ entry ∷ [])
-IsRead-next count kinds all before old records new dict next counted row entry is left given fits form entries grown begins =
-    let parts : all ≡ before ++ row ∷ new.left = is.parts ∙ ap (λ rows. before ++ rows) left in
-    let own = entry-after count kinds all before row new.left old dict next entry parts is.texts grown entries in
-    let texts = dictionary_after count kinds old all in
-    let count_now = is.given in
-    let one = length-append before (row ∷ []) in
-    let same = is.long in
-    let more = length-append counted (entry ∷ []) in
-    let added : filter_map (entry_of count texts kinds) (row ∷ []) ≡ entry ∷ [] = rw own refl in
-    record {
-      parts = parts ∙ sym (append_assoc before (row ∷ []) new.left);
-      given = omega arith;
-      few = omega arith;
-      long = omega arith;
-      entries = ap (λ es. es ++ entry ∷ []) is.entries ∙ ap (λ es. entries_of count texts kinds before ++ es) (sym added) ∙ sym (filter_map-append (entry_of count texts kinds) before (row ∷ []));
-      sound = all-next (IsSound count texts kinds) before row is.sound (is-sound count texts kinds new.given row entry form own);
-      texts = texts-next count kinds before row old dict next is.texts grown;
-      begins = begins-trans old dict next is.begins begins;
-    }
-
--- all records were read
-pub IsRead-end : (count : Counting) (kinds : List Kind) (all before : List (List (List ℕ))) (old : List (List ℕ)) (records : Unread) (dict : List (List ℕ)) (counted : Counted)
-    → IsRead count kinds all before old records dict counted → records.left ≡ []
-    → ReadTo count (dictionary_after count kinds old all) kinds all counted None × (dict ≡ dictionary_after count kinds old all)
-IsRead-end count kinds all before old records dict counted is none =
-    let whole : all ≡ before = is.parts ∙ ap (λ rows. before ++ rows) none ∙ append-nil before in (
-      record {
-        before = before;
-        rest = records.left;
-        parts = is.parts;
-        sound = is.sound;
-        counted = is.entries;
-        ends = none;
-      },
-      is.texts ∙ ap (λ rows. with_texts old (texts_in count kinds rows)) (sym whole),
-    )
-
--- a fault of the next record's form, or no memory to read it
-pub IsRead-form : (count : Counting) (kinds : List Kind) (all before : List (List (List ℕ))) (old : List (List ℕ)) (records : Unread) (dict : List (List ℕ)) (counted : Counted) (f : LoadFault)
-    → IsRead count kinds all before old records dict counted → (f ≡ Memory) ⊎ FailsNext records (form_fault (count_cells count + length kinds)) f
-    → ReadTo count (dictionary_after count kinds old all) kinds all counted (Some f)
-IsRead-form count kinds all before old records dict counted f is (inl e) = record {
-  before = before;
-  rest = records.left;
-  parts = is.parts;
-  sound = is.sound;
-  counted = is.entries;
-  ends = any records.left;
-}
+    by : (pointwise bytes_eq header names ≡ true) ⊎ (pointwise bytes_eq header names ≡ false) → (pointwise bytes_eq header (counted_header names) ≡ true) ⊎ (pointwise bytes_eq header (counted_header names) ≡ false)
+        → length header ≡ count_cells count + length names
+    by (inl bare) either =
+        let same : Once ≡ count = (let h = rw bare at e in cc) in
+        let long = same-length header names bare in
+        rw (← same) (omega arith)
+    by (inr other) (inl counted) =
+        let same : Positive ≡ count = (let h = rw (other, counted) at e in cc) in
+        let long = same-length header (counted_header names) counted in
+        rw (← same) (omega arith)
+    by (inr other) (inr neither) = let h = rw (other, neither) at e in cc
+header-length Changes names header count e = by (cases_Bool (pointwise bytes_eq header (counted_header names)))
   where
-    any : (rest : List (List (List ℕ))) → EndsBy count (dictionary_after count kinds old all) kinds (length before + 2) rest (Some f)
-    any [] = e
-    any (row ∷ rest) = inl e
-IsRead-form count kinds all before old records dict counted f is (inr fails) =
-    let now = is.given in
-    let number : records.given + 1 ≡ length before + 2 = omega arith in
-    let form : form_fault (count_cells count + length kinds) (length before + 2) fails.cells ≡ Some f = rw (← number) fails.first in
-    record {
-      before = before;
-      rest = fails.cells ∷ fails.rest;
-      parts = is.parts ∙ ap (λ rows. before ++ rows) fails.next;
-      sound = is.sound;
-      counted = is.entries;
-      ends = inr (rw form refl);
-    }
+    by : (pointwise bytes_eq header (counted_header names) ≡ true) ⊎ (pointwise bytes_eq header (counted_header names) ≡ false) → length header ≡ count_cells count + length names
+    by (inl counted) =
+        let same : NonZero ≡ count = (let h = rw counted at e in cc) in
+        let long = same-length header (counted_header names) counted in
+        rw (← same) (omega arith)
+    by (inr other) = let h = rw other at e in cc
 
--- a record without an entry, or no memory for it
-pub IsRead-entry : (count : Counting) (kinds : List Kind) (all before : List (List (List ℕ))) (old : List (List ℕ)) (records new : Unread) (dict : List (List ℕ)) (counted : Counted) (row : List (List ℕ)) (f : LoadFault)
-    → IsRead count kinds all before old records dict counted → records.left ≡ row ∷ new.left → new.given ≡ records.given + 1
-    → form_fault (count_cells count + length kinds) new.given row ≡ None
-    → (f ≡ Memory) ⊎ ((f ≡ Number new.given) × ((texts : List (List ℕ)) → entry_of count texts kinds row ≡ None))
-    → ReadTo count (dictionary_after count kinds old all) kinds all counted (Some f)
-IsRead-entry count kinds all before old records new dict counted row f is left given form bad =
-    let now = is.given in
-    let number : new.given ≡ length before + 2 = omega arith in
-    let texts = dictionary_after count kinds old all in
-    record {
-      before = before;
-      rest = row ∷ new.left;
-      parts = is.parts ∙ ap (λ rows. before ++ rows) left;
-      sound = is.sound;
-      counted = is.entries;
-      ends = by number bad;
-    }
-  where
-    by : new.given ≡ length before + 2 → (f ≡ Memory) ⊎ ((f ≡ Number new.given) × ((texts : List (List ℕ)) → entry_of count texts kinds row ≡ None))
-        → (f ≡ Memory) ⊎ (row_fault count (dictionary_after count kinds old all) kinds (length before + 2) row ≡ Some f)
-    by number (inl e) = inl e
-    by number (inr refused) =
-        inr (rw (← number, form, refused.1 (dictionary_after count kinds old all), refused.0) refl)
+pub cells-wide : (content : Content) (columns : List NamedKind) (count : Counting) (width : ℕ) → IsWidthOf (entry_scheme content columns) count width → width ≡ count_cells count + length columns
+cells-wide content columns count width is =
+    sym is.2 ∙ header-length content (names_of columns) is.0 count is.1 ∙ ap (λ n. count_cells count + n) (length-map columns (λ (column : NamedKind). column.name))
+
+-- The dictionary grows.
+
+entered-begins : (kinds : List Kind) (count : Counting) (read after : EntriesRead) (number : ℕ) (cells : List (List ℕ)) → entered kinds count read number cells ≡ Ok after → BeginsWith read.texts after.texts
+entered-begins kinds count read after number cells e =
+    let texts = texts_after count kinds read.texts cells in
+    let own = from_step (ok_or (entry_of count texts kinds cells) (Number number)) (λ entry. Ok (with_entry read texts entry)) after e in
+    subst (λ (a : EntriesRead). BeginsWith read.texts a.texts) (same_Ok _ _ _ refl own.2) (begins-texts read.texts (texts_in_row kinds (row_cells count cells)))
+
+rows-begin : (content : Content) (columns : List NamedKind) (width : ℕ) (count : Counting) (number : ℕ) (old new : EntriesRead) (rows : List (List (List ℕ)))
+    → records_give (entry_scheme content columns) width count number old rows ≡ Ok new → BeginsWith old.texts new.texts
+unfolding records_give
+rows-begin content columns width count number old new [] e = subst (λ (a : EntriesRead). BeginsWith old.texts a.texts) (same_Ok _ _ _ refl e) (begins-same old.texts)
+rows-begin content columns width count number old new (cells ∷ rest) e =
+    let next = from_step (record_gives (entry_scheme content columns) width count old number cells) _ new e in
+    let own = or_fault-ok (form_fault width number cells) (entered (kinds_of columns) count old number cells) next.0 next.1 in
+    begins-trans old.texts next.0.texts new.texts (entered-begins (kinds_of columns) count old next.0 number cells own)
+    (rows-begin content columns width count (number + 1) next.0 new rest next.2)
+
+pub part-begins : (content : Content) (columns : List NamedKind) (records : List (List (List ℕ))) (old new : EntriesRead) (fault : Option LoadFault) → IsReadTo (entry_scheme content columns) records old new fault
+    → BeginsWith old.texts new.texts
+part-begins content columns records old new fault (inl at) = subst (λ (a : EntriesRead). BeginsWith old.texts a.texts) (sym at.same) (begins-same old.texts)
+part-begins content columns records old new fault (inr below) = rows-begin content columns below.below.width below.below.kind 2 old new below.taken.before below.taken.made

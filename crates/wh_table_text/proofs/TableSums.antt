@@ -1,38 +1,27 @@
 -- Where the sums of equal rows stay within i64, and where the first leaves it.
-use Rattle.std.proofs.Common.{◌≡◌, ◌<◌, ◌≤◌, ℕ, zero, suc, ◌+◌, ℤ, true, false, List, [], ◌∷◌, ◌++◌, length, take, Option, Some, None, Result, Ok, Err, ◌⊎◌, inl, inr, ⊎_elim, refl, sym, ap, ◌∙◌, arith, append_assoc, length-append, FitsSigned, slice_get}
-use Rattle.std.specs.Prelude.{◌==◌, if◌then◌else◌, is_some, IsSomeAnd, IfOk, IfErr, OnOk}
+use Rattle.std.proofs.Common.{◌≡◌, ◌<◌, ◌≤◌, ℕ, zero, suc, ◌+◌, ℤ, true, false, List, [], ◌∷◌, ◌++◌, length, take, Option, Some, None, Result, Ok, Err, ◌⊎◌, inl, inr, ⊎_elim, refl, sym, ap, subst, ◌∙◌, arith, append_assoc, length-append, FitsSigned, slice_get}
+use Rattle.std.specs.Prelude.{◌==◌, if◌then◌else◌, ok_or, IsSomeAnd, IfOk, IfErr, OnOk}
 use Rattle.std.specs.Int.{w64}
-use Rattle.std.specs.List.{AllByRecursion}
-use Rattle.std.specs.Option.{option_or}
 use Rattle.std.specs.Result.{result_err}
 use Rattle.std.proofs.Math.Seq.{take-append_seam}
 use Rattle.std.proofs.lemmas.List.{append-nil}
-use Rattle.std.proofs.lemmas.List.Elements.{filter_map-append}
 use Rattle.std.proofs.lemmas.Bool.{cases_Bool, eqb-false, eqb-true}
 use Rattle.std.proofs.lemmas.Option.{slice_get_past}
 use Rattle.wh_row.specs.Bag.{Bag, bag_of}
 use Rattle.wh_row.specs.Records.{EachSumFits, FitsAt, IsFirstTooLarge, running_sum}
 use Rattle.wh_row.specs.Row.{Row}
 use Rattle.wh_row.specs.Weigh.{Counted}
-use Rattle.wh_text.specs.Columns.{NamedKind, kinds_of, names_of}
+use Rattle.wh_text.specs.Columns.{NamedKind, kinds_of}
 use Rattle.wh_text.specs.WholeNumber.{is_i64}
-use Rattle.wh_text.specs.declared.columns.Kind.{Kind}
 use Rattle.wh_text.specs.declared.fault.LoadFault.{LoadFault}
 use Rattle.wh_text.specs.declared.fault.LoadFault.TheVariants.{Memory, Number}
 use Rattle.wh_text.proofs.WholeNumbers.{is_i64-decides}
+use Rattle.wh_table_text.specs.Part.{◌>>=◌, Below, EndsBy, IsReadTo, TakenTo, below_header, or_fault, part_gives, record_gives, records_give}
 use Rattle.wh_table_text.specs.Records.{form_fault, records_of}
-use Rattle.wh_table_text.specs.TableText.{EndsBy, EndsSum, IsSound, ReadTo, count_cells, dictionary_after, entries_of, entry_of, header_gives, row_fault, rows_fault, sums_of, text_gives}
+use Rattle.wh_table_text.specs.TableText.{EndsSum, EntriesRead, bag_read, entry_of, entry_scheme, table_scheme, text_gives, texts_after, with_entry}
 use Rattle.wh_table_text.specs.declared.table.header.Content.{Content}
 use Rattle.wh_table_text.specs.declared.table.header.Counting.{Counting}
-
--- a record without a fault by itself has an entry
-some-entry : (form : Option LoadFault) (entry : Option (Row × ℤ)) (number : ℕ) → option_or form (if is_some entry then None else Some (Number number)) ≡ None → (e : Row × ℤ) × (entry ≡ Some e)
-some-entry (Some f) entry number e = absurd (let no : Some f ≡ None = e in cc)
-some-entry None None number e = absurd (let no : Some (Number number) ≡ None = e in cc)
-some-entry None (Some entry) number e = (entry, refl)
-
-sound-entry : (count : Counting) (texts : List (List ℕ)) (kinds : List Kind) (cells : List (List ℕ)) → IsSound count texts kinds cells → (e : Row × ℤ) × (entry_of count texts kinds cells ≡ Some e)
-sound-entry count texts kinds cells sound = some-entry (form_fault (count_cells count + length kinds) 0 cells) (entry_of count texts kinds cells) 0 (sound 0)
+use Rattle.wh_table_text.proofs.PartReads.{from_step, records_give-after, records_give-append, records_give-first, same_Ok, taken-all}
 
 seam : {X : Type 0} (xs : List X) (y : X) (ys : List X) → slice_get (xs ++ y ∷ ys) (length xs) ≡ Some y
 seam [] y ys = refl
@@ -50,54 +39,80 @@ leaves-here es before after n e parts here leaves =
     let own : IsSomeAnd (slice_get (before ++ e ∷ after) (length before)) (λ x. ¬ (FitsSigned w64 (running_sum (take (length before) (before ++ e ∷ after)) x))) = rw (← parts, ← here) leaves in
     rw (seam before e after, take-append_seam before (e ∷ after)) at own
 
-entries-push : (count : Counting) (texts : List (List ℕ)) (kinds : List Kind) (done : List (List (List ℕ))) (row : List (List ℕ)) (e : Row × ℤ)
-    → entry_of count texts kinds row ≡ Some e → entries_of count texts kinds (done ++ row ∷ []) ≡ entries_of count texts kinds done ++ e ∷ []
-entries-push count texts kinds done row e is =
-    let own : entries_of count texts kinds (row ∷ []) ≡ e ∷ [] = rw is refl in
-    filter_map-append (entry_of count texts kinds) done (row ∷ []) ∙ ap (λ es. entries_of count texts kinds done ++ es) own
+-- what a record that was entered by itself adds, and what it is with the sums
+record IsEntered (read next : EntriesRead) (number : ℕ) (summed : Result EntriesRead LoadFault) : Type 0 where
+  pub entry : Row × ℤ
+  pub adds : next.entries ≡ read.entries ++ entry ∷ []
+  pub fits : FitsSigned w64 (running_sum read.entries entry) → summed ≡ Ok next
+  pub leaves : ¬ (FitsSigned w64 (running_sum read.entries entry)) → summed ≡ Err (Number number)
 
-entries-first : (count : Counting) (texts : List (List ℕ)) (kinds : List Kind) (row : List (List ℕ)) (rows : List (List (List ℕ))) (e : Row × ℤ)
-    → entry_of count texts kinds row ≡ Some e → entries_of count texts kinds (row ∷ rows) ≡ e ∷ entries_of count texts kinds rows
-entries-first count texts kinds row rows e is = rw is refl
+-- an entry that is added or has a fault
+abbrev entry_added : EntriesRead → List (List ℕ) → ℕ → Row × ℤ → Result EntriesRead LoadFault
+entry_added read texts number entry = if is_i64 (running_sum read.entries entry) then Ok (with_entry read texts entry) else Err (Number number)
 
--- a record that is sound and brings no sum out of i64 is passed
-step : (count : Counting) (texts : List (List ℕ)) (kinds : List Kind) (done : List (List (List ℕ))) (row : List (List ℕ)) (more : List (List (List ℕ))) (e : Row × ℤ)
-    → IsSound count texts kinds row → entry_of count texts kinds row ≡ Some e → FitsSigned w64 (running_sum (entries_of count texts kinds done) e)
-    → rows_fault count texts kinds done (row ∷ more) ≡ rows_fault count texts kinds (done ++ row ∷ []) more
-unfolding rows_fault
-step count texts kinds done row more e sound is fits =
-    let within = (is_i64-decides (running_sum (entries_of count texts kinds done) e)).1 fits in
-    rw (sound (length done + 2), is, within) refl
+within : (read : EntriesRead) (texts : List (List ℕ)) (number : ℕ) (entry : Row × ℤ) → FitsSigned w64 (running_sum read.entries entry) → entry_added read texts number entry ≡ Ok (with_entry read texts entry)
+within read texts number entry fits = rw ((is_i64-decides (running_sum read.entries entry)).1 fits) refl
 
--- one that is sound and brings a sum out of i64 is the first fault
-stop : (count : Counting) (texts : List (List ℕ)) (kinds : List Kind) (done : List (List (List ℕ))) (row : List (List ℕ)) (more : List (List (List ℕ))) (e : Row × ℤ)
-    → IsSound count texts kinds row → entry_of count texts kinds row ≡ Some e → ¬ (FitsSigned w64 (running_sum (entries_of count texts kinds done) e))
-    → rows_fault count texts kinds done (row ∷ more) ≡ Some (Number (length done + 2))
-unfolding rows_fault
-stop count texts kinds done row more e sound is leaves = by (cases_Bool (is_i64 (running_sum (entries_of count texts kinds done) e)))
+past : (read : EntriesRead) (texts : List (List ℕ)) (number : ℕ) (entry : Row × ℤ) → ¬ (FitsSigned w64 (running_sum read.entries entry)) → entry_added read texts number entry ≡ Err (Number number)
+past read texts number entry leaves = by (cases_Bool (is_i64 (running_sum read.entries entry)))
   where
-    by : (is_i64 (running_sum (entries_of count texts kinds done) e) ≡ true) ⊎ (is_i64 (running_sum (entries_of count texts kinds done) e) ≡ false) → rows_fault count texts kinds done (row ∷ more) ≡ Some (Number (length done + 2))
-    by (inl fits) = absurd (leaves ((is_i64-decides (running_sum (entries_of count texts kinds done) e)).0 fits))
-    by (inr past) = rw (sound (length done + 2), is, past) refl
+    by : (is_i64 (running_sum read.entries entry) ≡ true) ⊎ (is_i64 (running_sum read.entries entry) ≡ false) → entry_added read texts number entry ≡ Err (Number number)
+    by (inl fits) = absurd (leaves ((is_i64-decides (running_sum read.entries entry)).0 fits))
+    by (inr out) = rw out refl
 
--- sound records whose sums all fit are passed
-pass : (count : Counting) (texts : List (List ℕ)) (kinds : List Kind) (es : Counted) (n : ℕ) (done xs rest : List (List (List ℕ)))
-    → es ≡ entries_of count texts kinds done ++ entries_of count texts kinds xs → n ≡ length (entries_of count texts kinds done)
-    → AllByRecursion (IsSound count texts kinds) xs → ((k : ℕ) → FitsAt es k)
-    → rows_fault count texts kinds done (xs ++ rest) ≡ rows_fault count texts kinds (done ++ xs) rest
-pass count texts kinds es n done [] rest parts here sound fits = ap (λ rows. rows_fault count texts kinds rows rest) (sym (append-nil done))
-pass count texts kinds es n done (x ∷ xs) rest parts here sound fits =
-    let own = sound-entry count texts kinds x sound.0 in
-    let before = entries_of count texts kinds done in
-    let after = entries_of count texts kinds xs in
-    let first : es ≡ before ++ own.0 ∷ after = parts ∙ ap (λ t. before ++ t) (entries-first count texts kinds x xs own.0 own.1) in
-    let pushed = entries-push count texts kinds done x own.0 own.1 in
-    let next : es ≡ entries_of count texts kinds (done ++ x ∷ []) ++ after = first ∙ sym (append_assoc before (own.0 ∷ []) after) ∙ ap (λ t. t ++ after) (sym pushed) in
-    let one = length-append before (own.0 ∷ []) in
-    let longer : n + 1 ≡ length (entries_of count texts kinds (done ++ x ∷ [])) = (let e : n + 1 ≡ length (before ++ own.0 ∷ []) = omega arith in e) ∙ ap length (sym pushed) in
-    step count texts kinds done x (xs ++ rest) own.0 sound.0 own.1 (fits-here es before after n own.0 first here (fits n))
-    ∙ pass count texts kinds es (n + 1) (done ++ x ∷ []) xs rest next longer sound.1 fits
-    ∙ ap (λ rows. rows_fault count texts kinds rows rest) (append_assoc done (x ∷ []) xs)
+is-entered : (content : Content) (columns : List NamedKind) (width : ℕ) (count : Counting) (read next : EntriesRead) (number : ℕ) (cells : List (List ℕ))
+    → record_gives (entry_scheme content columns) width count read number cells ≡ Ok next → IsEntered read next number (record_gives (table_scheme content columns) width count read number cells)
+is-entered content columns width count read next number cells = by (form_fault width number cells) (entry_of count (texts_after count (kinds_of columns) read.texts cells) (kinds_of columns) cells)
+  where
+    by : (form : Option LoadFault) (o : Option (Row × ℤ)) → or_fault form (ok_or o (Number number) >>= (λ entry. Ok (with_entry read (texts_after count (kinds_of columns) read.texts cells) entry))) ≡ Ok next
+        → IsEntered read next number (or_fault form (ok_or o (Number number) >>= (λ entry. entry_added read (texts_after count (kinds_of columns) read.texts cells) number entry)))
+    by (Some f) o e = cc
+    by None None e = cc
+    by None (Some entry) e =
+        let same : with_entry read (texts_after count (kinds_of columns) read.texts cells) entry ≡ next = same_Ok _ _ _ refl e in
+        record {
+          entry = entry;
+          adds = ap (λ (r : EntriesRead). r.entries) (sym same);
+          fits = λ fits. within read (texts_after count (kinds_of columns) read.texts cells) number entry fits ∙ ap Ok same;
+          leaves = λ leaves. past read (texts_after count (kinds_of columns) read.texts cells) number entry leaves;
+        }
+
+-- a fault of a record by itself is its fault with the sums too
+same-fault : (content : Content) (columns : List NamedKind) (width : ℕ) (count : Counting) (read : EntriesRead) (number : ℕ) (cells : List (List ℕ)) (f : LoadFault)
+    → record_gives (entry_scheme content columns) width count read number cells ≡ Err f → record_gives (table_scheme content columns) width count read number cells ≡ Err f
+same-fault content columns width count read number cells f = by (form_fault width number cells) (entry_of count (texts_after count (kinds_of columns) read.texts cells) (kinds_of columns) cells)
+  where
+    by : (form : Option LoadFault) (o : Option (Row × ℤ)) → or_fault form (ok_or o (Number number) >>= (λ entry. Ok (with_entry read (texts_after count (kinds_of columns) read.texts cells) entry))) ≡ Err f
+        → or_fault form (ok_or o (Number number) >>= (λ entry. entry_added read (texts_after count (kinds_of columns) read.texts cells) number entry)) ≡ Err f
+    by (Some g) o e = e
+    by None None e = e
+    by None (Some entry) e = cc
+
+-- what the records add
+grown : (content : Content) (columns : List NamedKind) (width : ℕ) (count : Counting) (number : ℕ) (old new : EntriesRead) (rows : List (List (List ℕ)))
+    → records_give (entry_scheme content columns) width count number old rows ≡ Ok new → (more : Counted) × (new.entries ≡ old.entries ++ more)
+unfolding records_give
+grown content columns width count number old new [] e = ([], ap (λ (r : EntriesRead). r.entries) (same_Ok _ new old e refl) ∙ sym (append-nil old.entries))
+grown content columns width count number old new (cells ∷ rest) e =
+    let next = from_step (record_gives (entry_scheme content columns) width count old number cells) _ new e in
+    let own = is-entered content columns width count old next.0 number cells next.1 in
+    let more = grown content columns width count (number + 1) next.0 new rest next.2 in
+    (own.entry ∷ more.0, more.1 ∙ ap (λ t. t ++ more.0) own.adds ∙ append_assoc old.entries (own.entry ∷ []) more.0)
+
+-- records whose sums all fit are added as they are entered
+pass : (content : Content) (columns : List NamedKind) (width : ℕ) (count : Counting) (number : ℕ) (old new : EntriesRead) (rows : List (List (List ℕ)))
+    → records_give (entry_scheme content columns) width count number old rows ≡ Ok new → EachSumFits new.entries
+    → records_give (table_scheme content columns) width count number old rows ≡ Ok new
+unfolding records_give
+pass content columns width count number old new [] e fits = e
+pass content columns width count number old new (cells ∷ rest) e fits =
+    let next = from_step (record_gives (entry_scheme content columns) width count old number cells) _ new e in
+    let own = is-entered content columns width count old next.0 number cells next.1 in
+    let more = grown content columns width count (number + 1) next.0 new rest next.2 in
+    let parts : new.entries ≡ old.entries ++ own.entry ∷ more.0 = more.1 ∙ ap (λ t. t ++ more.0) own.adds ∙ append_assoc old.entries (own.entry ∷ []) more.0 in
+    let here = fits-here new.entries old.entries more.0 (length old.entries) own.entry parts refl (fits (length old.entries)) in
+    ap (λ r. r >>= (λ after. records_give (table_scheme content columns) width count (number + 1) after rest)) (own.fits here)
+    ∙ pass content columns width count (number + 1) next.0 new rest next.2 fits
 
 at-or-past : (n place : ℕ) → n ≤ place → (n ≡ place) ⊎ (n + 1 ≤ place)
 at-or-past n place le = elim (cases_Bool (n == place)) [
@@ -106,29 +121,28 @@ at-or-past n place le = elim (cases_Bool (n == place)) [
 ]
 
 -- the first of them whose sum leaves i64 is the first fault
-large : (count : Counting) (texts : List (List ℕ)) (kinds : List Kind) (es : Counted) (n place : ℕ) (done xs rest : List (List (List ℕ)))
-    → es ≡ entries_of count texts kinds done ++ entries_of count texts kinds xs → n ≡ length (entries_of count texts kinds done) → n ≡ length done → n ≤ place
-    → AllByRecursion (IsSound count texts kinds) xs → IsFirstTooLarge es place
-    → rows_fault count texts kinds done (xs ++ rest) ≡ Some (Number (place + 2))
-large count texts kinds es n place done [] rest parts here same le sound first =
-    let whole : es ≡ entries_of count texts kinds done = parts ∙ append-nil (entries_of count texts kinds done) in
-    let past : length es ≤ place = (let e = ap length whole in omega arith) in
-    absurd (rw (slice_get_past es place past) at first.large)
-large count texts kinds es n place done (x ∷ xs) rest parts here same le sound first =
-    let own = sound-entry count texts kinds x sound.0 in
-    let before = entries_of count texts kinds done in
-    let after = entries_of count texts kinds xs in
-    let first-parts : es ≡ before ++ own.0 ∷ after = parts ∙ ap (λ t. before ++ t) (entries-first count texts kinds x xs own.0 own.1) in
-    let pushed = entries-push count texts kinds done x own.0 own.1 in
-    let next : es ≡ entries_of count texts kinds (done ++ x ∷ []) ++ after = first-parts ∙ sym (append_assoc before (own.0 ∷ []) after) ∙ ap (λ t. t ++ after) (sym pushed) in
-    let one = length-append before (own.0 ∷ []) in
-    let longer : n + 1 ≡ length (entries_of count texts kinds (done ++ x ∷ [])) = (let e : n + 1 ≡ length (before ++ own.0 ∷ []) = omega arith in e) ∙ ap length (sym pushed) in
-    let more = length-append done (x ∷ []) in
-    elim (at-or-past n place le) [
-      | inl now ↦ stop count texts kinds done x (xs ++ rest) own.0 sound.0 own.1 (leaves-here es before after n own.0 first-parts here (rw (← now) at first.large))
-          ∙ (let e : length done + 2 ≡ place + 2 = omega arith in ap (λ k. Some (Number k)) e)
-      | inr later ↦ step count texts kinds done x (xs ++ rest) own.0 sound.0 own.1 (fits-here es before after n own.0 first-parts here (first.before n (omega arith)))
-          ∙ large count texts kinds es (n + 1) place (done ++ x ∷ []) xs rest next longer (omega arith) later sound.1 first
+large : (content : Content) (columns : List NamedKind) (width : ℕ) (count : Counting) (number place : ℕ) (old new : EntriesRead) (rows : List (List (List ℕ)))
+    → records_give (entry_scheme content columns) width count number old rows ≡ Ok new → number ≡ length old.entries + 2 → length old.entries ≤ place → IsFirstTooLarge new.entries place
+    → records_give (table_scheme content columns) width count number old rows ≡ Err (Number (place + 2))
+unfolding records_give
+large content columns width count number place old new [] e same le first =
+    let whole : old ≡ new = same_Ok _ old new refl e in
+    let many : length old.entries ≡ length new.entries = ap (λ (r : EntriesRead). length r.entries) whole in
+    let past : length new.entries ≤ place = omega arith in
+    absurd (rw (slice_get_past new.entries place past) at first.large)
+large content columns width count number place old new (cells ∷ rest) e same le first =
+    let next = from_step (record_gives (entry_scheme content columns) width count old number cells) _ new e in
+    let own = is-entered content columns width count old next.0 number cells next.1 in
+    let more = grown content columns width count (number + 1) next.0 new rest next.2 in
+    let parts : new.entries ≡ old.entries ++ own.entry ∷ more.0 = more.1 ∙ ap (λ t. t ++ more.0) own.adds ∙ append_assoc old.entries (own.entry ∷ []) more.0 in
+    let one : length next.0.entries ≡ length old.entries + 1 = ap length own.adds ∙ length-append old.entries (own.entry ∷ []) in
+    elim (at-or-past (length old.entries) place le) [
+      | inl now ↦ ap (λ r. r >>= (λ after. records_give (table_scheme content columns) width count (number + 1) after rest))
+          (own.leaves (leaves-here new.entries old.entries more.0 (length old.entries) own.entry parts refl (rw (← now) at first.large)))
+          ∙ (let here : number ≡ place + 2 = omega arith in ap (λ k. Err (Number k)) here)
+      | inr later ↦ ap (λ r. r >>= (λ after. records_give (table_scheme content columns) width count (number + 1) after rest))
+          (own.fits (fits-here new.entries old.entries more.0 (length old.entries) own.entry parts refl (first.before (length old.entries) (omega arith))))
+          ∙ large content columns width count (number + 1) place next.0 new rest next.2 (omega arith) (omega arith) first
     ]
 
 in-or-past : (k n : ℕ) → (k < n) ⊎ (n ≤ k)
@@ -144,108 +158,113 @@ large-within es place first = by (in-or-past place (length es))
     by (inl below) = below
     by (inr past) = absurd (rw (slice_get_past es place past) at first.large)
 
--- the first fault of a record by itself
-bad-row : (count : Counting) (texts : List (List ℕ)) (kinds : List Kind) (done : List (List (List ℕ))) (row : List (List ℕ)) (rest : List (List (List ℕ))) (f : LoadFault)
-    → row_fault count texts kinds (length done + 2) row ≡ Some f → rows_fault count texts kinds done (row ∷ rest) ≡ Some f
-unfolding rows_fault
-bad-row count texts kinds done row rest f bad = rw bad refl
-
--- all records were read and all sums fit
-pub sums-ok : (count : Counting) (texts : List (List ℕ)) (kinds : List Kind) (rows : List (List (List ℕ))) (entries : Counted)
-    → ReadTo count texts kinds rows entries None → EachSumFits entries → sums_of count texts kinds rows ≡ Ok (bag_of entries, texts)
-unfolding rows_fault
-sums-ok count texts kinds rows entries read fits =
-    let whole : rows ≡ read.before ++ [] = read.parts ∙ ap (λ rest. read.before ++ rest) read.ends in
-    let same : rows ≡ read.before = whole ∙ append-nil read.before in
-    let none : rows_fault count texts kinds [] rows ≡ None =
-    ap (λ all. rows_fault count texts kinds [] all) whole ∙ pass count texts kinds entries 0 [] read.before [] read.counted refl read.sound fits in
-    let total : entries_of count texts kinds rows ≡ entries = ap (λ all. entries_of count texts kinds all) same ∙ sym read.counted in
-    rw (none, total) refl
+-- all records were taken and all sums fit
+sums-ok : (content : Content) (columns : List NamedKind) (below : Below Counting) (old new : EntriesRead) → TakenTo (entry_scheme content columns) below old new None → EachSumFits new.entries
+    → records_give (table_scheme content columns) below.width below.kind 2 old below.rows ≡ Ok new
+sums-ok content columns below old new t fits = pass content columns below.width below.kind 2 old new below.rows (taken-all (entry_scheme content columns) below old new t) fits
 
 -- a record has a fault by itself, and the sums before it fit
-pub sums-err : (count : Counting) (texts : List (List ℕ)) (kinds : List Kind) (rows : List (List (List ℕ))) (entries : Counted) (f : LoadFault)
-    → ReadTo count texts kinds rows entries (Some f) → EachSumFits entries → (f ≡ Memory) ⊎ (sums_of count texts kinds rows ≡ Err f)
-sums-err count texts kinds rows entries f read fits = by read.rest read.parts read.ends
+sums-err : (content : Content) (columns : List NamedKind) (below : Below Counting) (old new : EntriesRead) (f : LoadFault) → TakenTo (entry_scheme content columns) below old new (Some f) → EachSumFits new.entries
+    → (f ≡ Memory) ⊎ (records_give (table_scheme content columns) below.width below.kind 2 old below.rows ≡ Err f)
+sums-err content columns below old new f t fits = by t.rest t.parts t.ends
   where
-    by : (rest : List (List (List ℕ))) → rows ≡ read.before ++ rest → EndsBy count texts kinds (length read.before + 2) rest (Some f) → (f ≡ Memory) ⊎ (sums_of count texts kinds rows ≡ Err f)
+    number : 2 + length t.before ≡ length t.before + 2
+    number = omega arith
+
+    by : (rest : List (List (List ℕ))) → below.rows ≡ t.before ++ rest → EndsBy (entry_scheme content columns) below.width below.kind new (length t.before + 2) rest (Some f)
+        → (f ≡ Memory) ⊎ (records_give (table_scheme content columns) below.width below.kind 2 old below.rows ≡ Err f)
     by [] parts ends = inl ends
-    by (row ∷ rest) parts (inl e) = inl e
-    by (row ∷ rest) parts (inr bad) =
-        let fault : rows_fault count texts kinds [] rows ≡ Some f =
-        ap (λ all. rows_fault count texts kinds [] all) parts ∙ pass count texts kinds entries 0 [] read.before (row ∷ rest) read.counted refl read.sound fits ∙ bad-row count texts kinds read.before row rest f bad in
-        inr (rw fault refl)
+    by (cells ∷ rest) parts (inl e) = inl e
+    by (cells ∷ rest) parts (inr bad) = inr (
+        ap (λ rows. records_give (table_scheme content columns) below.width below.kind 2 old rows) parts
+        ∙ records_give-after (table_scheme content columns) below.width below.kind 2 old new t.before (cells ∷ rest) (pass content columns below.width below.kind 2 old new t.before t.made fits)
+        ∙ ap (λ n. records_give (table_scheme content columns) below.width below.kind n new (cells ∷ rest)) number
+        ∙ records_give-first (table_scheme content columns) below.width below.kind (length t.before + 2) new cells rest
+        ∙ ap (λ r. r >>= (λ after. records_give (table_scheme content columns) below.width below.kind ((length t.before + 2) + 1) after rest))
+        (same-fault content columns below.width below.kind new (length t.before + 2) cells f bad)
+        )
 
 -- a sum leaves i64 before any such record
-pub sums-large : (count : Counting) (texts : List (List ℕ)) (kinds : List Kind) (rows : List (List (List ℕ))) (entries : Counted) (fault : Option LoadFault) (place : ℕ)
-    → ReadTo count texts kinds rows entries fault → IsFirstTooLarge entries place → sums_of count texts kinds rows ≡ Err (Number (place + 2))
-sums-large count texts kinds rows entries fault place read first =
-    let now : rows_fault count texts kinds [] rows ≡ Some (Number (place + 2)) =
-    ap (λ all. rows_fault count texts kinds [] all) read.parts ∙ large count texts kinds entries 0 place [] read.before read.rest read.counted refl refl (omega arith) read.sound first in
-    rw now refl
+sums-large : (content : Content) (columns : List NamedKind) (below : Below Counting) (old new : EntriesRead) (fault : Option LoadFault) (place : ℕ) → TakenTo (entry_scheme content columns) below old new fault
+    → old.entries ≡ [] → IsFirstTooLarge new.entries place → records_give (table_scheme content columns) below.width below.kind 2 old below.rows ≡ Err (Number (place + 2))
+sums-large content columns below old new fault place t none first =
+    let empty : length old.entries ≡ 0 = ap length none in
+    ap (λ rows. records_give (table_scheme content columns) below.width below.kind 2 old rows) t.parts
+    ∙ records_give-append (table_scheme content columns) below.width below.kind 2 old t.before t.rest
+    ∙ ap (λ r. r >>= (λ after. records_give (table_scheme content columns) below.width below.kind (2 + length t.before) after t.rest))
+    (large content columns below.width below.kind 2 place old new t.before t.made (omega arith) (omega arith) first)
 
--- what the text gives below its header
-pub text-below : (content : Content) (columns : List NamedKind) (texts : List (List ℕ)) (text : List ℕ) (count : Counting) (rows : List (List (List ℕ)))
-    → header_gives content (names_of columns) (records_of text) ≡ Ok (count, rows)
-    → text_gives content columns texts text ≡ sums_of count (dictionary_after count (kinds_of columns) texts rows) (kinds_of columns) rows
+-- The whole text.
+
+-- a header says the same with sums and without
+same-header : (content : Content) (columns : List NamedKind) (records : List (List (List ℕ))) → below_header (table_scheme content columns) records ≡ below_header (entry_scheme content columns) records
+same-header content columns [] = refl
+same-header content columns (header ∷ rows) = refl
+
+-- what a part gives below a header
+part-below : (content : Content) (columns : List NamedKind) (records : List (List (List ℕ))) (old : EntriesRead) (below : Below Counting) → below_header (entry_scheme content columns) records ≡ Ok below
+    → part_gives (table_scheme content columns) old records ≡ records_give (table_scheme content columns) below.width below.kind 2 old below.rows
+part-below content columns records old below tells = rw (same-header content columns records, tells) refl
+
+-- what a part gives whose records are entered, and whose sums fit
+pub part-added : (content : Content) (columns : List NamedKind) (records : List (List (List ℕ))) (old new : EntriesRead) (below : Below Counting) → below_header (entry_scheme content columns) records ≡ Ok below
+    → records_give (entry_scheme content columns) below.width below.kind 2 old below.rows ≡ Ok new → EachSumFits new.entries → part_gives (table_scheme content columns) old records ≡ Ok new
+part-added content columns records old new below tells read fits =
+    part-below content columns records old below tells ∙ pass content columns below.width below.kind 2 old new below.rows read fits
+
+-- no sum is too large where there is no entry
+none-large : (place : ℕ) → IsFirstTooLarge [] place → ⊥
+none-large place first = let some = large-within [] place first in omega arith
+
+-- the records add up
+text-ok : (content : Content) (columns : List NamedKind) (text : List ℕ) (old new : EntriesRead) (read : Option LoadFault) (bag : Bag)
+    → old.entries ≡ [] → IsReadTo (entry_scheme content columns) (records_of text) old new read → EachSumFits new.entries × (read ≡ None) → bag ≡ bag_of new.entries
+    → text_gives content columns old.texts text ≡ Ok (bag, new.texts)
 unfolding text_gives
-text-below content columns texts text count rows e = rw e refl
-
-pub text-header : (content : Content) (columns : List NamedKind) (texts : List (List ℕ)) (text : List ℕ) (f : LoadFault)
-    → header_gives content (names_of columns) (records_of text) ≡ Err f → text_gives content columns texts text ≡ Err f
-unfolding text_gives
-text-header content columns texts text f e = rw e refl
-
--- the entries add up
-pub text-ok : (content : Content) (columns : List NamedKind) (texts : List (List ℕ)) (text : List ℕ) (count : Counting) (rows : List (List (List ℕ))) (entries : Counted) (read : Option LoadFault) (bag : Bag) (dict : List (List ℕ))
-    → header_gives content (names_of columns) (records_of text) ≡ Ok (count, rows)
-    → ReadTo count (dictionary_after count (kinds_of columns) texts rows) (kinds_of columns) rows entries read
-    → EachSumFits entries × (read ≡ None) → bag ≡ bag_of entries → dict ≡ dictionary_after count (kinds_of columns) texts rows
-    → text_gives content columns texts text ≡ Ok (bag, dict)
-text-ok content columns texts text count rows entries read bag dict header to fits sum grown =
-    text-below content columns texts text count rows header
-    ∙ sums-ok count (dictionary_after count (kinds_of columns) texts rows) (kinds_of columns) rows entries (rw fits.1 at to) fits.0
-    ∙ (λ i. Ok (sym sum i, sym grown i))
+text-ok content columns text old new read bag none (inl at) fits sum = let some : Some at.first ≡ None = sym at.is ∙ fits.1 in cc
+text-ok content columns text old new read bag none (inr below) fits sum =
+    let from : record { texts = old.texts; entries = [] } ≡ old = (λ i. record { texts = old.texts; entries = sym none i }) in
+    ap (λ state. bag_read (part_gives (table_scheme content columns) state (records_of text))) from
+    ∙ ap bag_read (part-below content columns (records_of text) old below.below below.tells ∙ sums-ok content columns below.below old new (rw fits.1 at below.taken) fits.0)
+    ∙ (λ i. Ok (sym sum i, new.texts))
 
 -- they do not
-pub text-err : (content : Content) (columns : List NamedKind) (texts : List (List ℕ)) (text : List ℕ) (count : Counting) (rows : List (List (List ℕ))) (entries : Counted) (read : Option LoadFault) (f : LoadFault)
-    → header_gives content (names_of columns) (records_of text) ≡ Ok (count, rows)
-    → ReadTo count (dictionary_after count (kinds_of columns) texts rows) (kinds_of columns) rows entries read
-    → (f ≡ Memory) ⊎ EndsSum entries read f → (f ≡ Memory) ⊎ (text_gives content columns texts text ≡ Err f)
-text-err content columns texts text count rows entries read f header to (inl e) = inl e
-text-err content columns texts text count rows entries read f header to (inr (inl sum)) =
-    inr (text-below content columns texts text count rows header
-    ∙ sums-large count (dictionary_after count (kinds_of columns) texts rows) (kinds_of columns) rows entries read sum.0 to sum.1
-    ∙ ap Err (sym sum.2))
-text-err content columns texts text count rows entries read f header to (inr (inr ended)) =
-    ⊎_elim (λ e. inl e) (λ e. inr (text-below content columns texts text count rows header ∙ e))
-    (sums-err count (dictionary_after count (kinds_of columns) texts rows) (kinds_of columns) rows entries f (rw ended.1 at to) ended.0)
+text-err : (content : Content) (columns : List NamedKind) (text : List ℕ) (old new : EntriesRead) (read : Option LoadFault) (f : LoadFault)
+    → old.entries ≡ [] → IsReadTo (entry_scheme content columns) (records_of text) old new read → EndsSum new.entries read f
+    → (f ≡ Memory) ⊎ (bag_read (part_gives (table_scheme content columns) old (records_of text)) ≡ Err f)
+text-err content columns text old new read f none (inl at) (inl sum) =
+    let first : IsFirstTooLarge [] sum.0 = rw (at.same, none) at sum.1 in
+    absurd (none-large sum.0 first)
+text-err content columns text old new read f none (inl at) (inr ended) = by at.why
+  where
+    same : at.first ≡ f
+    same = let e : Some at.first ≡ Some f = sym at.is ∙ ended.1 in cc
 
--- the header has a fault
-pub text-refused : (content : Content) (columns : List NamedKind) (texts : List (List ℕ)) (text : List ℕ) (left : List (List (List ℕ))) (f : LoadFault)
-    → left ≡ records_of text → (f ≡ Memory) ⊎ (header_gives content (names_of columns) left ≡ Err f) → (f ≡ Memory) ⊎ (text_gives content columns texts text ≡ Err f)
-text-refused content columns texts text left f all (inl e) = inl e
-text-refused content columns texts text left f all (inr bad) = inr (text-header content columns texts text f (rw all at bad))
-
-grown-after : {T : Type 0} (read : Result T LoadFault) (dict after : List (List ℕ)) → OnOk read (dict ≡ after) → result_err read ≡ None → dict ≡ after
-grown-after (Ok x) dict after grown none = grown
-grown-after (Err f) dict after grown none = absurd (let no : Some f ≡ None = none in cc)
+    by : (at.first ≡ Memory) ⊎ (below_header (entry_scheme content columns) (records_of text) ≡ Err at.first) → (f ≡ Memory) ⊎ (bag_read (part_gives (table_scheme content columns) old (records_of text)) ≡ Err f)
+    by (inl e) = inl (sym same ∙ e)
+    by (inr e) = inr (rw (same-header content columns (records_of text), e) (ap Err same))
+text-err content columns text old new read f none (inr below) (inl sum) =
+    inr (ap bag_read (part-below content columns (records_of text) old below.below below.tells ∙ sums-large content columns below.below old new read sum.0 below.taken none sum.1) ∙ ap Err (sym sum.2))
+text-err content columns text old new read f none (inr below) (inr ended) =
+    ⊎_elim (λ e. inl e) (λ e. inr (ap bag_read (part-below content columns (records_of text) old below.below below.tells ∙ e)))
+    (sums-err content columns below.below old new f (rw ended.1 at below.taken) ended.0)
 
 -- the same, of an answer
-pub answer-ok : {T : Type 0} (content : Content) (columns : List NamedKind) (texts : List (List ℕ)) (text : List ℕ) (left : List (List (List ℕ))) (count : Counting) (rows : List (List (List ℕ))) (entries : Counted) (read : Result T LoadFault) (dict : List (List ℕ)) (answer : Result Bag LoadFault)
-    → left ≡ records_of text → header_gives content (names_of columns) left ≡ Ok (count, rows)
-    → ReadTo count (dictionary_after count (kinds_of columns) texts rows) (kinds_of columns) rows entries (result_err read)
-    → OnOk read (dict ≡ dictionary_after count (kinds_of columns) texts rows)
-    → IfOk answer (λ bag. bag ≡ bag_of entries) → OnOk answer (EachSumFits entries × (result_err read ≡ None))
-    → IfOk answer (λ bag. text_gives content columns texts text ≡ Ok (bag, dict))
-answer-ok content columns texts text left count rows entries read dict (Err f) all header to grown sum fits = tt
-answer-ok content columns texts text left count rows entries read dict (Ok bag) all header to grown sum fits =
-    text-ok content columns texts text count rows entries (result_err read) bag dict (rw all at header) to fits sum (grown-after read dict _ grown fits.1)
+pub answer-ok : {T : Type 0} (content : Content) (columns : List NamedKind) (text : List ℕ) (old new : EntriesRead) (read : Result T LoadFault) (answer : Result Bag LoadFault)
+    → old.entries ≡ [] → IsReadTo (entry_scheme content columns) (records_of text) old new (result_err read)
+    → IfOk answer (λ bag. bag ≡ bag_of new.entries) → OnOk answer (EachSumFits new.entries × (result_err read ≡ None))
+    → IfOk answer (λ bag. text_gives content columns old.texts text ≡ Ok (bag, new.texts))
+answer-ok content columns text old new read (Err f) none to sum fits = tt
+answer-ok content columns text old new read (Ok bag) none to sum fits = text-ok content columns text old new (result_err read) bag none to fits sum
 
-pub answer-err : {T : Type 0} (content : Content) (columns : List NamedKind) (texts : List (List ℕ)) (text : List ℕ) (left : List (List (List ℕ))) (count : Counting) (rows : List (List (List ℕ))) (entries : Counted) (read : Result T LoadFault) (answer : Result Bag LoadFault)
-    → left ≡ records_of text → header_gives content (names_of columns) left ≡ Ok (count, rows)
-    → ReadTo count (dictionary_after count (kinds_of columns) texts rows) (kinds_of columns) rows entries (result_err read)
-    → IfErr answer (λ f. (f ≡ Memory) ⊎ EndsSum entries (result_err read) f)
-    → IfErr answer (λ f. (f ≡ Memory) ⊎ (text_gives content columns texts text ≡ Err f))
-answer-err content columns texts text left count rows entries read (Ok bag) all header to bad = tt
-answer-err content columns texts text left count rows entries read (Err f) all header to bad =
-    text-err content columns texts text count rows entries (result_err read) f (rw all at header) to bad
+pub answer-err : {T : Type 0} (content : Content) (columns : List NamedKind) (text : List ℕ) (old new : EntriesRead) (read : Result T LoadFault) (answer : Result Bag LoadFault)
+    → old.entries ≡ [] → IsReadTo (entry_scheme content columns) (records_of text) old new (result_err read)
+    → IfErr answer (λ f. (f ≡ Memory) ⊎ EndsSum new.entries (result_err read) f)
+    → IfErr answer (λ f. (f ≡ Memory) ⊎ (text_gives content columns old.texts text ≡ Err f))
+unfolding text_gives
+answer-err content columns text old new read (Ok bag) none to bad = tt
+answer-err content columns text old new read (Err f) none to (inl e) = inl e
+answer-err content columns text old new read (Err f) none to (inr ends) =
+    let from : old ≡ record { texts = old.texts; entries = [] } = (λ i. record { texts = old.texts; entries = none i }) in
+    subst (λ (state : EntriesRead). (f ≡ Memory) ⊎ (bag_read (part_gives (table_scheme content columns) state (records_of text)) ≡ Err f)) from
+    (text-err content columns text old new (result_err read) f none to ends)

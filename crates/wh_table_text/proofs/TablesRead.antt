@@ -1,6 +1,6 @@
 -- What the text of a table or of changes gives is a bag of rows with a cell for each column, and a table counts none of them below zero.
-use Rattle.std.proofs.Common.{◌≡◌, ◌≢◌, ℕ, zero, suc, ℤ, pos, negsuc, ◌+ℤ◌, ◌≤ℤ◌, Bool, true, false, cond, List, [], ◌∷◌, length, Option, Some, None, Result, Ok, Err, refl, ap, sym, ◌∙◌, arith}
-use Rattle.std.specs.Prelude.{if◌then◌else◌, option_and_then, option_map, IfOk}
+use Rattle.std.proofs.Common.{◌≡◌, ◌≢◌, ℕ, zero, suc, ℤ, pos, negsuc, ◌+ℤ◌, ◌≤ℤ◌, Bool, true, false, cond, List, [], ◌∷◌, ◌++◌, ◌+◌, length, Option, Some, None, Result, Ok, Err, refl, ap, sym, subst, ◌∙◌, arith}
+use Rattle.std.specs.Prelude.{ok_or, if◌then◌else◌, option_and_then, option_map, IfOk}
 use Rattle.std.specs.Cmp.Lexicographic.{pointwise}
 use Rattle.std.specs.List.{AllByRecursion}
 use Rattle.std.specs.Str.{bytes_eq}
@@ -8,18 +8,23 @@ use Rattle.std.proofs.lemmas.Int.{ints}
 use Rattle.std.proofs.lemmas.List.{length-map}
 use lib.IntN.{+ℤ_idl}
 use Rattle.wh_row.specs.Bag.{Bag, HasWidth, IsTable, bag_of}
+use Rattle.wh_row.specs.Records.{running_sum}
 use Rattle.wh_row.specs.Row.{Row, is_row}
 use Rattle.wh_row.specs.Weigh.{Counted, count_in}
 use Rattle.wh_row.proofs.BagLaws.{count-bag_of, same_row}
 use Rattle.wh_text.specs.Columns.{NamedKind, kinds_of, names_of}
 use Rattle.wh_text.specs.declared.columns.Kind.{Kind}
+use Rattle.wh_text.specs.WholeNumber.{is_i64}
 use Rattle.wh_text.specs.declared.fault.LoadFault.{LoadFault}
+use Rattle.wh_text.specs.declared.fault.LoadFault.TheVariants.{Header, Number}
+use Rattle.wh_table_text.specs.Part.{Below, below_header, or_fault, part_of, record_gives, records_give}
 use Rattle.wh_table_text.specs.Records.{form_fault, records_of}
-use Rattle.wh_table_text.specs.TableText.{below_header, cell_number, count_of, counted_header, counting_of, dictionary_after, entries_of, entry_of, header_gives, or_fault, positive, row_cells, row_of, rows_fault, rows_give, text_gives}
+use Rattle.wh_table_text.specs.TableText.{EntriesRead, added, cell_number, count_of, counted_header, counting_of, entry_of, positive, row_cells, row_of, table_scheme, text_gives, texts_after, with_entry}
 use Rattle.wh_table_text.specs.declared.table.header.Content.{Content}
 use Rattle.wh_table_text.specs.declared.table.header.Content.TheVariants.{Table}
 use Rattle.wh_table_text.specs.declared.table.header.Counting.{Counting}
 use Rattle.wh_table_text.specs.declared.table.header.Counting.TheVariants.{NonZero, Once, Positive}
+use Rattle.wh_table_text.proofs.PartReads.{from_step, or_fault-ok, same_Ok, some-or}
 
 -- One record.
 
@@ -75,14 +80,33 @@ is-entry counting texts kinds cells entry e = by (count_of counting cells) refl 
 
 -- All records.
 
-entries : (counting : Counting) (texts : List (List ℕ)) (kinds : List Kind) (rows : List (List (List ℕ))) → AllByRecursion (IsEntry counting (length kinds)) (entries_of counting texts kinds rows)
-entries counting texts kinds [] = tt
-entries counting texts kinds (row ∷ rows) = by (entry_of counting texts kinds row) refl (entries counting texts kinds rows)
+-- each is an entry of a row of this width
+abbrev AreEntries : Counting → ℕ → EntriesRead → Type 0
+AreEntries counting width read = AllByRecursion (IsEntry counting width) read.entries
+
+put-last : (counting : Counting) (width : ℕ) (es : Counted) (entry : Row × ℤ) → AllByRecursion (IsEntry counting width) es → IsEntry counting width entry → AllByRecursion (IsEntry counting width) (es ++ entry ∷ [])
+put-last counting width [] entry all is = (is, tt)
+put-last counting width (e ∷ es) entry all is = (all.0, put-last counting width es entry all.1 is)
+
+added-entry : (kinds : List Kind) (counting : Counting) (read after : EntriesRead) (number : ℕ) (cells : List (List ℕ)) → AreEntries counting (length kinds) read → added kinds counting read number cells ≡ Ok after → AreEntries counting (length kinds) after
+added-entry kinds counting read after number cells are e =
+    let texts = texts_after counting kinds read.texts cells in
+    let own = from_step (ok_or (entry_of counting texts kinds cells) (Number number)) (λ entry. if is_i64 (running_sum read.entries entry) then Ok (with_entry read texts entry) else Err (Number number)) after e in
+    let is = is-entry counting texts kinds cells own.0 (some-or (entry_of counting texts kinds cells) (Number number) own.0 own.1) in
+    by (is_i64 (running_sum read.entries own.0)) own.0 is own.2
   where
-    by : (o : Option (Row × ℤ)) → entry_of counting texts kinds row ≡ o → AllByRecursion (IsEntry counting (length kinds)) (entries_of counting texts kinds rows)
-        → AllByRecursion (IsEntry counting (length kinds)) (entries_of counting texts kinds (row ∷ rows))
-    by None is rest = rw is rest
-    by (Some entry) is rest = rw is (is-entry counting texts kinds row entry is, rest)
+    by : (fits : Bool) (entry : Row × ℤ) → IsEntry counting (length kinds) entry → (if fits then Ok (with_entry read (texts_after counting kinds read.texts cells) entry) else Err (Number number)) ≡ Ok after → AreEntries counting (length kinds) after
+    by true entry is h = subst (AreEntries counting (length kinds)) (same_Ok _ _ _ refl h) (put-last counting (length kinds) read.entries entry are is)
+    by false entry is h = cc
+
+rows-entries : (content : Content) (columns : List NamedKind) (width : ℕ) (counting : Counting) (number : ℕ) (read after : EntriesRead) (rows : List (List (List ℕ))) → AreEntries counting (length (kinds_of columns)) read
+    → records_give (table_scheme content columns) width counting number read rows ≡ Ok after → AreEntries counting (length (kinds_of columns)) after
+unfolding records_give
+rows-entries content columns width counting number read after [] are e = subst (AreEntries counting (length (kinds_of columns))) (same_Ok _ _ _ refl e) are
+rows-entries content columns width counting number read after (cells ∷ rows) are e =
+    let next = from_step (record_gives (table_scheme content columns) width counting read number cells) _ after e in
+    let own = or_fault-ok (form_fault width number cells) (added (kinds_of columns) counting read number cells) next.0 next.1 in
+    rows-entries content columns width counting (number + 1) next.0 after rows (added-entry (kinds_of columns) counting read next.0 number cells are own) next.2
 
 summed-width : (counting : Counting) (width : ℕ) (es : Counted) → AllByRecursion (IsEntry counting width) es → (q : Row) → count_in es q ≢ pos 0 → length q ≡ width
 summed-width counting width [] all q some = absurd (some refl)
@@ -108,14 +132,6 @@ bag-least counting width es table all q = rw (count-bag_of es q) (summed-least c
 
 -- The whole text.
 
-or_fault-ok : {A : Type 0} (fault : Option LoadFault) (other : Result A LoadFault) (x : A) → or_fault fault other ≡ Ok x → other ≡ Ok x
-or_fault-ok None other x e = e
-or_fault-ok (Some f) other x e = cc e
-
-below-ok : (o : Option Counting) (rows : List (List (List ℕ))) (below : Counting × List (List (List ℕ))) → below_header o rows ≡ Ok below → o ≡ Some below.0
-below-ok None rows below e = cc e
-below-ok (Some counting) rows below e = let same : (counting, rows) ≡ below = cc in rw (← same) refl
-
 header-tells : (names header : List (List ℕ)) (counting : Counting) → counting_of Table names header ≡ Some counting → TellsTable counting
 header-tells names header counting = by (pointwise bytes_eq header names) (pointwise bytes_eq header (counted_header names))
   where
@@ -125,41 +141,46 @@ header-tells names header counting = by (pointwise bytes_eq header names) (point
     by false false e = cc e
 
 -- what a header of a table tells
-table-tells : (names : List (List ℕ)) (records : List (List (List ℕ))) (below : Counting × List (List (List ℕ))) → header_gives Table names records ≡ Ok below → TellsTable below.0
-table-tells names [] below e = cc e
-table-tells names (header ∷ rows) below e =
-    header-tells names header below.0 (below-ok (counting_of Table names header) rows below (or_fault-ok (form_fault (length header) 1 header) _ below e))
+table-tells : (columns : List NamedKind) (records : List (List (List ℕ))) (below : Below Counting) → below_header (table_scheme Table columns) records ≡ Ok below → TellsTable below.kind
+table-tells columns [] below e = cc
+table-tells columns (header ∷ rows) below e =
+    let told = from_step (or_fault (form_fault (length header) 1 header) (ok_or (counting_of Table (names_of columns) header) Header)) (λ (kind : Counting). Ok (record { kind = kind; width = length header; rows = rows })) below e in
+    let kind = some-or (counting_of Table (names_of columns) header) Header told.0 (or_fault-ok (form_fault (length header) 1 header) _ told.0 told.1) in
+    subst (λ (b : Below Counting). TellsTable b.kind) (same_Ok _ _ _ refl told.2) (header-tells (names_of columns) header told.0 kind)
 
--- what a text gives: these records below the header
+-- what a text gives: these entries below the header
 record IsGiven (content : Content) (columns : List NamedKind) (text : List ℕ) (bag : Bag) : Type 0 where
-  pub below : Counting × List (List (List ℕ))
-  pub texts : List (List ℕ)
-  pub header : header_gives content (names_of columns) (records_of text) ≡ Ok below
-  pub sum : bag ≡ bag_of (entries_of below.0 texts (kinds_of columns) below.1)
+  pub below : Below Counting
+  pub read : EntriesRead
+  pub header : below_header (table_scheme content columns) (records_of text) ≡ Ok below
+  pub are : AreEntries below.kind (length (kinds_of columns)) read
+  pub sum : bag ≡ bag_of read.entries
 
 given : (content : Content) (columns : List NamedKind) (texts : List (List ℕ)) (text : List ℕ) (bag : Bag) (after : List (List ℕ)) → text_gives content columns texts text ≡ Ok (bag, after) → IsGiven content columns text bag
 unfolding text_gives
-given content columns texts text bag after e = by (header_gives content (names_of columns) (records_of text)) refl e
-  where
-    by : (r : Result (Counting × List (List (List ℕ))) LoadFault) → header_gives content (names_of columns) (records_of text) ≡ r → rows_give (kinds_of columns) texts r ≡ Ok (bag, after) → IsGiven content columns text bag
-    by (Err f) is h = cc h
-    by (Ok below) is h =
-        let all = dictionary_after below.0 (kinds_of columns) texts below.1 in
-        let sum : Ok (bag_of (entries_of below.0 all (kinds_of columns) below.1), all) ≡ Ok (bag, after) = or_fault-ok (rows_fault below.0 all (kinds_of columns) [] below.1) _ (bag, after) h in
-        let same : (bag_of (entries_of below.0 all (kinds_of columns) below.1), all) ≡ (bag, after) = cc in
-        record { below = below; texts = all; header = is; sum = ap (λ (pair : Bag × List (List ℕ)). pair.0) (sym same) }
+given content columns texts text bag after e =
+    let read = from_step (part_of (table_scheme content columns) (record { texts = texts; entries = [] }) text) (λ (all : EntriesRead). Ok (bag_of all.entries, all.texts)) (bag, after) e in
+    let below = from_step (below_header (table_scheme content columns) (records_of text)) _ read.0 read.1 in
+    let same : (bag_of read.0.entries, read.0.texts) ≡ (bag, after) = same_Ok _ _ _ refl read.2 in
+    record {
+      below = below.0;
+      read = read.0;
+      header = below.1;
+      are = rows-entries content columns below.0.width below.0.kind 2 (record { texts = texts; entries = [] }) read.0 below.0.rows tt below.2;
+      sum = ap (λ (pair : Bag × List (List ℕ)). pair.0) (sym same);
+    }
 
 -- rows have a cell for each column
 pub rows-width : (content : Content) (columns : List NamedKind) (texts : List (List ℕ)) (text : List ℕ) (bag : Bag) (after : List (List ℕ)) → text_gives content columns texts text ≡ Ok (bag, after) → HasWidth bag (length columns)
 rows-width content columns texts text bag after e =
     let g = given content columns texts text bag after e in
-    rw (g.sum, ← length-map columns (λ (column : NamedKind). column.kind)) (bag-width g.below.0 (length (kinds_of columns)) _ (entries g.below.0 g.texts (kinds_of columns) g.below.1))
+    rw (g.sum, ← length-map columns (λ (column : NamedKind). column.kind)) (bag-width g.below.kind (length (kinds_of columns)) g.read.entries g.are)
 
 -- a table has no count below zero
 pub is-table : (columns : List NamedKind) (texts : List (List ℕ)) (text : List ℕ) (bag : Bag) (after : List (List ℕ)) → text_gives Table columns texts text ≡ Ok (bag, after) → IsTable bag
 is-table columns texts text bag after e =
     let g = given Table columns texts text bag after e in
-    rw g.sum (bag-least g.below.0 (length (kinds_of columns)) _ (table-tells (names_of columns) (records_of text) g.below g.header) (entries g.below.0 g.texts (kinds_of columns) g.below.1))
+    rw g.sum (bag-least g.below.kind (length (kinds_of columns)) g.read.entries (table-tells columns (records_of text) g.below g.header) g.are)
 
 -- the same of what a reader answers
 pub answer-width : (content : Content) (columns : List NamedKind) (texts : List (List ℕ)) (text : List ℕ) (after : List (List ℕ)) (answer : Result Bag LoadFault)

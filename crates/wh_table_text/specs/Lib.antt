@@ -1,5 +1,7 @@
 pub mod ChangesReadBack
+pub mod Part
 pub mod Records
+pub mod RowSizes
 pub mod SizesText
 pub mod TableRead
 pub mod TableReadsBack

@@ -1,8 +1,6 @@
 -- Tables and changes as parts write them: a header, and a record for each row with its count.
-use Rattle.std.specs.Prelude.{◌≡◌, ◌⊎◌, ℕ, zero, suc, ◌+◌, ℤ, pos, negsuc, List, [], ◌∷◌, ◌++◌, length, drop, codes, Option, Some, None, Result, Ok, Err, if◌then◌else◌, is_some, option_and_then, option_map}
+use Rattle.std.specs.Prelude.{◌≡◌, ◌⊎◌, ℕ, zero, suc, ◌+◌, ℤ, pos, negsuc, List, [], ◌∷◌, ◌++◌, drop, codes, Option, Some, None, ok_or, Result, Ok, Err, if◌then◌else◌, option_and_then, option_map}
 use Rattle.std.specs.Cmp.Lexicographic.{pointwise}
-use Rattle.std.specs.List.{AllByRecursion, filter_map, flat_map}
-use Rattle.std.specs.Option.{option_or}
 use Rattle.std.specs.Str.{bytes_eq}
 use Rattle.wh_row.specs.Bag.{Bag, bag_of}
 use Rattle.wh_row.specs.Records.{EachSumFits, IsFirstTooLarge, running_sum}
@@ -14,8 +12,10 @@ use Rattle.wh_text.specs.WholeNumber.{is_i64, whole_number}
 use Rattle.wh_text.specs.declared.columns.Kind.{Kind}
 use Rattle.wh_text.specs.declared.columns.Kind.TheVariants as of_kind
 use Rattle.wh_text.specs.declared.fault.LoadFault.{LoadFault}
-use Rattle.wh_text.specs.declared.fault.LoadFault.TheVariants.{Header, Memory, Number}
-use Rattle.wh_table_text.specs.Records.{cell, form_fault, records_of}
+use Rattle.wh_text.specs.declared.fault.LoadFault.TheVariants.{Number}
+pub use Rattle.wh_table_text.specs.Part.{or_fault}
+use Rattle.wh_table_text.specs.Part.{◌>>=◌, Scheme, part_of}
+use Rattle.wh_table_text.specs.Records.{cell}
 use Rattle.wh_table_text.specs.declared.table.header.Content.{Content}
 use Rattle.wh_table_text.specs.declared.table.header.Content.TheVariants as of_content
 use Rattle.wh_table_text.specs.declared.table.header.Counting.{Counting}
@@ -91,89 +91,52 @@ texts_in_row [] cells = []
 texts_in_row (kind ∷ kinds) [] = []
 texts_in_row (kind ∷ kinds) (cell ∷ cells) = text_in kind cell ++ texts_in_row kinds cells
 
--- All records below the header.
+-- All records.
 
--- the texts of all rows, record by record and cell by cell
-abbrev pub texts_in : Counting → List Kind → List (List (List ℕ)) → List (List ℕ)
-texts_in count kinds rows = flat_map (λ cells. texts_in_row kinds (row_cells count cells)) rows
+-- what was read so far: the texts of the dictionary, and the row of each record with how often it counts
+pub record EntriesRead : Type 0 where
+  pub texts : List (List ℕ)
+  pub entries : Counted
 
--- the rows of records and how often each counts, by the numbers of these texts
-abbrev pub entries_of : Counting → List (List ℕ) → List Kind → List (List (List ℕ)) → Counted
-entries_of count texts kinds rows = filter_map (entry_of count texts kinds) rows
+-- the dictionary once it has the texts of this record's row
+abbrev pub texts_after : Counting → List Kind → List (List ℕ) → List (List ℕ) → List (List ℕ)
+texts_after count kinds texts cells = with_texts texts (texts_in_row kinds (row_cells count cells))
 
--- what is wrong with a record of this number by itself: its form, then its count and its cells
-abbrev pub row_fault : Counting → List (List ℕ) → List Kind → ℕ → List (List ℕ) → Option LoadFault
-row_fault count texts kinds number cells =
-    option_or (form_fault (count_cells count + length kinds) number cells) (if is_some (entry_of count texts kinds cells) then None else Some (Number number))
+-- the same with the texts and the entry of one record more
+abbrev pub with_entry : EntriesRead → List (List ℕ) → Row × ℤ → EntriesRead
+with_entry read texts entry = record { texts = texts; entries = read.entries ++ entry ∷ [] }
 
--- a record brings the sum of its row out of i64, after these
-abbrev pub sum_fault : ℕ → Counted → Option (Row × ℤ) → Option LoadFault
-sum_fault number before None = None
-sum_fault number before (Some entry) = if is_i64 (running_sum before entry) then None else Some (Number number)
+-- what a record by itself makes of what was read: its texts get their numbers, and its entry goes last; else its count is not allowed, or one of its cells has another form
+abbrev pub entered : List Kind → Counting → EntriesRead → ℕ → List (List ℕ) → Result EntriesRead LoadFault
+entered kinds count read number cells = do
+  entry ← ok_or (entry_of count (texts_after count kinds read.texts cells) kinds cells) (Number number)
+  Ok (with_entry read (texts_after count kinds read.texts cells) entry)
 
--- the first fault of these records, which follow those before; the header is record 1
-unfoldable pub rows_fault : Counting → List (List ℕ) → List Kind → List (List (List ℕ)) → List (List (List ℕ)) → Option LoadFault
-rows_fault count texts kinds before [] = None
-rows_fault count texts kinds before (row ∷ rest) =
-    option_or (option_or (row_fault count texts kinds (length before + 2) row) (sum_fault (length before + 2) (entries_of count texts kinds before) (entry_of count texts kinds row)))
-    (rows_fault count texts kinds (before ++ row ∷ []) rest)
+-- the same, where a record that brings the sum of its row out of i64 has a fault too
+abbrev pub added : List Kind → Counting → EntriesRead → ℕ → List (List ℕ) → Result EntriesRead LoadFault
+added kinds count read number cells = do
+  entry ← ok_or (entry_of count (texts_after count kinds read.texts cells) kinds cells) (Number number)
+  if is_i64 (running_sum read.entries entry) then Ok (with_entry read (texts_after count kinds read.texts cells) entry) else Err (Number number)
 
--- the fault, if there is one, else this
-abbrev pub or_fault : {A : Type 0} → Option LoadFault → Result A LoadFault → Result A LoadFault
-or_fault None other = other
-or_fault (Some fault) other = Err fault
+-- parts of tables or of changes, over these columns: each record by itself
+abbrev pub entry_scheme : Content → List NamedKind → Scheme Counting EntriesRead
+entry_scheme content columns = record { kind_of = counting_of content (names_of columns); take = entered (kinds_of columns) }
 
--- the dictionary of these texts once it has those of all rows
-abbrev pub dictionary_after : Counting → List Kind → List (List ℕ) → List (List (List ℕ)) → List (List ℕ)
-dictionary_after count kinds texts rows = with_texts texts (texts_in count kinds rows)
+-- the same with the sums of equal rows
+abbrev pub table_scheme : Content → List NamedKind → Scheme Counting EntriesRead
+table_scheme content columns = record { kind_of = counting_of content (names_of columns); take = added (kinds_of columns) }
 
--- what rows below the header give where these texts are the dictionary after them: the bag in which each row counts the sum of its records' counts, and the dictionary
-abbrev pub sums_of : Counting → List (List ℕ) → List Kind → List (List (List ℕ)) → Result (Bag × List (List ℕ)) LoadFault
-sums_of count texts kinds rows = or_fault (rows_fault count texts kinds [] rows) (Ok (bag_of (entries_of count texts kinds rows), texts))
-
--- how records tell their counts, and the rows below the header, if it is one
-abbrev pub below_header : Option Counting → List (List (List ℕ)) → Result (Counting × List (List (List ℕ))) LoadFault
-below_header None rows = Err Header
-below_header (Some count) rows = Ok (count, rows)
-
--- what the first of all records tells, the header
-abbrev pub header_gives : Content → List (List ℕ) → List (List (List ℕ)) → Result (Counting × List (List (List ℕ))) LoadFault
-header_gives content names [] = Err Header
-header_gives content names (header ∷ rows) = or_fault (form_fault (length header) 1 header) (below_header (counting_of content names header) rows)
-
--- what rows give below a header
-abbrev pub rows_give : List Kind → List (List ℕ) → Result (Counting × List (List (List ℕ))) LoadFault → Result (Bag × List (List ℕ)) LoadFault
-rows_give kinds texts (Err fault) = Err fault
-rows_give kinds texts (Ok below) = sums_of below.0 (dictionary_after below.0 kinds texts below.1) kinds below.1
-
--- what records give: the header is judged first, then record by record
-abbrev pub records_give : Content → List NamedKind → List (List ℕ) → List (List (List ℕ)) → Result (Bag × List (List ℕ)) LoadFault
-records_give content columns texts records = rows_give (kinds_of columns) texts (header_gives content (names_of columns) records)
+-- the bag in which each row counts the sum of its records' counts, and the dictionary
+abbrev pub bag_read : Result EntriesRead LoadFault → Result (Bag × List (List ℕ)) LoadFault
+bag_read read = do
+  all ← read
+  Ok (bag_of all.entries, all.texts)
 
 -- what the text of a table or of changes gives, over these columns, to a dictionary of these texts: the bag and the dictionary after it, or the first fault
 unfoldable pub text_gives : Content → List NamedKind → List (List ℕ) → List ℕ → Result (Bag × List (List ℕ)) LoadFault
-text_gives content columns texts text = records_give content columns texts (records_of text)
+text_gives content columns texts text = bag_read (part_of (table_scheme content columns) (record { texts = texts; entries = [] }) text)
 
 -- How far a reader came.
-
--- a record without a fault by itself
-abbrev pub IsSound : Counting → List (List ℕ) → List Kind → List (List ℕ) → Type 0
-IsSound count texts kinds cells = (number : ℕ) → row_fault count texts kinds number cells ≡ None
-
--- how reading ends at these records, the first of them having this number: they are none, or memory was refused, or the first of them has this fault by itself
-abbrev pub EndsBy : Counting → List (List ℕ) → List Kind → ℕ → List (List (List ℕ)) → Option LoadFault → Type 0
-EndsBy count texts kinds number rest None = rest ≡ []
-EndsBy count texts kinds number [] (Some fault) = fault ≡ Memory
-EndsBy count texts kinds number (row ∷ rest) (Some fault) = (fault ≡ Memory) ⊎ (row_fault count texts kinds number row ≡ Some fault)
-
--- the records were read up to the first that has a fault by itself, and these are the entries of those before it
-pub record ReadTo (count : Counting) (texts : List (List ℕ)) (kinds : List Kind) (rows : List (List (List ℕ))) (entries : Counted) (fault : Option LoadFault) : Type 0 where
-  pub before : List (List (List ℕ))
-  pub rest : List (List (List ℕ))
-  pub parts : rows ≡ before ++ rest
-  pub sound : AllByRecursion (IsSound count texts kinds) before
-  pub counted : entries ≡ entries_of count texts kinds before
-  pub ends : EndsBy count texts kinds (length before + 2) rest fault
 
 -- adding entries up ends by this fault: the sum of a row leaves i64 first at a record of this number, or else it is the fault that ended the reading
 abbrev pub EndsSum : Counted → Option LoadFault → LoadFault → Type 0

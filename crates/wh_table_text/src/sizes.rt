@@ -1,13 +1,15 @@
 //! The sizes of the views, from a CSV part: a header, and a row of each view, in any order.
 
-ghost use Rattle.std.specs.Prelude.{◌≡◌, ◌⊎◌, ◌+◌, ◌^◌, ◌<◌, ◌≤◌, length, map, slice_index_or, IfOk, IfErr, IfSome, OnOk, Ok, Err, Some, None, vec_len, []};
-ghost use Rattle.std.specs.List.{filter_map, range_with_len};
-ghost use Rattle.std.specs.Option.{option_or};
+ghost use Rattle.std.specs.Prelude.{◌≡◌, ◌⊎◌, ◌+◌, ◌^◌, ◌<◌, ◌≤◌, List, length, replicate, slice_index_or, IfOk, IfErr, IfSome, OnOk, OnErr, Option, Ok, Err, Some, None, vec_len};
+ghost use Rattle.std.specs.List.{filter_map};
 ghost use Rattle.csv.specs.Records.{fields_of};
 ghost use Rattle.wh_dag.specs.Written.{number_of};
-ghost use Rattle.wh_table_text.specs.SizesText.{Places, cells_fault, counts_of, given_by, header_fault, missing_fault, name_fault, number_fault, range_fault, row_size, rows_fault, rows_in, rows_of, size_of, sizes_of_text};
+ghost use Rattle.wh_strategy.specs.declared.sizes.SizeRow.{SizeRow};
+ghost use Rattle.wh_table_text.specs.RowSizes.{counts_of, rows_in, size_of};
+ghost use Rattle.wh_table_text.specs.SizesText.{fresh_view, missing_fault, placed, size_written, sizes_of_text, sizes_scheme};
 
-use crate::records::{Records, are_cells, cell, whole_number};
+use crate::part::{PartReader, read_part};
+use crate::records::{are_cells, cell, whole_number};
 use csv::StringRecord;
 use std::alloc::{AllocError, Global};
 use wh_dag::Shape;
@@ -24,7 +26,7 @@ struct Counts {
     change: i64,
 }
 
-#[tactic(auto, using(wh_text::proofs::WholeNumbers::whole_numbers), unfolding(crate::specs::SizesText::counts_of))]
+#[tactic(auto, using(wh_text::proofs::WholeNumbers::whole_numbers), unfolding(crate::specs::RowSizes::counts_of))]
 fn written_counts(row: &StringRecord) -> Option<Counts>
     ensures { result ≡ counts_of (fields_of row.now) }
 {
@@ -42,7 +44,7 @@ fn rows_within(count: i64) -> Option<u64>
     if rows <= MAX_ROWS { Some(rows) } else { None }
 }
 
-#[tactic(auto, unfolding(crate::specs::SizesText::size_of))]
+#[tactic(auto, unfolding(crate::specs::RowSizes::size_of))]
 fn size_within(counts: Counts) -> Option<SizeRow>
     ensures { result ≡ size_of counts }
 {
@@ -66,11 +68,9 @@ fn sizes_fault(alloc: Global, name: &str) -> LoadFault
 }
 
 // The sizes that a row writes: its numbers are judged before their ranges.
-#[tactic(auto, unfolding(crate::specs::SizesText::row_size))]
 fn written_size(alloc: Global, number: usize, row: &StringRecord) -> Result<SizeRow, LoadFault>
-    ensures ok { IfOk result (λ size. row_size (fields_of row.now) ≡ Some size) }
-    ensures faultless { OnOk result (option_or (number_fault number (fields_of row.now)) (range_fault (fields_of row.now)) ≡ None) }
-    ensures err { IfErr result (λ f. (f ≡ LoadFault.Memory) ⊎ (option_or (number_fault number (fields_of row.now)) (range_fault (fields_of row.now)) ≡ Some f)) }
+    ensures ok { IfOk result (λ size. size_written number (fields_of row.now) ≡ Ok size) }
+    ensures err { IfErr result (λ f. (f ≡ LoadFault.Memory) ⊎ (size_written number (fields_of row.now) ≡ Err f)) }
 {
     let Some(counts) = written_counts(row) else {
         return Err(LoadFault::Number(number));
@@ -101,10 +101,9 @@ fn fresh_view(
     name: &str,
 ) -> Result<usize, LoadFault>
     requires { length given.now ≡ length shape.now.children }
-    ensures ok { IfOk result (λ view. number_of shape.now.names name.now ≡ Some view) }
+    ensures ok { IfOk result (λ view. fresh_view shape.now.names given.now name.now ≡ Ok view) }
     ensures within { IfOk result (λ view. view < length given.now) }
-    ensures absent { IfOk result (λ view. slice_index_or given.now view None ≡ None) }
-    ensures err { IfErr result (λ f. (f ≡ LoadFault.Memory) ⊎ (name_fault shape.now.names given.now name.now ≡ Some f)) }
+    ensures err { IfErr result (λ f. (f ≡ LoadFault.Memory) ⊎ (fresh_view shape.now.names given.now name.now ≡ Err f)) }
 {
     let Some(view) = view_named(shape, name) else {
         return Err(sizes_fault(alloc, name));
@@ -124,9 +123,9 @@ fn place_row(
     row: &StringRecord,
 ) -> Result<(), LoadFault>
     requires { length given.old ≡ length shape.now.children }
-    ensures ok { OnOk result (Places shape.now.names given.old (fields_of row.now) given.new) }
-    ensures faultless { OnOk result (cells_fault shape.now.names given.old number (fields_of row.now) ≡ None) }
-    ensures err { IfErr result (λ f. (f ≡ LoadFault.Memory) ⊎ (cells_fault shape.now.names given.old number (fields_of row.now) ≡ Some f)) }
+    ensures ok { OnOk result (placed shape.now.names tt given.old number (fields_of row.now) ≡ Ok given.new) }
+    ensures err { IfErr result (λ f. (f ≡ LoadFault.Memory) ⊎ (placed shape.now.names tt given.old number (fields_of row.now) ≡ Err f)) }
+    ensures kept { OnErr result (given.new ≡ given.old) }
 {
     let view = fresh_view(alloc, shape, given, cell(row, 0))?;
     let size = written_size(alloc, number, row)?;
@@ -134,47 +133,51 @@ fn place_row(
     Ok(())
 }
 
+// What reads the sizes of the shape's views.
+#[derive(Drop)]
+struct SizesReader<'a> {
+    alloc: Global,
+    shape: &'a Shape,
+}
+
+impl<'a> PartReader for SizesReader<'a> {
+    type Kind = ();
+
+    type State = Vec<Option<SizeRow>>;
+
+    ghost Seen = { List (Option SizeRow) };
+
+    ghost seen = { λ given. given.items };
+
+    ghost scheme = { λ reader. sizes_scheme reader.shape.now.names };
+
+    ghost is_ready = { λ reader given number. length given ≡ length reader.shape.now.children };
+
+    fn kind(&self, header: &StringRecord) -> Option<()> {
+        if are_cells(header, &HEADER) {
+            Some(())
+        } else {
+            None
+        }
+    }
+
+    fn take(
+        &self,
+        _kind: (),
+        number: usize,
+        cells: &StringRecord,
+        state: &mut Vec<Option<SizeRow>>,
+    ) -> Result<(), LoadFault> {
+        place_row(self.alloc, self.shape, state, number, cells)
+    }
+}
+
 fn no_sizes(alloc: Global, views: usize) -> Result<Vec<Option<SizeRow>>, AllocError>
-    ensures { IfOk result (λ given. given.items ≡ map (λ _. None) (range_with_len 0 views)) }
+    ensures { IfOk result (λ given. given.items ≡ replicate views None) }
 {
     let mut given = Vec::new(alloc);
     for _view in 0..views {
         given.push(None)?;
-    }
-    Ok(given)
-}
-
-fn read_header(records: &mut Records<'_>, cells: &mut StringRecord) -> Result<(), LoadFault>
-    requires { records.old.given ≡ 0 }
-    ensures ok { OnOk result (header_fault records.old.left ≡ None) }
-    ensures rest { OnOk result (rows_of records.old.left ≡ records.new.left) }
-    ensures given { OnOk result (records.new.given ≡ 1) }
-    ensures err { IfErr result (λ f. (f ≡ LoadFault.Memory) ⊎ (header_fault records.old.left ≡ Some f)) }
-{
-    if !records.read(cells)? || !are_cells(cells, &HEADER) {
-        return Err(LoadFault::Header);
-    }
-    Ok(())
-}
-
-// What the rows give the views.
-fn read_rows(
-    alloc: Global,
-    shape: &Shape,
-    records: &mut Records<'_>,
-    cells: &mut StringRecord,
-) -> Result<Vec<Option<SizeRow>>, LoadFault>
-    requires { records.old.given ≡ 1 }
-    ensures ok { IfOk result (λ given. given.items ≡ given_by shape.now.names records.old.left) }
-    ensures len { IfOk result (λ given. vec_len given ≡ length shape.now.children) }
-    ensures faultless { OnOk result (rows_fault shape.now.names [] records.old.left ≡ None) }
-    ensures err { IfErr result (λ f. (f ≡ LoadFault.Memory) ⊎ (rows_fault shape.now.names [] records.old.left ≡ Some f)) }
-{
-    let Ok(mut given) = no_sizes(alloc, shape.len()) else {
-        return Err(LoadFault::Memory);
-    };
-    'rows: while records.read_row(HEADER.len(), cells)? {
-        place_row(alloc, shape, &mut given, records.number(), cells)?;
     }
     Ok(given)
 }
@@ -212,10 +215,10 @@ pub fn read_sizes(alloc: Global, shape: &Shape, text: &[u8]) -> Result<Sizes, Lo
     ensures len { IfOk result (λ sizes. length sizes ≡ length shape.now.children) }
     ensures fault { IfErr result (λ f. (f ≡ LoadFault.Memory) ⊎ (sizes_of_text shape.now.names text.now ≡ Err f)) }
 {
-    let mut records = Records::new(alloc, text);
-    let mut cells = StringRecord::new(alloc);
-    read_header(&mut records, &mut cells)?;
-    let given = read_rows(alloc, shape, &mut records, &mut cells)?;
+    let Ok(mut given) = no_sizes(alloc, shape.len()) else {
+        return Err(LoadFault::Memory);
+    };
+    read_part(alloc, &SizesReader { alloc, shape }, text, &mut given)?;
     let rows = covered(alloc, shape, &given)?;
     match Sizes::new(rows) {
         Ok(sizes) => Ok(sizes),

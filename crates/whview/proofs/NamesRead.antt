@@ -3,7 +3,7 @@ use Rattle.std.proofs.Common.{◌≡◌, ◌≢◌, ◌∙◌, ℕ, ◌+◌, ◌
 use Rattle.std.specs.Prelude.{AllPairs, nat_le, not, ok_or, option_and_then, if◌then◌else◌}
 use Rattle.std.specs.Char.{is_ascii_alphabetic, is_ascii_alphanumeric}
 use Rattle.std.specs.Int.{is_in_range}
-use Rattle.std.specs.List.{All, filter_map, list_all}
+use Rattle.std.specs.List.{All, list_all}
 use Rattle.std.proofs.lemmas.Bool.{and_parts, eqb-true, leb-true, ne_eqb, or_cases}
 use Rattle.std.proofs.lemmas.List.{length-map}
 use Rattle.std.proofs.lemmas.List.Elements.{All-cons, All-nil}
@@ -19,9 +19,8 @@ use Rattle.wh_text.specs.declared.fault.LoadFault.{LoadFault}
 use Rattle.wh_text.specs.declared.fault.LoadFault.TheVariants as fault
 use Rattle.wh_catalogue_text.proofs.ShapesRead.{from_step, same_Ok, same_length}
 use Rattle.wh_catalogue_text.specs.Catalogue.{WrittenViews, document_of, judged, name_in, named, shape_of, view_over, views_of, written_views}
-use Rattle.wh_table_text.proofs.SizeLimits.{given_by-sizes}
-use Rattle.wh_table_text.specs.SizesText.{given_by, records_fault, rows_of, sizes_of_text, unless_fault}
-use Rattle.wh_table_text.specs.Records.{records_of}
+use Rattle.wh_table_text.proofs.SizeLimits.{text-sizes}
+use Rattle.wh_table_text.specs.SizesText.{sizes_of_text}
 use Rattle.wh_plan_text.specs.NodeLine.{is_parting}
 use Rattle.wh_plan_text.specs.PlanReadsBack.{is_unparted}
 use Rattle.wh_plan_text.specs.ReadsBack.{is_plain}
@@ -145,9 +144,4 @@ are_names text shape e =
 -- ---- the sizes
 
 pub are_sizes : (names : List (List ℕ)) (text : List ℕ) (rows : List SizeRow) → sizes_of_text names text ≡ Ok rows → AreSizes rows
-unfolding sizes_of_text
-are_sizes names text rows e = by (records_fault names (records_of text)) e
-  where
-    by : (o : Option LoadFault) → unless_fault o (filter_map (λ size. size) (given_by names (rows_of (records_of text)))) ≡ Ok rows → AreSizes rows
-    by None h = subst AreSizes (same_Ok _ _ _ refl h) (given_by-sizes names (rows_of (records_of text)))
-    by (Some f) h = cc
+are_sizes names text rows e = text-sizes names text rows e
