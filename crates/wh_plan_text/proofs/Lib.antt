@@ -1,6 +1,7 @@
 pub mod BegunTrees
 pub mod CycleParts
 pub mod ExpressionPieces
+pub mod LineGrammars
 pub mod Lists
 pub mod Naturals
 pub mod NodeReadingBack

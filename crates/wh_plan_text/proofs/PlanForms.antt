@@ -1,5 +1,5 @@
 -- What a plan's first lines may be, line by line.
-use Rattle.std.proofs.Common.{◌≡◌, ℕ, ◌+◌, ◌<◌, ◌==◌, ◌&&◌, Bool, true, false, not, List, [], ◌∷◌, ◌++◌, length, map, ◌⊎◌, inl, inr, refl, ap, sym, subst, ◌∙◌, arith}
+use Rattle.std.proofs.Common.{◌≡◌, ℕ, ◌<◌, ◌==◌, Bool, true, false, not, List, [], ◌∷◌, ◌++◌, length, map, ◌⊎◌, inl, inr, refl, ap, sym, subst, ◌∙◌, arith}
 use Rattle.std.specs.Prelude.{nat_lt}
 use Rattle.std.specs.List.{list_any}
 use Rattle.std.proofs.lemmas.Bool.{and_parts, lt-ltb}
@@ -7,10 +7,8 @@ use Rattle.std.proofs.lemmas.Bool.Decides.{eqb_tells}
 use Rattle.std.proofs.lemmas.List.{append-nil, append_assoc, map-append}
 use Rattle.wh_cert.specs.declared.certificate.Certificate.{Certificate}
 use Rattle.wh_cert.specs.declared.certificate.Certificate.TheVariants.{Pairs, Search}
-use Rattle.wh_cert.specs.declared.certificate.PairMin.{PairMin}
 use Rattle.wh_cert.specs.declared.certificate.Scope.{Scope}
 use Rattle.wh_cert.specs.declared.certificate.Scope.TheVariants as scope
-use Rattle.wh_cert.specs.declared.tree.TreeNode.{TreeNode}
 use Rattle.wh_strategy.specs.declared.expression.Expression.{Expression}
 use Rattle.wh_plan_text.specs.PlanGrammar.{IsForScope, certificate_lines, plan_lines}
 use Rattle.wh_plan_text.specs.PlanText.{has_pairs, is_certifying, may_stand}

@@ -1,26 +1,12 @@
 -- A line of a plan, as it follows others.
-use Rattle.std.proofs.Common.{◌≡◌, ℕ, Bool, true, false, List, [], ◌∷◌, ◌++◌, length, Option, Some, None, Bor, refl, ap, sym, ◌∙◌}
-use Rattle.std.specs.Prelude.{◌==◌, ◌&&◌, ◌||◌, is_some, if◌then◌else◌}
+use Rattle.std.proofs.Common.{◌≡◌, ℕ, Bool, true, false, List, [], ◌∷◌, ◌++◌, Option, Some, None, refl, ap, sym, ◌∙◌}
+use Rattle.std.specs.Prelude.{◌&&◌, ◌||◌, is_some, if◌then◌else◌}
 use Rattle.std.specs.List.{list_any}
-use Rattle.std.proofs.lemmas.List.{length-map}
 use Rattle.std.proofs.lemmas.List.Folds.{list_any-append}
-use Rattle.wh_plan_text.specs.PlanLine.{plan_line_of}
-use Rattle.wh_plan_text.specs.PlanText.{if_follows, is_certifying, may_stand, nodes_in, nodes_of, with_line}
+use Rattle.wh_plan_text.specs.PlanText.{if_follows, is_certifying, may_stand, nodes_in, nodes_of}
 use Rattle.wh_plan_text.specs.TreeGrowth.{after_nodes, places_after}
-use Rattle.wh_plan_text.specs.Words.{words_of}
 use Rattle.wh_plan_text.specs.declared.plan.line.PlanLine.{PlanLine}
-use Rattle.wh_plan_text.proofs.Spelled.{spelled}
 use Rattle.wh_plan_text.proofs.TreeGrowths.{places-line}
-
--- what a line with words adds
-pub with_line-words : (names : List (List ℕ)) (before : List PlanLine) (line : List ℕ) (words : List (Bor (List ℕ))) (own : Option PlanLine) (outcome : Option (List PlanLine))
-    → spelled words ≡ words_of line → false ≡ (length words == 0) → own ≡ plan_line_of names line (spelled words) → outcome ≡ if_follows before own
-    → with_line names before line ≡ outcome
-with_line-words names before line words own outcome read some said follows =
-    ap (λ ws. if length ws == 0 then Some before else if_follows before (plan_line_of names line ws)) (sym read)
-    ∙ ap (λ n. if n == 0 then Some before else if_follows before (plan_line_of names line (spelled words))) (length-map words (λ word. word.now))
-    ∙ ap (λ (b : Bool). if b then Some before else if_follows before (plan_line_of names line (spelled words))) (sym some)
-    ∙ ap (if_follows before) (sym said) ∙ sym follows
 
 -- whether lines with one more have one of the certificate
 pub certifying-line : (before : List PlanLine) (line : PlanLine) → list_any is_certifying (before ++ line ∷ []) ≡ (list_any is_certifying before || is_certifying line)

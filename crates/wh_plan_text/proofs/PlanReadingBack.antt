@@ -1,5 +1,5 @@
 -- A plan that was written is read back.
-use Rattle.std.proofs.Common.{◌≡◌, ◌≢◌, ℕ, ◌<◌, ◌≤◌, ◌==◌, Bool, true, false, suc, List, [], ◌∷◌, ◌++◌, length, map, get_or, Option, Some, None, Result, Ok, Err, ◌⊎◌, inl, inr, refl, ap, sym, subst, ◌∙◌, arith}
+use Rattle.std.proofs.Common.{◌≡◌, ◌≢◌, ℕ, ◌<◌, ◌≤◌, ◌==◌, Bool, true, false, suc, List, [], ◌∷◌, ◌++◌, length, map, get_or, Some, Result, Ok, Err, ◌⊎◌, inl, inr, refl, ap, sym, subst, ◌∙◌, arith}
 use Rattle.std.specs.Prelude.{AllPairs, ◌^◌, codes, decimal, if◌then◌else◌}
 use Rattle.std.specs.List.{All, join_with_byte, list_all}
 use Rattle.std.specs.Str.Parse.{AllDigits}
@@ -31,7 +31,7 @@ use Rattle.wh_plan_text.specs.declared.plan.line.PlanLine.{PlanLine}
 use Rattle.wh_plan_text.specs.declared.plan.line.PlanLine.TheVariants.{Scoped, Worked, Listed, Paired, Searched}
 use Rattle.wh_plan_text.proofs.Naturals.{natural-numeral}
 use Rattle.wh_plan_text.proofs.NodeReadingBack.{NodeReads, node_reads}
-use Rattle.wh_plan_text.proofs.PlanGrammars.{plan_grammar}
+use Rattle.wh_plan_text.proofs.PlanGrammars.{plan_grammar_holds}
 use Rattle.wh_plan_text.proofs.ReadingBack.{expression_of-words, is_kept, is_inner, lines_of-line, words_of-join, number_of-name, plain_words, inner_join}
 
 -- ---- words
@@ -173,7 +173,7 @@ pub plan_reads_back : PlanReadsBack
 plan_reads_back names own work list certificate h =
     let plan : Plan = record { scope = own; work = work; strategy = list; certificate = certificate } in
     let fits = fits_scope names own certificate h.certified in
-    (plan_grammar names (plan_text names own work list certificate) plan).1 (record { told = text_told names own work list certificate h; for_scope = fits.0; whole = fits.1 })
+    (plan_grammar_holds names (plan_text names own work list certificate) plan).1 (record { told = text_told names own work list certificate h; for_scope = fits.0; whole = fits.1 })
 
 -- ---- no two plans have one text
 

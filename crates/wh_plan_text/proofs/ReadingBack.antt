@@ -17,9 +17,10 @@ use Rattle.wh_strategy.specs.declared.expression.Expression.TheVariants.{Comp, I
 use Rattle.wh_text.specs.Line.{is_blank, whole_lines, without_lf}
 use Rattle.wh_plan_text.specs.Words.{is_word, lines_of, words_of}
 use Rattle.wh_plan_text.specs.ExpressionText.{expression_of, views_of, words_for, expression_text}
-use Rattle.wh_plan_text.specs.StrategyText.{said_by, said_in, strategy_text}
+use Rattle.wh_plan_text.specs.StrategyGrammar.{said_by, said_in}
+use Rattle.wh_plan_text.specs.StrategyText.{strategy_text}
 use Rattle.wh_plan_text.specs.ReadsBack.{is_plain, IsWithin, ReadsBack}
-use Rattle.wh_plan_text.proofs.Lists.{after, said_together-after}
+use Rattle.wh_plan_text.proofs.Lists.{after, said_together-after, strategy_read}
 
 abbrev pub is_kept : ℕ → Bool
 is_kept b = not (is_blank b || b == 10)
@@ -146,4 +147,5 @@ after-said number list (e ∷ es) = after-said (number + 1) (list ++ e ∷ []) e
 
 pub reads_back : ReadsBack
 reads_back names list plain distinct within =
-    said_together-after (said_in names (strategy_text names list)) ∙ ap (after 0 []) (said_in-text names list plain distinct within) ∙ after-said 0 [] list
+    strategy_read names (strategy_text names list)
+    ∙ said_together-after (said_in names (strategy_text names list)) ∙ ap (after 0 []) (said_in-text names list plain distinct within) ∙ after-said 0 [] list

@@ -1,4 +1,5 @@
 pub mod ExpressionText
+pub mod LineGrammar
 pub mod Natural
 pub mod NodeLine
 pub mod PlanGrammar
@@ -6,6 +7,7 @@ pub mod PlanLine
 pub mod PlanReadsBack
 pub mod PlanText
 pub mod ReadsBack
+pub mod StrategyGrammar
 pub mod StrategyText
 pub mod TreeGrowth
 pub mod TreeText

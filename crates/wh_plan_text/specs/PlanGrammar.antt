@@ -1,5 +1,5 @@
 -- Which texts are plans, and where a text stops being one.
-use Rattle.std.specs.Prelude.{◌≡◌, ◌↔◌, ◌⊎◌, ◌+◌, ◌++◌, ◌==◌, ℕ, List, [], ◌∷◌, length, map, Option, Some, Result, Ok, Err, if◌then◌else◌}
+use Rattle.std.specs.Prelude.{◌≡◌, ◌↔◌, ◌++◌, ◌==◌, ℕ, List, [], ◌∷◌, length, map, Option, Some, Ok, Err, if◌then◌else◌}
 use Rattle.std.specs.List.{flat_map}
 use Rattle.wh_cert.specs.Tree.{CaseTree, IsTreeOf}
 use Rattle.wh_cert.specs.declared.certificate.Certificate.{Certificate}
@@ -8,6 +8,7 @@ use Rattle.wh_cert.specs.declared.certificate.Scope.{Scope}
 use Rattle.wh_cert.specs.declared.certificate.Scope.TheVariants as scope
 use Rattle.wh_text.specs.declared.fault.LoadFault.{LoadFault}
 use Rattle.wh_text.specs.declared.fault.LoadFault.TheVariants.{Plan as PlanFault}
+use Rattle.wh_plan_text.specs.LineGrammar.{StopAt}
 use Rattle.wh_plan_text.specs.PlanLine.{plan_line_of}
 use Rattle.wh_plan_text.specs.PlanText.{nodes_of, plan_of}
 use Rattle.wh_plan_text.specs.TreeGrowth.{IsBegun}
@@ -61,17 +62,12 @@ pub record BeginPlan (names : List (List ℕ)) (lines : List (List ℕ)) : Type 
   pub told : told_in names lines ≡ map Some first
   pub begun : IsBegun (nodes_of first)
 
--- where lines stop being a plan, as the number of a line, counted from 1
-pub data StopAt (names : List (List ℕ)) (lines : List (List ℕ)) (number : ℕ) : Type 0 where
-  -- a line with which those above it no longer begin a plan
-  wrong_line : (above below : List (List ℕ)) (line : List ℕ) → lines ≡ above ++ line ∷ below → number ≡ length above + 1 → BeginPlan names above → (BeginPlan names (above ++ line ∷ []) → ⊥) → StopAt names lines number
-  -- after the last line, where all of them begin a plan and are none
-  too_short : number ≡ length lines + 1 → BeginPlan names lines → ((plan : Plan) → SayPlan names lines plan → ⊥) → StopAt names lines number
-
 -- a text is read as the plan that its lines say, and as none where they say none
 abbrev pub PlanGrammar : Type 0
 PlanGrammar = (names : List (List ℕ)) (text : List ℕ) (plan : Plan) → (plan_of names text ≡ Ok plan) ↔ SayPlan names (lines_of text) plan
 
--- a text that is no plan is at fault where its lines stop being one
+-- a text that is no plan is at fault where its lines stop being one: at the first line with which they no longer begin a plan, or after the last
 abbrev pub PlanFaults : Type 0
-PlanFaults = (names : List (List ℕ)) (text : List ℕ) (fault : LoadFault) → plan_of names text ≡ Err fault → (number : ℕ) × (fault ≡ PlanFault number) × StopAt names (lines_of text) number
+PlanFaults =
+    (names : List (List ℕ)) (text : List ℕ) (fault : LoadFault) → plan_of names text ≡ Err fault →
+    (number : ℕ) × (fault ≡ PlanFault number) × StopAt (BeginPlan names) (λ lines. (plan : Plan) × SayPlan names lines plan) (lines_of text) number

@@ -1,5 +1,5 @@
 -- A plan as text: its scope, its work, the list of the strategy, and the lines of its certificate.
-use Rattle.std.specs.Prelude.{◌+◌, ◌++◌, ◌==◌, ◌&&◌, ℕ, Bool, true, false, not, nat_lt, List, [], ◌∷◌, length, Option, Some, None, Result, Ok, Err, if◌then◌else◌, codes, decimal}
+use Rattle.std.specs.Prelude.{◌++◌, ◌==◌, ◌&&◌, ℕ, Bool, true, false, not, nat_lt, List, [], ◌∷◌, length, Option, Some, None, Result, Ok, Err, if◌then◌else◌, codes, decimal}
 use Rattle.std.specs.List.{flat_map, join_with_byte, list_any}
 use Rattle.wh_dag.specs.Written.{name_of}
 use Rattle.wh_cert.specs.declared.certificate.Certificate.{Certificate}
@@ -11,11 +11,11 @@ use Rattle.wh_cert.specs.declared.tree.TreeNode.{TreeNode}
 use Rattle.wh_strategy.specs.declared.expression.Expression.{Expression}
 use Rattle.wh_text.specs.declared.fault.LoadFault.{LoadFault}
 use Rattle.wh_text.specs.declared.fault.LoadFault.TheVariants.{Plan as PlanFault}
+use Rattle.wh_plan_text.specs.LineGrammar.{LineGrammar, read_by}
 use Rattle.wh_plan_text.specs.PlanLine.{plan_line_of}
 use Rattle.wh_plan_text.specs.StrategyText.{strategy_text}
 use Rattle.wh_plan_text.specs.TreeGrowth.{begins_tree, is_tree}
 use Rattle.wh_plan_text.specs.TreeText.{tree_text}
-use Rattle.wh_plan_text.specs.Words.{lines_of, words_of}
 use Rattle.wh_plan_text.specs.declared.plan.Plan.{Plan}
 use Rattle.wh_plan_text.specs.declared.plan.line.PlanLine.{PlanLine}
 use Rattle.wh_plan_text.specs.declared.plan.line.PlanLine.TheVariants.{Scoped, Worked, Listed, Paired, Searched}
@@ -62,10 +62,6 @@ abbrev pub if_follows : List PlanLine → Option PlanLine → Option (List PlanL
 if_follows before None = None
 if_follows before (Some line) = if may_follow before line then Some (before ++ line ∷ []) else None
 
--- what a line adds to what the lines before it say: nothing where it has no words, and None where it may not stand there
-abbrev pub with_line : List (List ℕ) → List PlanLine → List ℕ → Option (List PlanLine)
-with_line names before line = if length (words_of line) == 0 then Some before else if_follows before (plan_line_of names line (words_of line))
-
 -- the nodes are those of a whole tree, where the scope asks for one
 abbrev pub has_its_tree : Scope → List TreeNode → Bool
 has_its_tree scope.All nodes = true
@@ -75,20 +71,9 @@ has_its_tree scope.OneWay nodes = is_tree nodes
 abbrev pub may_end : List PlanLine → Bool
 may_end said = nat_lt 1 (length said) && has_its_tree (scope_in said) (nodes_of said)
 
--- a plan that ends too early is at fault after its last line
-abbrev pub ended : ℕ → List PlanLine → Result (List PlanLine) LoadFault
-ended number said = if may_end said then Ok said else Err (PlanFault (number + 1))
-
--- what follows where the line of this number may stand, and with it this is said; else that line is at fault
-abbrev pub if_said : Option (List PlanLine) → ℕ → (List PlanLine → Result (List PlanLine) LoadFault) → Result (List PlanLine) LoadFault
-if_said None number next = Err (PlanFault number)
-if_said (Some said) number next = next said
-
--- what these lines say after others that said this and are so many, or the first line that may not stand where it does, counted from 1
-abbrev pub said_after : List (List ℕ) → ℕ → List PlanLine → List (List ℕ) → Result (List PlanLine) LoadFault
-said_after names number before [] = ended number before
-said_after names number before (line ∷ lines) =
-    if_said (with_line names before line) (number + 1) (λ said. said_after names (number + 1) said lines)
+-- the lines of a plan over views of these names: each says something that may stand after what those above it say
+abbrev pub plan_grammar : List (List ℕ) → LineGrammar (List PlanLine)
+plan_grammar names = record { nothing = []; with_line = λ before line words. if_follows before (plan_line_of names line words); may_end = may_end; fault = PlanFault }
 
 -- the work that the second line says
 abbrev pub work_in : List PlanLine → ℕ
@@ -122,7 +107,7 @@ plan_said (Err fault) = Err fault
 
 -- the plan that a text is, over views of these names, or its first fault
 abbrev pub plan_of : List (List ℕ) → List ℕ → Result Plan LoadFault
-plan_of names text = plan_said (said_after names 0 [] (lines_of text))
+plan_of names text = plan_said (read_by (plan_grammar names) text)
 
 -- a scope as it is written
 abbrev pub scope_text : Scope → List ℕ

@@ -1,33 +1,23 @@
 -- A strategy as text: an expression a line.
-use Rattle.std.specs.Prelude.{◌+◌, ◌++◌, ℕ, List, [], ◌∷◌, map, not, Option, Some, None, option_map, is_some, unwrap_or, position, Result, Ok, Err}
+use Rattle.std.specs.Prelude.{◌++◌, ℕ, true, List, [], ◌∷◌, Option, option_map, Result}
 use Rattle.std.specs.List.{flat_map}
-use Rattle.wh_plan_text.specs.Words.{lines_of, words_of}
 use Rattle.wh_plan_text.specs.ExpressionText.{expression_of, expression_text}
+use Rattle.wh_plan_text.specs.LineGrammar.{LineGrammar, read_by}
 use Rattle.wh_strategy.specs.declared.expression.Expression.{Expression}
 use Rattle.wh_text.specs.declared.fault.LoadFault.{LoadFault}
 use Rattle.wh_text.specs.declared.fault.LoadFault.TheVariants.{Strategy}
 
--- what the words of a line say: nothing where there are none, else an expression; and None where they are no expression
-abbrev pub said_by : List (List ℕ) → List (List ℕ) → Option (List Expression)
-said_by names [] = Some []
-said_by names (word ∷ words) = option_map (λ expression. expression ∷ []) (expression_of names (word ∷ words))
+-- a list and the expression that a line of these words says, if it says one
+abbrev pub with_expression : List (List ℕ) → List Expression → List (List ℕ) → Option (List Expression)
+with_expression names list words = option_map (λ expression. list ++ expression ∷ []) (expression_of names words)
 
--- what each line of a text says
-abbrev pub said_in : List (List ℕ) → List ℕ → List (Option (List Expression))
-said_in names text = map (λ line. said_by names (words_of line)) (lines_of text)
-
--- the expressions, or the number of the first line that says none, counted from 1: the place is that line's, counted from 0
-abbrev pub all_or_first_bad : Option ℕ → List Expression → Result (List Expression) LoadFault
-all_or_first_bad None expressions = Ok expressions
-all_or_first_bad (Some place) expressions = Err (Strategy (place + 1))
-
--- what lines that say this make together
-abbrev pub said_together : List (Option (List Expression)) → Result (List Expression) LoadFault
-said_together lines = all_or_first_bad (position (λ line. not (is_some line)) lines) (flat_map (λ line. unwrap_or line []) lines)
+-- the lines of a strategy over views of these names: an expression each, and any number of them
+abbrev pub strategy_grammar : List (List ℕ) → LineGrammar (List Expression)
+strategy_grammar names = record { nothing = []; with_line = λ list line words. with_expression names list words; may_end = λ list. true; fault = Strategy }
 
 -- the strategy that a text is, over views of these names, or its first fault
 abbrev pub strategy_of : List (List ℕ) → List ℕ → Result (List Expression) LoadFault
-strategy_of names text = said_together (said_in names text)
+strategy_of names text = read_by (strategy_grammar names) text
 
 -- a list as it is written: a line for each expression
 abbrev pub strategy_text : List (List ℕ) → List Expression → List ℕ

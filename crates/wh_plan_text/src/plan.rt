@@ -1,5 +1,5 @@
 //! A plan as text: its scope, its work, the list of its strategy, and the lines of its certificate.
-ghost use Rattle.std.specs.Prelude.{◌≡◌, ◌⊎◌, ◌++◌, Ok, Err, IfOk, IfErr, IsTrue, OnOk, OnErr};
+ghost use Rattle.std.specs.Prelude.{◌≡◌, ◌≢◌, ◌⊎◌, ◌++◌, [], Ok, Err, IfOk, IfErr, IsTrue, OnOk, OnErr};
 ghost use Rattle.std.specs.List.{flat_map, join_with_byte};
 ghost use Rattle.wh_plan_text.specs.PlanGrammar.{PlanFaults, PlanGrammar};
 ghost use Rattle.wh_plan_text.specs.PlanReadsBack.{PlanReadsBack, TextsDiffer};
@@ -14,9 +14,10 @@ mod said;
 mod tree;
 
 use crate::expression::append_name;
+use crate::lines::read_lines;
 use crate::strategy::append_strategy;
 use line::PlanLine;
-use said::{said_lines, scope_in};
+use said::{PlanLines, scope_in};
 use std::alloc::{AllocError, Global};
 use tree::append_tree;
 use wh_cert::{Certificate, PairMin, PairMins, Planned, Scope, Tree, TreeNode};
@@ -90,13 +91,15 @@ fn plan_from(alloc: Global, lines: Vec<PlanLine>) -> Result<Plan, AllocError>
 /// alone are skipped.
 ///
 /// The fault is `Plan` with the first line that may not stand where it does, counted from 1, blank ones included; where the
-/// text ends too early, that is the line after its last. Whether the plan is right is for `certify` to judge.
+/// text ends too early, that is the line after its last. An empty text is at fault at line 1, always. Whether the plan is right is
+/// for `certify` to judge.
 pub fn read_plan(alloc: Global, names: &Names, text: &[u8]) -> Result<Plan, LoadFault>
     ensures ok { IfOk result (λ plan. plan_of names.now text.now ≡ Ok plan) }
     ensures err { IfErr result (λ f. (f ≡ LoadFault.Memory) ⊎ (plan_of names.now text.now ≡ Err f)) }
+    ensures memory { result ≡ Err LoadFault.Memory → text.now ≢ [] }
 {
-    let lines = said_lines(alloc, names, text)?;
-    let plan = plan_from(alloc, lines)?;
+    let said = read_lines(alloc, &PlanLines { names }, text)?;
+    let plan = plan_from(alloc, said.into_lines())?;
     Ok(plan)
 }
 

@@ -1,35 +1,70 @@
 //! A strategy as text: an expression a line.
-ghost use Rattle.std.specs.Prelude.{◌≡◌, ◌≢◌, ◌⊎◌, ◌++◌, List, [], Some, None, Ok, Err, IfOk, IfErr, OnOk, OnErr};
-ghost use Rattle.wh_plan_text.specs.Words.{words_of};
+ghost use Rattle.std.specs.Prelude.{◌≡◌, ◌≢◌, ◌⊎◌, ◌++◌, [], Ok, Err, IfOk, IfErr, OnOk, OnErr};
 ghost use Rattle.wh_plan_text.specs.ReadsBack.{ReadsBack};
-ghost use Rattle.wh_plan_text.specs.StrategyText.{said_by, strategy_of, strategy_text};
+ghost use Rattle.wh_plan_text.specs.StrategyGrammar.{StrategyGrammar};
+ghost use Rattle.wh_plan_text.specs.StrategyText.{strategy_grammar, strategy_of, strategy_text};
 
 use crate::expression::{append_expression, expression_of};
-use crate::words::{first_line, words_of};
+use crate::lines::{Grammar, read_lines};
 use std::alloc::{AllocError, Global};
+use std::marker::Model;
 use wh_strategy::{Expression, Strategy};
 use wh_text::{LoadFault, Names};
 
-// Appends the expression of the line of this number, if the line is not blank.
-fn append_line(
-    alloc: Global,
-    names: &Names,
-    line: &[u8],
-    number: usize,
-    list: &mut Vec<Expression>,
-) -> Result<(), LoadFault>
-    ensures ok { OnOk result ((own : List Expression) × (said_by names.now (words_of line.now) ≡ Some own) × (list.new.items ≡ list.old.items ++ own)) }
-    ensures err { IfErr result (λ f. (f ≡ LoadFault.Memory) ⊎ ((said_by names.now (words_of line.now) ≡ None) × (f ≡ LoadFault.Strategy number))) }
-{
-    let words = words_of(alloc, line)?;
-    if words.is_empty() {
-        return Ok(());
+/// The expressions that lines say.
+#[derive(Drop)]
+struct Listed {
+    list: Vec<Expression>,
+}
+
+impl Model for Listed {
+    ghost use Rattle.std.specs.Prelude.{List};
+    ghost use Rattle.wh_strategy.specs.declared.expression.Expression.{Expression};
+
+    ghost Value = { List Expression };
+
+    ghost view = { λ l. l.list.items };
+}
+
+/// The lines of a strategy over these views.
+#[derive(Drop)]
+struct StrategyLines<'a> {
+    names: &'a Names,
+}
+
+impl Grammar for StrategyLines<'_> {
+    type Said = Listed;
+
+    ghost grammar = { λ lines. strategy_grammar lines.names.now };
+
+    fn nothing(&self, alloc: Global) -> Listed {
+        Listed {
+            list: Vec::new(alloc),
+        }
     }
-    let Some(expression) = expression_of(alloc, names, &words)? else {
-        return Err(LoadFault::Strategy(number));
-    };
-    list.push(expression)?;
-    Ok(())
+
+    fn with_line(
+        &self,
+        alloc: Global,
+        said: Listed,
+        _line: &[u8],
+        words: &[&[u8]],
+    ) -> Result<Option<Listed>, AllocError> {
+        let Some(expression) = expression_of(alloc, self.names, words)? else {
+            return Ok(None);
+        };
+        let Listed { mut list } = said;
+        list.push(expression)?;
+        Ok(Some(Listed { list }))
+    }
+
+    fn may_end(&self, _said: &Listed) -> bool {
+        true
+    }
+
+    fn fault(&self, number: usize) -> LoadFault {
+        LoadFault::Strategy(number)
+    }
 }
 
 /// The strategy that the text is, over these views: a line `comp V from U ..` or `inst V` for each expression, where
@@ -40,15 +75,7 @@ pub fn read_strategy(alloc: Global, names: &Names, text: &[u8]) -> Result<Strate
     ensures err { IfErr result (λ f. (f ≡ LoadFault.Memory) ⊎ (strategy_of names.now text.now ≡ Err f)) }
     ensures memory { OnErr result (text.now ≢ []) }
 {
-    let mut list = Vec::new(alloc);
-    let mut rest = text;
-    let mut number = 0;
-    while !rest.is_empty() {
-        let (line, below) = first_line(rest);
-        rest = below;
-        number += 1;
-        append_line(alloc, names, line, number, &mut list)?;
-    }
+    let Listed { list } = read_lines(alloc, &StrategyLines { names }, text)?;
     Ok(Strategy::new(list))
 }
 
@@ -87,4 +114,10 @@ pub fn write_strategy(
 /// A law of the definitions: over plain and distinct names, a list that was written is read back as it was.
 pub fn reads_back_law()
     ensures { ReadsBack }
+{}
+
+/// A law of the definitions: a text is the strategy of the expressions that its lines with words say, in order, where each says
+/// one. Any other text is at fault at the first line with words that says none.
+pub fn strategy_grammar_law()
+    ensures { StrategyGrammar }
 {}

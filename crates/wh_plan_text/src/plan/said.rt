@@ -1,12 +1,11 @@
 //! What the lines of a plan say together.
-ghost use Rattle.std.specs.Prelude.{◌≡◌, ◌⊎◌, ◌||◌, [], Some, None, Ok, Err, IfOk, IfErr, IsTrue};
-ghost use Rattle.wh_plan_text.specs.PlanText.{has_pairs, if_follows, is_certifying, may_end, may_stand, nodes_in, said_after, scope_in, with_line};
+ghost use Rattle.std.specs.Prelude.{◌≡◌, ◌||◌, [], IfOk};
+ghost use Rattle.wh_plan_text.specs.PlanText.{has_pairs, if_follows, is_certifying, may_end, may_stand, nodes_in, plan_grammar, scope_in};
 ghost use Rattle.wh_plan_text.specs.TreeGrowth.{after_nodes};
-ghost use Rattle.wh_plan_text.specs.Words.{lines_of, words_of};
 
 use super::line::{PlanLine, plan_line_of};
 use super::places::Places;
-use crate::words::{first_line, words_of};
+use crate::lines::Grammar;
 use std::alloc::{AllocError, Global};
 use std::marker::Model;
 use wh_cert::Scope;
@@ -14,7 +13,7 @@ use wh_text::{LoadFault, Names};
 
 /// What lines say, each in its place.
 #[derive(Drop)]
-struct Said {
+pub(super) struct Said {
     lines: Vec<PlanLine>,
     // Whether one of them is of the certificate.
     certifying: bool,
@@ -37,15 +36,21 @@ impl Model for Said {
 }
 
 impl Said {
-    fn new(alloc: Global) -> Result<Said, AllocError>
-        ensures { IfOk result (λ said. said ≡ []) }
+    fn new(alloc: Global) -> Said
+        ensures { result ≡ [] }
     {
-        let places = Places::root(alloc)?;
-        Ok(Said {
+        Said {
             lines: Vec::new(alloc),
             certifying: false,
-            places,
-        })
+            places: Places::root(alloc),
+        }
+    }
+
+    /// What each line says.
+    pub(super) fn into_lines(self) -> Vec<PlanLine>
+        ensures { result.items ≡ self }
+    {
+        self.lines
     }
 
     /// Whether a line of this kind may stand after these.
@@ -141,49 +146,37 @@ pub(super) fn scope_in(lines: &[PlanLine]) -> Scope
     }
 }
 
-// Adds what the line of this number says, if it has words.
-fn with_line(
-    alloc: Global,
-    names: &Names,
-    line: &[u8],
-    number: usize,
-    said: Said,
-) -> Result<Said, LoadFault>
-    ensures ok { IfOk result (λ all. with_line names.now said line.now ≡ Some all) }
-    ensures err { IfErr result (λ f. (f ≡ LoadFault.Memory) ⊎ ((with_line names.now said line.now ≡ None) × (f ≡ LoadFault.Plan number))) }
-{
-    let words = words_of(alloc, line)?;
-    if words.is_empty() {
-        return Ok(said);
-    }
-    let own = plan_line_of(alloc, names, line, &words)?;
-    match said.with(own)? {
-        Some(said) => Ok(said),
-        None => Err(LoadFault::Plan(number)),
-    }
+/// The lines of a plan over these views.
+#[derive(Drop)]
+pub(super) struct PlanLines<'a> {
+    pub(super) names: &'a Names,
 }
 
-/// What the lines of a text say, where each may stand in a plan after those before it, and the last one may be the last.
-pub(super) fn said_lines(
-    alloc: Global,
-    names: &Names,
-    text: &[u8],
-) -> Result<Vec<PlanLine>, LoadFault>
-    ensures ok { IfOk result (λ said. said_after names.now 0 [] (lines_of text.now) ≡ Ok said.items) }
-    ensures whole { IfOk result (λ said. IsTrue (may_end said.items)) }
-    ensures err { IfErr result (λ f. (f ≡ LoadFault.Memory) ⊎ (said_after names.now 0 [] (lines_of text.now) ≡ Err f)) }
-{
-    let mut said = Said::new(alloc)?;
-    let mut rest = text;
-    let mut number = 0;
-    while !rest.is_empty() {
-        let (line, below) = first_line(rest);
-        rest = below;
-        number += 1;
-        said = with_line(alloc, names, line, number, said)?;
+impl Grammar for PlanLines<'_> {
+    type Said = Said;
+
+    ghost grammar = { λ lines. plan_grammar lines.names.now };
+
+    fn nothing(&self, alloc: Global) -> Said {
+        Said::new(alloc)
     }
-    if !said.may_end() {
-        return Err(LoadFault::Plan(number + 1));
+
+    fn with_line(
+        &self,
+        alloc: Global,
+        said: Said,
+        line: &[u8],
+        words: &[&[u8]],
+    ) -> Result<Option<Said>, AllocError> {
+        let own = plan_line_of(alloc, self.names, line, words)?;
+        said.with(own)
     }
-    Ok(said.lines)
+
+    fn may_end(&self, said: &Said) -> bool {
+        said.may_end()
+    }
+
+    fn fault(&self, number: usize) -> LoadFault {
+        LoadFault::Plan(number)
+    }
 }
