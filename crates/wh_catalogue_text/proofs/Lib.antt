@@ -13,6 +13,11 @@ pub mod JoinSteps
 pub mod OutputsFit
 pub mod ShapesRead
 pub mod WrittenExprs
+pub mod WrittenFilters
 pub mod WrittenForms
+pub mod WrittenHeaders
 pub mod WrittenJoins
+pub mod WrittenOutputs
+pub mod WrittenPairs
 pub mod WrittenPreds
+pub mod WrittenViews

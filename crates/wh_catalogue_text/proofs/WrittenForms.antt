@@ -1,14 +1,12 @@
 -- One level of a formula that is written, and what it is read from: words, references, literals, arrays.
-use Rattle.std.proofs.Common.{◌≡◌, ◌≢◌, ℕ, zero, suc, pos, negsuc, ℤ, ◌+◌, ◌<◌, ◌≤◌, ◌==◌, ◌&&◌, ◌||◌, Bool, true, false, List, [], ◌∷◌, ◌++◌, length, take, drop, get_or, map, Option, Some, None, option_map, Ordering, Less, Equal, Greater, ◌⊎◌, inl, inr, refl, ap, sym, ◌∙◌, arith}
-use Rattle.std.specs.Prelude.{codes, if◌then◌else◌, option_and_then, position, slice_get, nat_le}
-use Rattle.std.specs.Char.{is_ascii_alphanumeric}
-use Rattle.std.specs.Int.{is_in_range}
-use Rattle.std.specs.List.{All, AllPairs, IsDistinct, list_all, list_any, position_or_len}
+use Rattle.std.proofs.Common.{◌≡◌, ◌≢◌, ℕ, zero, suc, pos, negsuc, ℤ, ◌+◌, ◌==◌, ◌&&◌, Bool, true, false, List, [], ◌∷◌, ◌++◌, length, take, drop, get_or, Option, Some, None, option_map, Ordering, Less, Equal, Greater, ◌⊎◌, inl, inr, refl, ap, sym, ◌∙◌, arith}
+use Rattle.std.specs.Prelude.{codes, if◌then◌else◌, option_and_then, slice_get, nat_le}
+use Rattle.std.specs.List.{AllPairs, IsDistinct, list_all, list_any, position_or_len}
 use Rattle.std.specs.Ordering.{nat_cmp, match_ordering, is_eq}
 use Rattle.std.specs.Cmp.Lexicographic.{slice_cmp}
 use Rattle.std.specs.Str.{bytes_eq}
-use Rattle.std.proofs.Math.Seq.{take-append_seam, drop-append_seam}
-use Rattle.std.proofs.lemmas.Bool.{and_parts, cases_Bool, eqb-true, false_from_ne_true, leb-true, lt-ltb, or_cases}
+use Rattle.std.proofs.Math.Seq.{take-append_seam}
+use Rattle.std.proofs.lemmas.Bool.{and_parts, cases_Bool, eqb-true, false_from_ne_true, lt-ltb}
 use Rattle.std.proofs.Math.ListN.{get_or-map}
 use Rattle.std.proofs.lemmas.List.{length-map}
 use Rattle.std.proofs.lemmas.List.Sums.{position_or_len_is}
@@ -18,10 +16,10 @@ use Rattle.std.proofs.lemmas.Map.Text.{is_eq-slice_cmp}
 use Rattle.std.proofs.lemmas.Option.{get_or_from_slice_get, slice_get_within, slice_get-get_or, slice_get-map}
 use Rattle.std.proofs.lemmas.Slice.Eq.{bytes_eq-Decides}
 use Rattle.toml.specs.View.{items_of}
-use Rattle.toml.specs.Data.{Data, string, integer, array, table, Items, no_items, item, Members, no_members, member, as_str, get_member}
+use Rattle.toml.specs.Data.{Data, string, integer, array, table, Items, no_items, item, Members, no_members, member, as_str}
 use Rattle.wh_text.specs.Columns.{NamedKind, names_of}
 use Rattle.wh_text.specs.Dict.{BeginsWith, number_of_text, text_of_cell, with_text}
-use Rattle.wh_text.specs.NameForm.{begins_name, continues_name, is_name, underscore}
+use Rattle.wh_text.specs.NameForm.{begins_name, continues_name, is_name}
 use Rattle.wh_text.specs.declared.columns.Kind.{Kind}
 use Rattle.wh_text.specs.declared.columns.Kind.TheVariants.{Int}
 use Rattle.wh_text.proofs.DictGrowth.{number-begins, number-own, has-text}
@@ -52,7 +50,7 @@ same-bytes text = (bytes_eq-Decides text text).1 refl
 -- References.
 
 -- no byte of a name is the dot
-abbrev is_dot : ℕ → Bool
+abbrev pub is_dot : ℕ → Bool
 is_dot byte = byte == dot
 
 begins-plain : (byte : ℕ) → begins_name byte ≡ true → is_dot byte ≡ false
@@ -67,7 +65,7 @@ dot-after (byte ∷ name) more h =
     let parts = and_parts (continues_name byte) (list_all continues_name name) h in
     rw (continues-plain byte parts.0, dot-after name more parts.1) (omega arith)
 
-dot-place : (name more : List ℕ) → is_name name ≡ true → position_or_len is_dot (name ++ 46 ∷ more) ≡ length name
+pub dot-place : (name more : List ℕ) → is_name name ≡ true → position_or_len is_dot (name ++ 46 ∷ more) ≡ length name
 unfolding is_name
 dot-place [] more h = cc
 dot-place (byte ∷ name) more h =

@@ -15,5 +15,7 @@ pub mod PredForm
 pub mod ReadCatalog
 pub mod Reference
 pub mod WrittenFormula
+pub mod WrittenHeader
 pub mod WrittenLaws
+pub mod WrittenOutput
 pub mod WrittenView
