@@ -12,6 +12,8 @@ pub mod FreshNames
 pub mod JoinSteps
 pub mod OutputsFit
 pub mod ShapesRead
+pub mod WrittenBases
+pub mod WrittenCatalogues
 pub mod WrittenExprs
 pub mod WrittenFilters
 pub mod WrittenForms

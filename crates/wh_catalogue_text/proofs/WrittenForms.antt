@@ -6,7 +6,7 @@ use Rattle.std.specs.Ordering.{nat_cmp, match_ordering, is_eq}
 use Rattle.std.specs.Cmp.Lexicographic.{slice_cmp}
 use Rattle.std.specs.Str.{bytes_eq}
 use Rattle.std.proofs.Math.Seq.{take-append_seam}
-use Rattle.std.proofs.lemmas.Bool.{and_parts, cases_Bool, eqb-true, false_from_ne_true, lt-ltb}
+use Rattle.std.proofs.lemmas.Bool.{and_parts, both_ways, cases_Bool, eq-eqb, eqb-true, false_from_ne_true, lt-ltb}
 use Rattle.std.proofs.Math.ListN.{get_or-map}
 use Rattle.std.proofs.lemmas.List.{length-map}
 use Rattle.std.proofs.lemmas.List.Sums.{position_or_len_is}
@@ -27,7 +27,7 @@ use Rattle.wh_catalogue_text.specs.Catalogue.{elements}
 use Rattle.wh_catalogue_text.specs.ExprForm.{WrittenExpr, expr_form, literal_of, member_count, operation_of, sign_of}
 use Rattle.wh_catalogue_text.specs.ExprForm as level
 use Rattle.wh_catalogue_text.specs.Header.{cell_of, kind_at, place_of}
-use Rattle.wh_catalogue_text.specs.Reference.{dot, is_reference}
+use Rattle.wh_catalogue_text.specs.Reference.{is_reference}
 use Rattle.wh_catalogue_text.specs.WrittenFormula.{literal, under}
 use Rattle.wh_catalogue_text.specs.WrittenLaws.{AreReferences, IsReference}
 use Rattle.wh_catalogue_text.specs.declared.definitions.expr_form.Sign.{Sign}
@@ -49,42 +49,52 @@ same-bytes text = (bytes_eq-Decides text text).1 refl
 
 -- References.
 
--- no byte of a name is the dot
-abbrev pub is_dot : ℕ → Bool
-is_dot byte = byte == dot
+-- the byte is the mark
+abbrev pub is_mark : ℕ → ℕ → Bool
+is_mark mark byte = byte == mark
 
-begins-plain : (byte : ℕ) → begins_name byte ≡ true → is_dot byte ≡ false
-begins-plain byte h = false_from_ne_true (is_dot byte) (λ e. let bad : begins_name 46 ≡ true = rw (eqb-true byte 46 e) at h in cc)
+-- no name has the mark
+pub record IsMark (mark : ℕ) : Type 0 where
+  pub begins : begins_name mark ≡ false
+  pub continues : continues_name mark ≡ false
 
-continues-plain : (byte : ℕ) → continues_name byte ≡ true → is_dot byte ≡ false
-continues-plain byte h = false_from_ne_true (is_dot byte) (λ e. let bad : continues_name 46 ≡ true = rw (eqb-true byte 46 e) at h in cc)
+no-mark : (test : ℕ → Bool) (mark byte : ℕ) → test mark ≡ false → test byte ≡ true → is_mark mark byte ≡ false
+no-mark test mark byte none h = false_from_ne_true (is_mark mark byte) (λ e. both_ways (test mark) none (ap test (sym (eqb-true byte mark e)) ∙ h))
 
-dot-after : (name more : List ℕ) → list_all continues_name name ≡ true → position_or_len is_dot (name ++ 46 ∷ more) ≡ length name
-dot-after [] more h = refl
-dot-after (byte ∷ name) more h =
+mark-after : (mark : ℕ) → IsMark mark → (name more : List ℕ) → list_all continues_name name ≡ true → position_or_len (is_mark mark) (name ++ mark ∷ more) ≡ length name
+mark-after mark is [] more h = rw (eq-eqb mark mark refl) refl
+mark-after mark is (byte ∷ name) more h =
     let parts = and_parts (continues_name byte) (list_all continues_name name) h in
-    rw (continues-plain byte parts.0, dot-after name more parts.1) (omega arith)
+    rw (no-mark continues_name mark byte is.continues parts.0, mark-after mark is name more parts.1) (omega arith)
 
-pub dot-place : (name more : List ℕ) → is_name name ≡ true → position_or_len is_dot (name ++ 46 ∷ more) ≡ length name
+-- the first mark after a name stands right behind it
+pub mark-place : (mark : ℕ) → IsMark mark → (name more : List ℕ) → is_name name ≡ true → position_or_len (is_mark mark) (name ++ mark ∷ more) ≡ length name
 unfolding is_name
-dot-place [] more h = cc
-dot-place (byte ∷ name) more h =
+mark-place mark is [] more h = cc
+mark-place mark is (byte ∷ name) more h =
     let front = (and_parts (begins_name byte && list_all continues_name name) (nat_le (length (byte ∷ name)) 64) h).0 in
     let parts = and_parts (begins_name byte) (list_all continues_name name) front in
-    rw (begins-plain byte parts.0, dot-after name more parts.1) (omega arith)
+    rw (no-mark begins_name mark byte is.begins parts.0, mark-after mark is name more parts.1) (omega arith)
 
-pub reference-form : (text : List ℕ) → IsReference text → is_reference text ≡ true
-reference-form text is =
-    let place = dot-place is.child is.column is.child_formed in
-    let first : take (position_or_len is_dot (is.child ++ 46 ∷ is.column)) (is.child ++ 46 ∷ is.column) ≡ is.child =
-    ap (λ k. take k (is.child ++ 46 ∷ is.column)) place ∙ take-append_seam is.child (46 ∷ is.column) in
-    let last : drop (position_or_len is_dot (is.child ++ 46 ∷ is.column) + 1) (is.child ++ 46 ∷ is.column) ≡ is.column =
-    ap (λ k. drop (k + 1) (is.child ++ 46 ∷ is.column)) place ∙ drop-past is.child 46 is.column in
-    ap is_reference is.parts ∙ rw (first, last, is.child_formed, is.column_formed) refl
+pub before-mark : (mark : ℕ) → IsMark mark → (name more : List ℕ) → is_name name ≡ true → take (position_or_len (is_mark mark) (name ++ mark ∷ more)) (name ++ mark ∷ more) ≡ name
+before-mark mark is name more h = ap (λ k. take k (name ++ mark ∷ more)) (mark-place mark is name more h) ∙ take-append_seam name (mark ∷ more)
+
+pub after-mark : (mark : ℕ) → IsMark mark → (name more : List ℕ) → is_name name ≡ true → drop (position_or_len (is_mark mark) (name ++ mark ∷ more) + 1) (name ++ mark ∷ more) ≡ more
+after-mark mark is name more h = ap (λ k. drop (k + 1) (name ++ mark ∷ more)) (mark-place mark is name more h) ∙ drop-past name mark more
   where
     drop-past : (xs : List ℕ) (y : ℕ) (ys : List ℕ) → drop (length xs + 1) (xs ++ y ∷ ys) ≡ ys
     drop-past [] y ys = refl
     drop-past (x ∷ xs) y ys = let n : length (x ∷ xs) + 1 ≡ suc (length xs + 1) = omega arith in rw n (drop-past xs y ys)
+
+-- no name has the dot
+pub no-dot : IsMark 46
+no-dot = record { begins = refl; continues = refl }
+
+pub reference-form : (text : List ℕ) → IsReference text → is_reference text ≡ true
+reference-form text is =
+    let first = before-mark 46 no-dot is.child is.column is.child_formed in
+    let last = after-mark 46 no-dot is.child is.column is.child_formed in
+    ap is_reference is.parts ∙ rw (first, last, is.child_formed, is.column_formed) refl
 
 -- Columns.
 

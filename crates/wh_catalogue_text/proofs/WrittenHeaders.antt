@@ -1,7 +1,6 @@
 -- The columns of a combined row stand under references, none of them twice.
 use Rattle.std.proofs.Common.{◌≡◌, ◌≢◌, ℕ, zero, suc, ◌<◌, ◌≤◌, true, false, List, [], ◌∷◌, ◌++◌, length, map, get_or, take, Option, None, Some, Ok, ◌⊎◌, inl, inr, refl, ap, sym, subst, ◌∙◌, arith, All}
 use Rattle.std.specs.List.{AllPairs, AllPass, flat_map, position_or_len}
-use Rattle.std.proofs.Math.Seq.{take-append_seam}
 use Rattle.std.proofs.lemmas.Bool.{both_ways}
 use Rattle.std.proofs.lemmas.List.{append_cancel_left, get_or_past, length-map}
 use Rattle.std.proofs.lemmas.List.Elements.{All-append, All-cons, All-nil}
@@ -24,7 +23,7 @@ use Rattle.wh_catalogue_text.specs.WrittenLaws.{IsReference}
 use Rattle.wh_catalogue_text.proofs.CatalogueNames.{gone_on, shape_of-names}
 use Rattle.wh_catalogue_text.proofs.OutputsFit.{names-more}
 use Rattle.wh_catalogue_text.proofs.ShapesRead.{is_shape, same_length}
-use Rattle.wh_catalogue_text.proofs.WrittenForms.{dot-place, is_dot}
+use Rattle.wh_catalogue_text.proofs.WrittenForms.{before-mark, is_mark, no-dot}
 use Rattle.std.specs.Prelude.{ok_or}
 
 -- the two texts differ
@@ -77,10 +76,7 @@ child-apart child (column ∷ own) apart =
 -- a name has no dot, so what stands before the first one is the child's name
 same-child : (first second left right : List ℕ) → is_name first ≡ true → is_name second ≡ true → first ++ dot ∷ left ≡ second ++ dot ∷ right → first ≡ second
 same-child first second left right first-formed second-formed same =
-    let first-place = dot-place first left first-formed in
-    let second-place = dot-place second right second-formed in
-    let length-same : length first ≡ length second = sym first-place ∙ ap (position_or_len is_dot) same ∙ second-place in
-    sym (take-append_seam first (dot ∷ left)) ∙ ap (take (length first)) same ∙ ap (λ k. take k (second ++ dot ∷ right)) length-same ∙ take-append_seam second (dot ∷ right)
+    sym (before-mark 46 no-dot first left first-formed) ∙ ap (λ text. take (position_or_len (is_mark 46) text) text) same ∙ before-mark 46 no-dot second right second-formed
 
 -- of distinct names each stands at one place
 one-place : (names : List (List ℕ)) (i j : ℕ) → AllPairs Differ names → i < length names → j < length names → get_or names i [] ≡ get_or names j [] → i ≡ j

@@ -39,7 +39,7 @@ use Rattle.wh_catalogue_text.proofs.WrittenPairs.{AreOfTyped, ArePairsOf, Differ
 -- Lists of names.
 
 -- distinct names are so from the first to any other
-pairs-front : (xs ys : List (List ℕ)) → AllPairs Differ (xs ++ ys) → AllPairs Differ xs
+pub pairs-front : (xs ys : List (List ℕ)) → AllPairs Differ (xs ++ ys) → AllPairs Differ xs
 pairs-front xs ys apart = λ i j d l m.
     (let whole = length-append xs ys in
     rw (get_or_append_left xs ys d i (omega arith), get_or_append_left xs ys d j m) at (apart i j d l (omega arith)))
@@ -92,7 +92,7 @@ no-pair-literals row texts _ _ _ w taken = absurd w
 
 -- Joined views, written and then read.
 
-few-made : (n : ℕ) → 1 ≤ n → n ≤ 64 → is_few n ≡ true
+pub few-made : (n : ℕ) → 1 ≤ n → n ≤ 64 → is_few n ≡ true
 few-made n some few = rw (le-leb 1 n some, le-leb n 64 few) refl
 
 keep-read : (header : HeaderOf) (all : Texts) (columns : List NamedKind) (exprs : List ExprTree) (value : Data) (before : Texts) → AreReferences header.columns → IsDistinct bytes_eq all

@@ -1,4 +1,5 @@
 // Laws of what the formulas of a catalogue mean.
+ghost use Rattle.wh_catalogue_text.specs.WrittenCatalogue.{BasesReadBack, CataloguesReadBack, ReadBasesAreWritten, ReadCataloguesAreWritten};
 ghost use Rattle.wh_catalogue_text.specs.WrittenHeader.{ReadShapesAreNamed, RowsAreReferences};
 ghost use Rattle.wh_catalogue_text.specs.WrittenLaws.{ExprsReadBack, PredsReadBack, ReadExprsAreWritten, ReadPredsAreWritten};
 ghost use Rattle.wh_catalogue_text.specs.WrittenOutput.{OutputsReadBack, ReadOutputsAreWritten};
@@ -61,4 +62,21 @@ pub fn outputs_read_back_law()
 pub fn views_read_back_law()
     ensures back { ViewsReadBack }
     ensures written { ReadViewsAreWritten }
+{}
+
+/// A law of the definitions: a base view that is written as the format says (`columns` as texts of a name, a colon and `int`
+/// or `text`, or of a name alone for whole numbers) is read as that view, and what is read is so written. It asks for 1 to 64
+/// columns of distinct names.
+pub fn bases_read_back_law()
+    ensures back { BasesReadBack }
+    ensures written { ReadBasesAreWritten }
+{}
+
+/// A law of the definitions: over the shape of a catalogue's text, views that its entries write one after another, each derived
+/// one over the columns of its children, are read as these views, their texts numbered view by view; and what is read is so
+/// written. It asks for what [`bases_read_back_law`] and [`views_read_back_law`] ask of each view, but no longer for distinct
+/// references, which each combined row has ([`rows_are_references_law`]).
+pub fn catalogues_read_back_law()
+    ensures back { CataloguesReadBack }
+    ensures written { ReadCataloguesAreWritten }
 {}
