@@ -153,7 +153,7 @@ number-found texts all text (pos n) distinct begins at =
     (λ l. rw here (same-bytes text)) in
     ap pos (sym (number-begins (with_text texts text) all text begins (has-text texts text) ∙ number-own texts text) ∙ place)
 
-slice_get-append : (xs ys : List (List ℕ)) (n : ℕ) (x : List ℕ) → slice_get xs n ≡ Some x → slice_get (xs ++ ys) n ≡ Some x
+pub slice_get-append : {X : Type 0} (xs ys : List X) (n : ℕ) (x : X) → slice_get xs n ≡ Some x → slice_get (xs ++ ys) n ≡ Some x
 slice_get-append [] ys n x e = cc e
 slice_get-append (y ∷ xs) ys zero x e = e
 slice_get-append (y ∷ xs) ys (suc n) x e = slice_get-append xs ys n x e

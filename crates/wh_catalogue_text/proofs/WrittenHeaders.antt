@@ -1,10 +1,14 @@
--- The columns of a combined row stand under references, none of them twice.
+-- The columns of a combined row stand each at its place under references, none of them twice.
 use Rattle.std.proofs.Common.{◌≡◌, ◌≢◌, ℕ, zero, suc, ◌<◌, ◌≤◌, true, false, List, [], ◌∷◌, ◌++◌, length, map, get_or, take, Option, None, Some, Ok, ◌⊎◌, inl, inr, refl, ap, sym, subst, ◌∙◌, arith, All}
+use Rattle.std.specs.Prelude.{◌+◌, ok_or, option_map, slice_get}
 use Rattle.std.specs.List.{AllPairs, AllPass, flat_map, position_or_len}
 use Rattle.std.proofs.lemmas.Bool.{both_ways}
 use Rattle.std.proofs.lemmas.List.{append_cancel_left, get_or_past, length-map}
 use Rattle.std.proofs.lemmas.List.Elements.{All-append, All-cons, All-nil}
+use Rattle.std.proofs.lemmas.List.Concat.{flat_map-append}
 use Rattle.std.proofs.lemmas.List.Kept.{AllPairs-cons}
+use Rattle.std.proofs.lemmas.Option.{slice_get-map}
+use Rattle.wh_dag.specs.Catalog.{total_width}
 use Rattle.wh_dag.specs.Fault.{first_fault}
 use Rattle.wh_dag.specs.Shape.{Distinct, Views, children_of, has}
 use Rattle.wh_dag.specs.Written.{children_written, name_of}
@@ -18,13 +22,13 @@ use Rattle.wh_text.specs.declared.fault.LoadFault.TheVariants as fault
 use Rattle.wh_catalogue_text.specs.Catalogue.{WrittenViews, document_of, judged, views_of, written_views}
 use Rattle.wh_catalogue_text.specs.Definitions.{ViewOf, child_columns, columns_of, qualified}
 use Rattle.wh_catalogue_text.specs.Reference.{dot}
-use Rattle.wh_catalogue_text.specs.WrittenHeader.{ReadShapesAreNamed, RowsAreReferences}
+use Rattle.wh_catalogue_text.specs.WrittenHeader.{ColumnsStandInRows, ReadShapesAreNamed, RowsAreReferences}
 use Rattle.wh_catalogue_text.specs.WrittenLaws.{IsReference}
 use Rattle.wh_catalogue_text.proofs.CatalogueNames.{gone_on, shape_of-names}
+use Rattle.wh_catalogue_text.proofs.DefinitionsFit.{header-width, widths_of}
 use Rattle.wh_catalogue_text.proofs.OutputsFit.{names-more}
 use Rattle.wh_catalogue_text.proofs.ShapesRead.{is_shape, same_length}
-use Rattle.wh_catalogue_text.proofs.WrittenForms.{before-mark, is_mark, no-dot}
-use Rattle.std.specs.Prelude.{ok_or}
+use Rattle.wh_catalogue_text.proofs.WrittenForms.{before-mark, is_mark, no-dot, slice_get-append}
 
 -- the two texts differ
 abbrev Differ : List ℕ → List ℕ → Type 0
@@ -215,3 +219,20 @@ read-shapes-are-named text shape e =
     let views = gone_on (written_views tables.0) _ shape tables.2 in
     let are = judged-names views.0 (first_fault views.0.names views.0.over) shape refl (same_length tables.0 views.0 views.1) views.2 in
     record { formed = is_shape text shape e; each = are.each; names = shape_of-names text shape e; distinct = are.distinct }
+
+slice-behind : (front more : List NamedKind) (n : ℕ) → slice_get (front ++ more) (length front + n) ≡ slice_get more n
+slice-behind [] more n = let none : 0 + n ≡ n = omega arith in ap (slice_get more) none
+slice-behind (x ∷ front) more n =
+    let one : length (x ∷ front) + n ≡ suc (length front + n) = omega arith in
+    ap (slice_get (x ∷ front ++ more)) one ∙ slice-behind front more n
+
+pub columns-stand-in-rows : ColumnsStandInRows
+columns-stand-in-rows shape views view before child later place column are at =
+    let row = child_columns shape.names views in
+    let own : slice_get (row child) place ≡ Some (qualified (name_of shape.names child) column) =
+    slice_get-map (qualified (name_of shape.names child)) (columns_of views child) place ∙ ap (option_map (qualified (name_of shape.names child))) at in
+    ap (λ children. slice_get (flat_map row children) (total_width (widths_of views) before + place)) are
+    ∙ ap (λ columns. slice_get columns (total_width (widths_of views) before + place)) (flat_map-append row before (child ∷ later))
+    ∙ ap (λ n. slice_get (flat_map row before ++ (row child ++ flat_map row later)) (n + place)) (sym (header-width shape.names views before))
+    ∙ slice-behind (flat_map row before) (row child ++ flat_map row later) place
+    ∙ slice_get-append (row child) (flat_map row later) place (qualified (name_of shape.names child) column) own

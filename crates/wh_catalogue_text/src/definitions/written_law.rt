@@ -1,15 +1,17 @@
 // Laws of what the formulas of a catalogue mean.
 ghost use Rattle.wh_catalogue_text.specs.WrittenCatalogue.{BasesReadBack, CataloguesReadBack, ReadBasesAreWritten, ReadCataloguesAreWritten};
-ghost use Rattle.wh_catalogue_text.specs.WrittenHeader.{ReadShapesAreNamed, RowsAreReferences};
+ghost use Rattle.wh_catalogue_text.specs.WrittenHeader.{ColumnsStandInRows, ReadShapesAreNamed, RowsAreReferences};
 ghost use Rattle.wh_catalogue_text.specs.WrittenLaws.{ExprsReadBack, PredsReadBack, ReadExprsAreWritten, ReadPredsAreWritten};
 ghost use Rattle.wh_catalogue_text.specs.WrittenOutput.{OutputsReadBack, ReadOutputsAreWritten};
 ghost use Rattle.wh_catalogue_text.specs.WrittenView.{FiltersReadBack, JoinsReadBack, ReadFiltersAreWritten, ReadJoinsAreWritten, ReadViewsAreWritten, ViewsReadBack};
 
-/// A law of the definitions: over a shape whose views have distinct names, and views whose columns have, the columns of each
-/// combined row stand under references (a child's name, a dot, a column's name), none of them twice; and a shape that is read
-/// is such a shape. The columns of what is read have such names too ([`crate::definitions_fit_law`]), so the laws below,
-/// which ask for distinct references, speak of each view of a catalogue that is read.
+/// A law of the definitions: in a combined row a child's columns stand behind those of the children before it, each at its own
+/// place, under the child's name, a dot and the column's name; over a shape whose views have distinct names, and views whose
+/// columns have, no two stand under one reference; and a shape that is read is such a shape. The columns of what is read have
+/// such names too ([`crate::definitions_fit_law`]), so the laws below, which ask for distinct references, speak of each view of
+/// a catalogue that is read.
 pub fn rows_are_references_law()
+    ensures places { ColumnsStandInRows }
     ensures rows { RowsAreReferences }
     ensures read { ReadShapesAreNamed }
 {}
