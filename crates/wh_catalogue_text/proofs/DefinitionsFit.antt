@@ -112,7 +112,7 @@ abbrev pub widths_of : List ViewOf → List ℕ
 widths_of views = map (λ (view : ViewOf). length view.columns) views
 
 -- a combined row has the columns of the children
-header-width : (names : List (List ℕ)) (views : List ViewOf) (children : List ℕ) → length (flat_map (child_columns names views) children) ≡ total_width (widths_of views) children
+pub header-width : (names : List (List ℕ)) (views : List ViewOf) (children : List ℕ) → length (flat_map (child_columns names views) children) ≡ total_width (widths_of views) children
 header-width names views [] = refl
 header-width names views (child ∷ rest) =
     length-append (child_columns names views child) (flat_map (child_columns names views) rest)

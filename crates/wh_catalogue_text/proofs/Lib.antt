@@ -12,7 +12,14 @@ pub mod FreshNames
 pub mod JoinSteps
 pub mod OutputsFit
 pub mod ShapesRead
+pub mod WrittenBases
+pub mod WrittenCatalogues
 pub mod WrittenExprs
+pub mod WrittenFilters
 pub mod WrittenForms
+pub mod WrittenHeaders
 pub mod WrittenJoins
+pub mod WrittenOutputs
+pub mod WrittenPairs
 pub mod WrittenPreds
+pub mod WrittenViews

@@ -1,11 +1,9 @@
 -- Expressions that are written are read as what they are, and those that are read are what was written.
-use Rattle.std.proofs.Common.{◌≡◌, ℕ, zero, suc, pos, ℤ, ◌+◌, ◌≤◌, ◌&&◌, max, Bool, true, false, List, [], ◌∷◌, ◌++◌, Option, Some, None, ok_or, option_map, is_some, Result, Ok, Err, refl, ap, sym, ◌∙◌, arith}
-use Rattle.std.specs.Prelude.{codes, if◌then◌else◌}
+use Rattle.std.proofs.Common.{◌≡◌, ℕ, zero, suc, pos, ℤ, ◌≤◌, ◌&&◌, true, List, [], ◌∷◌, Option, Some, None, ok_or, is_some, Result, Ok, Err, refl, ap, sym, ◌∙◌, arith}
+use Rattle.std.specs.Prelude.{if◌then◌else◌}
 use Rattle.std.specs.List.{IsDistinct}
-use Rattle.std.specs.Option.{option_or}
 use Rattle.std.specs.Str.{bytes_eq}
-use Rattle.std.proofs.lemmas.Bool.{and_parts}
-use Rattle.toml.specs.Data.{Data, string, integer, array, table, item, no_items}
+use Rattle.toml.specs.Data.{Data, string}
 use Rattle.wh_formula.specs.Expr.{ExprTree, Column, Number, Add, Sub, Mul, depth}
 use Rattle.wh_text.specs.Columns.{NamedKind}
 use Rattle.wh_text.specs.Dict.{BeginsWith, number_of_text, with_text, with_texts}
@@ -17,17 +15,17 @@ use Rattle.wh_catalogue_text.specs.Catalogue.{◌>>=◌}
 use Rattle.wh_catalogue_text.specs.ExprForm.{WrittenExpr, expr_form, is_expr, parts_pass}
 use Rattle.wh_catalogue_text.specs.ExprForm as level
 use Rattle.wh_catalogue_text.specs.Formula.{is_whole_expr, unknown_column, whole_expr}
-use Rattle.wh_catalogue_text.specs.FormulaColumns.{unknown, unknown_in_expr, unknown_in_form}
-use Rattle.wh_catalogue_text.specs.FormulaKinds.{ExprOutcome, Texts, combined, is_int, keeping, operation, typed_column, typed_expr, typed_form, typed_literal, unfit}
+use Rattle.wh_catalogue_text.specs.FormulaColumns.{unknown_in_expr, unknown_in_form}
+use Rattle.wh_catalogue_text.specs.FormulaKinds.{Texts, combined, is_int, keeping, operation, typed_column, typed_expr, typed_form, unfit}
 use Rattle.wh_catalogue_text.specs.Header.{HeaderOf, cell_of}
-use Rattle.wh_catalogue_text.specs.WrittenFormula.{IsConstantWritten, IsExprWritten, literal, literals, under}
-use Rattle.wh_catalogue_text.specs.WrittenLaws.{AreReferences, ExprsReadBack, IsExprRead, IsWholeExpr, ReadExprsAreWritten, texts_with}
+use Rattle.wh_catalogue_text.specs.WrittenFormula.{IsExprWritten, literals, under}
+use Rattle.wh_catalogue_text.specs.WrittenLaws.{AreReferences, ExprsReadBack, IsExprRead, ReadExprsAreWritten, texts_with}
 use Rattle.wh_catalogue_text.specs.declared.definitions.expr_form.Sign.{Sign}
 use Rattle.wh_catalogue_text.specs.declared.definitions.expr_form.Sign.TheVariants.{Plus, Minus, Times}
 use Rattle.wh_catalogue_text.specs.declared.definitions.formula_kinds.TypedExpr.{TypedExpr}
 use Rattle.wh_catalogue_text.specs.declared.definitions.header.Cell.{Cell}
 use Rattle.wh_catalogue_text.proofs.CatalogueNames.{gone_on}
-use Rattle.wh_catalogue_text.proofs.WrittenForms.{IsOfForm, cell-found, cell-stands, column-form, expr-form, number-found, reference-form, sign_word, text-kept, text-numbered}
+use Rattle.wh_catalogue_text.proofs.WrittenForms.{cell-found, cell-stands, column-form, expr-form, number-found, sign_word, text-kept, text-numbered}
 
 -- Number literals stand for themselves, so an expression of whole numbers has no text.
 
@@ -52,7 +50,7 @@ expr-kept columns texts all (Mul a b) kind value begins w = (w.0, w.1, w.2, w.3,
 
 -- Writing, then reading.
 
-column-read : (header : HeaderOf) (levels : ℕ) (texts : Texts) (place : ℕ) (kind : Kind) (value : Data) → AreReferences header.columns → IsExprWritten header.columns texts (Column place) kind value
+pub column-read : (header : HeaderOf) (levels : ℕ) (texts : Texts) (place : ℕ) (kind : Kind) (value : Data) → AreReferences header.columns → IsExprWritten header.columns texts (Column place) kind value
     → (before : Texts) → typed_expr header (suc levels) value before ≡ Ok (record { kind = kind; expr = Column place }, before)
 column-read header levels texts place kind value are w before =
     let form = column-form header.columns place w.0 kind are w.1 in
@@ -254,16 +252,23 @@ expr-known header (suc levels) value before p e = by (expr_form value) (expr-kno
 
 -- The laws.
 
-pub exprs-read-back : ExprsReadBack
+-- a whole expression that was written, where all texts begin with those that it numbers
+pub whole-read : (header : HeaderOf) (all : Texts) (own : ExprTree) (kind : Kind) (value : Data) (before : Texts) → AreReferences header.columns → IsDistinct bytes_eq all
+    → depth own ≤ 64 → IsExprWritten header.columns all own kind value → BeginsWith (texts_with before value) all → IsExprRead header value before own kind (texts_with before value)
 unfolding is_whole_expr unknown_column whole_expr
-exprs-read-back header value texts own kind after are distinct is =
-    let begins : BeginsWith (texts_with texts value) after = rw (← is.numbered) (begins-same after) in
-    let read = expr-read header 64 after own kind value texts are distinct is.levels is.written begins ∙ ap (λ t. Ok (record { kind = kind; expr = own }, t)) (sym is.numbered) in
+whole-read header all own kind value before are distinct deep w begins =
+    let read = expr-read header 64 all own kind value before are distinct deep w begins in
     record {
-      form = expr-formed header 64 value texts (record { kind = kind; expr = own }, after) read;
-      columns = expr-known header 64 value texts (record { kind = kind; expr = own }, after) read;
+      form = expr-formed header 64 value before (record { kind = kind; expr = own }, texts_with before value) read;
+      columns = expr-known header 64 value before (record { kind = kind; expr = own }, texts_with before value) read;
       kinds = read;
     }
+
+pub exprs-read-back : ExprsReadBack
+exprs-read-back header value texts own kind after are distinct is =
+    let begins : BeginsWith (texts_with texts value) after = rw (← is.numbered) (begins-same after) in
+    let read = whole-read header after own kind value texts are distinct is.levels is.written begins in
+    record { form = read.form; columns = read.columns; kinds = read.kinds ∙ ap (λ t. Ok (record { kind = kind; expr = own }, t)) (sym is.numbered) }
 
 pub read-exprs-are-written : ReadExprsAreWritten
 unfolding whole_expr

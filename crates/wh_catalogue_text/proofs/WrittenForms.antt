@@ -1,14 +1,12 @@
 -- One level of a formula that is written, and what it is read from: words, references, literals, arrays.
-use Rattle.std.proofs.Common.{◌≡◌, ◌≢◌, ℕ, zero, suc, pos, negsuc, ℤ, ◌+◌, ◌<◌, ◌≤◌, ◌==◌, ◌&&◌, ◌||◌, Bool, true, false, List, [], ◌∷◌, ◌++◌, length, take, drop, get_or, map, Option, Some, None, option_map, Ordering, Less, Equal, Greater, ◌⊎◌, inl, inr, refl, ap, sym, ◌∙◌, arith}
-use Rattle.std.specs.Prelude.{codes, if◌then◌else◌, option_and_then, position, slice_get, nat_le}
-use Rattle.std.specs.Char.{is_ascii_alphanumeric}
-use Rattle.std.specs.Int.{is_in_range}
-use Rattle.std.specs.List.{All, AllPairs, IsDistinct, list_all, list_any, position_or_len}
+use Rattle.std.proofs.Common.{◌≡◌, ◌≢◌, ℕ, zero, suc, pos, negsuc, ℤ, ◌+◌, ◌==◌, ◌&&◌, Bool, true, false, List, [], ◌∷◌, ◌++◌, length, take, drop, get_or, Option, Some, None, option_map, Ordering, Less, Equal, Greater, ◌⊎◌, inl, inr, refl, ap, sym, ◌∙◌, arith}
+use Rattle.std.specs.Prelude.{codes, if◌then◌else◌, option_and_then, slice_get, nat_le}
+use Rattle.std.specs.List.{AllPairs, IsDistinct, list_all, list_any, position_or_len}
 use Rattle.std.specs.Ordering.{nat_cmp, match_ordering, is_eq}
 use Rattle.std.specs.Cmp.Lexicographic.{slice_cmp}
 use Rattle.std.specs.Str.{bytes_eq}
-use Rattle.std.proofs.Math.Seq.{take-append_seam, drop-append_seam}
-use Rattle.std.proofs.lemmas.Bool.{and_parts, cases_Bool, eqb-true, false_from_ne_true, leb-true, lt-ltb, or_cases}
+use Rattle.std.proofs.Math.Seq.{take-append_seam}
+use Rattle.std.proofs.lemmas.Bool.{and_parts, both_ways, cases_Bool, eq-eqb, eqb-true, false_from_ne_true, lt-ltb}
 use Rattle.std.proofs.Math.ListN.{get_or-map}
 use Rattle.std.proofs.lemmas.List.{length-map}
 use Rattle.std.proofs.lemmas.List.Sums.{position_or_len_is}
@@ -18,10 +16,10 @@ use Rattle.std.proofs.lemmas.Map.Text.{is_eq-slice_cmp}
 use Rattle.std.proofs.lemmas.Option.{get_or_from_slice_get, slice_get_within, slice_get-get_or, slice_get-map}
 use Rattle.std.proofs.lemmas.Slice.Eq.{bytes_eq-Decides}
 use Rattle.toml.specs.View.{items_of}
-use Rattle.toml.specs.Data.{Data, string, integer, array, table, Items, no_items, item, Members, no_members, member, as_str, get_member}
+use Rattle.toml.specs.Data.{Data, string, integer, array, table, Items, no_items, item, Members, no_members, member, as_str}
 use Rattle.wh_text.specs.Columns.{NamedKind, names_of}
 use Rattle.wh_text.specs.Dict.{BeginsWith, number_of_text, text_of_cell, with_text}
-use Rattle.wh_text.specs.NameForm.{begins_name, continues_name, is_name, underscore}
+use Rattle.wh_text.specs.NameForm.{begins_name, continues_name, is_name}
 use Rattle.wh_text.specs.declared.columns.Kind.{Kind}
 use Rattle.wh_text.specs.declared.columns.Kind.TheVariants.{Int}
 use Rattle.wh_text.proofs.DictGrowth.{number-begins, number-own, has-text}
@@ -29,7 +27,7 @@ use Rattle.wh_catalogue_text.specs.Catalogue.{elements}
 use Rattle.wh_catalogue_text.specs.ExprForm.{WrittenExpr, expr_form, literal_of, member_count, operation_of, sign_of}
 use Rattle.wh_catalogue_text.specs.ExprForm as level
 use Rattle.wh_catalogue_text.specs.Header.{cell_of, kind_at, place_of}
-use Rattle.wh_catalogue_text.specs.Reference.{dot, is_reference}
+use Rattle.wh_catalogue_text.specs.Reference.{is_reference}
 use Rattle.wh_catalogue_text.specs.WrittenFormula.{literal, under}
 use Rattle.wh_catalogue_text.specs.WrittenLaws.{AreReferences, IsReference}
 use Rattle.wh_catalogue_text.specs.declared.definitions.expr_form.Sign.{Sign}
@@ -51,42 +49,52 @@ same-bytes text = (bytes_eq-Decides text text).1 refl
 
 -- References.
 
--- no byte of a name is the dot
-abbrev is_dot : ℕ → Bool
-is_dot byte = byte == dot
+-- the byte is the mark
+abbrev pub is_mark : ℕ → ℕ → Bool
+is_mark mark byte = byte == mark
 
-begins-plain : (byte : ℕ) → begins_name byte ≡ true → is_dot byte ≡ false
-begins-plain byte h = false_from_ne_true (is_dot byte) (λ e. let bad : begins_name 46 ≡ true = rw (eqb-true byte 46 e) at h in cc)
+-- no name has the mark
+pub record IsMark (mark : ℕ) : Type 0 where
+  pub begins : begins_name mark ≡ false
+  pub continues : continues_name mark ≡ false
 
-continues-plain : (byte : ℕ) → continues_name byte ≡ true → is_dot byte ≡ false
-continues-plain byte h = false_from_ne_true (is_dot byte) (λ e. let bad : continues_name 46 ≡ true = rw (eqb-true byte 46 e) at h in cc)
+no-mark : (test : ℕ → Bool) (mark byte : ℕ) → test mark ≡ false → test byte ≡ true → is_mark mark byte ≡ false
+no-mark test mark byte none h = false_from_ne_true (is_mark mark byte) (λ e. both_ways (test mark) none (ap test (sym (eqb-true byte mark e)) ∙ h))
 
-dot-after : (name more : List ℕ) → list_all continues_name name ≡ true → position_or_len is_dot (name ++ 46 ∷ more) ≡ length name
-dot-after [] more h = refl
-dot-after (byte ∷ name) more h =
+mark-after : (mark : ℕ) → IsMark mark → (name more : List ℕ) → list_all continues_name name ≡ true → position_or_len (is_mark mark) (name ++ mark ∷ more) ≡ length name
+mark-after mark is [] more h = rw (eq-eqb mark mark refl) refl
+mark-after mark is (byte ∷ name) more h =
     let parts = and_parts (continues_name byte) (list_all continues_name name) h in
-    rw (continues-plain byte parts.0, dot-after name more parts.1) (omega arith)
+    rw (no-mark continues_name mark byte is.continues parts.0, mark-after mark is name more parts.1) (omega arith)
 
-dot-place : (name more : List ℕ) → is_name name ≡ true → position_or_len is_dot (name ++ 46 ∷ more) ≡ length name
+-- the first mark after a name stands right behind it
+pub mark-place : (mark : ℕ) → IsMark mark → (name more : List ℕ) → is_name name ≡ true → position_or_len (is_mark mark) (name ++ mark ∷ more) ≡ length name
 unfolding is_name
-dot-place [] more h = cc
-dot-place (byte ∷ name) more h =
+mark-place mark is [] more h = cc
+mark-place mark is (byte ∷ name) more h =
     let front = (and_parts (begins_name byte && list_all continues_name name) (nat_le (length (byte ∷ name)) 64) h).0 in
     let parts = and_parts (begins_name byte) (list_all continues_name name) front in
-    rw (begins-plain byte parts.0, dot-after name more parts.1) (omega arith)
+    rw (no-mark begins_name mark byte is.begins parts.0, mark-after mark is name more parts.1) (omega arith)
 
-pub reference-form : (text : List ℕ) → IsReference text → is_reference text ≡ true
-reference-form text is =
-    let place = dot-place is.child is.column is.child_formed in
-    let first : take (position_or_len is_dot (is.child ++ 46 ∷ is.column)) (is.child ++ 46 ∷ is.column) ≡ is.child =
-    ap (λ k. take k (is.child ++ 46 ∷ is.column)) place ∙ take-append_seam is.child (46 ∷ is.column) in
-    let last : drop (position_or_len is_dot (is.child ++ 46 ∷ is.column) + 1) (is.child ++ 46 ∷ is.column) ≡ is.column =
-    ap (λ k. drop (k + 1) (is.child ++ 46 ∷ is.column)) place ∙ drop-past is.child 46 is.column in
-    ap is_reference is.parts ∙ rw (first, last, is.child_formed, is.column_formed) refl
+pub before-mark : (mark : ℕ) → IsMark mark → (name more : List ℕ) → is_name name ≡ true → take (position_or_len (is_mark mark) (name ++ mark ∷ more)) (name ++ mark ∷ more) ≡ name
+before-mark mark is name more h = ap (λ k. take k (name ++ mark ∷ more)) (mark-place mark is name more h) ∙ take-append_seam name (mark ∷ more)
+
+pub after-mark : (mark : ℕ) → IsMark mark → (name more : List ℕ) → is_name name ≡ true → drop (position_or_len (is_mark mark) (name ++ mark ∷ more) + 1) (name ++ mark ∷ more) ≡ more
+after-mark mark is name more h = ap (λ k. drop (k + 1) (name ++ mark ∷ more)) (mark-place mark is name more h) ∙ drop-past name mark more
   where
     drop-past : (xs : List ℕ) (y : ℕ) (ys : List ℕ) → drop (length xs + 1) (xs ++ y ∷ ys) ≡ ys
     drop-past [] y ys = refl
     drop-past (x ∷ xs) y ys = let n : length (x ∷ xs) + 1 ≡ suc (length xs + 1) = omega arith in rw n (drop-past xs y ys)
+
+-- no name has the dot
+pub no-dot : IsMark 46
+no-dot = record { begins = refl; continues = refl }
+
+pub reference-form : (text : List ℕ) → IsReference text → is_reference text ≡ true
+reference-form text is =
+    let first = before-mark 46 no-dot is.child is.column is.child_formed in
+    let last = after-mark 46 no-dot is.child is.column is.child_formed in
+    ap is_reference is.parts ∙ rw (first, last, is.child_formed, is.column_formed) refl
 
 -- Columns.
 
@@ -145,7 +153,7 @@ number-found texts all text (pos n) distinct begins at =
     (λ l. rw here (same-bytes text)) in
     ap pos (sym (number-begins (with_text texts text) all text begins (has-text texts text) ∙ number-own texts text) ∙ place)
 
-slice_get-append : (xs ys : List (List ℕ)) (n : ℕ) (x : List ℕ) → slice_get xs n ≡ Some x → slice_get (xs ++ ys) n ≡ Some x
+pub slice_get-append : {X : Type 0} (xs ys : List X) (n : ℕ) (x : X) → slice_get xs n ≡ Some x → slice_get (xs ++ ys) n ≡ Some x
 slice_get-append [] ys n x e = cc e
 slice_get-append (y ∷ xs) ys zero x e = e
 slice_get-append (y ∷ xs) ys (suc n) x e = slice_get-append xs ys n x e

@@ -1,19 +1,18 @@
 -- Joins that are written are read as what they are, and those that are read are what was written.
-use Rattle.std.proofs.Common.{◌≡◌, ℕ, Bool, true, false, List, [], ◌∷◌, ◌++◌, Option, Some, None, ok_or, option_map, Result, Ok, Err, refl, ap, sym, ◌∙◌, append_assoc}
+use Rattle.std.proofs.Common.{◌≡◌, ℕ, Bool, true, false, List, [], ◌∷◌, ◌++◌, Option, Some, None, Ok, refl, ap, sym, ◌∙◌, append_assoc}
 use Rattle.std.specs.Prelude.{codes, option_and_then, slice_get, if◌then◌else◌}
 use Rattle.std.proofs.lemmas.List.{append-nil}
 use Rattle.toml.specs.View.{items_of}
-use Rattle.toml.specs.Data.{Data, string, integer, array, Items, as_str, get}
+use Rattle.toml.specs.Data.{Data, string, array, get}
 use Rattle.wh_text.specs.Columns.{NamedKind}
 use Rattle.wh_text.specs.declared.columns.Kind.{Kind}
 use Rattle.wh_text.specs.declared.columns.Kind.TheVariants.{Int, Text}
 use Rattle.wh_text.specs.declared.fault.Key.TheVariants as key
-use Rattle.wh_text.specs.declared.fault.LoadFault.{LoadFault}
 use Rattle.wh_text.specs.declared.fault.LoadFault.TheVariants as fault
 use Rattle.wh_catalogue_text.specs.Catalogue.{◌>>=◌, array_of, elements}
-use Rattle.wh_catalogue_text.specs.ColumnNames.{checked, unless_unknown}
+use Rattle.wh_catalogue_text.specs.ColumnNames.{unless_unknown}
 use Rattle.wh_catalogue_text.specs.Header.{HeaderOf, cell_of}
-use Rattle.wh_catalogue_text.specs.Join.{WrittenLink, join_of, joined, joined_link, link_of, linked, linked_cell, links_in, links_written, same_kind, unknown_in_link, unknown_in_links}
+use Rattle.wh_catalogue_text.specs.Join.{WrittenLink, joined, joined_link, link_of, linked, linked_cell, links_in, links_written, same_kind, unknown_in_link, unknown_in_links}
 use Rattle.wh_catalogue_text.specs.FormulaKinds.{unfit}
 use Rattle.wh_catalogue_text.specs.Pairs.{reference_in}
 use Rattle.wh_catalogue_text.specs.Reference.{is_reference}
@@ -87,7 +86,7 @@ joins-read-back header entry join are = by (get (codes "join") entry)
 abbrev IsOfLink : WrittenLink → Data → Type 0
 IsOfLink link value = value ≡ array (items_of (string link.left ∷ string link.right ∷ []))
 
-text-only : (value : Data) (text : List ℕ) → reference_in value ≡ Some text → value ≡ string text
+pub text-only : (value : Data) (text : List ℕ) → reference_in value ≡ Some text → value ≡ string text
 text-only (string own) text e = by (is_reference own) e
   where
     by : (b : Bool) → (if b then Some own else None) ≡ Some text → string own ≡ string text
@@ -105,7 +104,7 @@ link-only (left ∷ right ∷ []) link e = by (reference_in left) (reference_in 
     by _ _ l-is r-is e = cc e
 link-only _ link e = cc e
 
-array-only : (value : Data) (parts : List Data) → array_of value ≡ Some parts → value ≡ array (items_of parts)
+pub array-only : (value : Data) (parts : List Data) → array_of value ≡ Some parts → value ≡ array (items_of parts)
 array-only (array items) parts e = let same : elements items ≡ parts = cc in ap array (sym (items-elements items) ∙ ap items_of same)
 array-only _ parts e = cc e
 

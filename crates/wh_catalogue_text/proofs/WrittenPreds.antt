@@ -1,13 +1,12 @@
 -- Predicates that are written are read as what they are, and those that are read are what was written.
-use Rattle.std.proofs.Common.{◌≡◌, ℕ, zero, suc, ◌+◌, ◌≤◌, ◌&&◌, max, Bool, true, false, List, [], ◌∷◌, ◌++◌, Option, Some, None, option_map, Result, Ok, Err, refl, ap, sym, ◌∙◌, arith, append_assoc}
+use Rattle.std.proofs.Common.{◌≡◌, ℕ, zero, suc, ◌≤◌, Bool, true, false, List, [], ◌∷◌, ◌++◌, Option, Some, None, option_map, Ok, Err, refl, ap, sym, ◌∙◌, arith, append_assoc}
 use Rattle.std.specs.Prelude.{codes, if◌then◌else◌}
 use Rattle.std.specs.List.{IsDistinct, list_all}
-use Rattle.std.specs.Option.{option_or}
 use Rattle.std.specs.Str.{bytes_eq}
 use Rattle.std.proofs.lemmas.List.{append-nil}
 use Rattle.std.proofs.lemmas.Slice.Eq.{bytes_eq-Decides}
 use Rattle.toml.specs.View.{items_of}
-use Rattle.toml.specs.Data.{Data, string, boolean, array, Items, item, no_items}
+use Rattle.toml.specs.Data.{Data, string, boolean, array}
 use Rattle.wh_formula.specs.declared.comparison.Comparison.{Comparison}
 use Rattle.wh_formula.specs.declared.comparison.Comparison.TheVariants.{Equal, NotEqual, Less, LessOrEqual, Greater, GreaterOrEqual}
 use Rattle.wh_formula.specs.Expr.{ExprTree}
@@ -17,10 +16,9 @@ use Rattle.wh_text.specs.Dict.{BeginsWith, with_texts}
 use Rattle.wh_text.specs.declared.columns.Kind.{Kind}
 use Rattle.wh_text.specs.declared.columns.Kind.TheVariants.{Int, Text}
 use Rattle.wh_text.specs.declared.fault.Key.TheVariants as key
-use Rattle.wh_text.specs.declared.fault.LoadFault.{LoadFault}
 use Rattle.wh_text.specs.declared.fault.LoadFault.TheVariants as fault
 use Rattle.wh_text.proofs.DictGrowth.{begins-same, begins-texts, begins-trans, with_texts-append}
-use Rattle.wh_catalogue_text.specs.Catalogue.{◌>>=◌, elements}
+use Rattle.wh_catalogue_text.specs.Catalogue.{elements}
 use Rattle.wh_catalogue_text.specs.ColumnNames.{checked, unless_unknown}
 use Rattle.wh_catalogue_text.specs.ExprForm.{is_expr}
 use Rattle.wh_catalogue_text.specs.Filter.{filter_written}
@@ -31,12 +29,12 @@ use Rattle.wh_catalogue_text.specs.Header.{HeaderOf}
 use Rattle.wh_catalogue_text.specs.PredForm.{WrittenPred, comparison_of, compound_of, headed, is_pred, pred_form, pred_parts_pass}
 use Rattle.wh_catalogue_text.specs.PredForm as level
 use Rattle.wh_catalogue_text.specs.WrittenFormula.{ArePredsWritten, IsComparable, IsExprWritten, IsPredWritten, literals, literals_of, under, word_of}
-use Rattle.wh_catalogue_text.specs.WrittenLaws.{AreReferences, IsWholePred, PredsReadBack, ReadPredsAreWritten, texts_with}
+use Rattle.wh_catalogue_text.specs.WrittenLaws.{AreReferences, PredsReadBack, ReadPredsAreWritten, texts_with}
 use Rattle.wh_catalogue_text.specs.declared.definitions.formula_kinds.TypedExpr.{TypedExpr}
 use Rattle.wh_catalogue_text.proofs.CatalogueNames.{gone_on}
 use Rattle.wh_catalogue_text.proofs.FormulasFit.{checked-ok, unless-ok}
 use Rattle.wh_catalogue_text.proofs.WrittenExprs.{IsOfExpr, both-same, expr-formed, expr-kept, expr-known, expr-read, expr-written, no-texts}
-use Rattle.wh_catalogue_text.proofs.WrittenForms.{elements-items, items-elements, same-bytes}
+use Rattle.wh_catalogue_text.proofs.WrittenForms.{elements-items, items-elements}
 
 -- Forms.
 
@@ -447,13 +445,18 @@ pred-known header (suc levels) value before p e = by (pred_form value) (pred-kno
 
 -- The laws.
 
-pub preds-read-back : PredsReadBack
+-- a whole predicate that was written, where all texts begin with those that it numbers
+pub test-read : (header : HeaderOf) (all : Texts) (own : PredTree) (value : Data) (before : Texts) → AreReferences header.columns → IsDistinct bytes_eq all
+    → depth own ≤ 64 → IsPredWritten header.columns all own value → BeginsWith (texts_with before value) all → filter_written header value before ≡ Ok (own, texts_with before value)
 unfolding is_whole_pred unknown_in_test whole_pred
+test-read header all own value before are distinct deep w begins =
+    let read = pred-read header 64 all own value before are distinct deep w begins in
+    rw (pred-formed header 64 value before (own, texts_with before value) read, pred-known header 64 value before (own, texts_with before value) read) read
+
+pub preds-read-back : PredsReadBack
 preds-read-back header value texts own after are distinct is =
     let begins : BeginsWith (texts_with texts value) after = rw (← is.numbered) (begins-same after) in
-    let read : typed_pred header 64 value texts ≡ Ok (own, after) =
-    pred-read header 64 after own value texts are distinct is.levels is.written begins ∙ ap (λ t. Ok (own, t)) (sym is.numbered) in
-    rw (pred-formed header 64 value texts (own, after) read, pred-known header 64 value texts (own, after) read) read
+    test-read header after own value texts are distinct is.levels is.written begins ∙ ap (λ t. Ok (own, t)) (sym is.numbered)
 
 pub read-preds-are-written : ReadPredsAreWritten
 unfolding whole_pred

@@ -14,6 +14,9 @@ pub mod Pairs
 pub mod PredForm
 pub mod ReadCatalog
 pub mod Reference
+pub mod WrittenCatalogue
 pub mod WrittenFormula
+pub mod WrittenHeader
 pub mod WrittenLaws
+pub mod WrittenOutput
 pub mod WrittenView

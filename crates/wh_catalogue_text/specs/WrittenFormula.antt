@@ -1,6 +1,6 @@
 -- How a catalogue writes a formula: from the formula to the data that say it. The left side stands before the right one; a
 -- column is written as its reference, and the number of a text as the text.
-use Rattle.std.specs.Prelude.{◌≡◌, ◌≤◌, ℕ, ℤ, List, [], ◌∷◌, ◌++◌, codes, slice_get, true, Some}
+use Rattle.std.specs.Prelude.{◌≡◌, ℕ, ℤ, List, [], ◌∷◌, ◌++◌, codes, slice_get, true, Some}
 use Rattle.toml.specs.View.{items_of}
 use Rattle.toml.specs.Data.{Data, string, integer, boolean, array, table, Items, no_items, item, Members, member, no_members}
 use Rattle.wh_formula.specs.declared.comparison.Comparison.{Comparison}

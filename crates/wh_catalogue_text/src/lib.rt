@@ -11,5 +11,9 @@ mod name_form;
 pub use catalogue::read_shape;
 pub use definitions::output::WrittenOutput;
 pub use definitions::views::{Written, WrittenDefinition, WrittenView};
-pub use definitions::written_law::{exprs_read_back_law, joins_read_back_law, preds_read_back_law};
+pub use definitions::written_law::{
+    bases_read_back_law, catalogues_read_back_law, exprs_read_back_law, filters_read_back_law,
+    joins_read_back_law, outputs_read_back_law, preds_read_back_law, rows_are_references_law,
+    views_read_back_law,
+};
 pub use definitions::{definitions_fit_law, read_definitions};

@@ -1,6 +1,20 @@
 // Laws of what the formulas of a catalogue mean.
+ghost use Rattle.wh_catalogue_text.specs.WrittenCatalogue.{BasesReadBack, CataloguesReadBack, ReadBasesAreWritten, ReadCataloguesAreWritten};
+ghost use Rattle.wh_catalogue_text.specs.WrittenHeader.{ColumnsStandInRows, ReadShapesAreNamed, RowsAreReferences};
 ghost use Rattle.wh_catalogue_text.specs.WrittenLaws.{ExprsReadBack, PredsReadBack, ReadExprsAreWritten, ReadPredsAreWritten};
-ghost use Rattle.wh_catalogue_text.specs.WrittenView.{JoinsReadBack, ReadJoinsAreWritten};
+ghost use Rattle.wh_catalogue_text.specs.WrittenOutput.{OutputsReadBack, ReadOutputsAreWritten};
+ghost use Rattle.wh_catalogue_text.specs.WrittenView.{FiltersReadBack, JoinsReadBack, ReadFiltersAreWritten, ReadJoinsAreWritten, ReadViewsAreWritten, ViewsReadBack};
+
+/// A law of the definitions: in a combined row a child's columns stand behind those of the children before it, each at its own
+/// place, under the child's name, a dot and the column's name; over a shape whose views have distinct names, and views whose
+/// columns have, no two stand under one reference; and a shape that is read is such a shape. The columns of what is read have
+/// such names too ([`crate::definitions_fit_law`]), so the laws below, which ask for distinct references, speak of each view of
+/// a catalogue that is read.
+pub fn rows_are_references_law()
+    ensures places { ColumnsStandInRows }
+    ensures rows { RowsAreReferences }
+    ensures read { ReadShapesAreNamed }
+{}
 
 /// A law of the definitions: an expression that is written as the format says (the left side first, `+`, `-` or `*` before
 /// the two, a column by its reference, a text in a table of the key `text`) is read as that expression, and what is read as
@@ -25,4 +39,46 @@ pub fn preds_read_back_law()
 pub fn joins_read_back_law()
     ensures back { JoinsReadBack }
     ensures written { ReadJoinsAreWritten }
+{}
+
+/// A law of the definitions: a predicate at the key `where`, or the one that every row meets where the key is missing, is read
+/// as it was written, and what is read is so written. It asks for what [`exprs_read_back_law`] asks for.
+pub fn filters_read_back_law()
+    ensures back { FiltersReadBack }
+    ensures written { ReadFiltersAreWritten }
+{}
+
+/// A law of the definitions: the columns of a derived view, written as the format says (`keep` as pairs of a column's name and
+/// its expression, without `group`; or, without `keep`, `group` as pairs of a name and a reference, `count` as a name, and
+/// `sum` as pairs of a name and an expression of whole numbers, where there are any, in the order of the columns), are read as
+/// these columns and what they are made of, and what is read is so written. It asks for what [`exprs_read_back_law`] asks for,
+/// and for 1 to 64 columns of distinct names.
+pub fn outputs_read_back_law()
+    ensures back { OutputsReadBack }
+    ensures written { ReadOutputsAreWritten }
+{}
+
+/// A law of the definitions: a derived view that is written as the format says, by its keys `join`, `where` and those of its
+/// columns, is read as that view, its texts numbered first in `where` and then in `keep`, from left to right; and what is
+/// read is so written. It asks for what [`outputs_read_back_law`] asks for.
+pub fn views_read_back_law()
+    ensures back { ViewsReadBack }
+    ensures written { ReadViewsAreWritten }
+{}
+
+/// A law of the definitions: a base view that is written as the format says (`columns` as texts of a name, a colon and `int`
+/// or `text`, or of a name alone for whole numbers) is read as that view, and what is read is so written. It asks for 1 to 64
+/// columns of distinct names.
+pub fn bases_read_back_law()
+    ensures back { BasesReadBack }
+    ensures written { ReadBasesAreWritten }
+{}
+
+/// A law of the definitions: over the shape of a catalogue's text, views that its entries write one after another, each derived
+/// one over the columns of its children, are read as these views, their texts numbered view by view; and what is read is so
+/// written. It asks for what [`bases_read_back_law`] and [`views_read_back_law`] ask of each view, but no longer for distinct
+/// references, which each combined row has ([`rows_are_references_law`]).
+pub fn catalogues_read_back_law()
+    ensures back { CataloguesReadBack }
+    ensures written { ReadCataloguesAreWritten }
 {}
