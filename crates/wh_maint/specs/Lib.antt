@@ -8,6 +8,7 @@ pub mod Finishing
 pub mod Fit
 pub mod Laws
 pub mod MetRows
+pub mod Opening
 pub mod Product
 pub mod Refused
 pub mod Share
