@@ -6,4 +6,5 @@ pub(crate) mod catalogs;
 mod closures;
 mod groups;
 mod limits;
+mod opened;
 pub(crate) mod tables;

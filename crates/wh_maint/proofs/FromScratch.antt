@@ -121,7 +121,7 @@ none_of : (o : Option DefinitionOf) → is_some o ≡ false → o ≡ None
 none_of None e = refl
 none_of (Some d) e = cc
 
-past_end : {A : Type 0} (xs : List A) (n : ℕ) (d : A) → length xs ≤ n → slice_index_or xs n d ≡ d
+pub past_end : {A : Type 0} (xs : List A) (n : ℕ) (d : A) → length xs ≤ n → slice_index_or xs n d ≡ d
 past_end [] n d l = refl
 past_end (x ∷ xs) zero d l = absurd (omega arith)
 past_end (x ∷ xs) (suc n) d l = past_end xs n d (omega arith)

@@ -25,6 +25,7 @@ mod NoRows
 mod OldGroups
 pub mod OldRows
 mod OneRow
+mod OpenedContents
 pub mod Products
 pub mod RuledOut
 pub mod SizeBounds

@@ -9,6 +9,7 @@ pub mod Fit
 pub mod Laws
 pub mod MetRows
 pub mod NewSums
+pub mod Opening
 pub mod Product
 pub mod Refused
 pub mod Share

@@ -2,7 +2,7 @@
 //!
 //! A view's value is made of the combined rows of its children's tables; a Comp adds what changes of some children
 //! make different ([`comp`]), and a [`Pending`] keeps it. [`finish`] makes the view's change of that, and [`install`]
-//! adds it. What this rests on are laws: functions that do nothing, on whose contracts a proof calls.
+//! adds it. [`opening_contents`] works all views out from scratch. What this rests on are laws: functions that do nothing, on whose contracts a proof calls.
 #![tactic(auto)]
 
 mod asked;
@@ -17,6 +17,7 @@ mod finished;
 mod group_change;
 mod installed;
 mod laws;
+mod opening;
 mod pending;
 mod size;
 mod term;
@@ -37,5 +38,6 @@ pub use laws::{
     sizes_multiply, summaries_show_accumulators, tables_have_width, terms_are_within,
     terms_give_values, terms_meet_old_or_new_rows, values_are_fit,
 };
+pub use opening::opening_contents;
 pub use pending::Pending;
 pub use size::operand_rows;

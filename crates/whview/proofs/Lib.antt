@@ -16,6 +16,5 @@ pub mod NamesRead
 pub mod PlansCertified
 pub mod SmallWorks
 pub mod NightTold
-pub mod OpenedContents
 pub mod ReadRows
 pub mod StoredCatalog

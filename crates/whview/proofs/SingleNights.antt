@@ -4,7 +4,6 @@ use Rattle.std.specs.Prelude.{MatchResult, codes}
 use Rattle.std.proofs.lemmas.Bool.{cases_lt}
 use Rattle.std.proofs.lemmas.List.{ext_get_or, length-map, same_lists}
 use Rattle.std.proofs.lemmas.Option.{get_or_from_slice_get}
-use Rattle.wh_dag.specs.Catalog.{CatalogOf}
 use Rattle.wh_dag.specs.Shape.{IsShape, Views}
 use Rattle.wh_dag.specs.Written.{name_of}
 use Rattle.wh_text.specs.declared.fault.LoadFault.{LoadFault}
@@ -22,10 +21,12 @@ use Rattle.wh_load.specs.ReadingNight.{ChangeRows, Night, TableRows, catalog_in,
 use Rattle.wh_load.specs.ReadingParts.{parts_in, text_in}
 use Rattle.wh_maint.specs.Comp.{bag_at}
 use Rattle.wh_maint.specs.Contents.{contents}
-use Rattle.wh_maint.specs.Definition.{graph_of}
+use Rattle.wh_maint.specs.Opening.{CanBeEvaluated, HasNoContents, IsEvaluateFault}
+use Rattle.wh_maint.specs.View.{ViewGraph}
 use Rattle.wh_maint.specs.declared.fault.MaintFault.{MaintFault}
 use Rattle.wh_maint.specs.declared.fault.MaintFault.TheVariants.{Absent, Large, Memory, Range}
 use Rattle.wh_night.proofs.FirstRefusals.{refusals_are_one}
+use Rattle.wh_night.proofs.NewValues.{within}
 use Rattle.wh_night.proofs.Prefixes.{there}
 use Rattle.wh_night.specs.Carry.{tables_after}
 use Rattle.wh_night.specs.Refused.{IsNightFault}
@@ -38,42 +39,41 @@ use Rattle.whview.proofs.SingleFaults.{one_broken, one_shown}
 use Rattle.whview.specs.CheckOutput.{IsFaultShown}
 use Rattle.whview.specs.NightOutput.{AreOpened, IsCarriedOut, IsNightTold, broken, carried, carried_text, graph_in, left_text, no_contents, refused, refused_text, report_text, view_text, views_text}
 use Rattle.whview.specs.OneAnswer.{AreSame, OneNightOutput}
-use Rattle.whview.specs.OpenedNight.{HasNoContents, HasValueOver, IsValueFault}
 
 -- ---- one reason why there are no contents
 
-no_value : (catalog : CatalogOf) (tables : ℕ → Bag) (view : ℕ) (fault : MaintFault) → IsValueFault catalog tables view fault → HasValueOver catalog tables view → ⊥
-no_value catalog tables view (Large v) why has = has.few why.1
-no_value catalog tables view (Range v) why has = why.2 has.valued
-no_value catalog tables view (Absent v row) why has = why
-no_value catalog tables view Memory why has = why
+not_evaluated : (g : ViewGraph) (tables : ℕ → Bag) (view : ℕ) (fault : MaintFault) → IsEvaluateFault g tables view fault → CanBeEvaluated g tables view → ⊥
+not_evaluated g tables view (Large v) why has = has.few why.1
+not_evaluated g tables view (Range v) why has = why.2 has.valued
+not_evaluated g tables view (Absent v row) why has = why
+not_evaluated g tables view Memory why has = why
 
-one_value_fault : (catalog : CatalogOf) (tables : ℕ → Bag) (view : ℕ) (fault other : MaintFault) → IsValueFault catalog tables view fault → IsValueFault catalog tables view other → fault ≡ other
-one_value_fault catalog tables view (Large v) (Large w) a b = ap Large (a.0 ∙ sym b.0)
-one_value_fault catalog tables view (Large v) (Range w) a b = absurd (b.1 a.1)
-one_value_fault catalog tables view (Range v) (Large w) a b = absurd (a.1 b.1)
-one_value_fault catalog tables view (Range v) (Range w) a b = ap Range (a.0 ∙ sym b.0)
-one_value_fault catalog tables view (Absent v row) other a b = absurd a
-one_value_fault catalog tables view fault (Absent v row) a b = absurd b
-one_value_fault catalog tables view Memory other a b = absurd a
-one_value_fault catalog tables view fault Memory a b = absurd b
+one_evaluate_fault : (g : ViewGraph) (tables : ℕ → Bag) (view : ℕ) (fault other : MaintFault) → IsEvaluateFault g tables view fault → IsEvaluateFault g tables view other → fault ≡ other
+one_evaluate_fault g tables view (Large v) (Large w) a b = ap Large (a.0 ∙ sym b.0)
+one_evaluate_fault g tables view (Large v) (Range w) a b = absurd (b.1 a.1)
+one_evaluate_fault g tables view (Range v) (Large w) a b = absurd (a.1 b.1)
+one_evaluate_fault g tables view (Range v) (Range w) a b = ap Range (a.0 ∙ sym b.0)
+one_evaluate_fault g tables view (Absent v row) other a b = absurd a
+one_evaluate_fault g tables view fault (Absent v row) a b = absurd b
+one_evaluate_fault g tables view Memory other a b = absurd a
+one_evaluate_fault g tables view fault Memory a b = absurd b
 
-one_lack : (catalog : CatalogOf) (base : ℕ → Bag) (fault other : MaintFault) → HasNoContents catalog base fault → HasNoContents catalog base other → fault ≡ other
-one_lack catalog base fault other a b =
-    let tables = contents (graph_of catalog) base in
+one_lack : (g : ViewGraph) (base : ℕ → Bag) (fault other : MaintFault) → HasNoContents g base fault → HasNoContents g base other → fault ≡ other
+one_lack g base fault other a b =
+    let tables = contents g base in
     ⊎_elim
-    (λ l. absurd (no_value catalog tables a.view fault a.why (b.before a.view l a.derived)))
+    (λ l. absurd (not_evaluated g tables a.view fault a.why (b.before a.view l a.derived)))
     (λ m. ⊎_elim
-    (λ l. absurd (no_value catalog tables b.view other b.why (a.before b.view l b.derived)))
+    (λ l. absurd (not_evaluated g tables b.view other b.why (a.before b.view l b.derived)))
     (λ k.
     let e : a.view ≡ b.view = omega (arith, m, k) in
-    one_value_fault catalog tables b.view fault other (subst (λ v. IsValueFault catalog tables v fault) e a.why) b.why)
+    one_evaluate_fault g tables b.view fault other (subst (λ v. IsEvaluateFault g tables v fault) e a.why) b.why)
     (cases_lt b.view a.view))
     (cases_lt a.view b.view)
 
 -- contents that are opened lack nothing
-not_opened : (night : Night) (fault : MaintFault) (old : List Bag) → HasNoContents (catalog_in night) (bag_at night.opening.tables) fault → AreOpened night old → ⊥
-not_opened night fault old h a = no_value (catalog_in night) _ h.view fault h.why (a.valued h.view h.there h.derived)
+not_opened : (night : Night) (fault : MaintFault) (old : List Bag) → HasNoContents (graph_in night) (bag_at night.opening.tables) fault → AreOpened night old → ⊥
+not_opened night fault old h a = not_evaluated (graph_in night) _ h.view fault h.why (a.valued h.view (within night.shape.children h.view h.derived) h.derived)
 
 -- ---- one opening, one list of steps, one text of the tables
 
@@ -142,7 +142,7 @@ one_told night text other status ended is (broken rule place f t s) (refused old
 one_told night text other status ended is (broken rule place f t s) (carried old' new' steps' ok' c' t' s') = absurd (not_correct rule _ _ place is.shape f ok')
 one_told night text other status ended is (no_contents fault ok h t s) (broken rule' place' f' t' s') = absurd (not_correct rule' _ _ place' is.shape f' ok)
 one_told night text other status ended is (no_contents fault ok h t s) (no_contents fault' ok' h' t' s') =
-    record { texts = t ∙ ap (refused_text night.shape.names) (one_lack (catalog_in night) (bag_at night.opening.tables) fault fault' h h') ∙ sym t'; statuses = s ∙ sym s' }
+    record { texts = t ∙ ap (refused_text night.shape.names) (one_lack (graph_in night) (bag_at night.opening.tables) fault fault' h h') ∙ sym t'; statuses = s ∙ sym s' }
 one_told night text other status ended is (no_contents fault ok h t s) (refused old' fault' ok' o' m' h' t' s') = absurd (not_opened night fault old' h o')
 one_told night text other status ended is (no_contents fault ok h t s) (carried old' new' steps' ok' c' t' s') = absurd (not_opened night fault old' h c'.opened)
 one_told night text other status ended is (refused old fault ok o m h t s) (broken rule' place' f' t' s') = absurd (not_correct rule' _ _ place' is.shape f' ok)

@@ -6,7 +6,6 @@ pub mod FirstLine
 pub mod FitNight
 pub mod NightOutput
 pub mod OneAnswer
-pub mod OpenedNight
 pub mod Output
 pub mod PlanCertified
 pub mod PlanOutput

@@ -12,6 +12,7 @@ use Rattle.wh_maint.specs.Comp.{bag_at}
 use Rattle.wh_maint.specs.Contents.{AreContentsOf, contents}
 use Rattle.wh_maint.specs.Definition.{graph_of}
 use Rattle.wh_maint.specs.Laws.{changed}
+use Rattle.wh_maint.specs.Opening.{HasNoContents, HaveContentsBelow}
 use Rattle.wh_maint.specs.Size.{capped}
 use Rattle.wh_maint.specs.View.{ViewGraph}
 use Rattle.wh_maint.specs.declared.fault.MaintFault.{MaintFault}
@@ -24,7 +25,6 @@ use Rattle.wh_strategy.specs.Rules.{IsCorrect, IsFirstBroken}
 use Rattle.wh_strategy.specs.declared.expression.Expression.{Expression}
 use Rattle.wh_strategy.specs.declared.rule.Rule.{Rule}
 use Rattle.whview.specs.CheckOutput.{IsFaultShown, broken_text, line}
-use Rattle.whview.specs.OpenedNight.{HasNoContents, HaveContentsBelow}
 
 -- ---- texts
 
@@ -82,7 +82,7 @@ old_contents night = contents (graph_in night) (bag_at night.opening.tables)
 pub record AreOpened (night : Night) (tables : List Bag) : Type 0 where
   pub each : length tables ≡ length night.shape.children
   pub opened : (view : ℕ) → view < length night.shape.children → bag_at tables view ≡ old_contents night view
-  pub valued : HaveContentsBelow (catalog_in night) (bag_at night.opening.tables) (length night.shape.children)
+  pub valued : HaveContentsBelow (graph_in night) (bag_at night.opening.tables) (length night.shape.children)
 
 -- The strategy, carried out from the contents of the base that was read, makes these tables in these steps, and nothing in it
 -- is refused. The tables are the contents of the base with its changes, whatever the strategy is, so that each derived view has
@@ -94,7 +94,7 @@ pub record IsCarriedOut (night : Night) (old new : List Bag) (steps : List (Expr
   pub carried : (view : ℕ) → view < length night.shape.children
       → bag_at new view ≡ tables_after (graph_in night) (bag_at night.given.changes) night.given.list (bag_at old) view
   pub contents : AreContentsOf (graph_in night) (changed (bag_at night.opening.tables) (bag_at night.given.changes)) (bag_at new)
-  pub valued : HaveContentsBelow (catalog_in night) (changed (bag_at night.opening.tables) (bag_at night.given.changes)) (length night.shape.children)
+  pub valued : HaveContentsBelow (graph_in night) (changed (bag_at night.opening.tables) (bag_at night.given.changes)) (length night.shape.children)
   pub reported : AreSteps night.shape.children night.given.list (bag_at old)
       (tables_after (graph_in night) (bag_at night.given.changes) night.given.list (bag_at old)) steps
 
@@ -104,7 +104,7 @@ pub record IsCarriedOut (night : Night) (old new : List Bag) (steps : List (Expr
 -- expressions, meet; want of memory is told as such and is none of these.
 pub data IsNightTold (night : Night) (text : List ℕ) (status : ℕ) : Type 0 where
   broken : (rule : Rule) (place : ℕ) → IsFirstBroken night.shape.children night.given.list rule place → text ≡ broken_text rule place → status ≡ 1 → IsNightTold night text status
-  no_contents : (fault : MaintFault) → IsCorrect night.shape.children night.given.list → HasNoContents (catalog_in night) (bag_at night.opening.tables) fault
+  no_contents : (fault : MaintFault) → IsCorrect night.shape.children night.given.list → HasNoContents (graph_in night) (bag_at night.opening.tables) fault
       → text ≡ refused_text night.shape.names fault → status ≡ 1 → IsNightTold night text status
   refused : (old : List Bag) (fault : CarryFault) → IsCorrect night.shape.children night.given.list → AreOpened night old → fault.fault ≢ Memory
       → IsNightFault (catalog_in night) night.given.list (bag_at old) (bag_at night.given.changes) fault

@@ -6,26 +6,23 @@ ghost use Rattle.wh_formula.specs.Pred.{fits as fits_pred};
 ghost use Rattle.wh_catalogue_text.specs.Definitions.{shown_view};
 ghost use Rattle.wh_catalogue_text.specs.ReadCatalog.{catalog_of};
 ghost use Rattle.wh_load.specs.ReadingShown.{shown_given, shown_night, shown_opening};
-ghost use Rattle.whview.specs.FitNight.{IsFitNight};
+ghost use Rattle.whview.specs.FitNight.{AreReadTables, IsFitNight};
 ghost use Rattle.whview.specs.NightOutput.{IsNightOutput, IsNightTold};
-ghost use Rattle.whview.specs.OpenedNight.{AreReadTables};
 ghost use Rattle.whview.specs.StoredClosures.{AnswersTests, AnswersValues};
 ghost use Rattle.wh_maint.specs.Asked.{AreBags};
 
 mod catalogue;
-mod contents;
 mod report;
 
 use crate::answer::Answer;
 use crate::verdict::refusal;
 use catalogue::catalog_with;
-use contents::opening_contents;
 use report::{carried_answer, no_contents, refused_answer};
 use std::alloc::{AllocError, Global};
 use wh_dag::Catalog;
 use wh_formula::{Expr, Native, Pred, RowTest, RowValue};
 use wh_load::{GivenNight, LoadFault, NightInput, Opening, read_night};
-use wh_maint::MaintFault;
+use wh_maint::{MaintFault, opening_contents};
 use wh_night::carry;
 use wh_strategy::check;
 

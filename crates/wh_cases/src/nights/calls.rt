@@ -6,7 +6,8 @@ use std::process::Abort;
 use wh_dag::Catalog;
 use wh_formula::{RowTest, RowValue};
 use wh_maint::{
-    MaintFault, Pending, are_bags, are_sources, comp, evaluate, finish, is_fit, operand_rows,
+    MaintFault, Pending, are_bags, are_sources, comp, evaluate, finish, is_fit, opening_contents,
+    operand_rows,
 };
 use wh_row::Bag;
 
@@ -57,6 +58,17 @@ pub(crate) fn value_of<F: RowTest, G: RowValue>(
     assert!(rt; !catalog.is_base(view));
     assert!(rt; are_bags(catalog, tables));
     evaluate(alloc, catalog, view, tables)
+}
+
+/// The contents of a base.
+pub(crate) fn contents_of<F: RowTest, G: RowValue>(
+    rt: &impl Abort,
+    alloc: Global,
+    catalog: &Catalog<F, G>,
+    base: Vec<Bag>,
+) -> Result<Vec<Bag>, MaintFault> {
+    assert!(rt; are_bags(catalog, &base));
+    opening_contents(alloc, catalog, base)
 }
 
 /// The change of a view; its table is fit.
