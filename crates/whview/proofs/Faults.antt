@@ -1,19 +1,20 @@
 -- The fault of an error of `clap`.
-use Rattle.std.proofs.Common.{◌≡◌, ◌∙◌, ◌⊎◌, ap, arith, inl, inr, refl}
+use Rattle.std.proofs.Common.{◌≡◌, ◌∙◌, ◌⊎◌, ap, inl, inr, refl}
 use Rattle.clap.specs.Words.{HasKind, Kinds, kind_of}
 use Rattle.clap.specs.declared.error.Error.{Error}
 use Rattle.clap.specs.declared.error.kind.ErrorKind.TheVariants.{OutOfMemory}
 use Rattle.whview.specs.CommandFault.{FailsAs, status_of, status_of_kind}
 use Rattle.whview.specs.declared.command_line.fault.CommandFault.{CommandFault}
 use Rattle.whview.specs.declared.command_line.fault.CommandFault.TheVariants as fault
+use Rattle.whview.specs.declared.status.Status.TheVariants.{Limit}
 
 -- a fault that is memory, or has the status of the error's kind
 abbrev pub IsFaultOf : Error → CommandFault → Type 0
 IsFaultOf e f = (f ≡ fault.Memory) ⊎ (status_of f ≡ status_of_kind (kind_of e))
 
-memory_status : (f : CommandFault) → status_of f ≡ 4 → f ≡ fault.Memory
-memory_status (fault.Help text) e = absurd (omega (arith, e))
-memory_status (fault.Refused text) e = absurd (omega (arith, e))
+memory_status : (f : CommandFault) → status_of f ≡ Limit → f ≡ fault.Memory
+memory_status (fault.Help text) e = cc
+memory_status (fault.Refused text) e = cc
 memory_status fault.Memory e = refl
 
 pub memory_fault : (e : Error) (f : CommandFault) → IsFaultOf e f → kind_of e ≡ OutOfMemory → f ≡ fault.Memory

@@ -11,10 +11,11 @@ pub mod SingleFaults
 pub mod SingleNights
 pub mod SinglePlans
 pub mod Told
-pub mod Verdicts
+pub mod Certified
+pub mod Decided
 pub mod NamesRead
 pub mod PlansCertified
 pub mod SmallWorks
-pub mod NightTold
+pub mod NightDecided
 pub mod ReadRows
 pub mod StoredCatalog

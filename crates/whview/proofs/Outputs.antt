@@ -10,15 +10,16 @@ use Rattle.whview.specs.CommandFault.{FailsAs, status_of}
 use Rattle.whview.specs.CommandLine.{whview_app}
 use Rattle.whview.specs.FirstLine.{words_in, names_input}
 use Rattle.whview.specs.Output.{AskFor, Bytes, Failed, HoldsOfReading, IsCommandOutput, IsHandedOutput, IsReadAnswer, IsRefused, IsSourceAnswer, IsUnreadShown, answered, file_of, too_long, within}
+use Rattle.whview.specs.Status.{status_number}
 use Rattle.whview.specs.declared.command_line.Asked.{Asked}
 use Rattle.whview.specs.declared.command_line.fault.CommandFault.{CommandFault}
 use Rattle.whview.specs.declared.command_line.fault.CommandFault.TheVariants.{Memory}
 
-pub refused_as : (words : List (List ℕ)) (f : CommandFault) (status : ℕ) → FailsAs (fault_of whview_app words) f → f ≢ Memory → status ≡ status_of f → IsRefused words status
+pub refused_as : (words : List (List ℕ)) (f : CommandFault) (status : ℕ) → FailsAs (fault_of whview_app words) f → f ≢ Memory → status ≡ status_number (status_of f) → IsRefused words status
 refused_as words f status fails told ended =
     ⊎_elim
     (λ memory. absurd (told memory))
-    (λ k. record { kind = k.0; found = k.1; ended = ended ∙ k.2 })
+    (λ k. record { kind = k.0; found = k.1; ended = ended ∙ ap status_number k.2 })
     fails
 
 -- ---- what was read

@@ -22,6 +22,7 @@ use Rattle.wh_cert.specs.declared.certificate.Verdict.TheVariants.{All, OneWay, 
 use Rattle.wh_cert.proofs.OneVerdict.{verdicts_same}
 use Rattle.wh_plan_text.specs.PlanText.{plan_of}
 use Rattle.whview.specs.CertifyOutput.{IsCertifyOutput, IsJudgement, IsLeastBy, broken as broken_claim, judged, other_work, verdict_status, verdict_text, work_at}
+use Rattle.whview.specs.Status.{status_number}
 use Rattle.whview.specs.CheckOutput.{IsCheckOutput, IsFaultShown, IsVerdict, broken, correct, correct_text}
 use Rattle.whview.specs.CommandLine.{AsksBy, IsAsked, whview_app}
 use Rattle.whview.specs.FirstLine.{after_first_line, first_line_of, words_in}
@@ -80,7 +81,7 @@ one_judgement costs claim text other status ended sh (judged verdict is w j l t 
 one_judgement costs claim text other status ended sh (judged verdict is w j l t s) (other_work is' n' t' s') = absurd (n' w)
 one_judgement costs claim text other status ended sh (judged verdict is w j l t s) (judged verdict' is' w' j' l' t' s') =
     let same : verdict ≡ verdict' = verdicts_same _ _ _ _ _ claim.plan.certificate verdict verdict' j j' in
-    record { texts = t ∙ ap (verdict_text claim.plan.work) same ∙ sym t'; statuses = s ∙ ap verdict_status same ∙ sym s' }
+    record { texts = t ∙ ap (verdict_text claim.plan.work) same ∙ sym t'; statuses = s ∙ ap (λ v. status_number (verdict_status v)) same ∙ sym s' }
 
 -- what is read of a claim has a shape
 claim_shape_read : (bytes : List ℕ) (claim : Claim) → claim_of bytes ≡ Ok claim → IsShape claim.measured.shape.children

@@ -11,6 +11,11 @@ use Rattle.wh_strategy.specs.Rules.{IsCorrect, IsFirstBroken, IsOneWay}
 use Rattle.wh_strategy.specs.Sizes.{sizes_of}
 use Rattle.wh_strategy.specs.Work.{work_of}
 use Rattle.whview.specs.CheckOutput.{IsFaultShown, broken_text, line}
+use Rattle.whview.specs.Status.{status_number}
+use Rattle.whview.specs.declared.certify.Outcome.{Outcome}
+use Rattle.whview.specs.declared.certify.Outcome.TheVariants.{Broken, Judged, OtherWork}
+use Rattle.whview.specs.declared.status.Status.{Status}
+use Rattle.whview.specs.declared.status.Status.TheVariants.{Done, Negative}
 
 -- the work that the plan's list has at these costs
 abbrev pub work_at : Costs → Claim → ℕ
@@ -42,10 +47,10 @@ verdict_text work OneWay = line (codes "certified one-way work " ++ decimal work
 verdict_text work (Rejected place) = line (codes "rejected at " ++ decimal place)
 
 -- and the status
-abbrev pub verdict_status : Verdict → ℕ
-verdict_status All = 0
-verdict_status OneWay = 0
-verdict_status (Rejected place) = 1
+abbrev pub verdict_status : Verdict → Status
+verdict_status All = Done
+verdict_status OneWay = Done
+verdict_status (Rejected place) = Negative
 
 -- What is printed of a claim, and the status: the first rule that the list breaks; else that its work is another one; else the
 -- verdict on its certificate. Where it is certified, no strategy of its scope costs less.
@@ -54,7 +59,28 @@ pub data IsJudgement (costs : Costs) (claim : Claim) (text : List ℕ) (status :
   other_work : IsCorrect claim.measured.shape.children claim.plan.strategy → work_at costs claim ≢ claim.plan.work → text ≡ line (codes "rejected work") → status ≡ 1 → IsJudgement costs claim text status
   judged : (verdict : Verdict) → IsCorrect claim.measured.shape.children claim.plan.strategy → work_at costs claim ≡ claim.plan.work
       → IsJudged claim.measured.shape.children (sizes_of claim.measured.sizes) costs.comp costs.inst (work_at costs claim) claim.plan.certificate verdict
-      → IsLeastBy costs claim verdict → text ≡ verdict_text claim.plan.work verdict → status ≡ verdict_status verdict → IsJudgement costs claim text status
+      → IsLeastBy costs claim verdict → text ≡ verdict_text claim.plan.work verdict → status ≡ status_number (verdict_status verdict) → IsJudgement costs claim text status
+
+-- this is decided of a claim
+abbrev pub IsDecided : Costs → Claim → Outcome → Type 0
+IsDecided costs claim (Broken rule place) = IsFirstBroken claim.measured.shape.children claim.plan.strategy rule place
+IsDecided costs claim OtherWork = IsCorrect claim.measured.shape.children claim.plan.strategy × (work_at costs claim ≢ claim.plan.work)
+IsDecided costs claim (Judged work verdict) =
+    IsCorrect claim.measured.shape.children claim.plan.strategy × (work_at costs claim ≡ claim.plan.work) × (work ≡ claim.plan.work)
+    × IsJudged claim.measured.shape.children (sizes_of claim.measured.sizes) costs.comp costs.inst (work_at costs claim) claim.plan.certificate verdict
+    × IsLeastBy costs claim verdict
+
+-- what is printed of what was decided
+abbrev pub text_of : Outcome → List ℕ
+text_of (Broken rule place) = broken_text rule place
+text_of OtherWork = line (codes "rejected work")
+text_of (Judged work verdict) = verdict_text work verdict
+
+-- and the status
+abbrev pub status_of : Outcome → Status
+status_of (Broken rule place) = Negative
+status_of OtherWork = Negative
+status_of (Judged work verdict) = verdict_status verdict
 
 -- what `certify` prints for a bundle's bytes, and the status
 abbrev pub IsCertifyOutput : Costs → List ℕ → List ℕ → ℕ → Type 0

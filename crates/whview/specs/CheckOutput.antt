@@ -3,13 +3,15 @@ use Rattle.std.specs.Prelude.{◌≡◌, ◌++◌, ℕ, List, [], ◌∷◌, cod
 use Rattle.wh_text.specs.FaultText.{fault_text}
 use Rattle.wh_text.specs.declared.fault.LoadFault.{LoadFault}
 use Rattle.wh_load.specs.ReadingCheck.{Inputs, inputs_of}
-use Rattle.wh_strategy.specs.declared.correct.CheckFault.{CheckFault}
-use Rattle.wh_strategy.specs.declared.correct.CheckFault.TheVariants.{Broken, Memory}
 use Rattle.wh_strategy.specs.declared.rule.Rule.{Rule}
 use Rattle.wh_strategy.specs.declared.costs.Costs.{Costs}
 use Rattle.wh_strategy.specs.Rules.{IsCorrect, IsFirstBroken, number_of}
 use Rattle.wh_strategy.specs.Sizes.{sizes_of}
 use Rattle.wh_strategy.specs.Work.{work_of}
+use Rattle.whview.specs.declared.check.Outcome.{Outcome}
+use Rattle.whview.specs.declared.check.Outcome.TheVariants.{Broken, Correct}
+use Rattle.whview.specs.declared.status.Status.{Status}
+use Rattle.whview.specs.declared.status.Status.TheVariants.{Done, Negative}
 
 -- a text and the LF that ends its line
 abbrev pub line : List ℕ → List ℕ
@@ -28,10 +30,21 @@ pub data IsVerdict (costs : Costs) (inputs : Inputs) (text : List ℕ) (status :
   correct : IsCorrect inputs.measured.shape.children inputs.list → text ≡ correct_text (work_of inputs.measured.shape.children (sizes_of inputs.measured.sizes) costs.comp costs.inst inputs.list) → status ≡ 0 → IsVerdict costs inputs text status
   broken : (rule : Rule) (place : ℕ) → IsFirstBroken inputs.measured.shape.children inputs.list rule place → text ≡ broken_text rule place → status ≡ 1 → IsVerdict costs inputs text status
 
--- what is printed of a refused strategy, and the status; of want of memory nothing is
-abbrev pub IsRefusalShown : CheckFault → List ℕ → ℕ → Type 0
-IsRefusalShown (Broken rule place) text status = (text ≡ broken_text rule place) × (status ≡ 1)
-IsRefusalShown Memory text status = ⊥
+-- this is decided of these inputs: that the list is correct, and its work; or which rule it breaks first, and where
+abbrev pub IsDecided : Costs → Inputs → Outcome → Type 0
+IsDecided costs inputs (Correct work) =
+    IsCorrect inputs.measured.shape.children inputs.list × (work ≡ work_of inputs.measured.shape.children (sizes_of inputs.measured.sizes) costs.comp costs.inst inputs.list)
+IsDecided costs inputs (Broken rule place) = IsFirstBroken inputs.measured.shape.children inputs.list rule place
+
+-- what is printed of what was decided
+abbrev pub text_of : Outcome → List ℕ
+text_of (Correct work) = correct_text work
+text_of (Broken rule place) = broken_text rule place
+
+-- and the status
+abbrev pub status_of : Outcome → Status
+status_of (Correct work) = Done
+status_of (Broken rule place) = Negative
 
 -- what is printed of a fault of the input, and the status
 pub record IsFaultShown (fault : LoadFault) (text : List ℕ) (status : ℕ) : Type 0 where

@@ -9,4 +9,5 @@ pub mod OneAnswer
 pub mod Output
 pub mod PlanCertified
 pub mod PlanOutput
+pub mod Status
 pub mod StoredClosures

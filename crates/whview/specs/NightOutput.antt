@@ -1,9 +1,10 @@
 -- What `night` prints for the bytes of a bundle, and the status that it ends with.
-use Rattle.std.specs.Prelude.{◌≡◌, ◌≢◌, ◌<◌, ◌+◌, ◌++◌, ℕ, List, [], ◌∷◌, length, Option, Some, None, codes, decimal, cond, flat_map, sum_by, MatchResult}
+use Rattle.std.specs.Prelude.{◌≡◌, ◌≢◌, ◌<◌, ◌+◌, ◌++◌, ℕ, List, [], ◌∷◌, length, map, Option, Some, None, codes, decimal, cond, flat_map, sum_by, MatchResult}
 use Rattle.wh_dag.specs.Catalog.{DefinitionOf}
+use Rattle.wh_dag.specs.Shape.{Views}
 use Rattle.wh_dag.specs.Written.{name_of}
 use Rattle.wh_row.specs.Bag.{Bag}
-use Rattle.wh_catalogue_text.specs.Definitions.{ViewOf}
+use Rattle.wh_catalogue_text.specs.Definitions.{ViewOf, shown_view}
 use Rattle.wh_catalogue_text.specs.FormulaKinds.{Texts}
 use Rattle.wh_table_text.specs.TableWritten.{table_text}
 use Rattle.wh_plan_text.specs.ExpressionText.{expression_text}
@@ -25,6 +26,10 @@ use Rattle.wh_strategy.specs.Rules.{IsCorrect, IsFirstBroken}
 use Rattle.wh_strategy.specs.declared.expression.Expression.{Expression}
 use Rattle.wh_strategy.specs.declared.rule.Rule.{Rule}
 use Rattle.whview.specs.CheckOutput.{IsFaultShown, broken_text, line}
+use Rattle.whview.specs.declared.night.Outcome.{Outcome}
+use Rattle.whview.specs.declared.night.Outcome.TheVariants.{Broken, Carried, NoContents, Refused}
+use Rattle.whview.specs.declared.status.Status.{Status}
+use Rattle.whview.specs.declared.status.Status.TheVariants.{Done, Negative}
 
 -- ---- texts
 
@@ -97,6 +102,52 @@ pub record IsCarriedOut (night : Night) (old new : List Bag) (steps : List (Expr
   pub valued : HaveContentsBelow (graph_in night) (changed (bag_at night.opening.tables) (bag_at night.given.changes)) (length night.shape.children)
   pub reported : AreSteps night.shape.children night.given.list (bag_at old)
       (tables_after (graph_in night) (bag_at night.given.changes) night.given.list (bag_at old)) steps
+
+-- ---- what is decided
+
+-- what is carried out is shown with these views and texts, which are those that were read, from these contents
+pub record IsShownFrom (night : Night) (views : List ViewOf) (texts : Texts) (new : List Bag) (steps : List (Expression × ℕ)) : Type 0 where
+  pub views_read : views ≡ night.opening.views
+  pub texts_read : texts ≡ night.opening.texts
+  pub old : List Bag
+  pub carried : IsCarriedOut night old new steps
+
+-- a night is refused from these contents for this reason, which is not want of memory
+pub record IsRefusedFrom (night : Night) (fault : CarryFault) : Type 0 where
+  pub old : List Bag
+  pub opened : AreOpened night old
+  pub told : fault.fault ≢ Memory
+  pub why : IsNightFault (catalog_in night) night.given.list (bag_at old) (bag_at night.given.changes) fault
+
+-- this is decided of a night
+abbrev pub IsDecided : Night → Outcome → Type 0
+IsDecided night (Broken rule place) = IsFirstBroken night.shape.children night.given.list rule place
+IsDecided night (NoContents fault) = IsCorrect night.shape.children night.given.list × HasNoContents (graph_in night) (bag_at night.opening.tables) fault
+IsDecided night (Refused fault) = IsCorrect night.shape.children night.given.list × IsRefusedFrom night fault
+IsDecided night (Carried views texts carried) =
+    IsCorrect night.shape.children night.given.list
+    × IsShownFrom night (map shown_view views.items) texts carried.tables.items carried.report.steps.items
+
+-- what is to be shown over this shape has its views and a table of each, and is the first that comes after what was read
+abbrev pub IsWhole : Views → Outcome → Type 0
+IsWhole shape (Carried views texts carried) =
+    (length views.items ≡ length shape.children) × (length carried.tables.items ≡ length shape.children) × (carried.report.version ≡ 1)
+IsWhole shape outcome = Unit {0}
+
+-- what is printed of what was decided, where the views have these names
+abbrev pub text_of : List (List ℕ) → Outcome → List ℕ
+text_of names (Broken rule place) = broken_text rule place
+text_of names (NoContents fault) = refused_text names fault
+text_of names (Refused fault) = left_text names fault
+text_of names (Carried views texts carried) =
+    report_text names carried.report.steps.items ++ views_text texts names 0 (map shown_view views.items) (bag_at carried.tables.items)
+
+-- and the status
+abbrev pub status_of : Outcome → Status
+status_of (Broken rule place) = Negative
+status_of (NoContents fault) = Negative
+status_of (Refused fault) = Negative
+status_of (Carried views texts carried) = Done
 
 -- ---- what is printed
 

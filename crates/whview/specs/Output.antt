@@ -14,6 +14,7 @@ use Rattle.whview.specs.CommandLine.{IsAsked, whview_app}
 use Rattle.whview.specs.FirstLine.{first_line_of, after_first_line, words_in, names_input}
 use Rattle.whview.specs.NightOutput.{IsNightOutput}
 use Rattle.whview.specs.PlanOutput.{IsPlanOutput}
+use Rattle.whview.specs.Status.{status_number}
 use Rattle.whview.specs.declared.answer.Answer.{Answer}
 use Rattle.whview.specs.declared.command_line.Asked.{Asked}
 use Rattle.whview.specs.declared.command_line.Asked.TheVariants as asked
@@ -47,7 +48,7 @@ pub record IsMemoryTold (text : List ℕ) (status : ℕ) : Type 0 where
 
 -- an answer is told as it is, and want of memory where there is none
 abbrev pub IsTold : {E : Type 0} → Result Answer E → List ℕ → ℕ → Type 0
-IsTold answer text status = MatchResult answer (λ a. (text ≡ a.text.items) × (status ≡ a.status)) (λ _. IsMemoryTold text status)
+IsTold answer text status = MatchResult answer (λ a. (text ≡ a.text.items) × (status ≡ status_number a.status)) (λ _. IsMemoryTold text status)
 
 -- ---- what was read
 
@@ -89,7 +90,7 @@ IsUnreadShown Memory text status = ⊥
 pub record IsRefused (words : List (List ℕ)) (status : ℕ) : Type 0 where
   pub kind : ErrorKind
   pub found : IsAmong kind (fault_of whview_app words)
-  pub ended : status ≡ status_of_kind kind
+  pub ended : status ≡ status_number (status_of_kind kind)
 
 -- `clap` finds no fault in these words, and they ask for this command
 pub record AskFor (words : List (List ℕ)) (command : Asked) : Type 0 where

@@ -16,6 +16,10 @@ use Rattle.wh_strategy.specs.Rules.{IsCorrect, IsOneWay}
 use Rattle.wh_strategy.specs.Sizes.{sizes_of}
 use Rattle.wh_strategy.specs.Work.{work_of}
 use Rattle.whview.specs.CheckOutput.{IsFaultShown, line}
+use Rattle.whview.specs.declared.plan.Outcome.{Outcome}
+use Rattle.whview.specs.declared.plan.Outcome.TheVariants.{Planned, Spent}
+use Rattle.whview.specs.declared.status.Status.{Status}
+use Rattle.whview.specs.declared.status.Status.TheVariants.{Done, Limit}
 
 -- A plan of least work at costs of a Comp's row and an Inst's row: its list is correct, each Comp of it is from one view, the work
 -- is that of the list, and the certificate is accepted for its scope. The scope is All exactly where the work is the pair bound,
@@ -45,6 +49,25 @@ pub data IsPlanned (comp inst budget : ℕ) (measured : Measured) (text : List �
   spent : (opened best : ℕ) → IsCyclicAsDesired measured.shape.children (sizes_of measured.sizes)
       → IsSpent measured.shape.children (sizes_of measured.sizes) comp inst budget opened best
       → text ≡ spent_text opened best → status ≡ 4 → IsPlanned comp inst budget measured text status
+
+-- this is decided: on a plan of least work, whose tree, if it has one, has no more nodes than the budget; or that the search for one
+-- has spent its budget
+abbrev pub IsDecided : ℕ → ℕ → ℕ → Measured → Outcome → Type 0
+IsDecided comp inst budget measured (Planned plan) =
+    IsLeastPlan comp inst measured plan.work plan.scope plan.correct.list plan.certificate × IsWithinBudget budget plan.certificate
+IsDecided comp inst budget measured (Spent opened best) =
+    IsCyclicAsDesired measured.shape.children (sizes_of measured.sizes)
+    × IsSpent measured.shape.children (sizes_of measured.sizes) comp inst budget opened best
+
+-- what is printed of what was decided, where the views have these names
+abbrev pub text_of : List (List ℕ) → Outcome → List ℕ
+text_of names (Planned plan) = plan_text names plan.scope plan.work plan.correct.list plan.certificate
+text_of names (Spent opened best) = spent_text opened best
+
+-- and the status
+abbrev pub status_of : Outcome → Status
+status_of (Planned plan) = Done
+status_of (Spent opened best) = Limit
 
 -- what `plan` prints for a bundle's bytes, and the status
 abbrev pub IsPlanOutput : Costs → ℕ → List ℕ → List ℕ → ℕ → Type 0

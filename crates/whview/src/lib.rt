@@ -8,13 +8,14 @@
 
 mod answer;
 mod budget;
-mod certification;
+mod certify;
+mod check;
 mod command_line;
 mod laws;
 mod night;
-mod planning;
+mod plan;
 mod program;
-mod verdict;
+mod status;
 mod words;
 
 pub use laws::{a_printed_plan_is_certified, one_answer_law};

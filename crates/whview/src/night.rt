@@ -1,42 +1,100 @@
 //! The command `night`: from the bytes of a bundle to what its strategy makes of the tables.
 
-ghost use Rattle.std.specs.Prelude.{◌≡◌, map, length, IsTrue, IfOk};
+ghost use Rattle.std.specs.Prelude.{◌≡◌, ◌≢◌, map, length, IsTrue, IfOk};
 ghost use Rattle.wh_formula.specs.Expr.{fits as fits_expr};
 ghost use Rattle.wh_formula.specs.Pred.{fits as fits_pred};
 ghost use Rattle.wh_catalogue_text.specs.Definitions.{shown_view};
 ghost use Rattle.wh_catalogue_text.specs.ReadCatalog.{catalog_of};
 ghost use Rattle.wh_load.specs.ReadingShown.{shown_given, shown_night, shown_opening};
-ghost use Rattle.whview.specs.FitNight.{AreReadTables, IsFitNight};
-ghost use Rattle.whview.specs.NightOutput.{IsNightOutput, IsNightTold};
-ghost use Rattle.whview.specs.StoredClosures.{AnswersTests, AnswersValues};
 ghost use Rattle.wh_maint.specs.Asked.{AreBags};
+ghost use Rattle.whview.specs.FitNight.{AreReadTables, IsFitNight};
+ghost use Rattle.whview.specs.NightOutput.{IsDecided, IsNightOutput, IsNightTold, IsWhole, status_of, text_of};
+ghost use Rattle.whview.specs.Status.{status_number};
+ghost use Rattle.whview.specs.StoredClosures.{AnswersTests, AnswersValues};
 
 mod catalogue;
 mod report;
 
-use crate::answer::Answer;
-use crate::verdict::refusal;
+use crate::answer::{Answer, broken_text};
+use crate::status::Status;
 use catalogue::catalog_with;
-use report::{carried_answer, no_contents, refused_answer};
+use report::{carried_text, cause_text, refused_text};
 use std::alloc::{AllocError, Global};
-use wh_dag::Catalog;
+use wh_dag::{Catalog, Shape};
 use wh_formula::{Expr, Native, Pred, RowTest, RowValue};
-use wh_load::{GivenNight, LoadFault, NightInput, Opening, read_night};
+use wh_load::{Dict, GivenNight, LoadFault, NightInput, Opening, WrittenView, read_night};
 use wh_maint::{MaintFault, opening_contents};
-use wh_night::carry;
-use wh_strategy::check;
+use wh_night::{Carried, CarryFault, carry};
+use wh_strategy::{CheckFault, Rule, check};
 
-/// What a night makes of what it is given, over a catalogue of its views.
-fn outcome<F: RowTest, G: RowValue>(
+/// What is decided of a night.
+#[derive(Drop)]
+pub enum Outcome {
+    /// Its strategy breaks a rule.
+    Broken {
+        /// The first that it breaks.
+        rule: Rule,
+        /// The first place of the list that breaks it, from 1.
+        place: usize,
+    },
+    /// The base that was read has no contents to begin from.
+    NoContents(MaintFault),
+    /// It is refused; the contents are as they were.
+    Refused(CarryFault),
+    /// It is carried out.
+    Carried {
+        /// The views, in the order of their numbers.
+        views: Vec<WrittenView>,
+        /// The texts that cells stand for.
+        texts: Dict,
+        /// The new tables, and what each expression did.
+        carried: Carried,
+    },
+}
+
+impl Outcome {
+    /// What is printed, with the names of these views.
+    fn text(&self, alloc: Global, shape: &Shape) -> Result<Vec<u8>, AllocError>
+        requires { IsWhole shape.now self.now }
+        ensures { IfOk result (λ text. text.items ≡ text_of shape.now.names self.now) }
+    {
+        match self {
+            Outcome::Broken { rule, place } => broken_text(alloc, *rule, *place),
+            Outcome::NoContents(fault) => cause_text(alloc, shape, fault),
+            Outcome::Refused(refused) => refused_text(alloc, shape, refused),
+            Outcome::Carried {
+                views,
+                texts,
+                carried,
+            } => carried_text(alloc, shape, views, texts, carried),
+        }
+    }
+
+    /// What the program ends with.
+    fn status(&self) -> Status
+        ensures { result ≡ status_of self.now }
+    {
+        match self {
+            Outcome::Carried { .. } => Status::Done,
+            Outcome::Broken { .. } | Outcome::NoContents(_) | Outcome::Refused(_) => {
+                Status::Negative
+            }
+        }
+    }
+}
+
+/// What is decided of a night from what it is given, over a catalogue of its views.
+fn decide<F: RowTest, G: RowValue>(
     alloc: Global,
     catalog: &Catalog<F, G>,
     opening: Opening,
     given: GivenNight,
-) -> Result<Answer, AllocError>
+) -> Result<Outcome, AllocError>
     requires shown { catalog.now ≡ catalog_of catalog.now.views (map shown_view opening.views.items) }
     requires tables { AreReadTables catalog.now opening.tables.items }
     requires changes { AreBags catalog.now given.changes.items }
-    ensures { IfOk result (λ a. IsNightTold (record { shape = catalog.now.views; opening = shown_opening opening; given = shown_given given }) a.text.items a.status) }
+    ensures decided { IfOk result (IsDecided (record { shape = catalog.now.views; opening = shown_opening opening; given = shown_given given })) }
+    ensures whole { IfOk result (IsWhole catalog.now.views) }
 {
     let Opening {
         views,
@@ -46,16 +104,41 @@ fn outcome<F: RowTest, G: RowValue>(
     let GivenNight { changes, strategy } = given;
     let correct = match check(alloc, catalog.shape(), strategy) {
         Ok(correct) => correct,
-        Err(fault) => return refusal(alloc, fault),
+        Err(CheckFault::Broken { rule, place }) => return Ok(Outcome::Broken { rule, place }),
+        Err(CheckFault::Memory) => return Err(AllocError),
     };
     let tables = match opening_contents(alloc, catalog, tables) {
         Ok(tables) => tables,
-        Err(MaintFault::Memory) => return Err(AllocError),
-        Err(fault) => return no_contents(alloc, catalog.shape(), &fault),
+        Err(fault) => return no_contents(fault),
     };
     match carry(alloc, catalog, &tables, &changes, &correct) {
-        Ok(carried) => carried_answer(alloc, catalog.shape(), &views, &texts, &carried),
-        Err(refused) => refused_answer(alloc, catalog.shape(), &refused),
+        Ok(carried) => Ok(Outcome::Carried {
+            views,
+            texts,
+            carried,
+        }),
+        Err(refused) => refusal(refused),
+    }
+}
+
+/// The outcome where a base has no contents for this reason. Want of memory is none.
+fn no_contents(fault: MaintFault) -> Result<Outcome, AllocError>
+    ensures { IfOk result (λ outcome. (outcome ≡ Outcome.NoContents fault) × (fault ≢ MaintFault.Memory)) }
+{
+    match fault {
+        MaintFault::Memory => Err(AllocError),
+        fault => Ok(Outcome::NoContents(fault)),
+    }
+}
+
+/// The outcome where a night is refused. Want of memory is none.
+fn refusal(refused: CarryFault) -> Result<Outcome, AllocError>
+    ensures { IfOk result (λ outcome. (outcome ≡ Outcome.Refused refused) × (refused.fault ≢ MaintFault.Memory)) }
+{
+    let CarryFault { fault, started } = refused;
+    match fault {
+        MaintFault::Memory => Err(AllocError),
+        fault => Ok(Outcome::Refused(CarryFault { fault, started })),
     }
 }
 
@@ -71,7 +154,7 @@ fn answer_with<F: RowTest + Drop, G: RowValue + Drop, T: Fn(Pred) -> F, V: Fn(Ex
     requires callable_value { V.IsAlwaysCallable value }
     requires tests { AnswersTests (T.post test) F.can_test F.tests }
     requires values { AnswersValues (V.post value) G.can_combine G.combines }
-    ensures { IfOk result (λ a. IsNightTold (shown_night input) a.text.items a.status) }
+    ensures { IfOk result (λ a. IsNightTold (shown_night input) a.text.items (status_number a.status)) }
 {
     let NightInput {
         shape,
@@ -79,13 +162,16 @@ fn answer_with<F: RowTest + Drop, G: RowValue + Drop, T: Fn(Pred) -> F, V: Fn(Ex
         given,
     } = input;
     let catalog = catalog_with(alloc, shape, &opening.views, test, value)?;
-    outcome(alloc, &catalog, opening, given)
+    let outcome = decide(alloc, &catalog, opening, given)?;
+    let text = outcome.text(alloc, catalog.shape())?;
+    let status = outcome.status();
+    Ok(Answer { text, status })
 }
 
 /// What a night makes of what it is given. Each formula of the catalogue is stored with a closure.
 fn answer_of(alloc: Global, input: NightInput) -> Result<Answer, AllocError>
     requires { IsFitNight input }
-    ensures { IfOk result (λ a. IsNightTold (shown_night input) a.text.items a.status) }
+    ensures { IfOk result (λ a. IsNightTold (shown_night input) a.text.items (status_number a.status)) }
 {
     answer_with(
         alloc,
@@ -108,8 +194,8 @@ fn answer_of(alloc: Global, input: NightInput) -> Result<Answer, AllocError>
 }
 
 /// What `night` answers for the bytes of a bundle.
-pub fn night(alloc: Global, bytes: &[u8]) -> Result<Answer, AllocError>
-    ensures { IfOk result (λ a. IsNightOutput bytes.now a.text.items a.status) }
+pub fn answer(alloc: Global, bytes: &[u8]) -> Result<Answer, AllocError>
+    ensures { IfOk result (λ a. IsNightOutput bytes.now a.text.items (status_number a.status)) }
 {
     match read_night(alloc, bytes) {
         Ok(input) => answer_of(alloc, input),

@@ -5,15 +5,14 @@ ghost use Rattle.std.specs.Io.KnownBytes.{Appends};
 ghost use Rattle.clap.specs.Walk.{texts};
 ghost use Rattle.whview.specs.CheckOutput.{line};
 ghost use Rattle.whview.specs.CommandFault.{status_of, text_of};
+ghost use Rattle.whview.specs.Status.{status_number};
 ghost use Rattle.whview.specs.Output.{AskToRead, HoldsOfReading, IsCommandOutput, IsHandedOutput, IsInputOutput, IsLineAnswer, IsMemoryTold, IsReadAnswer, IsTold, IsUnreadShown, file_of};
 
 use crate::answer::Answer;
-use crate::certification::certification;
 use crate::command_line::{Asked, CommandFault, parse};
-use crate::night::night;
-use crate::planning::planning;
-use crate::verdict::judge;
+use crate::status::Status;
 use crate::words::{first_line, refuses_input, words_of_line};
+use crate::{certify, check, night, plan};
 use std::alloc::{AllocError, Global};
 use std::fs::{self, Files};
 use std::io::{Read, Write};
@@ -23,22 +22,15 @@ use wh_load::{LoadFault, ReadFault, read_all};
 /// The most bytes that an input may have.
 const LIMIT: usize = 67_108_864;
 
-/// The status where words are not taken, where memory was refused, and where the writer fails.
-const WORDS: u8 = 2;
-
-const MEMORY: u8 = 4;
-
-const OUTPUT: u8 = 5;
-
 /// What a command answers for the bytes of a bundle.
 fn command_answer(alloc: Global, asked: &Asked<'_>, bytes: &[u8]) -> Result<Answer, AllocError>
-    ensures { IfOk result (λ a. IsCommandOutput asked.now bytes.now a.text.items a.status) }
+    ensures { IfOk result (λ a. IsCommandOutput asked.now bytes.now a.text.items (status_number a.status)) }
 {
     match asked {
-        Asked::Check { costs, .. } => judge(alloc, *costs, bytes),
-        Asked::Plan { costs, budget, .. } => planning(alloc, *costs, *budget, bytes),
-        Asked::Certify { costs, .. } => certification(alloc, *costs, bytes),
-        Asked::Night { .. } => night(alloc, bytes),
+        Asked::Check { costs, .. } => check::answer(alloc, *costs, bytes),
+        Asked::Plan { costs, budget, .. } => plan::answer(alloc, *costs, *budget, bytes),
+        Asked::Certify { costs, .. } => certify::answer(alloc, *costs, bytes),
+        Asked::Night { .. } => night::answer(alloc, bytes),
     }
 }
 
@@ -56,7 +48,7 @@ fn file_of<'a>(asked: &Asked<'a>) -> Option<&'a str>
 
 /// The answer where the bytes of a reader could not be had.
 fn unread_answer(alloc: Global, fault: &ReadFault) -> Result<Answer, AllocError>
-    ensures { IfOk result (λ a. IsUnreadShown fault.now a.text.items a.status) }
+    ensures { IfOk result (λ a. IsUnreadShown fault.now a.text.items (status_number a.status)) }
 {
     match fault {
         ReadFault::Read => Answer::fault(alloc, &LoadFault::Read),
@@ -71,8 +63,8 @@ fn answer_to(
     asked: &Asked<'_>,
     read: Result<Vec<u8>, ReadFault>,
 ) -> Result<Answer, AllocError>
-    ensures { IfOk result (λ a. MatchResult read (λ bytes. IsCommandOutput asked.now bytes.items a.text.items a.status)
-        (λ fault. IsUnreadShown fault a.text.items a.status)) }
+    ensures { IfOk result (λ a. MatchResult read (λ bytes. IsCommandOutput asked.now bytes.items a.text.items (status_number a.status))
+        (λ fault. IsUnreadShown fault a.text.items (status_number a.status))) }
 {
     match read {
         Ok(bytes) => command_answer(alloc, asked, &bytes),
@@ -86,7 +78,7 @@ fn read_answer<R: Read>(
     asked: &Asked<'_>,
     input: &mut R,
 ) -> Result<Answer, AllocError>
-    ensures { IfOk result (λ a. HoldsOfReading (R.remaining input.old) (λ reading. IsReadAnswer reading (IsCommandOutput asked.now) a.text.items a.status)) }
+    ensures { IfOk result (λ a. HoldsOfReading (R.remaining input.old) (λ reading. IsReadAnswer reading (IsCommandOutput asked.now) a.text.items (status_number a.status))) }
 {
     let read = read_all(input, alloc, LIMIT);
     answer_to(alloc, asked, read)
@@ -99,7 +91,7 @@ fn file_answer<F: Files>(
     asked: &Asked<'_>,
     path: &str,
 ) -> Result<Answer, AllocError>
-    ensures { IfOk result (λ a. HoldsOfReading None (λ reading. IsReadAnswer reading (IsCommandOutput asked.now) a.text.items a.status)) }
+    ensures { IfOk result (λ a. HoldsOfReading None (λ reading. IsReadAnswer reading (IsCommandOutput asked.now) a.text.items (status_number a.status))) }
 {
     match fs::open(files, path) {
         Ok(mut file) => read_answer(alloc, asked, &mut file),
@@ -126,7 +118,7 @@ fn words_answer<'a, F: Files, R: Read>(
     words: &'a [&'a str],
     input: &mut R,
 ) -> Result<Answer, AllocError>
-    ensures answer { IfOk result (λ a. HoldsOfReading (R.remaining input.old) (λ reading. IsHandedOutput (texts words.now) reading a.text.items a.status)) }
+    ensures answer { IfOk result (λ a. HoldsOfReading (R.remaining input.old) (λ reading. IsHandedOutput (texts words.now) reading a.text.items (status_number a.status))) }
     ensures unread { ¬ (AskToRead (texts words.now)) → input.new ≡ input.old }
 {
     match parse(alloc, words) {
@@ -140,18 +132,18 @@ fn words_answer<'a, F: Files, R: Read>(
 
 /// What the program answers for bytes whose first line gives the words.
 fn line_answer(alloc: Global, input: &[u8]) -> Result<Answer, AllocError>
-    ensures { IfOk result (λ a. IsLineAnswer input.now a.text.items a.status) }
+    ensures { IfOk result (λ a. IsLineAnswer input.now a.text.items (status_number a.status)) }
 {
     let (line, bundle) = first_line(input);
     let Ok(line) = str::from_utf8(line) else {
-        return Answer::of(alloc, "fault words\n", 2);
+        return Answer::of(alloc, "fault words\n", Status::Words);
     };
     let words = words_of_line(alloc, line)?;
     if refuses_input(&words) {
         return Answer::of(
             alloc,
             "error: `--input` cannot stand in the words of an input\n",
-            2,
+            Status::Words,
         );
     }
     match parse(alloc, &words) {
@@ -162,8 +154,8 @@ fn line_answer(alloc: Global, input: &[u8]) -> Result<Answer, AllocError>
 
 /// What the program answers for what was read, where its first line gives the words.
 fn line_answer_to(alloc: Global, read: Result<Vec<u8>, ReadFault>) -> Result<Answer, AllocError>
-    ensures { IfOk result (λ a. MatchResult read (λ bytes. IsLineAnswer bytes.items a.text.items a.status)
-        (λ fault. IsUnreadShown fault a.text.items a.status)) }
+    ensures { IfOk result (λ a. MatchResult read (λ bytes. IsLineAnswer bytes.items a.text.items (status_number a.status))
+        (λ fault. IsUnreadShown fault a.text.items (status_number a.status))) }
 {
     match read {
         Ok(bytes) => line_answer(alloc, &bytes),
@@ -173,23 +165,24 @@ fn line_answer_to(alloc: Global, read: Result<Vec<u8>, ReadFault>) -> Result<Ans
 
 /// What the program answers where it is handed no words.
 fn input_answer<R: Read>(alloc: Global, input: &mut R) -> Result<Answer, AllocError>
-    ensures { IfOk result (λ a. HoldsOfReading (R.remaining input.old) (λ reading. IsInputOutput reading a.text.items a.status)) }
+    ensures { IfOk result (λ a. HoldsOfReading (R.remaining input.old) (λ reading. IsInputOutput reading a.text.items (status_number a.status))) }
 {
     let read = read_all(input, alloc, LIMIT);
     line_answer_to(alloc, read)
 }
 
-/// Writes a text whole: the status, or 5 where the writer fails. Then nothing is said of how much went out.
-fn give<W: Write>(out: &mut W, text: &[u8], status: u8) -> u8
-    ensures { result ≢ 5 → (result ≡ status) × Appends (W.contents out.old) (W.contents out.new) text.now }
+/// Writes a text whole: the number of the status, or that of Output where the writer fails. Then nothing is said of how much
+/// went out.
+fn give<W: Write>(out: &mut W, text: &[u8], status: Status) -> u8
+    ensures { result ≢ 5 → (result ≡ status_number status) × Appends (W.contents out.old) (W.contents out.new) text.now }
 {
     if out.write_all(text).is_err() {
-        return OUTPUT;
+        return Status::Output.number();
     }
     if out.flush().is_err() {
-        return OUTPUT;
+        return Status::Output.number();
     }
-    status
+    status.number()
 }
 
 /// What the program answers where a word of the command line is not UTF-8, as for a first line that is not: `fault words`
@@ -197,14 +190,14 @@ fn give<W: Write>(out: &mut W, text: &[u8], status: u8) -> u8
 pub fn words_without_text<W: Write>(out: &mut W) -> u8
     ensures { result ≢ 5 → (result ≡ 2) × Appends (W.contents out.old) (W.contents out.new) (line (codes "fault words")) }
 {
-    give(out, b"fault words\n", WORDS)
+    give(out, b"fault words\n", Status::Words)
 }
 
 /// What the program answers where memory was refused: `memory` and 4, or 5 where the writer fails.
 pub fn want_of_memory<W: Write>(out: &mut W) -> u8
     ensures { result ≢ 5 → (result ≡ 4) × Appends (W.contents out.old) (W.contents out.new) (line (codes "memory")) }
 {
-    give(out, b"memory\n", MEMORY)
+    give(out, b"memory\n", Status::Limit)
 }
 
 /// Writes an answer whole, or that memory was refused.

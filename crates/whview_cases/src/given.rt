@@ -1,12 +1,15 @@
-// Readers and writers that fail, and a bundle.
+//! Readers and writers that fail, and bundles.
+
+ghost use Rattle.std.specs.Prelude.{◌≡◌, []};
 
 use std::alloc::Global;
 use std::io;
 use std::io::{ErrorKind, Read, Write};
 
+/// Room that no text fills.
 pub const ENDLESS: usize = usize::MAX;
 
-// A Comp reads 30 + 10 and 4 + 70 rows and the Insts write 30 + 4 + 6.
+/// A bundle for `check`: a Comp reads 30 + 10 and 4 + 70 rows and the Insts write 30 + 4 + 6.
 pub const BUNDLE: &str = "@catalogue
 [[view]]
 name = \"A\"
@@ -28,9 +31,10 @@ B,100,70,30
 V,50,44,6
 ";
 
+/// What `check` says of it.
 pub const ANSWER: &str = "correct\nwork 154\n";
 
-// One row of a goes and one comes.
+/// A bundle for `night`: one row of a goes and one comes.
 pub const NIGHT: &str = "@catalogue
 [[view]]
 name = \"a\"
@@ -52,6 +56,7 @@ inst a
 inst v
 ";
 
+/// What `night` says of it.
 pub const CARRIED: &str = "comp v from a: 2
 inst a: 2
 inst v: 2
@@ -62,7 +67,7 @@ view v
 1,2
 ";
 
-// Gives these bytes, so many at a read, and an error at one of the reads, counted from 1.
+/// A reader that gives these bytes, so many at a read, and an error at one of the reads, counted from 1; at 0 none fails.
 #[derive(Drop)]
 pub struct Source<'a> {
     left: &'a [u8],
@@ -72,11 +77,23 @@ pub struct Source<'a> {
 }
 
 impl<'a> Source<'a> {
-    pub fn new(bytes: &'a [u8], step: usize) -> Self {
+    /// One that does not fail.
+    pub fn new(bytes: &'a [u8], step: usize) -> Self
+        ensures left { result.left.now ≡ bytes.now }
+        ensures step { result.step ≡ step }
+        ensures fails_at { result.fails_at ≡ 0 }
+        ensures reads { result.reads ≡ 0 }
+    {
         Source::failing(bytes, step, 0)
     }
 
-    pub fn failing(bytes: &'a [u8], step: usize, fails_at: usize) -> Self {
+    /// One that fails at this read.
+    pub fn failing(bytes: &'a [u8], step: usize, fails_at: usize) -> Self
+        ensures left { result.left.now ≡ bytes.now }
+        ensures step { result.step ≡ step }
+        ensures fails_at { result.fails_at ≡ fails_at }
+        ensures reads { result.reads ≡ 0 }
+    {
         Source {
             left: bytes,
             step,
@@ -85,8 +102,10 @@ impl<'a> Source<'a> {
         }
     }
 
-    // How often it was read.
-    pub fn reads(&self) -> usize {
+    /// How often it was read.
+    pub fn reads(&self) -> usize
+        ensures { result ≡ self.now.reads }
+    {
         self.reads
     }
 }
@@ -104,7 +123,7 @@ impl Read for Source<'_> {
     }
 }
 
-// Never ends.
+/// A reader that never ends.
 #[derive(Drop)]
 pub struct Endless;
 
@@ -115,16 +134,24 @@ impl Read for Endless {
     }
 }
 
-// Takes so many bytes and then fails; where it has them all, a flush may fail.
+/// A writer that takes so many bytes and then fails; where it has them all, a flush may fail.
 #[derive(Drop)]
 pub struct Sink {
+    /// What was written.
     pub text: Vec<u8>,
+    /// How many bytes it takes.
     pub room: usize,
+    /// Whether a flush is done.
     pub flushes: bool,
 }
 
 impl Sink {
-    pub fn new(alloc: Global, room: usize, flushes: bool) -> Self {
+    /// One that nothing was written to.
+    pub fn new(alloc: Global, room: usize, flushes: bool) -> Self
+        ensures text { result.text.items ≡ [] }
+        ensures room { result.room ≡ room }
+        ensures flushes { result.flushes ≡ flushes }
+    {
         Sink {
             text: Vec::new(alloc),
             room,

@@ -5,6 +5,7 @@ ghost use Rattle.clap.specs.Words.{kind_of};
 ghost use Rattle.whview.specs.CommandFault.{status_of, status_of_kind, text_of};
 ghost use Rattle.whview.specs.declared.command_line.fault.CommandFault.{CommandFault};
 
+use crate::status::Status;
 use clap::Error;
 use clap::error::ErrorKind;
 use std::alloc::{AllocError, Global};
@@ -31,14 +32,14 @@ impl CommandFault {
         }
     }
 
-    /// What the program ends with: 0 for help, 2 for refused words, 4 where memory ran out.
-    pub fn status(&self) -> u8
+    /// What the program ends with.
+    pub fn status(&self) -> Status
         ensures { result ≡ status_of self.now }
     {
         match self {
-            CommandFault::Help(_) => 0,
-            CommandFault::Refused(_) => 2,
-            CommandFault::Memory => 4,
+            CommandFault::Help(_) => Status::Done,
+            CommandFault::Refused(_) => Status::Words,
+            CommandFault::Memory => Status::Limit,
         }
     }
 

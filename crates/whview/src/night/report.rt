@@ -1,13 +1,12 @@
 //! What is printed of a night.
 
-ghost use Rattle.std.specs.Prelude.{◌≡◌, ◌≢◌, ◌<◌, ◌++◌, ℕ, codes, decimal, drop, flat_map, length, map, sum_by, IfOk, OnOk};
+ghost use Rattle.std.specs.Prelude.{◌≡◌, ◌<◌, ◌++◌, ℕ, codes, decimal, drop, flat_map, length, map, sum_by, IfOk, OnOk};
 ghost use Rattle.wh_dag.specs.Written.{name_of};
 ghost use Rattle.wh_catalogue_text.specs.Definitions.{shown_view};
 ghost use Rattle.wh_maint.specs.Comp.{bag_at};
 ghost use Rattle.whview.specs.CheckOutput.{line};
 ghost use Rattle.whview.specs.NightOutput.{left_text, refused_text, report_text, step_text, view_text, views_text, work_in};
 
-use crate::answer::Answer;
 use std::alloc::{AllocError, Global};
 use wh_dag::Shape;
 use wh_load::{Dict, Names, WrittenView, write_expression, write_table};
@@ -119,26 +118,25 @@ fn append_views(
     Ok(())
 }
 
-/// The answer for a night that was carried out.
-pub(crate) fn carried_answer(
+/// What is printed of a night that was carried out.
+pub(crate) fn carried_text(
     alloc: Global,
     shape: &Shape,
     views: &[WrittenView],
     texts: &Dict,
     carried: &Carried,
-) -> Result<Answer, AllocError>
+) -> Result<Vec<u8>, AllocError>
     requires version { carried.now.report.version ≡ 1 }
     requires views { length views.now ≡ length shape.now.children }
     requires tables { length carried.now.tables.items ≡ length shape.now.children }
-    ensures text { IfOk result (λ a. a.text.items ≡ report_text shape.now.names carried.now.report.steps.items
+    ensures { IfOk result (λ text. text.items ≡ report_text shape.now.names carried.now.report.steps.items
         ++ views_text texts.now shape.now.names 0 (map shown_view views.now) (bag_at carried.now.tables.items)) }
-    ensures status { IfOk result (λ a. a.status ≡ 0) }
 {
     let names = Names::of(alloc, shape)?;
     let mut text = Vec::new(alloc);
     append_report(alloc, &mut text, &names, &carried.report)?;
     append_views(&mut text, shape, views, texts, &carried.tables)?;
-    Ok(Answer { text, status: 0 })
+    Ok(text)
 }
 
 /// The name of the view; a number that is no view's has none.
@@ -152,10 +150,13 @@ fn name_of_view<'a>(shape: &'a Shape, view: usize) -> &'a str
     }
 }
 
-/// The line that names why a night or its opening contents are refused. Want of memory has none.
-fn cause_line(alloc: Global, shape: &Shape, fault: &MaintFault) -> Result<Vec<u8>, AllocError>
-    ensures told { IfOk result (λ text. fault.now ≢ MaintFault.Memory) }
-    ensures text { IfOk result (λ text. text.items ≡ refused_text shape.now.names fault.now) }
+/// What is printed of why a night or its opening contents are refused. Of want of memory nothing is.
+pub(crate) fn cause_text(
+    alloc: Global,
+    shape: &Shape,
+    fault: &MaintFault,
+) -> Result<Vec<u8>, AllocError>
+    ensures { IfOk result (λ text. text.items ≡ refused_text shape.now.names fault.now) }
 {
     let text = match fault {
         MaintFault::Large(view) => format!(in alloc;
@@ -175,35 +176,19 @@ fn cause_line(alloc: Global, shape: &Shape, fault: &MaintFault) -> Result<Vec<u8
     Ok(text.into_bytes())
 }
 
-/// The answer for a base that has no contents.
-pub(crate) fn no_contents(
-    alloc: Global,
-    shape: &Shape,
-    fault: &MaintFault,
-) -> Result<Answer, AllocError>
-    ensures told { IfOk result (λ a. fault.now ≢ MaintFault.Memory) }
-    ensures text { IfOk result (λ a. a.text.items ≡ refused_text shape.now.names fault.now) }
-    ensures status { IfOk result (λ a. a.status ≡ 1) }
-{
-    let text = cause_line(alloc, shape, fault)?;
-    Ok(Answer { text, status: 1 })
-}
-
-/// The answer for a night that was refused.
-pub(crate) fn refused_answer(
+/// What is printed of a night that was refused.
+pub(crate) fn refused_text(
     alloc: Global,
     shape: &Shape,
     refused: &CarryFault,
-) -> Result<Answer, AllocError>
-    ensures told { IfOk result (λ a. refused.now.fault ≢ MaintFault.Memory) }
-    ensures text { IfOk result (λ a. a.text.items ≡ left_text shape.now.names refused.now) }
-    ensures status { IfOk result (λ a. a.status ≡ 1) }
+) -> Result<Vec<u8>, AllocError>
+    ensures { IfOk result (λ text. text.items ≡ left_text shape.now.names refused.now) }
 {
-    let mut text = cause_line(alloc, shape, &refused.fault)?;
+    let mut text = cause_text(alloc, shape, &refused.fault)?;
     if refused.started {
         text.extend_from_slice(b"left given-up\n")?;
     } else {
         text.extend_from_slice(b"left untouched\n")?;
     }
-    Ok(Answer { text, status: 1 })
+    Ok(text)
 }

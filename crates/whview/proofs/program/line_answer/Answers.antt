@@ -4,6 +4,7 @@ use Rattle.std.specs.Str.{is_utf8, IsUtf8}
 use Rattle.std.proofs.lemmas.Str.{IsUtf8-from_is_utf8, is_utf8-from_IsUtf8}
 use Rattle.std.proofs.lemmas.Bool.{false_from_ne_true}
 use Rattle.clap.specs.Words.{fault_of, subcommand_of}
+use Rattle.whview.specs.Status.{status_number}
 use Rattle.whview.proofs.IfOks.{if_ok, if_ok_both}
 use Rattle.whview.specs.FirstLine.{first_line_of, words_in}
 use Rattle.whview.specs.CommandFault.{FailsAs}
@@ -15,7 +16,7 @@ use Rattle.whview.proofs.program.line_answer.Goals as goal
 pub returns-in_default : goal.returns-in_default
 returns-in_default c =
     let bad : is_utf8 (first_line_of c.args.input.now) ≡ false = false_from_ne_true _ (λ y. c.in_default.ensures.cases.0 (subst IsUtf8 (sym c.first_line.ensures.line) (IsUtf8-from_is_utf8 _ y))) in
-    if_ok_both c.of.result _ _ _ c.of.ensures.text c.of.ensures.status (λ a text status. not_text bad text status)
+    if_ok_both c.of.result _ _ _ c.of.ensures.text c.of.ensures.status (λ a text status. not_text bad text (ap status_number status))
 
 pub returns-then-refuses_input : goal.returns-then-refuses_input
 returns-then-refuses_input c =
@@ -24,7 +25,7 @@ returns-then-refuses_input c =
     let same = ap (map (λ w. w.now)) c.deref.ensures.value ∙ c.in_ok-words.ensures ∙ ap words_in at in
     let named = sym c.refuses_input.ensures ∙ c.if-refuses_input.true in
     if_ok_both c.of-then-refuses_input.result _ _ _ c.of-then-refuses_input.ensures.text c.of-then-refuses_input.ensures.status
-    (λ a printed ended. names_a_file utf8 (names_file (first_line_of c.args.input.now) c.deref.result.now _ same named) printed ended)
+    (λ a printed ended. names_a_file utf8 (names_file (first_line_of c.args.input.now) c.deref.result.now _ same named) printed (ap status_number ended))
 
 pub returns-in-Ok-parse : goal.returns-in-Ok-parse
 returns-in-Ok-parse c =
@@ -38,7 +39,7 @@ returns-in-Ok-parse c =
     if_ok c.command_answer.result _ _ c.command_answer.ensures
     (λ a output. of_words utf8 (names_file (first_line_of c.args.input.now) c.deref.result.now _ same named)
     (answered c.in-Ok-parse.asked (record { taken = taken; asked = asked })
-    (subst (λ bytes. IsCommandOutput c.in-Ok-parse.asked bytes a.text.items a.status) c.first_line.ensures.rest output)))
+    (subst (λ bytes. IsCommandOutput c.in-Ok-parse.asked bytes a.text.items (status_number a.status)) c.first_line.ensures.rest output)))
 
 pub returns : goal.returns
 returns c =
@@ -50,4 +51,4 @@ returns c =
     let fails = subst (λ ws. FailsAs (fault_of whview_app ws) c.in-Err.fault) twice c.in-Err.ensures.fails in
     if_ok_both c.refusal.result _ _ _ c.refusal.ensures.status c.refusal.ensures.told
     (λ a ended told. of_words utf8 (names_file (first_line_of c.args.input.now) c.deref.result.now _ same named)
-    (refused (refused_as (words_in (first_line_of c.args.input.now)) c.in-Err.fault a.status fails told ended)))
+    (refused (refused_as (words_in (first_line_of c.args.input.now)) c.in-Err.fault (status_number a.status) fails told (ap status_number ended))))

@@ -1,7 +1,7 @@
 use Rattle.std.proofs.Common.{map}
 use Rattle.wh_catalogue_text.specs.Definitions.{shown_view}
 use Rattle.whview.proofs.ReadRows.{read_fit}
-use Rattle.whview.proofs.night.night.Goals as goal
+use Rattle.whview.proofs.night.answer.Goals as goal
 
 pub answer_of-requires : goal.answer_of-requires
 answer_of-requires c =

@@ -1,4 +1,4 @@
--- What is told of a night, from what its parts answer.
+-- What is decided of a night, from what its parts answer.
 use Rattle.std.proofs.Common.{◌≡◌, ◌≢◌, ℕ, ◌<◌, ◌≤◌, ◌∷◌, true, List, [], length, refl, sym, ap, subst, ◌∙◌, arith, ⊎_elim, ◌⊎◌}
 use Rattle.std.proofs.lemmas.Bool.{cases_lt}
 use Rattle.wh_dag.specs.Catalog.{CatalogOf, IsCatalog, is_empty}
@@ -25,26 +25,17 @@ use Rattle.wh_night.specs.declared.report.CarryFault.{CarryFault}
 use Rattle.wh_night.proofs.Agreeing.{past}
 use Rattle.wh_night.proofs.NewValues.{new_contents_have_values, new_rows_are_few, passed_have_values, within}
 use Rattle.wh_night.specs.Laws.{AreFew}
-use Rattle.wh_strategy.specs.Rules.{IsCorrect, IsReason}
-use Rattle.wh_strategy.specs.declared.correct.CheckFault.{CheckFault}
-use Rattle.wh_strategy.specs.declared.correct.CheckFault.TheVariants as checked
+use Rattle.wh_strategy.specs.Rules.{IsCorrect}
 use Rattle.wh_strategy.specs.declared.expression.Expression.{Expression}
-use Rattle.whview.specs.CheckOutput.{IsRefusalShown}
-use Rattle.whview.specs.NightOutput.{AreOpened, IsNightTold, broken, carried, carried_text, left_text, no_contents, refused, refused_text}
 use Rattle.whview.specs.FitNight.{AreReadTables}
+use Rattle.whview.specs.NightOutput.{AreOpened, IsDecided, IsRefusedFrom, IsShownFrom}
+use Rattle.whview.specs.declared.night.Outcome.TheVariants.{NoContents}
 use Rattle.whview.proofs.ReadRows.{none_negative}
 
-pub told_broken : (N : Night) (f : CheckFault) (text : List ℕ) (status : ℕ) → IsReason N.shape.children N.given.list f → IsRefusalShown f text status → IsNightTold N text status
-told_broken N (checked.Broken rule place) text status first shown = broken rule place first shown.0 shown.1
-told_broken N checked.Memory text status first shown = absurd shown
-
-pub told_no_contents : (N : Night) (cat : CatalogOf) → cat ≡ catalog_in N → (fault : MaintFault) (text : List ℕ) (status : ℕ) → IsCorrect N.shape.children N.given.list
-    → (fault ≡ Memory) ⊎ HasNoContents (graph_of cat) (bag_at N.opening.tables) fault → fault ≢ Memory → text ≡ refused_text N.shape.names fault → status ≡ 1 → IsNightTold N text status
-told_no_contents N cat e fault text status ok why not printed ended =
-    ⊎_elim
-    (λ m. absurd (not m))
-    (λ h. no_contents fault ok (subst (λ k. HasNoContents (graph_of k) (bag_at N.opening.tables) fault) e h) printed ended)
-    why
+pub decided_no_contents : (N : Night) (cat : CatalogOf) → cat ≡ catalog_in N → (fault : MaintFault) → IsCorrect N.shape.children N.given.list
+    → (fault ≡ Memory) ⊎ HasNoContents (graph_of cat) (bag_at N.opening.tables) fault → fault ≢ Memory → IsDecided N (NoContents fault)
+decided_no_contents N cat e fault ok why not =
+    (ok, ⊎_elim (λ m. absurd (not m)) (λ h. subst (λ k. HasNoContents (graph_of k) (bag_at N.opening.tables) fault) e h) why)
 
 -- ---- the contents of the base that was read
 
@@ -70,7 +61,7 @@ opened_fit cat is base old are ts same opened v l =
     subst (IsFitTable (kind_in cat v)) (sym (ap (λ xs. bag_at xs v) same ∙ opened v)) fit
 
 module _ (cat : CatalogOf) (is : IsCatalog cat) (base old : List Bag) (opened : (v : ℕ) → bag_at old v ≡ contents (graph_of cat) (bag_at base) v) where
-  g : ViewGraph
+  abbrev pub g : ViewGraph
   g = graph_of cat
 
   isg : IsViewGraph g
@@ -137,30 +128,33 @@ pub record CarryFacts (N : Night) (old new : List Bag) (steps : List (Expression
   pub contents_after : AreContents (graph_of cat) (bag_at ts) → AreContentsOf (graph_of cat) (changed (bag_at ts) (bag_at ch)) (bag_at new)
   pub reported : AreSteps cat.views.children list (bag_at ts) (tables_after (graph_of cat) (bag_at ch) list (bag_at ts)) steps
 
-told_from : (N : Night) (old new : List Bag) (steps : List (Expression × ℕ)) (text : List ℕ) (status : ℕ)
-    → CarryFacts N old new steps (catalog_in N) old N.given.changes N.given.list → text ≡ carried_text N steps (bag_at new) → status ≡ 0 → IsNightTold N text status
-told_from N old new steps text status f printed ended =
-    carried old new steps f.correct (record {
-      opened = record { each = f.length_old; opened = λ v l. f.opened v; valued = f.valued };
-      allowed = f.allowed;
-      passed = f.passed;
-      carried = f.carried;
-      contents = of_read_base (catalog_in N) f.is N.opening.tables old f.opened (bag_at N.given.changes) (bag_at new)
-          (f.contents_after (are_contents (catalog_in N) f.is N.opening.tables old f.opened f.read f.valued));
-      valued = new_valued (catalog_in N) f.is N.opening.tables old f.opened N.given.list (bag_at N.given.changes) f.correct f.read f.valued f.passed;
-      reported = f.reported;
-    }) printed ended
+shown_from : (N : Night) (old new : List Bag) (steps : List (Expression × ℕ)) → CarryFacts N old new steps (catalog_in N) old N.given.changes N.given.list
+    → IsShownFrom N N.opening.views N.opening.texts new steps
+shown_from N old new steps f = record {
+  views_read = refl;
+  texts_read = refl;
+  old = old;
+  carried = record {
+    opened = record { each = f.length_old; opened = λ v l. f.opened v; valued = f.valued };
+    allowed = f.allowed;
+    passed = f.passed;
+    carried = f.carried;
+    contents = of_read_base (catalog_in N) f.is N.opening.tables old f.opened (bag_at N.given.changes) (bag_at new)
+        (f.contents_after (are_contents (catalog_in N) f.is N.opening.tables old f.opened f.read f.valued));
+    valued = new_valued (catalog_in N) f.is N.opening.tables old f.opened N.given.list (bag_at N.given.changes) f.correct f.read f.valued f.passed;
+    reported = f.reported;
+  };
+}
 
-pub told_carried : (N : Night) (old new : List Bag) (steps : List (Expression × ℕ)) (text : List ℕ) (status : ℕ) (cat : CatalogOf) (ts ch : List Bag) (list : List Expression)
+pub shown_carried : (N : Night) (old new : List Bag) (steps : List (Expression × ℕ)) (cat : CatalogOf) (ts ch : List Bag) (list : List Expression)
     → cat ≡ catalog_in N → ts ≡ old → ch ≡ N.given.changes → list ≡ N.given.list
-    → CarryFacts N old new steps cat ts ch list → text ≡ carried_text N steps (bag_at new) → status ≡ 0 → IsNightTold N text status
-told_carried N old new steps text status cat ts ch list e same same_changes same_list f printed ended =
-    told_from N old new steps text status
+    → CarryFacts N old new steps cat ts ch list → IsShownFrom N N.opening.views N.opening.texts new steps
+shown_carried N old new steps cat ts ch list e same same_changes same_list f =
+    shown_from N old new steps
     (subst (λ k. CarryFacts N old new steps k old N.given.changes N.given.list) e
     (subst (λ xs. CarryFacts N old new steps cat xs N.given.changes N.given.list) same
     (subst (λ xs. CarryFacts N old new steps cat ts xs N.given.list) same_changes
     (subst (λ xs. CarryFacts N old new steps cat ts ch xs) same_list f))))
-    printed ended
 
 record AreOpenedBy (N : Night) (old : List Bag) (cat : CatalogOf) : Type 0 where
   each : length old ≡ length cat.views.children
@@ -170,17 +164,17 @@ record AreOpenedBy (N : Night) (old : List Bag) (cat : CatalogOf) : Type 0 where
 opened_by : (N : Night) (old : List Bag) → AreOpenedBy N old (catalog_in N) → AreOpened N old
 opened_by N old o = record { each = o.each; opened = λ v l. o.opened v; valued = o.valued }
 
-pub told_refused : (N : Night) (old : List Bag) (fault : CarryFault) (text : List ℕ) (status : ℕ) (cat : CatalogOf) (ts ch : List Bag) (list : List Expression)
-    → cat ≡ catalog_in N → ts ≡ old → ch ≡ N.given.changes → list ≡ N.given.list → IsCorrect N.shape.children N.given.list
+pub refused_from : (N : Night) (old : List Bag) (fault : CarryFault) (cat : CatalogOf) (ts ch : List Bag) (list : List Expression)
+    → cat ≡ catalog_in N → ts ≡ old → ch ≡ N.given.changes → list ≡ N.given.list
     → length old ≡ length cat.views.children → ((v : ℕ) → bag_at old v ≡ contents (graph_of cat) (bag_at N.opening.tables) v)
     → HaveContentsBelow (graph_of cat) (bag_at N.opening.tables) (length cat.views.children)
-    → IsNightFault cat list (bag_at ts) (bag_at ch) fault → fault.fault ≢ Memory → text ≡ left_text N.shape.names fault → status ≡ 1 → IsNightTold N text status
-told_refused N old fault text status cat ts ch list e same same_changes same_list ok each opened valued why not printed ended =
-    refused old fault ok
-    (opened_by N old (subst (AreOpenedBy N old) e (record { each = each; opened = opened; valued = valued })))
-    not
-    (subst (λ k. IsNightFault k N.given.list (bag_at old) (bag_at N.given.changes) fault) e
-    (subst (λ xs. IsNightFault cat N.given.list (bag_at xs) (bag_at N.given.changes) fault) same
-    (subst (λ xs. IsNightFault cat N.given.list (bag_at ts) (bag_at xs) fault) same_changes
-    (subst (λ xs. IsNightFault cat xs (bag_at ts) (bag_at ch) fault) same_list why))))
-    printed ended
+    → IsNightFault cat list (bag_at ts) (bag_at ch) fault → fault.fault ≢ Memory → IsRefusedFrom N fault
+refused_from N old fault cat ts ch list e same same_changes same_list each opened valued why not = record {
+  old = old;
+  opened = opened_by N old (subst (AreOpenedBy N old) e (record { each = each; opened = opened; valued = valued }));
+  told = not;
+  why = subst (λ k. IsNightFault k N.given.list (bag_at old) (bag_at N.given.changes) fault) e
+      (subst (λ xs. IsNightFault cat N.given.list (bag_at xs) (bag_at N.given.changes) fault) same
+      (subst (λ xs. IsNightFault cat N.given.list (bag_at ts) (bag_at xs) fault) same_changes
+      (subst (λ xs. IsNightFault cat xs (bag_at ts) (bag_at ch) fault) same_list why)));
+}

@@ -1,0 +1,74 @@
+-- What is printed of what was decided.
+use Rattle.std.proofs.Common.{◌≡◌, ◌∙◌, ◌++◌, ℕ, List, Ok, ap, subst, sym}
+use Rattle.std.specs.Prelude.{MatchResult}
+use Rattle.wh_load.specs.ReadingCheck.{Inputs, inputs_of}
+use Rattle.wh_load.specs.ReadingClaim.{Claim, claim_of}
+use Rattle.wh_load.specs.ReadingNight.{Night}
+use Rattle.wh_load.specs.ReadingPlan.{Measured, measured_of}
+use Rattle.wh_maint.specs.Comp.{bag_at}
+use Rattle.wh_strategy.specs.declared.costs.Costs.{Costs}
+use Rattle.whview.specs.CertifyOutput as certify
+use Rattle.whview.specs.CheckOutput as check
+use Rattle.whview.specs.NightOutput as night
+use Rattle.whview.specs.PlanOutput as plan
+use Rattle.whview.specs.Status.{status_number}
+use Rattle.whview.specs.declared.certify.Outcome.{Outcome as CertifyOutcome}
+use Rattle.whview.specs.declared.certify.Outcome.TheVariants as certified
+use Rattle.whview.specs.declared.check.Outcome.{Outcome as CheckOutcome}
+use Rattle.whview.specs.declared.check.Outcome.TheVariants as checked
+use Rattle.whview.specs.declared.night.Outcome.{Outcome as NightOutcome}
+use Rattle.whview.specs.declared.night.Outcome.TheVariants as carried
+use Rattle.whview.specs.declared.plan.Outcome.{Outcome as PlanOutcome}
+use Rattle.whview.specs.declared.plan.Outcome.TheVariants as planned
+use Rattle.whview.specs.declared.status.Status.{Status}
+
+check_told : (costs : Costs) (inputs : Inputs) (o : CheckOutcome) (text : List ℕ) (s : Status) → check.IsDecided costs inputs o → text ≡ check.text_of o → s ≡ check.status_of o
+    → check.IsVerdict costs inputs text (status_number s)
+check_told costs inputs (checked.Correct work) text s is printed ended = check.correct is.0 (printed ∙ ap check.correct_text is.1) (ap status_number ended)
+check_told costs inputs (checked.Broken rule place) text s is printed ended = check.broken rule place is printed (ap status_number ended)
+
+pub check_answered : (costs : Costs) (bytes : List ℕ) (inputs : Inputs) (o : CheckOutcome) (text : List ℕ) (s : Status) → inputs_of bytes ≡ Ok inputs
+    → check.IsDecided costs inputs o → text ≡ check.text_of o → s ≡ check.status_of o → check.IsCheckOutput costs bytes text (status_number s)
+check_answered costs bytes inputs o text s read is printed ended =
+    subst (λ r. MatchResult r (λ i. check.IsVerdict costs i text (status_number s)) (λ fault. check.IsFaultShown fault text (status_number s))) (sym read)
+    (check_told costs inputs o text s is printed ended)
+
+plan_told : (comp inst budget : ℕ) (measured : Measured) (o : PlanOutcome) (text : List ℕ) (s : Status) → plan.IsDecided comp inst budget measured o
+    → text ≡ plan.text_of measured.shape.names o → s ≡ plan.status_of o → plan.IsPlanned comp inst budget measured text (status_number s)
+plan_told comp inst budget measured (planned.Planned p) text s is printed ended = plan.planned p.work p.scope p.correct.list p.certificate is.0 is.1 printed (ap status_number ended)
+plan_told comp inst budget measured (planned.Spent opened best) text s is printed ended = plan.spent opened best is.0 is.1 printed (ap status_number ended)
+
+pub plan_answered : (costs : Costs) (budget : ℕ) (bytes : List ℕ) (measured : Measured) (o : PlanOutcome) (text : List ℕ) (s : Status) → measured_of bytes ≡ Ok measured
+    → plan.IsDecided costs.comp costs.inst budget measured o → text ≡ plan.text_of measured.shape.names o → s ≡ plan.status_of o
+    → plan.IsPlanOutput costs budget bytes text (status_number s)
+plan_answered costs budget bytes measured o text s read is printed ended =
+    subst (λ r. MatchResult r (λ m. plan.IsPlanned costs.comp costs.inst budget m text (status_number s)) (λ fault. check.IsFaultShown fault text (status_number s))) (sym read)
+    (plan_told costs.comp costs.inst budget measured o text s is printed ended)
+
+certify_told : (costs : Costs) (claim : Claim) (o : CertifyOutcome) (text : List ℕ) (s : Status) → certify.IsDecided costs claim o → text ≡ certify.text_of o → s ≡ certify.status_of o
+    → certify.IsJudgement costs claim text (status_number s)
+certify_told costs claim (certified.Broken rule place) text s is printed ended = certify.broken rule place is printed (ap status_number ended)
+certify_told costs claim certified.OtherWork text s is printed ended = certify.other_work is.0 is.1 printed (ap status_number ended)
+certify_told costs claim (certified.Judged work verdict) text s is printed ended =
+    certify.judged verdict is.0 is.1 is.3 is.4 (printed ∙ ap (λ w. certify.verdict_text w verdict) is.2) (ap status_number ended)
+
+pub certify_answered : (costs : Costs) (bytes : List ℕ) (claim : Claim) (o : CertifyOutcome) (text : List ℕ) (s : Status) → claim_of bytes ≡ Ok claim
+    → certify.IsDecided costs claim o → text ≡ certify.text_of o → s ≡ certify.status_of o → certify.IsCertifyOutput costs bytes text (status_number s)
+certify_answered costs bytes claim o text s read is printed ended =
+    subst (λ r. MatchResult r (λ k. certify.IsJudgement costs k text (status_number s)) (λ fault. check.IsFaultShown fault text (status_number s))) (sym read)
+    (certify_told costs claim o text s is printed ended)
+
+pub night_told : (N : Night) (o : NightOutcome) (text : List ℕ) (s : Status) → night.IsDecided N o → text ≡ night.text_of N.shape.names o → s ≡ night.status_of o
+    → night.IsNightTold N text (status_number s)
+night_told N (carried.Broken rule place) text s is printed ended = night.broken rule place is printed (ap status_number ended)
+night_told N (carried.NoContents fault) text s is printed ended = night.no_contents fault is.0 is.1 printed (ap status_number ended)
+night_told N (carried.Refused fault) text s is printed ended =
+    let from = is.1 in
+    night.refused from.old fault is.0 from.opened from.told from.why printed (ap status_number ended)
+night_told N (carried.Carried views texts c) text s is printed ended =
+    let from = is.1 in
+    night.carried from.old c.tables.items c.report.steps.items is.0 from.carried
+    (printed
+    ∙ ap (λ vs. night.report_text N.shape.names c.report.steps.items ++ night.views_text texts N.shape.names 0 vs (bag_at c.tables.items)) from.views_read
+    ∙ ap (λ ts. night.report_text N.shape.names c.report.steps.items ++ night.views_text ts N.shape.names 0 N.opening.views (bag_at c.tables.items)) from.texts_read)
+    (ap status_number ended)

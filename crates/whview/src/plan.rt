@@ -1,0 +1,107 @@
+//! The command `plan`: from the bytes of a bundle to a plan of least work.
+
+ghost use Rattle.std.specs.Prelude.{◌≡◌, IfOk, decimal};
+ghost use Rattle.wh_plan_text.specs.PlanText.{plan_text};
+ghost use Rattle.wh_load.specs.ReadingShown.{shown_measured};
+ghost use Rattle.whview.specs.CheckOutput.{line};
+ghost use Rattle.whview.specs.PlanOutput.{IsDecided, IsPlanOutput, spent_text, status_of, text_of};
+ghost use Rattle.whview.specs.Status.{status_number};
+
+use crate::answer::Answer;
+use crate::budget::Budget;
+use crate::status::Status;
+use std::alloc::{AllocError, Global};
+use wh_cert::Planned;
+use wh_dag::Shape;
+use wh_load::{LoadFault, MeasuredViews, Names, read_planning, write_plan};
+use wh_prune::{PruneFault, plan};
+use wh_strategy::Costs;
+
+/// What is decided for views of some sizes.
+#[derive(Drop)]
+pub enum Outcome {
+    /// There is a plan of least work.
+    Planned(Planned),
+    /// The budget of the search for one is spent.
+    Spent {
+        /// How many nodes were opened.
+        opened: u64,
+        /// The least work that was found, in cost times rows.
+        best: u128,
+    },
+}
+
+impl Outcome {
+    /// What is printed, with the names of these views.
+    fn text(&self, alloc: Global, shape: &Shape) -> Result<Vec<u8>, AllocError>
+        ensures { IfOk result (λ text. text.items ≡ text_of shape.now.names self.now) }
+    {
+        match self {
+            Outcome::Planned(planned) => planned_text(alloc, shape, planned),
+            Outcome::Spent { opened, best } => spent_text(alloc, *opened, *best),
+        }
+    }
+
+    /// What the program ends with.
+    fn status(&self) -> Status
+        ensures { result ≡ status_of self.now }
+    {
+        match self {
+            Outcome::Planned(_) => Status::Done,
+            Outcome::Spent { .. } => Status::Limit,
+        }
+    }
+}
+
+/// What is printed of a plan over the views of this shape.
+fn planned_text(alloc: Global, shape: &Shape, planned: &Planned) -> Result<Vec<u8>, AllocError>
+    ensures { IfOk result (λ text. text.items ≡ plan_text shape.now.names planned.now.scope planned.now.work planned.now.correct.list planned.now.certificate) }
+{
+    let names = Names::of(alloc, shape)?;
+    let mut text = Vec::new(alloc);
+    write_plan(alloc, &mut text, &names, planned)?;
+    Ok(text)
+}
+
+/// What is printed of a search that opened so many nodes, and found this work at least.
+fn spent_text(alloc: Global, opened: u64, best: u128) -> Result<Vec<u8>, AllocError>
+    ensures { IfOk result (λ text. text.items ≡ spent_text opened best) }
+{
+    let text = format!(in alloc; "budget opened {opened} best {best}\n")?;
+    Ok(text.into_bytes())
+}
+
+fn decide(
+    alloc: Global,
+    costs: Costs,
+    budget: Budget,
+    measured: &MeasuredViews,
+) -> Result<Outcome, AllocError>
+    ensures { IfOk result (IsDecided costs.comp costs.inst budget.nodes (shown_measured measured.now)) }
+{
+    match plan(alloc, &measured.shape, &measured.sizes, costs, budget.nodes) {
+        Ok(planned) => Ok(Outcome::Planned(planned)),
+        Err(PruneFault::Budget { opened, best }) => Ok(Outcome::Spent { opened, best }),
+        Err(PruneFault::Memory) => Err(AllocError),
+    }
+}
+
+/// What `plan` answers for the bytes of a bundle, at these costs; a search opens at most so many nodes as the budget says.
+pub fn answer(
+    alloc: Global,
+    costs: Costs,
+    budget: Budget,
+    bytes: &[u8],
+) -> Result<Answer, AllocError>
+    ensures { IfOk result (λ a. IsPlanOutput costs budget.nodes bytes.now a.text.items (status_number a.status)) }
+{
+    let measured = match read_planning(alloc, bytes) {
+        Ok(measured) => measured,
+        Err(LoadFault::Memory) => return Err(AllocError),
+        Err(fault) => return Answer::fault(alloc, &fault),
+    };
+    let outcome = decide(alloc, costs, budget, &measured)?;
+    let text = outcome.text(alloc, &measured.shape)?;
+    let status = outcome.status();
+    Ok(Answer { text, status })
+}
