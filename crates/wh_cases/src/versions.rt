@@ -25,7 +25,9 @@ fn assert_page(
     last: bool,
 ) -> Result<(), Fail> {
     let (version, after, limit) = place;
-    assert!(rt; store.unexpired(version) && store.views(version) == 1 && limit >= 1 && limit <= 256);
+    assert!(rt;
+        store.unexpired(version) && store.views(version) == 1 && limit >= 1 && limit <= 256
+    );
     let page = store.visible(version, 0, after, limit)?;
     assert_eq!(rt; page.rows.len(), wanted.len());
     for (at, cell) in wanted.iter().enumerate() {
@@ -81,10 +83,16 @@ fn pages_of_one_row_go_on_while_the_next_version_is_written(rt: HostRuntime) -> 
 fn the_first_reason_refuses_an_operation(rt: HostRuntime) -> Result<(), Fail> {
     let mut store = Store::new(rt.alloc(), Vec::new(rt.alloc()))?;
     assert_eq!(rt; store.apply(&Op::Commit), Err(StoreFault::NoNight));
-    assert_eq!(rt; store.apply(&put(rt.alloc(), &[])?), Err(StoreFault::NoNight));
+    assert_eq!(rt;
+        store.apply(&put(rt.alloc(), &[])?),
+        Err(StoreFault::NoNight)
+    );
     store.apply(&Op::Begin)?;
     assert_eq!(rt; store.apply(&Op::Begin), Err(StoreFault::NightOpen));
-    assert_eq!(rt; store.apply(&put(rt.alloc(), &[])?), Err(StoreFault::NoView));
+    assert_eq!(rt;
+        store.apply(&put(rt.alloc(), &[])?),
+        Err(StoreFault::NoView)
+    );
     assert_eq!(rt; StoreFault::LastVersion.number(), 5);
     Ok(())
 }
