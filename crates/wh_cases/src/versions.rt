@@ -7,6 +7,15 @@ use std::test::Fail;
 use wh_row::Row;
 use wh_store::{Op, Store, StoreFault};
 
+/// A store of one view with these rows.
+fn store_of(rt: &impl Abort, alloc: Global, rows: &[(&[i64], i64)]) -> Result<Store, Fail> {
+    let table = bag_of(alloc, rows)?;
+    assert!(rt; table.is_table());
+    let mut tables = Vec::new(alloc);
+    tables.push(table)?;
+    Ok(Store::new(alloc, tables)?)
+}
+
 /// New counts of some rows of view 0.
 fn put(alloc: Global, counts: &[(&[i64], i64)]) -> Result<Op, AllocError> {
     let mut rows = Vec::new(alloc);
@@ -41,9 +50,7 @@ fn assert_page(
 
 #[test]
 fn a_night_that_is_given_up_makes_the_version_before_again(rt: HostRuntime) -> Result<(), Fail> {
-    let mut tables = Vec::new(rt.alloc());
-    tables.push(bag_of(rt.alloc(), &[(&[1], 1)])?)?;
-    let mut store = Store::new(rt.alloc(), tables)?;
+    let mut store = store_of(&rt, rt.alloc(), &[(&[1], 1)])?;
     store.apply(&Op::Begin)?;
     store.apply(&put(rt.alloc(), &[(&[1], 0), (&[2], 1)])?)?;
     assert_page(&rt, &store, (0, None, 10), &[1], true)?;
@@ -63,9 +70,7 @@ fn a_night_that_is_given_up_makes_the_version_before_again(rt: HostRuntime) -> R
 
 #[test]
 fn pages_of_one_row_go_on_while_the_next_version_is_written(rt: HostRuntime) -> Result<(), Fail> {
-    let mut tables = Vec::new(rt.alloc());
-    tables.push(bag_of(rt.alloc(), &[(&[1], 1), (&[3], 1), (&[5], 1)])?)?;
-    let mut store = Store::new(rt.alloc(), tables)?;
+    let mut store = store_of(&rt, rt.alloc(), &[(&[1], 1), (&[3], 1), (&[5], 1)])?;
     store.apply(&Op::Begin)?;
     assert_page(&rt, &store, (0, None, 1), &[1], false)?;
     store.apply(&put(rt.alloc(), &[(&[2], 1)])?)?;
