@@ -1,1 +1,2 @@
+pub mod ReadingNights
 pub mod ReadingRows

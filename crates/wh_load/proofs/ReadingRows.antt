@@ -1,6 +1,6 @@
 -- The rows that were read are of their views' columns.
 use Rattle.std.proofs.Common.{◌≡◌, ℕ, ◌≤ℤ◌, pos, List, [], ◌∷◌, ◌++◌, length, refl, sym, ap, subst, ◌∙◌, arith, append_assoc, append-nil, Option, Some, None}
-use Rattle.std.specs.Prelude.{Result, Ok, Err, codes}
+use Rattle.std.specs.Prelude.{Result, Ok, Err, find, option_map}
 use Rattle.std.specs.FinMap as fin
 use Rattle.std.proofs.lemmas.Int.{ints}
 use Rattle.wh_row.specs.Bag.{Bag, HasWidth, IsTable, count, empty, number}
@@ -10,6 +10,8 @@ use Rattle.wh_dag.specs.Shape.{Views}
 use Rattle.wh_dag.specs.Written.{name_of}
 use Rattle.wh_text.specs.Columns.{NamedKind}
 use Rattle.wh_text.specs.declared.fault.LoadFault.{LoadFault}
+use Rattle.wh_text.specs.declared.fault.LoadFault.TheVariants as fault
+use Rattle.wh_bundle.specs.Heading.{word_of}
 use Rattle.wh_bundle.specs.Text.{text_of}
 use Rattle.wh_bundle.specs.declared.bundle.heading.Heading.TheVariants as heading
 use Rattle.wh_bundle.specs.declared.bundle.part.Part.{Part}
@@ -17,7 +19,7 @@ use Rattle.wh_catalogue_text.specs.Catalogue.{◌>>=◌, shape_of}
 use Rattle.wh_catalogue_text.specs.Definitions.{ViewOf, definitions_of}
 use Rattle.wh_catalogue_text.specs.FormulaKinds.{Texts}
 use Rattle.wh_table_text.proofs.TablesRead.{answer-table, answer-width}
-use Rattle.wh_load.specs.ReadingNight.{AreReadRows, ChangeRows, IsTableIfTable, Night, Rows, TableRows, night_in, night_over, rows_after, rows_found, rows_of, rows_written}
+use Rattle.wh_load.specs.ReadingNight.{AreReadRows, ChangeRows, IsTableIfTable, Night, Rows, TableRows, first_stray, is_stray, night_in, night_over, rows_after, rows_found, rows_of, rows_written}
 use Rattle.wh_load.specs.ReadingParts.{text_in}
 
 count-empty : (q : Row) → count empty q ≡ pos 0
@@ -99,8 +101,20 @@ read_rows kind parts names views texts after rows e =
     let all = after_rows kind parts names [] views texts after rows e in
     subst (AreReadRows kind views) (sym all.parts) all.each
 
+-- the first part of rows of no base view is named
+pub stray_named : (names : List (List ℕ)) (views : List ViewOf) (parts : List Part) (part : Part) (word : List ℕ) → Some part ≡ find (λ part. is_stray names views part.heading) parts → word ≡ word_of part.heading
+    → first_stray names views parts ≡ Some (fault.Part word)
+stray_named names views parts part word found named = ap (option_map (λ part. fault.Part (word_of part.heading))) (sym found) ∙ ap (λ word. Some (fault.Part word)) (sym named)
+
+-- the rows of changes are alike in all nights
+pub same_changes : (night : ℕ) (views : List ViewOf) (rows : List Bag) → AreReadRows (ChangeRows night) views rows → AreReadRows (ChangeRows 0) views rows
+same_changes night [] [] each = tt
+same_changes night [] (bag ∷ bags) each = absurd each
+same_changes night (view ∷ views) [] each = absurd each
+same_changes night (view ∷ views) (bag ∷ bags) each = (each.0, same_changes night views bags each.1)
+
 pub night_from : (parts : List Part) (catalogue strategy : List ℕ) (shape : Views) (views : List ViewOf) (texts : Texts) (night : Night)
-    → text_in parts heading.Catalogue 0 (codes "catalogue") ≡ Ok catalogue → text_in parts heading.Strategy 0 (codes "strategy") ≡ Ok strategy
+    → text_in parts heading.Catalogue 0 ≡ Ok catalogue → text_in parts heading.Strategy 0 ≡ Ok strategy
     → shape_of catalogue ≡ Ok shape → definitions_of shape catalogue [] ≡ Ok (views, texts) → night_over parts shape views texts strategy ≡ Ok night
     → night_in parts ≡ Ok night
 night_from parts catalogue strategy shape views texts night a b c d e = rw a (rw b (rw c (rw d (rw e refl))))

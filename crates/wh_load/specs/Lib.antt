@@ -3,4 +3,5 @@ pub mod ReadingClaim
 pub mod ReadingNight
 pub mod ReadingParts
 pub mod ReadingPlan
+pub mod ReadingReplay
 pub mod ReadingShown

@@ -1,5 +1,5 @@
 -- What a bundle gives to be checked: its views, their sizes, and a strategy.
-use Rattle.std.specs.Prelude.{ℕ, List, Result, Ok, codes}
+use Rattle.std.specs.Prelude.{ℕ, List, Result, Ok}
 use Rattle.wh_text.specs.declared.fault.LoadFault.{LoadFault}
 use Rattle.wh_bundle.specs.declared.bundle.fault.Nights.TheVariants as nights
 use Rattle.wh_bundle.specs.declared.bundle.heading.Heading.TheVariants as heading
@@ -25,7 +25,7 @@ pub record CheckTexts : Type 0 where
 abbrev pub check_texts_in : List Part → Result CheckTexts LoadFault
 check_texts_in parts = do
   measured ← measured_texts_in parts
-  strategy ← text_in parts heading.Strategy 0 (codes "strategy")
+  strategy ← text_in parts heading.Strategy 0
   Ok (record { measured = measured; strategy = strategy })
 
 -- these texts in a bundle of one night, or its first fault

@@ -1,5 +1,5 @@
 -- What a bundle gives to be certified: its views, their sizes, and a plan.
-use Rattle.std.specs.Prelude.{ℕ, List, Result, Ok, codes}
+use Rattle.std.specs.Prelude.{ℕ, List, Result, Ok}
 use Rattle.wh_text.specs.declared.fault.LoadFault.{LoadFault}
 use Rattle.wh_bundle.specs.declared.bundle.fault.Nights.TheVariants as nights
 use Rattle.wh_bundle.specs.declared.bundle.heading.Heading.TheVariants as heading
@@ -24,7 +24,7 @@ pub record ClaimTexts : Type 0 where
 abbrev pub claim_texts_in : List Part → Result ClaimTexts LoadFault
 claim_texts_in parts = do
   measured ← measured_texts_in parts
-  plan ← text_in parts heading.Plan 0 (codes "plan")
+  plan ← text_in parts heading.Plan 0
   Ok (record { measured = measured; plan = plan })
 
 -- what these texts say, or their first fault: the catalogue's, the sizes', the plan's

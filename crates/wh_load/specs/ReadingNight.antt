@@ -1,6 +1,5 @@
 -- What a bundle gives to be carried out: its views, their tables, and the night's changes and strategy.
-use Rattle.std.specs.Prelude.{◌++◌, ℕ, List, [], ◌∷◌, length, Bool, true, false, Option, Some, None, slice_get, option_and_then, option_map, Result, Ok, codes, if◌then◌else◌}
-use Rattle.std.specs.Option.{option_or}
+use Rattle.std.specs.Prelude.{◌++◌, ℕ, List, [], ◌∷◌, length, Bool, true, false, Option, Some, None, slice_get, find, not, option_and_then, option_map, Result, Ok}
 use Rattle.wh_dag.specs.Catalog.{CatalogOf, DefinitionOf}
 use Rattle.wh_dag.specs.Shape.{Views}
 use Rattle.wh_dag.specs.Written.{name_of, number_of}
@@ -9,6 +8,7 @@ use Rattle.wh_text.specs.Columns.{NamedKind}
 use Rattle.wh_text.specs.declared.fault.LoadFault.{LoadFault}
 use Rattle.wh_text.specs.declared.fault.LoadFault.TheVariants as fault
 use Rattle.wh_bundle.specs.Find.{found}
+use Rattle.wh_bundle.specs.Heading.{word_of}
 use Rattle.wh_bundle.specs.Text.{text_of}
 use Rattle.wh_bundle.specs.declared.bundle.fault.Nights.TheVariants as nights
 use Rattle.wh_bundle.specs.declared.bundle.heading.Heading.{Heading}
@@ -60,25 +60,15 @@ is_base_view (Some view) = is_undefined view.definition
 abbrev pub is_base_name : List (List ℕ) → List ViewOf → List ℕ → Bool
 is_base_name names views word = is_base_view (option_and_then (slice_get views) (number_of names word))
 
--- the first word of the heading of rows of this name, where it is the name of no base view
-abbrev pub unless_base_name : List (List ℕ) → List ViewOf → List ℕ → List ℕ → Option (List ℕ)
-unless_base_name names views word name = if is_base_name names views name then None else Some word
+-- the heading is of rows of no base view
+abbrev pub is_stray : List (List ℕ) → List ViewOf → Heading → Bool
+is_stray names views (heading.Data name) = not (is_base_name names views name)
+is_stray names views (heading.Changes name) = not (is_base_name names views name)
+is_stray names views _ = false
 
--- the first word of a heading that may not stand over these views: data and changes are of base views
-abbrev pub stray_word : List (List ℕ) → List ViewOf → Heading → Option (List ℕ)
-stray_word names views heading.Catalogue = None
-stray_word names views heading.Sizes = None
-stray_word names views heading.Strategy = None
-stray_word names views heading.Plan = None
-stray_word names views heading.Schedule = None
-stray_word names views heading.Night = None
-stray_word names views (heading.Data name) = unless_base_name names views (codes "data") name
-stray_word names views (heading.Changes name) = unless_base_name names views (codes "changes") name
-
--- the first part whose heading may not stand there is a fault
+-- the first part of rows of no base view is a fault
 abbrev pub first_stray : List (List ℕ) → List ViewOf → List Part → Option LoadFault
-first_stray names views [] = None
-first_stray names views (part ∷ rest) = option_or (option_map fault.Part (stray_word names views part.heading)) (first_stray names views rest)
+first_stray names views parts = option_map (λ part. fault.Part (word_of part.heading)) (find (λ part. is_stray names views part.heading) parts)
 
 -- ---- tables and changes
 
@@ -137,27 +127,33 @@ pub record AreReadFor (shape : Views) (views : List ViewOf) (tables changes : Li
 
 -- ---- all of it
 
--- a night over these views
-abbrev pub night_with : Views → List ViewOf → Texts → List Bag → List Bag → List Expression → Night
-night_with shape views texts tables changes list = record {
-  shape = shape;
-  opening = record { views = views; texts = texts; tables = tables };
-  given = record { changes = changes; list = list };
-}
+-- the tables of these views, by their names: rows of no base view are a fault, and come before the tables' own faults
+abbrev pub tables_of : List Part → List (List ℕ) → List ViewOf → Texts → Result (List Bag × Texts) LoadFault
+tables_of parts names views texts = or_fault (first_stray names views parts) (rows_after TableRows parts names [] views texts)
 
--- what a night over these views is given, or its first fault: rows of no base view, then the data, the changes, the strategy
+-- what is given of the night of this number, which counts from 0: its changes, and then its strategy, which this text says
+abbrev pub given_of : List Part → List (List ℕ) → List ViewOf → ℕ → List ℕ → Texts → Result (GivenNight × Texts) LoadFault
+given_of parts names views night strategy texts = do
+  changes ← rows_after (ChangeRows night) parts names [] views texts
+  list ← strategy_of names strategy
+  Ok (record { changes = changes.0; list = list }, changes.1)
+
+-- a night over these views
+abbrev pub night_with : Views → List ViewOf → Texts → List Bag → GivenNight → Night
+night_with shape views texts tables given = record { shape = shape; opening = record { views = views; texts = texts; tables = tables }; given = given }
+
+-- a night over these views, or its first fault: of the tables, or of what is given
 abbrev pub night_over : List Part → Views → List ViewOf → Texts → List ℕ → Result Night LoadFault
 night_over parts shape views texts strategy = do
-  tables ← or_fault (first_stray shape.names views parts) (rows_after TableRows parts shape.names [] views texts)
-  changes ← rows_after (ChangeRows 0) parts shape.names [] views tables.1
-  list ← strategy_of shape.names strategy
-  Ok (night_with shape views changes.1 tables.0 changes.0 list)
+  tables ← tables_of parts shape.names views texts
+  given ← given_of parts shape.names views 0 strategy tables.1
+  Ok (night_with shape views given.1 tables.0 given.0)
 
 -- what the parts of a bundle say, or their first fault: a part that is missing, the catalogue's, then what the night is given
 abbrev pub night_in : List Part → Result Night LoadFault
 night_in parts = do
-  catalogue ← text_in parts heading.Catalogue 0 (codes "catalogue")
-  strategy ← text_in parts heading.Strategy 0 (codes "strategy")
+  catalogue ← text_in parts heading.Catalogue 0
+  strategy ← text_in parts heading.Strategy 0
   shape ← shape_of catalogue
   written ← definitions_of shape catalogue []
   night_over parts shape written.0 written.1 strategy

@@ -4,6 +4,7 @@ use Rattle.wh_text.specs.declared.fault.LoadFault.{LoadFault}
 use Rattle.wh_text.specs.declared.fault.LoadFault.TheVariants as fault
 use Rattle.wh_bundle.specs.Bundle.{fault_of, parts_of}
 use Rattle.wh_bundle.specs.Find.{found}
+use Rattle.wh_bundle.specs.Heading.{word_of}
 use Rattle.wh_bundle.specs.Text.{text_of}
 use Rattle.wh_bundle.specs.declared.bundle.fault.Nights.{Nights}
 use Rattle.wh_bundle.specs.declared.bundle.heading.Heading.{Heading}
@@ -19,6 +20,6 @@ abbrev pub parts_in : Nights → List ℕ → Result (List Part) LoadFault
 parts_in read bytes = unless_part (fault_of read bytes) (parts_of bytes)
 
 -- the text of the part with this heading, which counts the nights from 0 where it may stand in each; one that is missing is
--- named by this word
-abbrev pub text_in : List Part → Heading → ℕ → List ℕ → Result (List ℕ) LoadFault
-text_in parts heading night word = ok_or (option_map text_of (found heading night parts)) (fault.Part word)
+-- named by its first word
+abbrev pub text_in : List Part → Heading → ℕ → Result (List ℕ) LoadFault
+text_in parts heading night = ok_or (option_map text_of (found heading night parts)) (fault.Part (word_of heading))

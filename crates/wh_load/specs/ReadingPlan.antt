@@ -1,5 +1,5 @@
 -- What a bundle gives to be planned for: its views, and their sizes.
-use Rattle.std.specs.Prelude.{ℕ, List, Result, Ok, codes}
+use Rattle.std.specs.Prelude.{ℕ, List, Result, Ok}
 use Rattle.wh_dag.specs.Shape.{Views}
 use Rattle.wh_text.specs.declared.fault.LoadFault.{LoadFault}
 use Rattle.wh_bundle.specs.declared.bundle.fault.Nights.TheVariants as nights
@@ -23,8 +23,8 @@ pub record MeasuredTexts : Type 0 where
 -- these texts among the parts of a bundle; the first that is missing, in the order of the headings, is a fault
 abbrev pub measured_texts_in : List Part → Result MeasuredTexts LoadFault
 measured_texts_in parts = do
-  catalogue ← text_in parts heading.Catalogue 0 (codes "catalogue")
-  sizes ← text_in parts heading.Sizes 0 (codes "sizes")
+  catalogue ← text_in parts heading.Catalogue 0
+  sizes ← text_in parts heading.Sizes 0
   Ok (record { catalogue = catalogue; sizes = sizes })
 
 -- what these texts say, or their first fault: the catalogue's, the sizes'

@@ -6,12 +6,14 @@ use Rattle.wh_load.specs.ReadingCheck as check
 use Rattle.wh_load.specs.ReadingClaim as claim
 use Rattle.wh_load.specs.ReadingNight as night
 use Rattle.wh_load.specs.ReadingPlan as plan
+use Rattle.wh_load.specs.ReadingReplay as replay
 use Rattle.wh_load.specs.declared.reading.inputs.CertifyInput.{CertifyInput}
 use Rattle.wh_load.specs.declared.reading.inputs.CheckInput.{CheckInput}
 use Rattle.wh_load.specs.declared.reading.inputs.MeasuredViews.{MeasuredViews}
 use Rattle.wh_load.specs.declared.reading.inputs.NightInput.{NightInput}
 use Rattle.wh_load.specs.declared.reading.inputs.GivenNight.{GivenNight}
 use Rattle.wh_load.specs.declared.reading.inputs.Opening.{Opening}
+use Rattle.wh_load.specs.declared.reading.inputs.ReplayInput.{ReplayInput}
 use Rattle.wh_load.specs.declared.reading.texts.CheckTexts.{CheckTexts}
 use Rattle.wh_load.specs.declared.reading.texts.ClaimTexts.{ClaimTexts}
 use Rattle.wh_load.specs.declared.reading.texts.MeasuredTexts.{MeasuredTexts}
@@ -45,6 +47,14 @@ shown_night n = record { shape = n.shape; opening = shown_opening n.opening; giv
 -- the views make a catalogue over the shape, and there are tables and changes of each
 abbrev pub IsReadNight : NightInput → Type 0
 IsReadNight n = night.AreReadFor n.shape (map shown_view n.opening.views.items) n.opening.tables.items n.given.changes.items
+
+-- what is replayed
+abbrev pub shown_replay : ReplayInput → replay.Replay
+shown_replay r = record { shape = r.shape; opening = shown_opening r.opening; nights = map shown_given r.nights.items; schedule = r.schedule }
+
+-- the views make a catalogue over the shape, there is a table of each, and there are changes of each in each night
+abbrev pub IsReadReplay : ReplayInput → Type 0
+IsReadReplay r = replay.AreReadForNights r.shape (map shown_view r.opening.views.items) r.opening.tables.items (map shown_given r.nights.items)
 
 -- ---- the texts of parts, lent or not
 

@@ -12,10 +12,11 @@ mod reading;
 pub use reading::certify::read_certification;
 pub use reading::check::read_check;
 pub use reading::inputs::{
-    CertifyInput, CheckInput, GivenNight, MeasuredViews, NightInput, Opening,
+    CertifyInput, CheckInput, GivenNight, MeasuredViews, NightInput, Opening, ReplayInput,
 };
 pub use reading::night::read_night;
 pub use reading::plan::read_planning;
+pub use reading::replay::read_replay;
 pub use wh_bundle::{
     Bundle, Heading, Nights, Part, PartFault, Piece, ReadFault, Scope, parts, read_all,
 };
@@ -26,9 +27,9 @@ pub use wh_catalogue_text::{
     rows_are_references_law, views_read_back_law,
 };
 pub use wh_plan_text::{
-    Plan, line_grammar_law, plan_grammar_law, plan_reads_back_law, read_plan, read_strategy,
-    reads_back_law, strategy_grammar_law, tree_lines_law, write_expression, write_plan,
-    write_strategy,
+    Plan, Schedule, ScheduledEvent, line_grammar_law, plan_grammar_law, plan_reads_back_law,
+    read_plan, read_schedule, read_strategy, reads_back_law, schedule_grammar_law,
+    strategy_grammar_law, tree_lines_law, write_expression, write_plan, write_strategy,
 };
 pub use wh_table_text::{
     changes_read_back_law, read_changes, read_sizes, read_table, table_reads_back_law, write_table,

@@ -6,9 +6,12 @@
 mod base;
 pub mod certify;
 pub mod check;
+mod given;
 pub mod inputs;
 pub mod night;
 mod parts;
 pub mod plan;
+pub mod replay;
 mod rows;
 mod texts;
+mod views;

@@ -10,10 +10,13 @@ mod FirstAbsent
 pub mod FitTables
 mod FitTests
 pub mod Folds
+mod Found
 pub mod FromScratch
 pub mod GroupChanges
 mod GroupSteps
+mod Grouping
 mod Lacking
+mod Laying
 mod MadeRows
 mod Matched
 pub mod MetRows
@@ -27,11 +30,13 @@ pub mod OldRows
 mod OneRow
 mod OpenedContents
 pub mod Products
+mod Rearranged
 pub mod RuledOut
 pub mod SizeBounds
 mod SourceTests
 mod Standing
 pub mod Summaries
+mod Swapping
 pub mod Telescope
 mod TermSums
 mod Unchanged

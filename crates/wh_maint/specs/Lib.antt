@@ -6,6 +6,8 @@ pub mod Definition
 pub mod Fault
 pub mod Finishing
 pub mod Fit
+pub mod Index
+pub mod Joining
 pub mod Laws
 pub mod MetRows
 pub mod NewSums

@@ -15,11 +15,15 @@ mod evaluated;
 mod fault;
 mod finished;
 mod group_change;
+mod index;
 mod installed;
 mod laws;
+mod layout;
 mod opening;
+mod order;
 mod pending;
 mod size;
+mod step;
 mod term;
 
 pub use asked::{are_bags, are_sources, is_fit};
@@ -28,6 +32,7 @@ pub use comps::comp;
 pub use evaluated::evaluate;
 pub use fault::{MaintFault, NamedRow};
 pub use finished::finish;
+pub use index::Index;
 pub use installed::install;
 pub use laws::{
     adding_stays_within, catalogs_are_graphs, changes_are_differences, changes_are_whole,

@@ -51,6 +51,10 @@ module _ (children ys : List ℕ) (state f g : ℕ → Bag) (h : (u : ℕ) → h
   same_comp k = ap (λ es. fold k (bag_of es)) (flat-each (term_rows k.passes children state f) (term_rows k.passes children state g) (parts ys)
       (all_mono _ _ (parts ys) (λ part e. λ i. matching k.passes (map (λ u. e u i) children)) (agree ys state f g h)))
 
+  pub same_changed : (passes : Row → Bool) → changed_rows passes children ys state f ≡ changed_rows passes children ys state g
+  same_changed passes = ap bag_of (flat-each (term_rows passes children state f) (term_rows passes children state g) (parts ys)
+      (all_mono _ _ (parts ys) (λ part e. λ i. matching passes (map (λ u. e u i) children)) (agree ys state f g h)))
+
   pub same_values : (v : View) → TermsHaveValues v children ys state f → TermsHaveValues v children ys state g
   same_values v a = both_all (λ part. (u : ℕ) → at_set part f state u ≡ at_set part g state u) _ _ (parts ys) (λ part e b. subst (λ ts. AllHaveValues v (matching v.passes ts)) (λ i. map (λ u. e u i) children) b) (agree ys state f g h) a
 
@@ -225,10 +229,11 @@ module _ (catalog : CatalogOf) (list : List Expression) (old given : ℕ → Bag
       ∙ sym ((λ i. sum_of (past a j empty l i) (none l i)) ∙ sum-empty empty))
       (cases_lt j (length a))
 
-  pub agrees_comp : (p v : ℕ) (ys : List ℕ) (s : State) (k : Kept) → At list p (Comp v ys) → v < length catalog.views.children → Agrees catalog list old given p s k
+  -- what a Comp adds is added to what is pending, and the view's change stays as known as it was
+  pub agrees_added : (p q v : ℕ) (ys : List ℕ) (s : State) (k : Kept) → ((w : ℕ) → is_new list q w ≡ is_new list p w) → v < length catalog.views.children → Agrees catalog list old given p s k
       → ((u : ℕ) → has ys u ≡ true → k.changes u ≡ change_in (graph_of catalog) given s u)
-      → Agrees catalog list old given (suc p) (step (graph_of catalog) given (Comp v ys) s) (computed catalog v ys k)
-  agrees_comp p v ys s k at inside a due =
+      → Agrees catalog list old given q (step (graph_of catalog) given (Comp v ys) s) (computed catalog v ys k)
+  agrees_added p q v ys s k stay inside a due =
       let view : View = view_of (definition_of catalog v) in
       let us : List ℕ = children_of catalog.views.children v in
       let columns : List Bag = comp_columns view us ys k.tables k.changes in
@@ -246,8 +251,13 @@ module _ (catalog : CatalogOf) (list : List Expression) (old given : ℕ → Bag
           | false ↦ λ t. a.long w l
         ] refl;
         known = a.known;
-        unknown = λ w l n. let both = a.unknown w l n in (both.0, new_next list p (Comp v ys) w at ∙ both.1);
+        unknown = λ w l n. let both = a.unknown w l n in (both.0, stay w ∙ both.1);
       }
+
+  pub agrees_comp : (p v : ℕ) (ys : List ℕ) (s : State) (k : Kept) → At list p (Comp v ys) → v < length catalog.views.children → Agrees catalog list old given p s k
+      → ((u : ℕ) → has ys u ≡ true → k.changes u ≡ change_in (graph_of catalog) given s u)
+      → Agrees catalog list old given (suc p) (step (graph_of catalog) given (Comp v ys) s) (computed catalog v ys k)
+  agrees_comp p v ys s k at inside a due = agrees_added p (suc p) v ys s k (λ w. new_next list p (Comp v ys) w at) inside a due
 
   pub agrees_inst : (p v : ℕ) (s : State) (k : Kept) → At list p (Inst v) → Agrees catalog list old given p s k → k.known v ≡ true
       → k.changes v ≡ change_in (graph_of catalog) given s v

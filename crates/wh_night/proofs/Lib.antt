@@ -10,3 +10,9 @@ pub mod Refusals
 pub mod Nights
 pub mod FirstRefusals
 pub mod NewValues
+pub mod StageLists
+pub mod AnyOrder
+pub mod Amid
+pub mod StageLaws
+pub mod NewCounts
+pub mod NightLists

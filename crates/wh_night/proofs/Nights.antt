@@ -25,7 +25,7 @@ use Rattle.wh_maint.specs.Contents.{AreBaseTables}
 use Rattle.wh_maint.specs.Asked.{AreBags}
 use Rattle.wh_maint.proofs.Telescope.{has_first}
 use Rattle.wh_maint.proofs.FromScratch.{catalogs_are_graphs}
-use Rattle.wh_night.specs.declared.state.State.{State}
+use Rattle.wh_night.specs.Kept.{KeptLists}
 use Rattle.wh_night.specs.Carry.{at_first, change_in, carried, before, tables_after}
 use Rattle.wh_night.specs.Carry as definition
 use Rattle.wh_night.specs.Fit.{AreFitTables}
@@ -71,21 +71,21 @@ each_more P xs x d n e h here v l = ⊎_elim
 
 -- ---- the first parts
 
-pub first_parts_more : (catalog : CatalogOf) (s next : State) (v : ℕ) (table change : Bag) (pending : PendingOf) (known : Bool)
+pub first_parts_more : (catalog : CatalogOf) (s next : KeptLists) (v : ℕ) (table change : Bag) (pending : PendingOf) (known : Bool)
     → AreFirstParts catalog v s → HasWidth table (width_of catalog v) → HasWidth change (width_of catalog v)
     → pending ≡ record { view = v; columns = map (λ _. empty) (range_with_len 0 (suc (sums_of (kind_in catalog v)))) } → known ≡ is_base catalog v
-    → next.tables.items ≡ s.tables.items ++ table ∷ [] → next.changes.items ≡ s.changes.items ++ change ∷ [] → next.pending.items ≡ s.pending.items ++ pending ∷ [] → next.known.items ≡ s.known.items ++ known ∷ []
+    → next.tables ≡ s.tables ++ table ∷ [] → next.changes ≡ s.changes ++ change ∷ [] → next.pendings ≡ s.pendings ++ pending ∷ [] → next.known ≡ s.known ++ known ∷ []
     → AreFirstParts catalog (v + 1) next
 first_parts_more catalog s next v table change pending known p tw cw pe ke t c q k = record {
-  each_table = ap length t ∙ longer s.tables.items table ∙ ap (λ n. n + 1) p.each_table;
-  each_change = ap length c ∙ longer s.changes.items change ∙ ap (λ n. n + 1) p.each_change;
-  each_pending = ap length q ∙ longer s.pending.items pending ∙ ap (λ n. n + 1) p.each_pending;
-  each_known = ap length k ∙ longer s.known.items known ∙ ap (λ n. n + 1) p.each_known;
-  table_widths = subst (λ bs. (u : ℕ) → u < v + 1 → HasWidth (bag_at bs u) (width_of catalog u)) (sym t) (each_more (λ u b. HasWidth b (width_of catalog u)) s.tables.items table empty v p.each_table p.table_widths tw);
-  change_widths = subst (λ bs. (u : ℕ) → u < v + 1 → HasWidth (bag_at bs u) (width_of catalog u)) (sym c) (each_more (λ u b. HasWidth b (width_of catalog u)) s.changes.items change empty v p.each_change p.change_widths cw);
+  each_table = ap length t ∙ longer s.tables table ∙ ap (λ n. n + 1) p.each_table;
+  each_change = ap length c ∙ longer s.changes change ∙ ap (λ n. n + 1) p.each_change;
+  each_pending = ap length q ∙ longer s.pendings pending ∙ ap (λ n. n + 1) p.each_pending;
+  each_known = ap length k ∙ longer s.known known ∙ ap (λ n. n + 1) p.each_known;
+  table_widths = subst (λ bs. (u : ℕ) → u < v + 1 → HasWidth (bag_at bs u) (width_of catalog u)) (sym t) (each_more (λ u b. HasWidth b (width_of catalog u)) s.tables table empty v p.each_table p.table_widths tw);
+  change_widths = subst (λ bs. (u : ℕ) → u < v + 1 → HasWidth (bag_at bs u) (width_of catalog u)) (sym c) (each_more (λ u b. HasWidth b (width_of catalog u)) s.changes change empty v p.each_change p.change_widths cw);
   pending = subst (λ (ps : List PendingOf). (u : ℕ) → u < v + 1 → pending_at ps u ≡ record { view = u; columns = map (λ _. empty) (range_with_len 0 (suc (sums_of (kind_in catalog u)))) }) (sym q)
-      (each_more (λ u x. x ≡ record { view = u; columns = map (λ _. empty) (range_with_len 0 (suc (sums_of (kind_in catalog u)))) }) s.pending.items pending (record { view = 0; columns = [] }) v p.each_pending p.pending pe);
-  known = subst (λ ks. (u : ℕ) → u < v + 1 → is_known ks u ≡ is_base catalog u) (sym k) (each_more (λ u x. x ≡ is_base catalog u) s.known.items known false v p.each_known p.known ke);
+      (each_more (λ u x. x ≡ record { view = u; columns = map (λ _. empty) (range_with_len 0 (suc (sums_of (kind_in catalog u)))) }) s.pendings pending (record { view = 0; columns = [] }) v p.each_pending p.pending pe);
+  known = subst (λ ks. (u : ℕ) → u < v + 1 → is_known ks u ≡ is_base catalog u) (sym k) (each_more (λ u x. x ≡ is_base catalog u) s.known known false v p.each_known p.known ke);
 }
 
 none_wide : (n : ℕ) → HasWidth empty n
@@ -95,7 +95,7 @@ pub first_wide : (b : Bool) (x : Bag) (n : ℕ) → HasWidth x n → HasWidth (c
 first_wide true x n w = w
 first_wide false x n w = none_wide n
 
-pub first_parts_are : (catalog : CatalogOf) (s : State) → IsCatalog catalog → AreFirstParts catalog (length catalog.views.children) s → AreParts catalog s
+pub first_parts_are : (catalog : CatalogOf) (s : KeptLists) → IsCatalog catalog → AreFirstParts catalog (length catalog.views.children) s → AreParts catalog s
 first_parts_are catalog s is p = record {
   catalogue = is;
   tables = record { each = p.each_table; widths = p.table_widths };
@@ -104,18 +104,18 @@ first_parts_are catalog s is p = record {
   pending = λ v l. subst (IsPendingFor catalog v) (sym (p.pending v l)) (record { of_view = refl; columns = length_range (λ _. empty) (suc (sums_of (kind_in catalog v))) 0 });
   wide = λ v d e j. ⊎_elim
       (λ l. subst (λ (x : PendingOf). HasWidth (bag_at x.columns j) (key_width d.output)) (sym (p.pending v l)) (subst (λ b. HasWidth b (key_width d.output)) (sym (none_at (suc (sums_of (kind_in catalog v))) 0 j)) (none_wide (key_width d.output))))
-      (λ l. subst (λ (x : PendingOf). HasWidth (bag_at x.columns j) (key_width d.output)) (sym (past s.pending.items v (record { view = 0; columns = [] }) (let e = p.each_pending in omega arith))) (none_wide (key_width d.output)))
+      (λ l. subst (λ (x : PendingOf). HasWidth (bag_at x.columns j) (key_width d.output)) (sym (past s.pendings v (record { view = 0; columns = [] }) (let e = p.each_pending in omega arith))) (none_wide (key_width d.output)))
       (cases_lt v (length catalog.views.children));
   each_known = p.each_known;
   bases = λ v l e. p.known v l ∙ e;
 }
 
-pub first_kept : (catalog : CatalogOf) (tables changes : List Bag) (s : State) → AreBags catalog tables → AreFirstParts catalog (length catalog.views.children) s
-    → ((v : ℕ) → v < length catalog.views.children → bag_at s.tables.items v ≡ bag_at tables v)
-    → ((v : ℕ) → v < length catalog.views.children → bag_at s.changes.items v ≡ cond (is_base catalog v) (bag_at changes v) empty)
+pub first_kept : (catalog : CatalogOf) (tables changes : List Bag) (s : KeptLists) → AreBags catalog tables → AreFirstParts catalog (length catalog.views.children) s
+    → ((v : ℕ) → v < length catalog.views.children → bag_at s.tables v ≡ bag_at tables v)
+    → ((v : ℕ) → v < length catalog.views.children → bag_at s.changes v ≡ cond (is_base catalog v) (bag_at changes v) empty)
     → IsFirst catalog (bag_at tables) (bag_at changes) (kept s)
 first_kept catalog tables changes s are p ts cs = record {
-  tables = λ v. ⊎_elim (ts v) (λ l. past s.tables.items v empty (let e = p.each_table in omega arith) ∙ sym (past tables v empty (let e = are.each in omega arith))) (cases_lt v (length catalog.views.children));
+  tables = λ v. ⊎_elim (ts v) (λ l. past s.tables v empty (let e = p.each_table in omega arith) ∙ sym (past tables v empty (let e = are.each in omega arith))) (cases_lt v (length catalog.views.children));
   pending = λ v l. ap (λ (x : PendingOf). x.columns) (p.pending v l);
   changes = λ v l e. cs v l ∙ (λ i. cond (e i) (bag_at changes v) empty);
   known = p.known;

@@ -28,11 +28,11 @@ use Rattle.wh_night.proofs.Agreeing.{Agrees, columns_at, comp_done, inst_done, s
 abbrev pub AreTold : CatalogOf → List Expression → (ℕ → Bag) → (ℕ → Bag) → Kept → Type 0
 AreTold catalog list old given k = (q v : ℕ) → At list q (Inst v) → k.known v ≡ true → CanBeFinished catalog (before (graph_of catalog) given list old q) v
 
-same_fit : (kind : Kind) (table other : Bag) (pending others : ℕ → Bag) → table ≡ other → pending ≡ others → CanHaveChange kind table pending → CanHaveChange kind other others
+pub same_fit : (kind : Kind) (table other : Bag) (pending others : ℕ → Bag) → table ≡ other → pending ≡ others → CanHaveChange kind table pending → CanHaveChange kind other others
 same_fit kind table other pending others e f c = subst (CanHaveChange kind other) f (subst (λ b. CanHaveChange kind b pending) e c)
 
 module _ (catalog : CatalogOf) (list : List Expression) (old given : ℕ → Bag) (is : IsCatalog catalog) (ok : IsCorrect catalog.views.children list) where
-  unfinished : (p : ℕ) (s : State) (k : Kept) → Agrees catalog list old given p s k → (u : ℕ) → u < length catalog.views.children → (fault : MaintFault) → IsUnfinishedIn catalog k u fault → IsUnfinished catalog s u fault
+  pub unfinished : (p : ℕ) (s : State) (k : Kept) → Agrees catalog list old given p s k → (u : ℕ) → u < length catalog.views.children → (fault : MaintFault) → IsUnfinishedIn catalog k u fault → IsUnfinished catalog s u fault
   unfinished p s k a u l fault f =
       ((a.unknown u l f.0).0, subst (λ b. IsFinishFault u (kind_in catalog u) (s.tables u) b fault) (λ i j. a.pending u l j i) (subst (λ b. IsFinishFault u (kind_in catalog u) b (bag_at (k.pending u)) fault) (a.tables u) f.1))
 
@@ -67,7 +67,7 @@ module _ (catalog : CatalogOf) (list : List Expression) (old given : ℕ → Bag
         ≡ comp (column (view_of (definition_of catalog v)) j) (children_of catalog.views.children v) ys s.tables (change_in (graph_of catalog) given s)
     column_at = columns_at catalog list old given is ok v ys s k.tables k.changes a.tables due
 
-    fits : MergedFit (k.pending v) (comp_columns (view_of (definition_of catalog v)) (children_of catalog.views.children v) ys k.tables k.changes)
+    pub fits : MergedFit (k.pending v) (comp_columns (view_of (definition_of catalog v)) (children_of catalog.views.children v) ys k.tables k.changes)
         → AddedFit (s.pending v) (λ j. comp (column (view_of (definition_of catalog v)) j) (children_of catalog.views.children v) ys s.tables (change_in (graph_of catalog) given s))
     fits fit = record {
       counts = λ row. subst (FitsSigned w64) (λ i. count (a.pending v l 0 i) row +ℤ count (column_at 0 i) row) (fit.counts row);
@@ -101,10 +101,10 @@ module _ (catalog : CatalogOf) (list : List Expression) (old given : ℕ → Bag
         let us : List ℕ = children_of catalog.views.children v in
         subst (λ ts. TermsHaveValues view us ys ts k.changes) (λ i u. sym (a.tables u) i) (same_values us ys s.tables (change_in (graph_of catalog) given s) k.changes (λ u t. sym (due u t)) view h)
 
-    computes : (view : View) → CanBeComputed view (children_of catalog.views.children v) ys k.tables k.changes → CanBeComputed view (children_of catalog.views.children v) ys s.tables (change_in (graph_of catalog) given s)
+    pub computes : (view : View) → CanBeComputed view (children_of catalog.views.children v) ys k.tables k.changes → CanBeComputed view (children_of catalog.views.children v) ys s.tables (change_in (graph_of catalog) given s)
     computes view can = record { few = λ big. can.few (too_large_as_kept big); values = values view can.values }
 
-    added : (fault : MaintFault) → IsAddFaultIn catalog k v ys fault
+    pub added : (fault : MaintFault) → IsAddFaultIn catalog k v ys fault
         → IsAddFault v (view_of (definition_of catalog v)) (children_of catalog.views.children v) ys s.tables (change_in (graph_of catalog) given s) (s.pending v) fault
     added (Large w) f = (f.0, ⊎_elim (λ big. inl (too_large big)) (λ no. inr (computes (view_of (definition_of catalog v)) no.0, λ fit. no.1 (fits_as_kept fit))) f.1)
     added (Range w) f = (f.0, λ big. f.1 (too_large_as_kept big), λ h. f.2 (values_as_kept (view_of (definition_of catalog v)) h))
@@ -112,7 +112,7 @@ module _ (catalog : CatalogOf) (list : List Expression) (old given : ℕ → Bag
     added (Absent w row) f = f
 
   -- an expression that is passed as it is kept is passed by the definition
-  comp_passed : (v : ℕ) (ys : List ℕ) (s : State) → CanAllBeFinished catalog s ys
+  pub comp_passed : (v : ℕ) (ys : List ℕ) (s : State) → CanAllBeFinished catalog s ys
       → CanBeComputed (view_of (definition_of catalog v)) (children_of catalog.views.children v) ys s.tables (change_in (graph_of catalog) given s)
       → AddedFit (s.pending v) (λ j. comp (column (view_of (definition_of catalog v)) j) (children_of catalog.views.children v) ys s.tables (change_in (graph_of catalog) given s))
       → IsPassed catalog given s (Comp v ys)

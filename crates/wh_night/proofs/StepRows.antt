@@ -99,7 +99,7 @@ module _ (shape : List (List ℕ)) (views : ℕ → View) (list : List Expressio
       is_old p u (omega arith) (old_before list p u (λ r a. let s : r ≡ q = ok.one_inst r q u a at in omega arith))
 
   -- from a place on that has all its Comps before it and not its Inst, a view has the table and the pending columns that its Inst finds
-  whole_at : (p q u : ℕ) → At list q (Inst u) → p ≤ q → ((c : ℕ) (ys : List ℕ) → At list c (Comp u ys) → c < p)
+  pub whole_at : (p q u : ℕ) → At list q (Inst u) → p ≤ q → ((c : ℕ) (ys : List ℕ) → At list c (Comp u ys) → c < p)
       → ((before (graph shape views) changes list old p).tables u ≡ (before (graph shape views) changes list old q).tables u)
       × ((before (graph shape views) changes list old p).pending u ≡ (before (graph shape views) changes list old q).pending u)
   whole_at p q u at l first =

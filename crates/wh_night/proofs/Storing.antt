@@ -1,12 +1,13 @@
 -- Parts that are set, and their widths.
-use Rattle.std.proofs.Common.{◌≡◌, ℕ, suc, ◌<◌, refl, sym, ap, subst, ◌∙◌, ◌+ℤ◌, Bool, true, false, not, cond, eqb, ◌&&◌, ◌||◌, List, [], length, get_or, set, ltb, ◌+◌, ◌⊎◌, inl, inr, Option, Some, None, Result, Ok, Err, ⊎_elim, arith, get_or-set_other, get_or-set_same}
+use Rattle.std.proofs.Common.{◌≡◌, ℕ, suc, ◌<◌, refl, sym, ap, subst, ◌∙◌, ◌+ℤ◌, Bool, true, false, not, cond, eqb, ◌&&◌, ◌||◌, List, [], length, get_or, set, map, ltb, ◌+◌, ◌⊎◌, ◌↔◌, inl, inr, OnOk, IfOk, IfErr, Option, Some, None, Result, Ok, Err, ⊎_elim, arith, get_or-set_other, get_or-set_same}
 use Rattle.std.specs.Prelude.{is_some}
+use Rattle.std.specs.List.{range_with_len}
 use Rattle.std.proofs.lemmas.List.{length-set}
 use Rattle.std.proofs.lemmas.Bool.{cases_lt, eqb-true, eqb-false, eq-eqb, ltb-true, lt-ltb, false≢true, both_ways, false_from_ne_true, and_parts, and_from, or_left, or_right, or_cases}
 use Rattle.wh_dag.specs.Shape.{has, children_of}
 use Rattle.wh_dag.specs.Catalog.{CatalogOf, IsCatalog, DefinitionOf, definition_of, is_base, width_of, columns}
 use Rattle.wh_row.specs.Bag.{Bag, HasWidth, empty, sum_of, count}
-use Rattle.wh_row.proofs.BagLaws.{count-sum_of}
+use Rattle.wh_row.proofs.BagLaws.{same_bag, count-sum_of}
 use Rattle.wh_maint.specs.View.{View, column, sums_of}
 use Rattle.wh_maint.specs.Summary.{change_of}
 use Rattle.wh_maint.specs.Definition.{view_of, kind_of}
@@ -20,11 +21,11 @@ use Rattle.wh_maint.specs.declared.fault.MaintFault.{MaintFault}
 use Rattle.wh_maint.specs.declared.fault.MaintFault.TheVariants.{Large, Range, Memory, Absent}
 use Rattle.wh_maint.specs.Size.{IsTooLarge}
 use Rattle.wh_maint.specs.Fit.{IsFitTable}
-use Rattle.wh_maint.specs.Refused.{IsMergeFault}
-use Rattle.wh_night.specs.Refused.{CanBeComputed, CanBeFinishedIn, IsUnfinishedIn, IsAddFaultIn}
-use Rattle.wh_night.specs.declared.state.State.{State}
+use Rattle.wh_maint.specs.Refused.{AddsNothing, IsMergeFault}
+use Rattle.wh_night.specs.Refused.{CanBeComputed, CanBeFinishedIn, IsUnfinishedIn, IsAddFaultIn, IsCompFaultIn}
 use Rattle.wh_night.specs.Carry.{with_at}
-use Rattle.wh_night.specs.Kept.{Kept, kept, pending_at, is_known, AreParts, CanFinish, finished, computed, installed}
+use Rattle.wh_night.specs.Kept.{Kept, KeptLists, pending_at, is_known, AreKnown, AreParts, CanFinish, IsPendingIn, finished, computed, installed, with_added, with_change, with_pending}
+use lib.IntN.{+ℤ_comm}
 use Rattle.wh_night.proofs.Agreeing.{length_range, at_zero, past, count-empty}
 
 pub set_at : {A : Type 0} (xs : List A) (i u : ℕ) (x d : A) → i < length xs → get_or (set xs i x) u d ≡ cond (eqb i u) x (get_or xs u d)
@@ -35,7 +36,7 @@ set_at xs i u x d l = elim (eqb i u) as (λ t. eqb i u ≡ t → get_or (set xs 
 
 -- ---- widths
 
-sum_wide : (a b : Bag) (n : ℕ) → HasWidth a n → HasWidth b n → HasWidth (sum_of a b) n
+pub sum_wide : (a b : Bag) (n : ℕ) → HasWidth a n → HasWidth b n → HasWidth (sum_of a b) n
 sum_wide a b n x y row some = ⊎_elim
     (λ e. y row (λ f. some (count-sum_of a b row ∙ (λ i. e i +ℤ f i))))
     (λ m. x row m)
@@ -66,63 +67,37 @@ defined catalog is v l n = given (definition_of catalog v) (is.derived v l ∙ a
     given (Some d) e = (d, refl)
 
 -- the change of a view has its width
-pub change_wide : (catalog : CatalogOf) (s : State) (v : ℕ) → AreParts catalog s → v < length catalog.views.children → is_base catalog v ≡ false
-    → HasWidth (change_of (kind_in catalog v) (bag_at s.tables.items v) (bag_at (pending_at s.pending.items v).columns)) (width_of catalog v)
-change_wide catalog s v p l n =
+pub change_wide : (catalog : CatalogOf) (s : KeptLists) (v : ℕ) (pending : PendingOf) → AreParts catalog s → v < length catalog.views.children → is_base catalog v ≡ false → IsPendingIn catalog v pending
+    → HasWidth (change_of (kind_in catalog v) (bag_at s.tables v) (bag_at pending.columns)) (width_of catalog v)
+change_wide catalog s v pending p l n q =
     let d = defined catalog p.catalogue v l n in
     let w : width_of catalog v ≡ columns d.0.output = p.catalogue.defined_columns v d.0 d.1 in
-    subst (HasWidth (change_of (kind_in catalog v) (bag_at s.tables.items v) (bag_at (pending_at s.pending.items v).columns))) (sym w)
-    (subst (λ o. HasWidth (change_of (view_of o).kind (bag_at s.tables.items v) (bag_at (pending_at s.pending.items v).columns)) (columns d.0.output)) (sym d.1)
-    (changes_have_width d.0.output (bag_at s.tables.items v) (bag_at (pending_at s.pending.items v).columns)
-    (subst (HasWidth (bag_at s.tables.items v)) w (p.tables.widths v l)) (p.wide v d.0 d.1)))
+    subst (HasWidth (change_of (kind_in catalog v) (bag_at s.tables v) (bag_at pending.columns))) (sym w)
+    (subst (λ o. HasWidth (change_of (view_of o).kind (bag_at s.tables v) (bag_at pending.columns)) (columns d.0.output)) (sym d.1)
+    (changes_have_width d.0.output (bag_at s.tables v) (bag_at pending.columns)
+    (subst (HasWidth (bag_at s.tables v)) w (p.tables.widths v l)) (q.wide d.0 d.1)))
+
+-- what is kept pending of a view is pending of it
+pub pending_in : (catalog : CatalogOf) (s : KeptLists) (v : ℕ) → AreParts catalog s → v < length catalog.views.children → IsPendingIn catalog v (pending_at s.pendings v)
+pending_in catalog s v p l = record { for_view = p.pending v l; wide = p.wide v }
 
 -- a view whose change is not known is derived
-pub unknown_is_derived : (catalog : CatalogOf) (s : State) → AreParts catalog s → (v : ℕ) → v < length catalog.views.children → is_known s.known.items v ≡ false → is_base catalog v ≡ false
-unknown_is_derived catalog s p v l n = false_from_ne_true (is_base catalog v) (λ t. both_ways (is_known s.known.items v) n (p.bases v l t))
+pub unknown_is_derived : (catalog : CatalogOf) (s : KeptLists) → AreParts catalog s → (v : ℕ) → v < length catalog.views.children → is_known s.known v ≡ false → is_base catalog v ≡ false
+unknown_is_derived catalog s p v l n = false_from_ne_true (is_base catalog v) (λ t. both_ways (is_known s.known v) n (p.bases v l t))
 
 -- ---- parts
 
-pub parts_finished : (catalog : CatalogOf) (s next : State) (v : ℕ) (b : Bag) → AreParts catalog s → v < length catalog.views.children → is_known s.known.items v ≡ false
-    → b ≡ change_of (kind_in catalog v) (bag_at s.tables.items v) (bag_at (pending_at s.pending.items v).columns)
-    → next.tables.items ≡ s.tables.items → next.pending.items ≡ s.pending.items → next.changes.items ≡ set s.changes.items v b → next.known.items ≡ set s.known.items v true
-    → AreParts catalog next
-parts_finished catalog s next v b p l n is t q c k =
-    let each = p.each_known in
-    let inside : v < length s.known.items = omega arith in
-    record {
-      catalogue = p.catalogue;
-      tables = subst (AreBags catalog) (sym t) p.tables;
-      changes = subst (AreBags catalog) (sym c) (bags_set catalog s.changes.items v b p.changes l (subst (λ x. HasWidth x (width_of catalog v)) (sym is) (change_wide catalog s v p l (unknown_is_derived catalog s p v l n))));
-      each_pending = ap length q ∙ p.each_pending;
-      pending = λ u m. subst (λ (ps : List PendingOf). IsPendingFor catalog u (pending_at ps u)) (sym q) (p.pending u m);
-      wide = λ u d e j. subst (λ (ps : List PendingOf). HasWidth (bag_at (pending_at ps u).columns j) (key_width d.output)) (sym q) (p.wide u d e j);
-      each_known = ap length k ∙ length-set s.known.items v true ∙ p.each_known;
-      bases = λ u m e. ap (λ ks. is_known ks u) k ∙ set_at s.known.items v u true false inside ∙ or_known (eqb v u) (is_known s.known.items u) (p.bases u m e);
-    }
-  where
-    or_known : (t b : Bool) → b ≡ true → cond t true b ≡ true
-    or_known true b e = refl
-    or_known false b e = e
-
-pub kept_finished : (catalog : CatalogOf) (s next : State) (v : ℕ) (b : Bag) → AreParts catalog s → v < length catalog.views.children → is_known s.known.items v ≡ false
-    → b ≡ change_of (kind_in catalog v) (bag_at s.tables.items v) (bag_at (pending_at s.pending.items v).columns)
-    → next.tables.items ≡ s.tables.items → next.pending.items ≡ s.pending.items → next.changes.items ≡ set s.changes.items v b → next.known.items ≡ set s.known.items v true
-    → kept next ≡ finished catalog (λ u. eqb v u) (kept s)
-kept_finished catalog s next v b p l n is t q c k =
-    let each_k = p.each_known in
-    let each_c = p.changes.each in
-    let in_k : v < length s.known.items = omega arith in
-    let in_c : v < length s.changes.items = omega arith in
-    let change : ℕ → Bag = λ u. change_of (kind_in catalog u) (bag_at s.tables.items u) (bag_at (pending_at s.pending.items u).columns) in
-    let changes : (u : ℕ) → bag_at next.changes.items u ≡ cond (eqb v u && not (is_known s.known.items u)) (change u) (bag_at s.changes.items u) = λ u.
-    ap (λ bs. bag_at bs u) c ∙ set_at s.changes.items v u b empty in_c
-    ∙ elim (eqb v u) as (λ t. eqb v u ≡ t → cond t b (bag_at s.changes.items u) ≡ cond (t && not (is_known s.known.items u)) (change u) (bag_at s.changes.items u)) [
-      | true ↦ λ t. is ∙ ap change (eqb-true v u t) ∙ (λ i. cond (not (sym (ap (is_known s.known.items) (sym (eqb-true v u t)) ∙ n) i)) (change u) (bag_at s.changes.items u))
+-- to keep its change is to finish a view that is not finished yet
+pub change_finishes : (catalog : CatalogOf) (k : Kept) (v : ℕ) (b : Bag) → k.known v ≡ false → b ≡ change_of (kind_in catalog v) (k.tables v) (bag_at (k.pending v)) → with_change v b k ≡ finished catalog (λ u. eqb v u) k
+change_finishes catalog k v b n is =
+    let change : ℕ → Bag = λ u. change_of (kind_in catalog u) (k.tables u) (bag_at (k.pending u)) in
+    let changes : (u : ℕ) → with_at v b k.changes u ≡ cond (eqb v u && not (k.known u)) (change u) (k.changes u) = λ u.
+    elim (eqb v u) as (λ t. eqb v u ≡ t → cond t b (k.changes u) ≡ cond (t && not (k.known u)) (change u) (k.changes u)) [
+      | true ↦ λ t. is ∙ ap change (eqb-true v u t) ∙ (λ i. cond (not (sym (ap k.known (sym (eqb-true v u t)) ∙ n) i)) (change u) (k.changes u))
       | false ↦ λ t. refl
     ] refl in
-    let known : (u : ℕ) → is_known next.known.items u ≡ (eqb v u || is_known s.known.items u) = λ u.
-    ap (λ ks. is_known ks u) k ∙ set_at s.known.items v u true false in_k ∙ as_or (eqb v u) (is_known s.known.items u) in
-    λ i. record { tables = bag_at (t i); pending = λ u. (pending_at (q i) u).columns; changes = λ u. changes u i; known = λ u. known u i }
+    let known : (u : ℕ) → with_at v true k.known u ≡ (eqb v u || k.known u) = λ u. as_or (eqb v u) (k.known u) in
+    λ i. record { tables = k.tables; pending = k.pending; changes = λ u. changes u i; known = λ u. known u i }
   where
     as_or : (t b : Bool) → cond t true b ≡ (t || b)
     as_or true b = refl
@@ -171,36 +146,6 @@ can_finish_more catalog k test can v l n = can v l (other (test v) (k.known v) n
     other true b e = absurd (false≢true (sym e))
     other false b e = e
 
--- ---- an Inst
-
-pub parts_installed : (catalog : CatalogOf) (s next : State) (v : ℕ) (b : Bag) → AreParts catalog s → v < length catalog.views.children
-    → b ≡ sum_of (bag_at s.tables.items v) (bag_at s.changes.items v)
-    → next.tables.items ≡ set s.tables.items v b → next.pending.items ≡ s.pending.items → next.changes.items ≡ s.changes.items → next.known.items ≡ s.known.items
-    → AreParts catalog next
-parts_installed catalog s next v b p l is t q c k = record {
-  catalogue = p.catalogue;
-  tables = subst (AreBags catalog) (sym t) (bags_set catalog s.tables.items v b p.tables l
-      (subst (λ x. HasWidth x (width_of catalog v)) (sym is) (sum_wide (bag_at s.tables.items v) (bag_at s.changes.items v) (width_of catalog v) (p.tables.widths v l) (p.changes.widths v l))));
-  changes = subst (AreBags catalog) (sym c) p.changes;
-  each_pending = ap length q ∙ p.each_pending;
-  pending = λ u m. subst (λ (ps : List PendingOf). IsPendingFor catalog u (pending_at ps u)) (sym q) (p.pending u m);
-  wide = λ u d e j. subst (λ (ps : List PendingOf). HasWidth (bag_at (pending_at ps u).columns j) (key_width d.output)) (sym q) (p.wide u d e j);
-  each_known = ap length k ∙ p.each_known;
-  bases = λ u m e. ap (λ ks. is_known ks u) k ∙ p.bases u m e;
-}
-
-pub kept_installed : (catalog : CatalogOf) (s next : State) (v : ℕ) (b : Bag) (k : Kept) → AreParts catalog s → v < length catalog.views.children → kept s ≡ k
-    → b ≡ sum_of (bag_at s.tables.items v) (bag_at s.changes.items v)
-    → next.tables.items ≡ set s.tables.items v b → next.pending.items ≡ s.pending.items → next.changes.items ≡ s.changes.items → next.known.items ≡ s.known.items
-    → kept next ≡ installed v k
-kept_installed catalog s next v b k p l e is t q c n =
-    let each = p.tables.each in
-    let inside : v < length s.tables.items = omega arith in
-    let tables : (u : ℕ) → bag_at next.tables.items u ≡ with_at v (sum_of (bag_at s.tables.items v) (bag_at s.changes.items v)) (bag_at s.tables.items) u = λ u.
-    ap (λ bs. bag_at bs u) t ∙ set_at s.tables.items v u b empty inside ∙ ap (λ x. cond (eqb v u) x (bag_at s.tables.items u)) is in
-    let here : kept next ≡ installed v (kept s) = λ i. record { tables = λ u. tables u i; pending = λ u. (pending_at (q i) u).columns; changes = bag_at (c i); known = is_known (n i) } in
-    here ∙ ap (installed v) e
-
 -- ---- a Comp
 
 bag_wide : (bags : List Bag) (j n : ℕ) → ((k : ℕ) → k < length bags → HasWidth (bag_at bags k) n) → HasWidth (bag_at bags j) n
@@ -221,55 +166,107 @@ columns_wide d us ys tables changes j =
 pub length_columns : (catalog : CatalogOf) (v : ℕ) (us ys : List ℕ) (tables changes : ℕ → Bag) → length (comp_columns (view_of (definition_of catalog v)) us ys tables changes) ≡ suc (sums_of (kind_in catalog v))
 length_columns catalog v us ys tables changes = length_range (λ j. comp (column (view_of (definition_of catalog v)) j) us ys tables changes) (suc (sums_of (kind_in catalog v))) 0
 
--- what is pending of each view, after what a Comp of v adds
-abbrev pub added_to : CatalogOf → State → ℕ → List ℕ → List Bag
-added_to catalog s v ys = merged (pending_at s.pending.items v).columns (comp_columns (view_of (definition_of catalog v)) (children_of catalog.views.children v) ys (bag_at s.tables.items) (bag_at s.changes.items))
+-- what a Comp adds is pending of its view
+pub comp_pending : (catalog : CatalogOf) (v : ℕ) (us ys : List ℕ) (tables changes : ℕ → Bag) (r : Result PendingOf MaintFault) → IfOk r (λ added. added.view ≡ v)
+    → IfOk r (λ added. added.columns ≡ comp_columns (view_of (definition_of catalog v)) us ys tables changes) → IfOk r (IsPendingIn catalog v)
+comp_pending catalog v us ys tables changes (Ok added) of is = record {
+  for_view = record { of_view = of; columns = ap length is ∙ length_columns catalog v us ys tables changes };
+  wide = λ d e j. subst (λ bs. HasWidth (bag_at bs j) (key_width d.output)) (sym is)
+      (subst (λ o. HasWidth (bag_at (comp_columns (view_of o) us ys tables changes) j) (key_width d.output)) (sym e) (columns_wide d us ys tables changes j));
+}
+comp_pending catalog v us ys tables changes (Err fault) of is = tt
 
-pub parts_computed : (catalog : CatalogOf) (s next : State) (v : ℕ) (ys : List ℕ) (b : PendingOf) → AreParts catalog s → v < length catalog.views.children → is_base catalog v ≡ false
-    → b.view ≡ v → b.columns ≡ added_to catalog s v ys
-    → next.tables.items ≡ s.tables.items → next.pending.items ≡ set s.pending.items v b → next.changes.items ≡ s.changes.items → next.known.items ≡ s.known.items
+-- and so it is with what was pending before
+pub sum_pending : (catalog : CatalogOf) (v : ℕ) (pending added sum : PendingOf) → IsPendingIn catalog v pending → IsPendingIn catalog v added → sum.view ≡ v → sum.columns ≡ merged pending.columns added.columns
+    → IsPendingIn catalog v sum
+sum_pending catalog v pending added sum p q of is = record {
+  for_view = record { of_view = of; columns = ap length is ∙ length_range (λ j. sum_of (bag_at pending.columns j) (bag_at added.columns j)) (length pending.columns) 0 ∙ p.for_view.columns };
+  wide = λ d e j. subst (λ bs. HasWidth (bag_at bs j) (key_width d.output)) (sym is) (merged_wide pending.columns added.columns (key_width d.output) (p.wide d e) (q.wide d e) j);
+}
+
+-- parts stay parts when something is pending of a view anew
+pub parts_pending : (catalog : CatalogOf) (s next : KeptLists) (v : ℕ) (b : PendingOf) → AreParts catalog s → v < length s.pendings → IsPendingIn catalog v b
+    → next.tables ≡ s.tables → next.pendings ≡ set s.pendings v b → next.changes ≡ s.changes → next.known ≡ s.known
     → AreParts catalog next
-parts_computed catalog s next v ys b p l derived of is t q c k =
-    let each = p.each_pending in
-    let inside : v < length s.pending.items = omega arith in
-    let at : (u : ℕ) → pending_at next.pending.items u ≡ cond (eqb v u) b (pending_at s.pending.items u) = λ u. ap (λ ps. pending_at ps u) q ∙ set_at s.pending.items v u b (record { view = 0; columns = [] }) inside in
-    let d = defined catalog p.catalogue v l derived in
+parts_pending catalog s next v b p inside is t q c k =
+    let at : (u : ℕ) → pending_at next.pendings u ≡ cond (eqb v u) b (pending_at s.pendings u) = λ u. ap (λ ps. pending_at ps u) q ∙ set_at s.pendings v u b (record { view = 0; columns = [] }) inside in
     record {
       catalogue = p.catalogue;
       tables = subst (AreBags catalog) (sym t) p.tables;
       changes = subst (AreBags catalog) (sym c) p.changes;
-      each_pending = ap length q ∙ length-set s.pending.items v b ∙ p.each_pending;
-      pending = λ u m. subst (IsPendingFor catalog u) (sym (at u)) (elim (eqb v u) as (λ t. eqb v u ≡ t → IsPendingFor catalog u (cond t b (pending_at s.pending.items u))) [
-        | true ↦ λ t. subst (λ w. IsPendingFor catalog w b) (eqb-true v u t) (record {
-          of_view = of;
-          columns = ap length is ∙ length_range (λ j. sum_of (bag_at (pending_at s.pending.items v).columns j) (bag_at (comp_columns (view_of (definition_of catalog v)) (children_of catalog.views.children v) ys (bag_at s.tables.items) (bag_at s.changes.items)) j)) (length (pending_at s.pending.items v).columns) 0 ∙ (p.pending v l).columns;
-        })
+      each_pending = ap length q ∙ length-set s.pendings v b ∙ p.each_pending;
+      pending = λ u m. subst (IsPendingFor catalog u) (sym (at u)) (elim (eqb v u) as (λ t. eqb v u ≡ t → IsPendingFor catalog u (cond t b (pending_at s.pendings u))) [
+        | true ↦ λ t. subst (λ w. IsPendingFor catalog w b) (eqb-true v u t) is.for_view
         | false ↦ λ t. p.pending u m
       ] refl);
-      wide = λ u e r j. subst (λ (x : PendingOf). HasWidth (bag_at x.columns j) (key_width e.output)) (sym (at u)) (elim (eqb v u) as (λ t. eqb v u ≡ t → HasWidth (bag_at (cond t b (pending_at s.pending.items u)).columns j) (key_width e.output)) [
-        | true ↦ λ t.
-            let r' : definition_of catalog v ≡ Some e = ap (definition_of catalog) (eqb-true v u t) ∙ r in
-            subst (λ bs. HasWidth (bag_at bs j) (key_width e.output)) (sym is)
-            (merged_wide (pending_at s.pending.items v).columns (comp_columns (view_of (definition_of catalog v)) (children_of catalog.views.children v) ys (bag_at s.tables.items) (bag_at s.changes.items)) (key_width e.output) (p.wide v e r')
-            (λ j. subst (λ o. HasWidth (bag_at (comp_columns (view_of o) (children_of catalog.views.children v) ys (bag_at s.tables.items) (bag_at s.changes.items)) j) (key_width e.output)) (sym r') (columns_wide e (children_of catalog.views.children v) ys (bag_at s.tables.items) (bag_at s.changes.items) j)) j)
+      wide = λ u e r j. subst (λ (x : PendingOf). HasWidth (bag_at x.columns j) (key_width e.output)) (sym (at u)) (elim (eqb v u) as (λ t. eqb v u ≡ t → HasWidth (bag_at (cond t b (pending_at s.pendings u)).columns j) (key_width e.output)) [
+        | true ↦ λ t. is.wide e (ap (definition_of catalog) (eqb-true v u t) ∙ r) j
         | false ↦ λ t. p.wide u e r j
       ] refl);
       each_known = ap length k ∙ p.each_known;
       bases = λ u m e. ap (λ ks. is_known ks u) k ∙ p.bases u m e;
     }
 
-pub kept_computed : (catalog : CatalogOf) (s next : State) (v : ℕ) (ys : List ℕ) (b : PendingOf) (k : Kept) → AreParts catalog s → v < length catalog.views.children → kept s ≡ k
-    → b.columns ≡ added_to catalog s v ys
-    → next.tables.items ≡ s.tables.items → next.pending.items ≡ set s.pending.items v b → next.changes.items ≡ s.changes.items → next.known.items ≡ s.known.items
-    → kept next ≡ computed catalog v ys k
-kept_computed catalog s next v ys b k p l e is t q c n =
-    let each = p.each_pending in
-    let inside : v < length s.pending.items = omega arith in
-    let pending : (u : ℕ) → (pending_at next.pending.items u).columns ≡ with_at v (added_to catalog s v ys) (λ u. (pending_at s.pending.items u).columns) u = λ u.
-    ap (λ ps. (pending_at ps u).columns) q ∙ ap (λ (x : PendingOf). x.columns) (set_at s.pending.items v u b (record { view = 0; columns = [] }) inside)
-    ∙ elim (eqb v u) as (λ t. (cond t b (pending_at s.pending.items u)).columns ≡ cond t (added_to catalog s v ys) (pending_at s.pending.items u).columns) [ true ↦ is | false ↦ refl ] in
-    let here : kept next ≡ computed catalog v ys (kept s) = λ i. record { tables = bag_at (t i); pending = λ u. pending u i; changes = bag_at (c i); known = is_known (n i) } in
-    here ∙ ap (computed catalog v ys) e
+-- to add what a Comp adds is to compute it
+pub added_computes : (catalog : CatalogOf) (k : Kept) (v : ℕ) (ys : List ℕ) (added : PendingOf) → added.view ≡ v
+    → added.columns ≡ comp_columns (view_of (definition_of catalog v)) (children_of catalog.views.children v) ys k.tables k.changes
+    → with_pending (with_added k added) k ≡ computed catalog v ys k
+added_computes catalog k v ys added of is = λ i. with_pending (record { view = of i; columns = merged (k.pending (of i)) (is i) }) k
+
+-- the order of two does not matter
+pub merged_swap : (a b : List Bag) → length a ≡ length b → merged a b ≡ merged b a
+merged_swap a b e = λ i. map (λ j. swap (bag_at a j) (bag_at b j) i) (range_with_len 0 (e i))
+  where
+    swap : (x y : Bag) → sum_of x y ≡ sum_of y x
+    swap x y = same_bag (sum_of x y) (sum_of y x) (λ q. count-sum_of x y q ∙ +ℤ_comm (count x q) (count y q) ∙ sym (count-sum_of y x q))
+
+-- ---- answers
+
+pub if_ok_is : {A : Type 0} (P : A → Type 0) (b : A) (r : Result A MaintFault) → IfOk r (λ x. x ≡ b) → P b → IfOk r P
+if_ok_is P b (Ok x) e h = subst P (sym e) h
+if_ok_is P b (Err fault) e h = tt
+
+pub on_ok : {A : Type 0} (P Q : Type 0) (r : Result A MaintFault) → (P → Q) → OnOk r P → OnOk r Q
+on_ok P Q (Ok x) f h = f h
+on_ok P Q (Err fault) f h = tt
+
+pub same_err : {A : Type 0} (r : Result A MaintFault) (a b : MaintFault) → r ≡ Err a → r ≡ Err b → a ≡ b
+same_err r a b e f = cc
+
+-- a Comp that was computed was neither too large nor without a value
+pub comp_passed : (view : View) (us ys : List ℕ) (tables changes : ℕ → Bag) (v : ℕ) (r : Result PendingOf MaintFault)
+    → (IsTooLarge us ys tables changes → r ≡ Err (Large v)) → OnOk r (TermsHaveValues view us ys tables changes) → OnOk r (CanBeComputed view us ys tables changes)
+comp_passed view us ys tables changes v (Ok added) large values = record { few = λ big. let e : Ok added ≡ Err (Large v) = large big in cc; values = values }
+comp_passed view us ys tables changes v (Err fault) large values = tt
+
+-- and one that was not was refused for its first reason
+pub comp_refused : (catalog : CatalogOf) (k : Kept) (v : ℕ) (ys : List ℕ) (r : Result PendingOf MaintFault)
+    → ((r ≡ Err (Large v)) ↔ IsTooLarge (children_of catalog.views.children v) ys k.tables k.changes)
+    → (r ≡ Err (Range v) → ¬ (TermsHaveValues (view_of (definition_of catalog v)) (children_of catalog.views.children v) ys k.tables k.changes))
+    → (r ≡ Err Memory → ¬ (AddsNothing (view_of (definition_of catalog v)) ys k.changes))
+    → IfErr r (λ fault. (fault ≡ Memory) ⊎ (fault ≡ Large v) ⊎ (fault ≡ Range v))
+    → IfErr r (IsCompFaultIn catalog k v ys)
+comp_refused catalog k v ys (Ok added) large range memory one = tt
+comp_refused catalog k v ys (Err (Large w)) large range memory one =
+    let e : w ≡ v = ⊎_elim (λ e. cc) (λ es. ⊎_elim (λ e. cc) (λ e. cc) es) one in
+    (e, large.0 (ap (λ x. Err (Large x)) e))
+comp_refused catalog k v ys (Err (Range w)) large range memory one =
+    let e : w ≡ v = ⊎_elim (λ e. cc) (λ es. ⊎_elim (λ e. cc) (λ e. cc) es) one in
+    (e, λ big. not_both (Err (Range w)) (large.1 big) refl, range (ap (λ x. Err (Range x)) e))
+  where
+    not_both : (r : Result PendingOf MaintFault) → r ≡ Err (Large v) → r ≡ Err (Range w) → ⊥
+    not_both r e f = cc
+comp_refused catalog k v ys (Err Memory) large range memory one = memory refl
+comp_refused catalog k v ys (Err (Absent w row)) large range memory one = ⊎_elim (λ e. cc) (λ es. ⊎_elim (λ e. cc) (λ e. cc) es) one
+
+pub add_refused : (catalog : CatalogOf) (k : Kept) (v : ℕ) (ys : List ℕ) (fault : MaintFault) → IsCompFaultIn catalog k v ys fault → IsAddFaultIn catalog k v ys fault
+add_refused catalog k v ys (Large w) f = (f.0, inl f.1)
+add_refused catalog k v ys (Range w) f = f
+add_refused catalog k v ys Memory f = tt
+add_refused catalog k v ys (Absent w row) f = f
+
+pub sources_known : (catalog : CatalogOf) (k after : Kept) (ys : List ℕ) → after ≡ finished catalog (has ys) k → AreKnown after ys
+sources_known catalog k after ys e = subst (λ k. AreKnown k ys) (sym e) (λ u m. or_left (has ys u) (k.known u) m)
 
 -- ---- view by view
 
@@ -357,17 +354,6 @@ merge_refused catalog k v ys (Large w) can f = (f.0, inr (can, f.1))
 merge_refused catalog k v ys (Range w) can f = absurd f
 merge_refused catalog k v ys Memory can f = tt
 merge_refused catalog k v ys (Absent w row) can f = f
-
--- a Comp that was computed was neither too large nor without a value
-pub could_be_computed : (view : View) (us ys : List ℕ) (tables changes here there : List Bag) (v : ℕ) (r : Result PendingOf MaintFault) (pending : PendingOf)
-    → tables ≡ here → changes ≡ there → r ≡ Ok pending → (IsTooLarge us ys (bag_at tables) (bag_at changes) → r ≡ Err (Large v)) → TermsHaveValues view us ys (bag_at tables) (bag_at changes)
-    → CanBeComputed view us ys (bag_at here) (bag_at there)
-could_be_computed view us ys tables changes here there v r pending t c e large values =
-    subst (λ bs. CanBeComputed view us ys (bag_at here) (bag_at bs)) c
-    (subst (λ bs. CanBeComputed view us ys (bag_at bs) (bag_at changes)) t (record { few = λ big. not_both (large big); values = values }))
-  where
-    not_both : r ≡ Err (Large v) → ⊥
-    not_both f = cc
 
 pub can_finish_after : (catalog : CatalogOf) (k after : Kept) (test : ℕ → Bool) → CanFinish catalog k → after ≡ finished catalog test k → CanFinish catalog after
 can_finish_after catalog k after test can e = subst (CanFinish catalog) (sym e) (can_finish_more catalog k test can)

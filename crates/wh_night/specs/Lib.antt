@@ -4,3 +4,8 @@ pub mod Kept
 pub mod Laws
 pub mod Refused
 pub mod Steps
+pub mod Waves
+pub mod NightList
+pub mod AnyOrder
+pub mod Stages
+pub mod NightLaws

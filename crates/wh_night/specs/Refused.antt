@@ -15,7 +15,7 @@ use Rattle.wh_maint.specs.Comp.{comp, bag_at, comp_columns, changed_rows, TermsH
 use Rattle.wh_maint.specs.Fit.{IsFirstAbsent}
 use Rattle.wh_maint.specs.Size.{IsTooLarge}
 use Rattle.wh_maint.specs.Finishing.{kind_in}
-use Rattle.wh_maint.specs.Refused.{IsInstallFault, IsFinishFault, NoneAbsent, MergedFit, SumsTogetherFit}
+use Rattle.wh_maint.specs.Refused.{AddsNothing, IsInstallFault, IsFinishFault, NoneAbsent, MergedFit, SumsTogetherFit}
 use Rattle.wh_night.specs.declared.report.CarryFault.{CarryFault}
 use Rattle.wh_night.specs.Carry.{State, at_first, change_in, before}
 use Rattle.wh_night.specs.Kept.{Kept, finished}
@@ -196,6 +196,14 @@ pub record IsFirstUnfinishedIn (catalog : CatalogOf) (k : Kept) (ys : List ℕ) 
   pub among : has ys view ≡ true
   pub lower : (u : ℕ) → u < view → has ys u ≡ true → CanBeFinishedIn catalog k u
   pub refused : IsUnfinishedIn catalog k view fault
+
+-- a Comp is not computed: there are too many combined rows, or one that it meets has an expression without a value; memory is wanted where some source has a change, or the view has sums
+abbrev pub IsCompFaultIn : CatalogOf → Kept → ℕ → List ℕ → MaintFault → Type 0
+IsCompFaultIn catalog k v ys (Large w) = (w ≡ v) × IsTooLarge (children_of catalog.views.children v) ys k.tables k.changes
+IsCompFaultIn catalog k v ys (Range w) = (w ≡ v) × (¬ (IsTooLarge (children_of catalog.views.children v) ys k.tables k.changes))
+    × (¬ (TermsHaveValues (view_of (definition_of catalog v)) (children_of catalog.views.children v) ys k.tables k.changes))
+IsCompFaultIn catalog k v ys Memory = ¬ (AddsNothing (view_of (definition_of catalog v)) ys k.changes)
+IsCompFaultIn catalog k v ys (Absent w row) = ⊥
 
 abbrev pub IsAddFaultIn : CatalogOf → Kept → ℕ → List ℕ → MaintFault → Type 0
 IsAddFaultIn catalog k v ys (Large w) = (w ≡ v) × (IsTooLarge (children_of catalog.views.children v) ys k.tables k.changes

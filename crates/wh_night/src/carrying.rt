@@ -16,7 +16,7 @@ ghost use Rattle.wh_night.specs.Refused.{AreAllowedBelow, ArePassedBelow, IsBase
 ghost use Rattle.wh_night.specs.Steps.{AreSteps};
 
 use crate::report::{Carried, CarryFault, Report};
-use crate::state::State;
+use crate::state::NightState;
 use std::alloc::Global;
 use wh_dag::Catalog;
 use wh_formula::{RowTest, RowValue};
@@ -64,7 +64,7 @@ pub fn carry<F: RowTest, G: RowValue>(
             started: false,
         });
     }
-    let Ok(mut state) = State::at_first(alloc, catalog, tables, changes) else {
+    let Ok(mut state) = NightState::new(alloc, catalog, tables, changes) else {
         return Err(CarryFault {
             fault: MaintFault::Memory,
             started: false,
@@ -72,7 +72,7 @@ pub fn carry<F: RowTest, G: RowValue>(
     };
     match carry_out(alloc, catalog, correct.strategy().as_slice(), &mut state) {
         Ok(steps) => Ok(Carried {
-            tables: state.tables,
+            tables: state.into_tables(),
             report: Report { version: 1, steps },
         }),
         Err(fault) => Err(CarryFault {
@@ -82,8 +82,9 @@ pub fn carry<F: RowTest, G: RowValue>(
     }
 }
 
-/// Tests the change of each base view.
-fn base_changes<F: RowTest, G: RowValue>(
+/// Tests the change of each base view, by rising number: Absent with the first row that it takes below zero, then Large
+/// where a count leaves i64. Memory only for the row that a change lacks. There is a table and a change for each view.
+pub fn base_changes<F: RowTest, G: RowValue>(
     alloc: Global,
     catalog: &Catalog<F, G>,
     tables: &[Bag],
@@ -108,14 +109,14 @@ fn carry_out<F: RowTest, G: RowValue>(
     alloc: Global,
     catalog: &Catalog<F, G>,
     list: &[Expression],
-    state: &mut State,
+    state: &mut NightState,
 ) -> Result<Vec<(Expression, u128)>, MaintFault>
     requires correct { IsCorrect catalog.now.views.children list.now }
     requires parts { AreParts catalog.now state.old }
     requires fit { CanFinish catalog.now (kept state.old) }
     ensures parts { OnOk result (AreParts catalog.now state.new) }
     ensures tables { OnOk result ((old changes : ℕ → SignedBag) → IsFirst catalog.now old changes (kept state.old)
-        → (v : ℕ) → bag_at state.new.tables.items v ≡ tables_after (graph_of catalog.now) changes list.now old v) }
+        → (v : ℕ) → bag_at state.new.tables v ≡ tables_after (graph_of catalog.now) changes list.now old v) }
     ensures steps { IfOk result (λ steps. (old changes : ℕ → SignedBag) → IsFirst catalog.now old changes (kept state.old)
         → AreSteps catalog.now.views.children list.now old (tables_after (graph_of catalog.now) changes list.now old) steps.items) }
     ensures passed { OnOk result ((old changes : ℕ → SignedBag) → IsFirst catalog.now old changes (kept state.old)

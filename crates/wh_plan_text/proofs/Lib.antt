@@ -2,6 +2,7 @@ pub mod BegunTrees
 pub mod CycleParts
 pub mod ExpressionPieces
 pub mod LineGrammars
+pub mod ListedLines
 pub mod Lists
 pub mod Naturals
 pub mod NodeReadingBack
@@ -10,6 +11,7 @@ pub mod PlanGrammars
 pub mod PlanLines
 pub mod PlanReadingBack
 pub mod ReadingBack
+pub mod ScheduleGrammars
 pub mod Spelled
 pub mod TreeGrowths
 pub mod WholeTrees

@@ -19,7 +19,8 @@ use Rattle.wh_text.specs.declared.fault.LoadFault.{LoadFault}
 use Rattle.wh_plan_text.specs.ExpressionText.{words_for}
 use Rattle.wh_plan_text.specs.Natural.{natural}
 use Rattle.wh_plan_text.specs.PlanLine.{plan_line_of}
-use Rattle.wh_plan_text.specs.PlanGrammar.{IsForScope, IsWhole, certificate_lines, plan_lines, told_by, told_in}
+use Rattle.wh_plan_text.specs.ListedLines.{told_by, told_in}
+use Rattle.wh_plan_text.specs.PlanGrammar.{IsForScope, IsWhole, certificate_lines, plan_lines}
 use Rattle.wh_plan_text.specs.PlanReadsBack.{IsCertificateWritable, IsPairWithin, IsWritable, PlanReadsBack, TextsDiffer}
 use Rattle.wh_plan_text.specs.PlanText.{certificate_text, line_text, pair_words, plan_of, plan_text, scope_text}
 use Rattle.wh_plan_text.specs.ReadsBack.{IsWithin, is_plain}
@@ -85,29 +86,29 @@ plain_pair names pair plain within =
 
 -- a line with words, above others
 line_told : (names : List (List ℕ)) (line below : List ℕ) (own : PlanLine) → list_all is_inner line ≡ true → 0 < length (words_of line) → plan_line_of names line (words_of line) ≡ Some own
-    → told_in names (lines_of ((line ++ 10 ∷ []) ++ below)) ≡ Some own ∷ told_in names (lines_of below)
+    → told_in (plan_line_of names) (lines_of ((line ++ 10 ∷ []) ++ below)) ≡ Some own ∷ told_in (plan_line_of names) (lines_of below)
 line_told names line below own inner some said =
-    let told : told_by names line ≡ Some own ∷ [] =
+    let told : told_by (plan_line_of names) line ≡ Some own ∷ [] =
     ap (λ (b : Bool). if b then [] else plan_line_of names line (words_of line) ∷ []) (not_zero (length (words_of line)) some) ∙ ap (λ o. o ∷ []) said in
-    ap (λ text. told_in names (lines_of text)) (append_assoc line (10 ∷ []) below)
-    ∙ ap (told_in names) (lines_of-line line below inner)
-    ∙ ap (λ first. first ++ told_in names (lines_of below)) told
+    ap (λ text. told_in (plan_line_of names) (lines_of text)) (append_assoc line (10 ∷ []) below)
+    ∙ ap (told_in (plan_line_of names)) (lines_of-line line below inner)
+    ∙ ap (λ first. first ++ told_in (plan_line_of names) (lines_of below)) told
 
 -- a line of plain words
 words_told : (names words : List (List ℕ)) (below : List ℕ) (own : PlanLine) → list_all is_plain words ≡ true → 0 < length words → plan_line_of names (join_with_byte 32 words) words ≡ Some own
-    → told_in names (lines_of (line_text words ++ below)) ≡ Some own ∷ told_in names (lines_of below)
+    → told_in (plan_line_of names) (lines_of (line_text words ++ below)) ≡ Some own ∷ told_in (plan_line_of names) (lines_of below)
 words_told names words below own plain some said =
     let read = words_of-join words plain in
     line_told names (join_with_byte 32 words) below own (inner_join words plain) (subst (λ ws. 0 < length ws) (sym read) some) (ap (plan_line_of names (join_with_byte 32 words)) read ∙ said)
 
 list_told : (names : List (List ℕ)) (list : List Expression) (below : List ℕ)
     → All (λ name. is_plain name ≡ true) names → AllPairs (λ first second. first ≢ second) names → All (IsWithin (length names)) list
-    → told_in names (lines_of (strategy_text names list ++ below)) ≡ map Some (map Listed list) ++ told_in names (lines_of below)
+    → told_in (plan_line_of names) (lines_of (strategy_text names list ++ below)) ≡ map Some (map Listed list) ++ told_in (plan_line_of names) (lines_of below)
 list_told names [] below plain distinct within = refl
 list_told names (e ∷ es) below plain distinct within =
     let own = within 0 e (omega arith) in
     let words = words_for names e in
-    ap (λ text. told_in names (lines_of text)) (append_assoc (line_text words) (strategy_text names es) below)
+    ap (λ text. told_in (plan_line_of names) (lines_of text)) (append_assoc (line_text words) (strategy_text names es) below)
     ∙ words_told names words (strategy_text names es ++ below) (Listed e) (plain_words names e plain own) (some_words names e) (listed names (join_with_byte 32 words) e distinct own)
     ∙ ap (λ said. Some (Listed e) ∷ said) (list_told names es below plain distinct (λ k d l. within (suc k) d (omega arith)))
   where
@@ -117,7 +118,7 @@ list_told names (e ∷ es) below plain distinct within =
 
 pairs_told : (names : List (List ℕ)) (pairs : List PairMin)
     → All (λ name. is_plain name ≡ true) names → AllPairs (λ first second. first ≢ second) names → All (IsPairWithin (length names)) pairs
-    → told_in names (lines_of (certificate_text names (Pairs pairs))) ≡ map Some (map Paired pairs)
+    → told_in (plan_line_of names) (lines_of (certificate_text names (Pairs pairs))) ≡ map Some (map Paired pairs)
 pairs_told names [] plain distinct within = refl
 pairs_told names (p ∷ ps) plain distinct within =
     let own = within 0 p (omega arith) in
@@ -125,7 +126,7 @@ pairs_told names (p ∷ ps) plain distinct within =
     words_told names words (certificate_text names (Pairs ps)) (Paired p) (plain_pair names p plain own) (omega arith) (paired names (join_with_byte 32 words) p distinct own)
     ∙ ap (λ said. Some (Paired p) ∷ said) (pairs_told names ps plain distinct (λ k d l. within (suc k) d (omega arith)))
 
-nodes_told : (names : List (List ℕ)) (nodes : List TreeNode) → All (NodeReads names) nodes → told_in names (lines_of (tree_text names nodes)) ≡ map Some (map Searched nodes)
+nodes_told : (names : List (List ℕ)) (nodes : List TreeNode) → All (NodeReads names) nodes → told_in (plan_line_of names) (lines_of (tree_text names nodes)) ≡ map Some (map Searched nodes)
 nodes_told names [] reads = refl
 nodes_told names (own ∷ nodes) reads =
     let read = reads 0 own (omega arith) in
@@ -133,7 +134,7 @@ nodes_told names (own ∷ nodes) reads =
     ∙ ap (λ said. Some (Searched own) ∷ said) (nodes_told names nodes (λ k d l. reads (suc k) d (omega arith)))
 
 certificate_told : (names : List (List ℕ)) (own : Scope) (work : ℕ) (list : List Expression) (certificate : Certificate) → IsWritable names own work list certificate
-    → told_in names (lines_of (certificate_text names certificate)) ≡ map Some (certificate_lines certificate)
+    → told_in (plan_line_of names) (lines_of (certificate_text names certificate)) ≡ map Some (certificate_lines certificate)
 certificate_told names scope.All work list (Pairs pairs) h = pairs_told names pairs h.plain h.distinct h.certified
 certificate_told names scope.OneWay work list (Search nodes) h =
     nodes_told names nodes (λ k d l. node_reads names (get_or nodes k d) h.plain h.distinct h.certified.unparted (h.certified.within k d l))
@@ -150,7 +151,7 @@ scoped names scope.OneWay = refl
 
 -- the text of a plan says its lines
 text_told : (names : List (List ℕ)) (own : Scope) (work : ℕ) (list : List Expression) (certificate : Certificate) → IsWritable names own work list certificate
-    → told_in names (lines_of (plan_text names own work list certificate)) ≡ map Some (plan_lines (record { scope = own; work = work; strategy = list; certificate = certificate }))
+    → told_in (plan_line_of names) (lines_of (plan_text names own work list certificate)) ≡ map Some (plan_lines (record { scope = own; work = work; strategy = list; certificate = certificate }))
 text_told names own work list certificate h =
     let first = codes "scope" ∷ scope_text own ∷ [] in
     let second = codes "work" ∷ decimal work ∷ [] in

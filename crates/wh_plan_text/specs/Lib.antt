@@ -1,5 +1,6 @@
 pub mod ExpressionText
 pub mod LineGrammar
+pub mod ListedLines
 pub mod Natural
 pub mod NodeLine
 pub mod PlanGrammar
@@ -7,6 +8,9 @@ pub mod PlanLine
 pub mod PlanReadsBack
 pub mod PlanText
 pub mod ReadsBack
+pub mod ScheduleGrammar
+pub mod ScheduleLine
+pub mod ScheduleText
 pub mod StrategyGrammar
 pub mod StrategyText
 pub mod TreeGrowth

@@ -1,6 +1,5 @@
 -- Which texts are plans, and where a text stops being one.
-use Rattle.std.specs.Prelude.{◌≡◌, ◌↔◌, ◌++◌, ◌==◌, ℕ, List, [], ◌∷◌, length, map, Option, Some, Ok, Err, if◌then◌else◌}
-use Rattle.std.specs.List.{flat_map}
+use Rattle.std.specs.Prelude.{◌≡◌, ◌↔◌, ◌++◌, ℕ, List, ◌∷◌, map, Some, Ok, Err}
 use Rattle.wh_cert.specs.Tree.{CaseTree, IsTreeOf}
 use Rattle.wh_cert.specs.declared.certificate.Certificate.{Certificate}
 use Rattle.wh_cert.specs.declared.certificate.Certificate.TheVariants.{Pairs, Search}
@@ -9,21 +8,14 @@ use Rattle.wh_cert.specs.declared.certificate.Scope.TheVariants as scope
 use Rattle.wh_text.specs.declared.fault.LoadFault.{LoadFault}
 use Rattle.wh_text.specs.declared.fault.LoadFault.TheVariants.{Plan as PlanFault}
 use Rattle.wh_plan_text.specs.LineGrammar.{StopAt}
+use Rattle.wh_plan_text.specs.ListedLines.{told_in}
 use Rattle.wh_plan_text.specs.PlanLine.{plan_line_of}
 use Rattle.wh_plan_text.specs.PlanText.{nodes_of, plan_of}
 use Rattle.wh_plan_text.specs.TreeGrowth.{IsBegun}
-use Rattle.wh_plan_text.specs.Words.{lines_of, words_of}
+use Rattle.wh_plan_text.specs.Words.{lines_of}
 use Rattle.wh_plan_text.specs.declared.plan.Plan.{Plan}
 use Rattle.wh_plan_text.specs.declared.plan.line.PlanLine.{PlanLine}
 use Rattle.wh_plan_text.specs.declared.plan.line.PlanLine.TheVariants.{Scoped, Worked, Listed, Paired, Searched}
-
--- what a line says in a plan over views of these names: nothing where it has no words, and None where it is a line of no plan
-abbrev pub told_by : List (List ℕ) → List ℕ → List (Option PlanLine)
-told_by names line = if length (words_of line) == 0 then [] else plan_line_of names line (words_of line) ∷ []
-
--- what lines say, one after another
-abbrev pub told_in : List (List ℕ) → List (List ℕ) → List (Option PlanLine)
-told_in names lines = flat_map (told_by names) lines
 
 -- the lines of a certificate
 abbrev pub certificate_lines : Certificate → List PlanLine
@@ -48,7 +40,7 @@ IsWhole (Search nodes) = (tree : CaseTree) × IsTreeOf nodes tree
 
 -- the lines say this plan
 pub record SayPlan (names : List (List ℕ)) (lines : List (List ℕ)) (plan : Plan) : Type 0 where
-  pub told : told_in names lines ≡ map Some (plan_lines plan)
+  pub told : told_in (plan_line_of names) lines ≡ map Some (plan_lines plan)
   pub for_scope : IsForScope plan.scope plan.certificate
   pub whole : IsWhole plan.certificate
 
@@ -59,7 +51,7 @@ pub record BeginPlan (names : List (List ℕ)) (lines : List (List ℕ)) : Type 
   pub rest : List PlanLine
   pub parts : plan_lines plan ≡ first ++ rest
   pub for_scope : IsForScope plan.scope plan.certificate
-  pub told : told_in names lines ≡ map Some first
+  pub told : told_in (plan_line_of names) lines ≡ map Some first
   pub begun : IsBegun (nodes_of first)
 
 -- a text is read as the plan that its lines say, and as none where they say none

@@ -1,5 +1,5 @@
 -- A plan as text: its scope, its work, the list of the strategy, and the lines of its certificate.
-use Rattle.std.specs.Prelude.{◌++◌, ◌==◌, ◌&&◌, ℕ, Bool, true, false, not, nat_lt, List, [], ◌∷◌, length, Option, Some, None, Result, Ok, Err, if◌then◌else◌, codes, decimal}
+use Rattle.std.specs.Prelude.{◌++◌, ◌==◌, ◌&&◌, ℕ, Bool, true, false, not, nat_lt, List, [], ◌∷◌, length, Result, Ok, Err, codes, decimal}
 use Rattle.std.specs.List.{flat_map, join_with_byte, list_any}
 use Rattle.wh_dag.specs.Written.{name_of}
 use Rattle.wh_cert.specs.declared.certificate.Certificate.{Certificate}
@@ -12,6 +12,7 @@ use Rattle.wh_strategy.specs.declared.expression.Expression.{Expression}
 use Rattle.wh_text.specs.declared.fault.LoadFault.{LoadFault}
 use Rattle.wh_text.specs.declared.fault.LoadFault.TheVariants.{Plan as PlanFault}
 use Rattle.wh_plan_text.specs.LineGrammar.{LineGrammar, read_by}
+use Rattle.wh_plan_text.specs.ListedLines.{listed_grammar}
 use Rattle.wh_plan_text.specs.PlanLine.{plan_line_of}
 use Rattle.wh_plan_text.specs.StrategyText.{strategy_text}
 use Rattle.wh_plan_text.specs.TreeGrowth.{begins_tree, is_tree}
@@ -57,11 +58,6 @@ may_stand before (Searched own) = nat_lt 1 (length before) && not (has_pairs (sc
 abbrev pub may_follow : List PlanLine → PlanLine → Bool
 may_follow before line = may_stand before line && begins_tree (nodes_of (before ++ line ∷ []))
 
--- the line after these, if it says something that may stand there
-abbrev pub if_follows : List PlanLine → Option PlanLine → Option (List PlanLine)
-if_follows before None = None
-if_follows before (Some line) = if may_follow before line then Some (before ++ line ∷ []) else None
-
 -- the nodes are those of a whole tree, where the scope asks for one
 abbrev pub has_its_tree : Scope → List TreeNode → Bool
 has_its_tree scope.All nodes = true
@@ -73,7 +69,7 @@ may_end said = nat_lt 1 (length said) && has_its_tree (scope_in said) (nodes_of 
 
 -- the lines of a plan over views of these names: each says something that may stand after what those above it say
 abbrev pub plan_grammar : List (List ℕ) → LineGrammar (List PlanLine)
-plan_grammar names = record { nothing = []; with_line = λ before line words. if_follows before (plan_line_of names line words); may_end = may_end; fault = PlanFault }
+plan_grammar names = listed_grammar (plan_line_of names) may_follow may_end PlanFault
 
 -- the work that the second line says
 abbrev pub work_in : List PlanLine → ℕ

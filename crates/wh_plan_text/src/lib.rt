@@ -1,11 +1,14 @@
-//! The texts of strategies and plans, whose lines are words.
+//! The texts of strategies, plans and schedules, whose lines are words.
 //!
-//! [`read_strategy`] and [`read_plan`] read them over the names of views, [`write_strategy`] and [`write_plan`] write them.
+//! [`read_strategy`], [`read_plan`] and [`read_schedule`] read them over the names of views, [`write_strategy`] and
+//! [`write_plan`] write the first two.
 #![tactic(auto)]
 
 mod expression;
 mod lines;
+mod natural;
 mod plan;
+mod schedule;
 mod strategy;
 mod words;
 
@@ -14,4 +17,6 @@ pub use lines::line_grammar_law;
 pub use plan::{
     Plan, plan_grammar_law, plan_reads_back_law, read_plan, tree_lines_law, write_plan,
 };
+pub use schedule::event::ScheduledEvent;
+pub use schedule::{Schedule, read_schedule, schedule_grammar_law};
 pub use strategy::{read_strategy, reads_back_law, strategy_grammar_law, write_strategy};

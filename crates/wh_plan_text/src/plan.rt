@@ -7,7 +7,6 @@ ghost use Rattle.wh_plan_text.specs.TreeGrowth.{BegunTrees, WholeTrees};
 ghost use Rattle.wh_plan_text.specs.PlanText.{certificate_of, certificate_text, has_its_tree, line_text, may_end, pair_words, plan_from, plan_of, plan_text, scope_text, work_in};
 
 mod line;
-mod natural;
 mod node;
 mod places;
 mod said;

@@ -4,3 +4,6 @@ mod Lists
 mod Pages
 mod PageLaws
 mod VersionLaws
+mod WriteLaws
+mod FormLaws
+mod TableLaws

@@ -61,7 +61,7 @@ set_counts b row n are least fits q =
 pub machine_lack : (r n s : ℤ) → FitsSigned w64 r → FitsSigned w64 n → r ≡ to_z w64 (of_z w64 n) -ℤ s → to_z w64 (of_z w64 r) ≡ n -ℤ s
 machine_lack r n s f g e = to_z-of_z f ∙ e ∙ ap (λ z. z -ℤ s) (to_z-of_z g)
 
-none_there : (q : Row) → count empty q ≡ pos 0
+pub none_there : (q : Row) → count empty q ≡ pos 0
 none_there q = count-bag_of [] q
 
 -- the empty bag adds nothing

@@ -5,6 +5,7 @@ use Rattle.wh_row.specs.Weigh.{Counted}
 use Rattle.wh_store.specs.Pages.{Contents}
 use Rattle.wh_store.specs.Operations.{Operation, Opens, Writes, Commits, Gives_up}
 use Rattle.wh_store.specs.Versions.{Versions, after, versions_from, versions_of, number, version, kept_count, is_active}
+use Rattle.wh_store.specs.Laws.{WindowsTell}
 use Rattle.wh_store.specs.Refusals.{refusal}
 use Rattle.wh_store.specs.Windows.{Window, window, Shows, applied, current, unexpired, kept_version}
 use Rattle.std.specs.Prelude.{IsTrue, nat_le, nat_lt, ◌&&◌}
@@ -145,3 +146,19 @@ current_shown w opening ops enough shows =
     newest_first : (m : ℕ) (newest : Contents) (older : List Contents) (draft : Option Contents) → current (window (suc (suc m)) (record { newest = newest; older = older; draft = draft })) ≡ newest
     newest_first m newest older None = refl
     newest_first m newest older (Some d) = ap (λ k. slice_index_or (take k (newest ∷ older)) 0 []) (less m)
+
+kept_shown : (w : Window) (opening : Contents) (ops : List Operation) (s : ℕ) → Shows w opening ops → IsTrue (unexpired w s) → kept_version w s ≡ version (versions_of opening ops) s
+kept_shown w opening ops s shows h =
+    let v = versions_of opening ops in
+    let P : Window → Type 0 = λ x. IsTrue (unexpired x s) in
+    ap (λ x. kept_version x s) shows ∙ kept_version-window w.limit v s (unexpired_near (number v) s (kept_count w.limit (is_active v)) (subst P shows h))
+
+pub windows_tell : WindowsTell
+windows_tell w opening ops shows =
+    record {
+      numbered = ap (λ x. x.number) shows;
+      written = ap (λ x. x.draft) shows;
+      readable = λ s. ap (λ x. unexpired x s) shows;
+      contents = λ s h. kept_shown w opening ops s shows h;
+      newest = λ enough. current_shown w opening ops enough shows;
+    }

@@ -1,10 +1,15 @@
 //! What holds of all versions, windows and pages, for proofs: these functions do nothing.
 
-ghost use Rattle.wh_store.specs.Laws.{PagesJoin, VersionsStay, WindowsFollow};
+ghost use Rattle.wh_store.specs.Laws.{CountsAreGiven, PagesJoin, TablesStay, VersionsStay, WellFormedAreAccepted, WindowsFollow, WindowsTell};
 
 /// What shows a list of operations shows, after one more that is not refused, the list with it.
 pub fn window_law()
     ensures { WindowsFollow }
+{}
+
+/// What shows a list of operations tells of its versions what a session can ask.
+pub fn told_law()
+    ensures { WindowsTell }
 {}
 
 /// A version has the same contents in every longer list of operations.
@@ -16,4 +21,20 @@ pub fn versions_stay_law()
 /// whole table.
 pub fn pages_join_law()
     ensures { PagesJoin }
+{}
+
+/// Where rising rows get new counts, each of them has its own, and every other row of the table the one that it had.
+pub fn counts_given_law()
+    ensures { CountsAreGiven }
+{}
+
+/// A list of operations is well formed exactly where no operation of it is refused after those before it, but because the
+/// numbers of versions are used up.
+pub fn well_formed_law()
+    ensures { WellFormedAreAccepted }
+{}
+
+/// Where no count of the opening tables is below zero, well-formed operations make none that is.
+pub fn tables_stay_law()
+    ensures { TablesStay }
 {}

@@ -14,7 +14,10 @@ mod store;
 mod tables;
 
 pub use fault::StoreFault;
-pub use laws::{pages_join_law, versions_stay_law, window_law};
+pub use laws::{
+    counts_given_law, pages_join_law, tables_stay_law, told_law, versions_stay_law,
+    well_formed_law, window_law,
+};
 pub use operation::{MAX_KEYS, Op};
 pub use page::Page;
 pub use store::{Store, VERSIONS};

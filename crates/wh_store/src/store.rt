@@ -230,6 +230,15 @@ impl Store {
         page_of(self.alloc, &self.tables(version)[view], after, limit)
     }
 
+    /// The tables of the current version.
+    pub fn current_tables(&self) -> &[Bag]
+        ensures tables { result.now ≡ current self.now }
+        ensures of_list { (opening : Contents) (ops : List Operation) → Shows self.now opening ops → result.now ≡ (versions_of opening ops).newest }
+    {
+        let newest = if self.active { 1 } else { 0 };
+        self.held[newest].as_slice()
+    }
+
     /// The table of a view in the current version.
     pub fn table(&self, view: usize) -> Result<Bag, AllocError>
         requires { view < length (current self.now) }

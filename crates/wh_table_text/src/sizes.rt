@@ -1,11 +1,11 @@
 //! The sizes of the views, from a CSV part: a header, and a row of each view, in any order.
 
-ghost use Rattle.std.specs.Prelude.{◌≡◌, ◌⊎◌, ◌+◌, ◌^◌, ◌<◌, ◌≤◌, List, length, replicate, slice_index_or, IfOk, IfErr, IfSome, OnOk, OnErr, Option, Ok, Err, Some, None, vec_len};
+ghost use Rattle.std.specs.Prelude.{◌≡◌, ◌⊎◌, ◌<◌, List, length, replicate, IfOk, IfErr, IfSome, OnOk, OnErr, Option, Ok, Err, Some, None, vec_len};
 ghost use Rattle.std.specs.List.{filter_map};
 ghost use Rattle.csv.specs.Records.{fields_of};
 ghost use Rattle.wh_dag.specs.Written.{number_of};
 ghost use Rattle.wh_strategy.specs.declared.sizes.SizeRow.{SizeRow};
-ghost use Rattle.wh_table_text.specs.RowSizes.{counts_of, rows_in, size_of};
+ghost use Rattle.wh_table_text.specs.RowSizes.{counts_of, size_of};
 ghost use Rattle.wh_table_text.specs.SizesText.{fresh_view, missing_fault, placed, size_written, sizes_of_text, sizes_scheme};
 
 use crate::part::{PartReader, read_part};
@@ -13,7 +13,7 @@ use crate::records::{are_cells, cell, whole_number};
 use csv::StringRecord;
 use std::alloc::{AllocError, Global};
 use wh_dag::Shape;
-use wh_strategy::{MAX_ROWS, SizeRow, Sizes};
+use wh_strategy::{SizeRow, Sizes};
 use wh_text::{LoadFault, Word};
 
 const HEADER: [&str; 4] = ["view", "pre", "post", "change"];
@@ -36,26 +36,16 @@ fn written_counts(row: &StringRecord) -> Option<Counts>
     Some(Counts { pre, post, change })
 }
 
-fn rows_within(count: i64) -> Option<u64>
-    ensures value { result ≡ rows_in count }
-    ensures few { IfSome result (λ rows. rows ≤ 2 ^ 40) }
-{
-    let rows = u64::try_from(count).ok()?;
-    if rows <= MAX_ROWS { Some(rows) } else { None }
-}
-
 #[tactic(auto, unfolding(crate::specs::RowSizes::size_of))]
 fn size_within(counts: Counts) -> Option<SizeRow>
     ensures { result ≡ size_of counts }
 {
-    let pre = rows_within(counts.pre)?;
-    let post = rows_within(counts.post)?;
-    let change = rows_within(counts.change)?;
-    if post <= pre + change && pre <= post + change {
-        Some(SizeRow { pre, post, change })
-    } else {
-        None
-    }
+    let size = SizeRow {
+        pre: u64::try_from(counts.pre).ok()?,
+        post: u64::try_from(counts.post).ok()?,
+        change: u64::try_from(counts.change).ok()?,
+    };
+    if size.is_within() { Some(size) } else { None }
 }
 
 fn sizes_fault(alloc: Global, name: &str) -> LoadFault

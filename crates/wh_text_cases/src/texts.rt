@@ -10,6 +10,8 @@ mod faults;
 mod formulas;
 mod plans;
 mod reading;
+mod replays;
+mod schedules;
 mod sizes;
 mod strategies;
 mod tables;

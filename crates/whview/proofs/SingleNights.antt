@@ -1,6 +1,6 @@
 -- The same bytes have one answer of `night`.
 use Rattle.std.proofs.Common.{◌≡◌, ◌≢◌, ◌∙◌, ◌+◌, ◌++◌, ◌<◌, ◌≤◌, ℕ, List, [], ◌∷◌, Result, Ok, Err, ap, arith, length, refl, subst, sym, ⊎_elim}
-use Rattle.std.specs.Prelude.{MatchResult, codes}
+use Rattle.std.specs.Prelude.{MatchResult}
 use Rattle.std.proofs.lemmas.Bool.{cases_lt}
 use Rattle.std.proofs.lemmas.List.{ext_get_or, length-map, same_lists}
 use Rattle.std.proofs.lemmas.Option.{get_or_from_slice_get}
@@ -15,9 +15,7 @@ use Rattle.wh_catalogue_text.proofs.ShapesRead.{from_step, same_Ok}
 use Rattle.wh_catalogue_text.specs.Catalogue.{shape_of}
 use Rattle.wh_catalogue_text.specs.Definitions.{ViewOf, definitions_of}
 use Rattle.wh_catalogue_text.specs.FormulaKinds.{Texts}
-use Rattle.wh_table_text.specs.TableText.{or_fault}
-use Rattle.wh_plan_text.specs.StrategyText.{strategy_of}
-use Rattle.wh_load.specs.ReadingNight.{ChangeRows, Night, TableRows, catalog_in, first_stray, night_in, night_of, night_over, rows_after}
+use Rattle.wh_load.specs.ReadingNight.{Night, catalog_in, given_of, night_in, night_of, night_over, tables_of}
 use Rattle.wh_load.specs.ReadingParts.{parts_in, text_in}
 use Rattle.wh_maint.specs.Comp.{bag_at}
 use Rattle.wh_maint.specs.Contents.{contents}
@@ -163,17 +161,16 @@ record IsOver (shape : Views) (views : List ViewOf) (night : Night) : Type 0 whe
 
 over_views : (parts : List Part) (shape : Views) (views : List ViewOf) (texts : Texts) (strategy : List ℕ) (night : Night) → night_over parts shape views texts strategy ≡ Ok night → IsOver shape views night
 over_views parts shape views texts strategy night e =
-    let tables = from_step (or_fault (first_stray shape.names views parts) (rows_after TableRows parts shape.names [] views texts)) _ night e in
-    let changes = from_step (rows_after (ChangeRows 0) parts shape.names [] views tables.0.1) _ night tables.2 in
-    let list = from_step (strategy_of shape.names strategy) _ night changes.2 in
-    let same = same_Ok _ _ _ refl list.2 in
+    let tables = from_step (tables_of parts shape.names views texts) _ night e in
+    let given = from_step (given_of parts shape.names views 0 strategy tables.0.1) _ night tables.2 in
+    let same = same_Ok _ _ _ refl given.2 in
     record { shapes = ap (λ n. n.shape) (sym same); viewed = ap (λ n. n.opening.views) (sym same) }
 
 read_night : (bytes : List ℕ) (night : Night) → night_of bytes ≡ Ok night → IsReadNight night
 read_night bytes night e =
     let parts = from_step (parts_in nights.First bytes) night_in night e in
-    let catalogue = from_step (text_in parts.0 heading.Catalogue 0 (codes "catalogue")) _ night parts.2 in
-    let strategy = from_step (text_in parts.0 heading.Strategy 0 (codes "strategy")) _ night catalogue.2 in
+    let catalogue = from_step (text_in parts.0 heading.Catalogue 0) _ night parts.2 in
+    let strategy = from_step (text_in parts.0 heading.Strategy 0) _ night catalogue.2 in
     let shape = from_step (shape_of catalogue.0) _ night strategy.2 in
     let written = from_step (definitions_of shape.0 catalogue.0 []) _ night shape.2 in
     let definitions = are-definitions catalogue.0 shape.0 [] written.0.1 written.0.0 shape.1 written.1 in

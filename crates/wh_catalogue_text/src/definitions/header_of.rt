@@ -1,7 +1,6 @@
 // The combined row of a view, of the columns of its children.
 ghost use Rattle.std.specs.Prelude.{◌≡◌, ◌++◌, ◌∷◌, ◌<◌, map, flat_map, length, string_bytes, IfOk, OnOk};
 ghost use Rattle.wh_dag.specs.Shape.{children_of};
-ghost use Rattle.wh_dag.specs.Written.{name_of};
 ghost use Rattle.wh_catalogue_text.specs.Definitions.{child_columns, columns_of, header_of, qualified, shown_view};
 
 use super::header::Header;
@@ -43,16 +42,6 @@ fn columns_of(views: &[WrittenView], view: usize) -> &[Column]
     }
 }
 
-fn name_of(shape: &Shape, view: usize) -> &str
-    ensures { result.now ≡ name_of shape.now.names view }
-{
-    if view < shape.len() {
-        shape.name(view)
-    } else {
-        ""
-    }
-}
-
 fn combined_columns(
     alloc: Global,
     shape: &Shape,
@@ -63,7 +52,7 @@ fn combined_columns(
 {
     let mut columns = Vec::new(alloc);
     for child in children {
-        let name = name_of(shape, *child);
+        let name = shape.name(*child);
         append_qualified(alloc, &mut columns, name, columns_of(views, *child))?;
     }
     Ok(columns)

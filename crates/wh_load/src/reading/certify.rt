@@ -20,7 +20,7 @@ fn claim_texts_in<'a>(alloc: Global, bundle: &Bundle<'a>) -> Result<ClaimTexts<'
     ensures err { IfErr result (λ f. (f ≡ LoadFault.Memory) ⊎ (claim_texts_in bundle.now ≡ Err f)) }
 {
     let measured = measured_texts_in(alloc, bundle)?;
-    match text_of(alloc, bundle, &Heading::Plan, 0, b"plan") {
+    match text_of(alloc, bundle, &Heading::Plan, 0) {
         Ok(plan) => Ok(ClaimTexts { measured, plan }),
         Err(fault) => Err(fault),
     }

@@ -23,7 +23,7 @@ fn check_texts_in<'a>(alloc: Global, bundle: &Bundle<'a>) -> Result<CheckTexts<'
     ensures err { IfErr result (λ f. (f ≡ LoadFault.Memory) ⊎ (check_texts_in bundle.now ≡ Err f)) }
 {
     let measured = measured_texts_in(alloc, bundle)?;
-    match text_of(alloc, bundle, &Heading::Strategy, 0, b"strategy") {
+    match text_of(alloc, bundle, &Heading::Strategy, 0) {
         Ok(strategy) => Ok(CheckTexts { measured, strategy }),
         Err(fault) => Err(fault),
     }

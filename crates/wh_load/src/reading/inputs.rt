@@ -4,7 +4,7 @@ ghost use Rattle.std.specs.Prelude.{◌≡◌, length};
 
 use wh_catalogue_text::WrittenView;
 use wh_dag::Shape;
-use wh_plan_text::Plan;
+use wh_plan_text::{Plan, Schedule};
 use wh_row::Bag;
 use wh_strategy::{Sizes, Strategy};
 use wh_text::Dict;
@@ -66,4 +66,17 @@ pub struct NightInput {
     pub opening: Opening,
     /// What is given of it.
     pub given: GivenNight,
+}
+
+/// Nights one after another, and the events in which they are carried out.
+#[derive(Drop)]
+pub struct ReplayInput {
+    /// The views.
+    pub shape: Shape,
+    /// What the first night begins from.
+    pub opening: Opening,
+    /// What is given of each night, in order.
+    pub nights: Vec<GivenNight>,
+    /// The machine's size and the events.
+    pub schedule: Schedule,
 }

@@ -4,30 +4,27 @@ ghost use Rattle.std.specs.Prelude.{◌≡◌, ◌⊎◌, length, map, Ok, Err, 
 ghost use Rattle.wh_catalogue_text.specs.Definitions.{shown_view};
 ghost use Rattle.wh_catalogue_text.specs.ReadCatalog.{AreDefinitions};
 ghost use Rattle.wh_load.specs.ReadingNight.{AreReadRows, ChangeRows, TableRows, night_in, night_of, night_over, night_with};
-ghost use Rattle.wh_load.specs.ReadingShown.{IsReadNight, shown_night};
+ghost use Rattle.wh_load.specs.ReadingShown.{IsReadNight, shown_given, shown_night};
 
-use super::base::only_base_parts;
+use super::given::{given_of, tables_of};
 use super::inputs::{GivenNight, NightInput, Opening};
 use super::parts::{bundle_of, text_of};
-use super::rows::{changes_in, tables_in};
+use super::views::KnownViews;
 use std::alloc::Global;
 use wh_bundle::{Bundle, Heading, Nights};
 use wh_catalogue_text::{Written, WrittenView, read_definitions, read_shape};
 use wh_dag::Shape;
-use wh_plan_text::read_strategy;
 use wh_row::Bag;
-use wh_strategy::Strategy;
 use wh_text::{Dict, LoadFault, Names};
 
 /// What is read beside a catalogue.
 #[derive(Drop)]
 struct Rows {
     tables: Vec<Bag>,
-    changes: Vec<Bag>,
-    strategy: Strategy,
+    given: GivenNight,
 }
 
-/// The tables and changes of these views, and the strategy.
+/// The tables of these views, and what is given of the night.
 fn rows_in(
     alloc: Global,
     bundle: &Bundle<'_>,
@@ -38,21 +35,20 @@ fn rows_in(
 ) -> Result<Rows, LoadFault>
     requires { length views.now ≡ length shape.now.children }
     ensures ok { IfOk result (λ r. night_over bundle.now shape.now (map shown_view views.now) texts.old strategy.now
-        ≡ Ok (night_with shape.now (map shown_view views.now) texts.new r.tables.items r.changes.items r.strategy)) }
+        ≡ Ok (night_with shape.now (map shown_view views.now) texts.new r.tables.items (shown_given r.given))) }
     ensures tables { IfOk result (λ r. AreReadRows TableRows (map shown_view views.now) r.tables.items) }
-    ensures changes { IfOk result (λ r. AreReadRows (ChangeRows 0) (map shown_view views.now) r.changes.items) }
+    ensures changes { IfOk result (λ r. AreReadRows (ChangeRows 0) (map shown_view views.now) r.given.changes.items) }
     ensures err { IfErr result (λ f. (f ≡ LoadFault.Memory) ⊎ (night_over bundle.now shape.now (map shown_view views.now) texts.old strategy.now ≡ Err f)) }
 {
     let names = Names::of(alloc, shape)?;
-    only_base_parts(alloc, bundle, &names, views)?;
-    let tables = tables_in(alloc, bundle, shape, views, texts)?;
-    let changes = changes_in(alloc, bundle, 0, shape, views, texts)?;
-    let strategy = read_strategy(alloc, &names, strategy)?;
-    Ok(Rows {
-        tables,
-        changes,
-        strategy,
-    })
+    prove!(names.len() == shape.len());
+    let known = KnownViews {
+        names: &names,
+        views,
+    };
+    let tables = tables_of(alloc, bundle, &known, texts)?;
+    let given = given_of(alloc, bundle, 0, &known, texts, strategy)?;
+    Ok(Rows { tables, given })
 }
 
 /// What a night over these views is given.
@@ -72,11 +68,7 @@ fn night_over(
 {
     let mut texts = texts;
     let rows = rows_in(alloc, bundle, &shape, &views, &mut texts, strategy)?;
-    let Rows {
-        tables,
-        changes,
-        strategy,
-    } = rows;
+    let Rows { tables, given } = rows;
     Ok(NightInput {
         shape,
         opening: Opening {
@@ -84,7 +76,7 @@ fn night_over(
             texts,
             tables,
         },
-        given: GivenNight { changes, strategy },
+        given,
     })
 }
 
@@ -93,8 +85,8 @@ fn night_in(alloc: Global, bundle: &Bundle<'_>) -> Result<NightInput, LoadFault>
     ensures fit { IfOk result IsReadNight }
     ensures err { IfErr result (λ f. (f ≡ LoadFault.Memory) ⊎ (night_in bundle.now ≡ Err f)) }
 {
-    let catalogue = text_of(alloc, bundle, &Heading::Catalogue, 0, b"catalogue")?;
-    let strategy = text_of(alloc, bundle, &Heading::Strategy, 0, b"strategy")?;
+    let catalogue = text_of(alloc, bundle, &Heading::Catalogue, 0)?;
+    let strategy = text_of(alloc, bundle, &Heading::Strategy, 0)?;
     let shape = read_shape(alloc, &catalogue)?;
     let mut texts = Dict::new(alloc);
     let written = read_definitions(alloc, &catalogue, &shape, &mut texts)?;

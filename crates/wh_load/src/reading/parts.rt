@@ -25,19 +25,19 @@ pub fn bundle_of<'a>(
     }
 }
 
-/// The text of the part with this heading, in this night where it may stand in each. A missing part is named by this word.
+/// The text of the part with this heading, in this night where it may stand in each. A missing part is named by the heading's
+/// first word.
 pub fn text_of<'a>(
     alloc: Global,
     bundle: &Bundle<'a>,
     heading: &Heading<'_>,
     night: usize,
-    word: &[u8],
 ) -> Result<CowSlice<'a, u8>, LoadFault>
-    ensures ok { IfOk result (λ text. text_in bundle.now heading.now night word.now ≡ Ok (cow_slice_items text)) }
-    ensures err { IfErr result (λ f. (f ≡ LoadFault.Memory) ⊎ (text_in bundle.now heading.now night word.now ≡ Err f)) }
+    ensures ok { IfOk result (λ text. text_in bundle.now heading.now night ≡ Ok (cow_slice_items text)) }
+    ensures err { IfErr result (λ f. (f ≡ LoadFault.Memory) ⊎ (text_in bundle.now heading.now night ≡ Err f)) }
 {
     match bundle.find(heading, night) {
         Some(part) => Ok(part.text(alloc)?),
-        None => Err(LoadFault::Part(Word::new(alloc, word)?)),
+        None => Err(LoadFault::Part(Word::new(alloc, heading.word())?)),
     }
 }

@@ -20,8 +20,8 @@ pub(super) fn measured_texts_in<'a>(
     ensures ok { IfOk result (λ t. measured_texts_in bundle.now ≡ Ok (shown_measured_texts t)) }
     ensures err { IfErr result (λ f. (f ≡ LoadFault.Memory) ⊎ (measured_texts_in bundle.now ≡ Err f)) }
 {
-    let catalogue = text_of(alloc, bundle, &Heading::Catalogue, 0, b"catalogue")?;
-    match text_of(alloc, bundle, &Heading::Sizes, 0, b"sizes") {
+    let catalogue = text_of(alloc, bundle, &Heading::Catalogue, 0)?;
+    match text_of(alloc, bundle, &Heading::Sizes, 0) {
         Ok(sizes) => Ok(MeasuredTexts { catalogue, sizes }),
         Err(fault) => Err(fault),
     }

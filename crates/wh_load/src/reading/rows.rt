@@ -1,13 +1,13 @@
 //! The tables and the changes of base views.
 
-ghost use Rattle.std.specs.Prelude.{◌≡◌, ◌⊎◌, [], length, map, Ok, Err, IfOk, IfErr};
+ghost use Rattle.std.specs.Prelude.{◌≡◌, ◌≢◌, ◌⊎◌, [], map, Ok, Err, IfOk, IfErr, OnErr};
 ghost use Rattle.wh_catalogue_text.specs.Definitions.{shown_view};
 ghost use Rattle.wh_load.specs.ReadingNight.{AreReadRows, ChangeRows, TableRows, rows_after, rows_of};
 
+use super::views::KnownViews;
 use std::alloc::Global;
 use wh_bundle::{Bundle, Heading, Piece};
 use wh_catalogue_text::WrittenView;
-use wh_dag::Shape;
 use wh_row::Bag;
 use wh_table_text::{read_changes, read_table};
 use wh_text::{Dict, LoadFault};
@@ -59,43 +59,41 @@ fn changes_of(
     }
 }
 
-/// The tables of these views, in the order of the views.
+/// The tables of these views, in the order of the views. Without views no memory is taken.
 pub fn tables_in(
     alloc: Global,
     bundle: &Bundle<'_>,
-    shape: &Shape,
-    views: &[WrittenView],
+    known: &KnownViews<'_>,
     texts: &mut Dict,
 ) -> Result<Vec<Bag>, LoadFault>
-    requires { length views.now ≡ length shape.now.children }
-    ensures ok { IfOk result (λ rows. rows_after TableRows bundle.now shape.now.names [] (map shown_view views.now) texts.old ≡ Ok (rows.items, texts.new)) }
-    ensures err { IfErr result (λ f. (f ≡ LoadFault.Memory) ⊎ (rows_after TableRows bundle.now shape.now.names [] (map shown_view views.now) texts.old ≡ Err f)) }
+    ensures ok { IfOk result (λ rows. rows_after TableRows bundle.now known.now.names.now [] (map shown_view known.now.views.now) texts.old ≡ Ok (rows.items, texts.new)) }
+    ensures err { IfErr result (λ f. (f ≡ LoadFault.Memory) ⊎ (rows_after TableRows bundle.now known.now.names.now [] (map shown_view known.now.views.now) texts.old ≡ Err f)) }
+    ensures memory { OnErr result (known.now.views.now ≢ []) }
 {
     let mut tables = Vec::new(alloc);
-    for view in views {
-        let name = shape.name(tables.len()).as_bytes();
+    for view in known.views {
+        let name = known.names.name(tables.len()).as_bytes();
         let own = table_of(alloc, bundle, name, view, texts)?;
         tables.push(own)?;
     }
     Ok(tables)
 }
 
-/// The changes of these views in a night, which counts from 0, in the order of the views.
+/// The changes of these views in a night, which counts from 0, in the order of the views. Without views no memory is taken.
 pub fn changes_in(
     alloc: Global,
     bundle: &Bundle<'_>,
     night: usize,
-    shape: &Shape,
-    views: &[WrittenView],
+    known: &KnownViews<'_>,
     texts: &mut Dict,
 ) -> Result<Vec<Bag>, LoadFault>
-    requires { length views.now ≡ length shape.now.children }
-    ensures ok { IfOk result (λ rows. rows_after (ChangeRows night) bundle.now shape.now.names [] (map shown_view views.now) texts.old ≡ Ok (rows.items, texts.new)) }
-    ensures err { IfErr result (λ f. (f ≡ LoadFault.Memory) ⊎ (rows_after (ChangeRows night) bundle.now shape.now.names [] (map shown_view views.now) texts.old ≡ Err f)) }
+    ensures ok { IfOk result (λ rows. rows_after (ChangeRows night) bundle.now known.now.names.now [] (map shown_view known.now.views.now) texts.old ≡ Ok (rows.items, texts.new)) }
+    ensures err { IfErr result (λ f. (f ≡ LoadFault.Memory) ⊎ (rows_after (ChangeRows night) bundle.now known.now.names.now [] (map shown_view known.now.views.now) texts.old ≡ Err f)) }
+    ensures memory { OnErr result (known.now.views.now ≢ []) }
 {
     let mut changes = Vec::new(alloc);
-    for view in views {
-        let name = shape.name(changes.len()).as_bytes();
+    for view in known.views {
+        let name = known.names.name(changes.len()).as_bytes();
         let own = changes_of(alloc, bundle, night, name, view, texts)?;
         changes.push(own)?;
     }

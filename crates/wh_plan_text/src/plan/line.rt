@@ -2,9 +2,9 @@
 ghost use Rattle.std.specs.Prelude.{◌≡◌, map, IfOk};
 ghost use Rattle.wh_plan_text.specs.PlanLine.{is_pair, is_scope, is_work, listed_by, pair_from, pair_in, paired_by, plan_line_of, scope_named, scoped_by, searched_by, worked_by};
 
-use super::natural::natural;
 use super::node::node_of;
 use crate::expression::expression_of;
+use crate::natural::natural;
 use crate::words::word_at;
 use std::alloc::{AllocError, Global};
 use wh_cert::{PairMin, Scope, TreeNode};

@@ -1,6 +1,7 @@
 //! What the lines of a plan say together.
 ghost use Rattle.std.specs.Prelude.{◌≡◌, ◌||◌, [], IfOk};
-ghost use Rattle.wh_plan_text.specs.PlanText.{has_pairs, if_follows, is_certifying, may_end, may_stand, nodes_in, plan_grammar, scope_in};
+ghost use Rattle.wh_plan_text.specs.ListedLines.{if_follows};
+ghost use Rattle.wh_plan_text.specs.PlanText.{has_pairs, is_certifying, may_end, may_follow, may_stand, nodes_in, plan_grammar, scope_in};
 ghost use Rattle.wh_plan_text.specs.TreeGrowth.{after_nodes};
 
 use super::line::{PlanLine, plan_line_of};
@@ -75,7 +76,7 @@ impl Said {
 
     /// These with what a line says, or `None` where it says nothing that may stand after them.
     fn with(self, line: Option<PlanLine>) -> Result<Option<Said>, AllocError>
-        ensures { IfOk result (λ said. said ≡ if_follows self line) }
+        ensures { IfOk result (λ said. said ≡ if_follows may_follow self line) }
     {
         let Some(line) = line else {
             return Ok(None);

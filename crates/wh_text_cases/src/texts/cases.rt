@@ -1,7 +1,9 @@
 // A table of cases is one text. Lines `====` part the cases, and in each the line `----` parts what is wanted from the
 // text that is read. Each character of a text that is read stands for one byte, so that "\u{ff}" is the byte 0xff.
 
-use crate::texts::{bundles, catalogues, definitions, plans, sizes, strategies, tables};
+use crate::texts::{
+    bundles, catalogues, definitions, plans, replays, schedules, sizes, strategies, tables,
+};
 use std::alloc::{AllocError, Global};
 use std::process::Abort;
 use wh_dag::Shape;
@@ -22,6 +24,10 @@ pub(crate) enum Reads {
     Strategy,
     /// A plan of A, B and V.
     Plan,
+    /// A schedule over a and v.
+    Schedule,
+    /// A bundle of several nights and a schedule.
+    Replay,
     /// A table of these columns.
     Table(&'static str),
     /// Changes to a table of these columns.
@@ -63,6 +69,8 @@ fn outcome(alloc: Global, reads: Reads, text: &[u8]) -> Result<String, AllocErro
         Reads::Sizes => sizes::outcome(alloc, text),
         Reads::Strategy => strategies::outcome(alloc, text),
         Reads::Plan => plans::outcome(alloc, text),
+        Reads::Schedule => schedules::outcome(alloc, text),
+        Reads::Replay => replays::outcome(alloc, text),
         Reads::Table(columns) => tables::table_outcome(alloc, columns, text),
         Reads::Changes(columns) => tables::changes_outcome(alloc, columns, text),
     }

@@ -1,7 +1,6 @@
 //! What is printed of a night.
 
-ghost use Rattle.std.specs.Prelude.{◌≡◌, ◌<◌, ◌++◌, ℕ, codes, decimal, drop, flat_map, length, map, sum_by, IfOk, OnOk};
-ghost use Rattle.wh_dag.specs.Written.{name_of};
+ghost use Rattle.std.specs.Prelude.{◌≡◌, ◌++◌, ℕ, codes, decimal, drop, flat_map, length, map, sum_by, IfOk, OnOk};
 ghost use Rattle.wh_catalogue_text.specs.Definitions.{shown_view};
 ghost use Rattle.wh_maint.specs.Comp.{bag_at};
 ghost use Rattle.whview.specs.CheckOutput.{line};
@@ -139,17 +138,6 @@ pub(crate) fn carried_text(
     Ok(text)
 }
 
-/// The name of the view; a number that is no view's has none.
-fn name_of_view<'a>(shape: &'a Shape, view: usize) -> &'a str
-    ensures { result.now ≡ name_of shape.now.names view }
-{
-    if view < shape.len() {
-        shape.name(view)
-    } else {
-        ""
-    }
-}
-
 /// What is printed of why a night or its opening contents are refused. Of want of memory nothing is.
 pub(crate) fn cause_text(
     alloc: Global,
@@ -159,18 +147,9 @@ pub(crate) fn cause_text(
     ensures { IfOk result (λ text. text.items ≡ refused_text shape.now.names fault.now) }
 {
     let text = match fault {
-        MaintFault::Large(view) => format!(in alloc;
-            "refused large {}\n",
-            name_of_view(shape, *view)
-        )?,
-        MaintFault::Range(view) => format!(in alloc;
-            "refused range {}\n",
-            name_of_view(shape, *view)
-        )?,
-        MaintFault::Absent(view, _) => format!(in alloc;
-            "refused absent {}\n",
-            name_of_view(shape, *view)
-        )?,
+        MaintFault::Large(view) => format!(in alloc; "refused large {}\n", shape.name(*view))?,
+        MaintFault::Range(view) => format!(in alloc; "refused range {}\n", shape.name(*view))?,
+        MaintFault::Absent(view, _) => format!(in alloc; "refused absent {}\n", shape.name(*view))?,
         MaintFault::Memory => return Err(AllocError),
     };
     Ok(text.into_bytes())

@@ -1,7 +1,8 @@
 use Rattle.std.proofs.Common.{◌≡◌, ◌++◌, ◌∷◌, [], Some, None, ap, sym, ◌∙◌}
 use Rattle.std.specs.Prelude.{◌||◌}
 use Rattle.std.specs.List.{list_any}
-use Rattle.wh_plan_text.specs.PlanText.{if_follows, is_certifying, nodes_of}
+use Rattle.wh_plan_text.specs.ListedLines.{if_follows}
+use Rattle.wh_plan_text.specs.PlanText.{is_certifying, may_follow, nodes_of}
 use Rattle.wh_plan_text.specs.TreeGrowth.{places_after}
 use Rattle.wh_plan_text.proofs.PlanLines.{certifying-line, if_follows-places}
 use Rattle.wh_plan_text.proofs.TreeGrowths.{places-line}
@@ -11,7 +12,7 @@ pub returns-in_default-2 : goal.returns-in_default-2
 returns-in_default-2 c =
     let left : places_after (nodes_of c.args.self) ≡ Some c.self.inside.places = ap (λ lines. places_after (nodes_of lines)) (sym c.self.view_is) ∙ c.self.invariant.1 in
     sym (
-    ap (if_follows c.args.self) c.in-Some.is
+    ap (if_follows may_follow c.args.self) c.in-Some.is
     ∙ if_follows-places c.args.self c.in-Some.line c.self.inside.places None c.if-not-may_take.ensures left (sym c.in_default-2.is ∙ c.in_ok-places.ensures)
     )
 
@@ -30,6 +31,6 @@ returns c =
     let left : places_after (nodes_of c.args.self) ≡ Some c.self.inside.places = ap (λ lines. places_after (nodes_of lines)) (sym c.self.view_is) ∙ c.self.invariant.1 in
     ap Some (c.in_ok-push.ensures.items ∙ ap (λ before. before ++ c.in-Some.line ∷ []) c.self.view_is)
     ∙ sym (
-    ap (if_follows c.args.self) c.in-Some.is
+    ap (if_follows may_follow c.args.self) c.in-Some.is
     ∙ if_follows-places c.args.self c.in-Some.line c.self.inside.places (Some c.in-Some-2.places) c.if-not-may_take.ensures left (sym c.in-Some-2.is ∙ c.in_ok-places.ensures)
     )

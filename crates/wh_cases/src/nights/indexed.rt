@@ -1,0 +1,81 @@
+// Joins of four thousand rows with ten, and an index by itself.
+ghost use Rattle.std.specs.Prelude.{◌≡◌};
+
+use crate::nights::calls::{change_of, comp_of, rows_of, value_of};
+use crate::nights::catalogs::joined;
+use std::alloc::Global;
+use std::process::Abort;
+use std::test::Fail;
+use wh_maint::Index;
+use wh_row::Bag;
+
+/// a holds (k, k mod 10) for k from 0 to 3999, each so often.
+fn of_a(alloc: Global, times: i64) -> Result<Bag, Fail> {
+    let mut rows = Bag::new(alloc);
+    for k in 0..4000_i64 {
+        rows.add(&[k, k % 10], times)?;
+    }
+    Ok(rows)
+}
+
+/// b holds (j, j + 100) for j from 0 to 9.
+fn of_b(alloc: Global) -> Result<Bag, Fail> {
+    let mut rows = Bag::new(alloc);
+    for j in 0..10_i64 {
+        rows.add(&[j, j + 100], 1)?;
+    }
+    Ok(rows)
+}
+
+/// These rows of a, those of b, and a view without rows.
+fn tables(alloc: Global, a: Bag, b: Bag) -> Result<Vec<Bag>, Fail> {
+    let mut tables = Vec::new(alloc);
+    tables.push(a)?;
+    tables.push(b)?;
+    tables.push(Bag::new(alloc))?;
+    Ok(tables)
+}
+
+#[test]
+fn a_view_joins_four_thousand_rows(rt: HostRuntime) -> Result<(), Fail> {
+    let alloc = rt.alloc();
+    let catalog = joined(&rt, alloc)?;
+    let tables = tables(alloc, of_a(alloc, 1)?, of_b(alloc)?)?;
+    let value = value_of(&rt, alloc, &catalog, 2, &tables);
+    let value = value.ok().expect(&rt, "a value");
+    assert_eq!(&rt; value.total(), 4000);
+    assert_eq!(&rt; value.count(&[3999, 109]), 1);
+    assert_eq!(&rt; value.count(&[3999, 108]), 0);
+    Ok(())
+}
+
+#[test]
+fn all_rows_of_a_leave(rt: HostRuntime) -> Result<(), Fail> {
+    let alloc = rt.alloc();
+    let catalog = joined(&rt, alloc)?;
+    let old = tables(alloc, of_a(alloc, 1)?, of_b(alloc)?)?;
+    let changes = tables(alloc, of_a(alloc, -1)?, Bag::new(alloc))?;
+    assert_eq!(&rt; rows_of(&rt, &catalog, 2, &[0], &old, &changes), 4010);
+    let pending = comp_of(&rt, alloc, &catalog, 2, &[0], &old, &changes);
+    let pending = pending.ok().expect(&rt, "a comp");
+    let change = change_of(&rt, alloc, &catalog, 2, &pending, &Bag::new(alloc));
+    let change = change.ok().expect(&rt, "a change");
+    assert_eq!(&rt; change.total(), 4000);
+    assert_eq!(&rt; change.count(&[0, 100]), -1);
+    assert!(&rt; change.rows().all(|(_, count)| count == -1));
+    Ok(())
+}
+
+#[test]
+fn an_index_has_the_rows_of_a_key(rt: HostRuntime) -> Result<(), Fail> {
+    let alloc = rt.alloc();
+    let rows = of_a(alloc, 1)?;
+    assert!(&rt; rows.is_width(2));
+    let index = Index::new(alloc, &rows, vec![in alloc; 1]?)?;
+    let found = index.rows(&[3]);
+    assert_eq!(&rt; found.len(), 400);
+    assert_eq!(&rt; found[0].0, [3, 3].as_slice());
+    assert_eq!(&rt; found[399].0, [3993, 3].as_slice());
+    assert_eq!(&rt; index.rows(&[10]).len(), 0);
+    Ok(())
+}

@@ -1,0 +1,15 @@
+pub mod Deeds
+pub mod Sessions
+pub mod Stages
+pub mod Underway
+pub mod Jobs
+pub mod Puts
+pub mod Nights
+pub mod Writes
+pub mod Sound
+pub mod WellFormed
+pub mod Runs
+pub mod Steps
+pub mod Moves
+pub mod Seats
+pub mod Wholes

@@ -1,0 +1,397 @@
+-- Where a machine stands after one deed more: of the night that is under way.
+use Rattle.std.proofs.Common.{◌≡◌, ◌≢◌, refl, sym, ap, subst, ◌∙◌, ℕ, zero, suc, ◌+◌, ◌-◌, ◌<◌, ◌≤◌, List, [], ◌∷◌, ◌++◌, length, drop, Bool, true, false, not, cond, Option, Some, None, ◌⊎◌, ⊎_elim, inl, inr, arith}
+use Rattle.std.specs.Prelude.{is_some, is_none, slice_get, nat_lt, nat_le, option_map, ◌&&◌}
+use Rattle.std.specs.List.{All, list_all}
+use Rattle.std.proofs.Math.Seq.{drop-nil}
+use Rattle.std.proofs.lemmas.Bool.{cases_lt, false≢true}
+use Rattle.std.proofs.lemmas.List.Elements.{All-cons, All-nil}
+use Rattle.std.proofs.lemmas.Option.{same_Some, slice_get_within}
+use Rattle.wh_row.specs.Weigh.{Counted}
+use Rattle.wh_dag.specs.Shape.{Distinct, has}
+use Rattle.wh_maint.specs.declared.fault.MaintFault.{MaintFault}
+use Rattle.wh_store.specs.declared.operation.Op.{Op}
+use Rattle.wh_store.specs.Operations.{Operation, Writes, operation}
+use Rattle.wh_course.specs.declared.course.Part.{Part}
+use Rattle.wh_course.specs.declared.course.Part.TheVariants as part
+use Rattle.wh_course.specs.Night.{Night, ArePassedAt, IsPassedAt, IsFaultAt, IsFirstFaultOf, places_from}
+use Rattle.wh_course.specs.Legs.{Leg, Wave, Page, Turn, In_wave, At_page, Over, legs_of, turn_of, reach}
+use Rattle.wh_course.specs.Course.{AreParts, IsOutcome, IsPart, IsStop, is_passed, start_of, end_of}
+use Rattle.wh_core.specs.declared.reply.Cause.{Cause}
+use Rattle.wh_core.specs.declared.reply.Cause.TheVariants as cause
+use Rattle.wh_core.specs.declared.reply.Reply.{Reply}
+use Rattle.wh_core.specs.declared.reply.Reply.TheVariants as reply
+use Rattle.wh_core.specs.Log.{Log, draws, ends, holding, is_open, pages}
+use Rattle.wh_core.specs.Nights.{Setup, night, turn}
+use Rattle.wh_core.specs.Replies.{IsLegalLog, IsRuled, Ruling, Says, Takes, Carries, cause_of, take_ruling, done_by, page_ruling, commit_ruling, unless}
+use Rattle.wh_core.specs.Standing.{GoesOn, HaveJobs, IsWithin, page_in, wave_in}
+use Rattle.wh_core.proofs.Deeds.{deeds_of}
+use Rattle.wh_core.proofs.Underway.{IsAt, all_below, come_to, few, fresh, ge_false, head_or, lt_true, now, reach_is, underway, wave_legs, wave_place, wave_turn}
+
+-- ---- rulings
+
+pub refuse : (b : Bool) (c : Cause) (rest : Ruling) → b ≡ true → IsRuled (unless b c rest) (reply.Refused c)
+refuse b c rest e = subst (λ b. IsRuled (unless b c rest) (reply.Refused c)) (sym e) refl
+
+pub onward : (b : Bool) (c : Cause) (rest : Ruling) (r : Reply) → b ≡ false → IsRuled rest r → IsRuled (unless b c rest) r
+onward b c rest r e h = subst (λ b. IsRuled (unless b c rest) r) (sym e) h
+
+pub le_false : (a b : ℕ) → b < a → nat_le a b ≡ false
+le_false a b h = grind arith
+
+pub le_true : (a b : ℕ) → a ≤ b → nat_le a b ≡ true
+le_true a b h = grind arith
+
+-- ---- parts
+
+pub drop_one : {A : Type 0} (n : ℕ) (xs : List A) → drop 1 (drop n xs) ≡ drop (n + 1) xs
+drop_one zero xs = refl
+drop_one (suc n) [] = sym (drop-nil (suc n + 1))
+drop_one (suc n) (x ∷ xs) = let e : suc (n + 1) ≡ suc n + 1 = omega arith in drop_one n xs ∙ ap (λ k. drop k (x ∷ xs)) e
+
+pub none_left : {A : Type 0} (n : ℕ) (xs : List A) → length xs ≤ n → drop n xs ≡ []
+none_left zero [] l = refl
+none_left zero (x ∷ xs) l = absurd (omega arith)
+none_left (suc n) [] l = refl
+none_left (suc n) (x ∷ xs) l = none_left n xs (omega arith)
+
+pub some_left : {A : Type 0} (n : ℕ) (xs : List A) → n < length xs → drop n xs ≢ []
+some_left zero [] l e = absurd (omega arith)
+some_left zero (x ∷ xs) l e = cc
+some_left (suc n) [] l e = absurd (omega arith)
+some_left (suc n) (x ∷ xs) l e = some_left n xs (omega arith) e
+
+-- the first part is a wave
+pub record InWave (n : Night) (legs : List Leg) (parts : List Part) (os : List (Option MaintFault)) (stop : Option MaintFault) (drawn ended : ℕ) : Type 0 where
+  pub place : ℕ
+  pub later : List Leg
+  pub is : legs ≡ Wave place (length os) ∷ later
+  pub few : drawn ≤ length os
+  pub some : ended < length os
+  pub outcomes : (j : ℕ) (o : Option MaintFault) → slice_get os j ≡ Some o → IsOutcome n (place + j) o
+  pub next : list_all is_none os ≡ true → AreParts n (place + length os) later (drop 1 parts) stop
+
+pub in_wave : (n : Night) (from : ℕ) (legs : List Leg) (parts : List Part) (os : List (Option MaintFault)) (stop : Option MaintFault) (drawn ended : ℕ)
+    → AreParts n from legs parts stop → wave_in parts ≡ Some os → IsWithin legs drawn ended → InWave n legs parts os stop drawn ended
+unfolding AreParts
+in_wave n from legs [] os stop drawn ended are e w = cc
+in_wave n from legs (part.Page op ∷ parts) os stop drawn ended are e w = cc
+in_wave n from [] (part.Wave v ∷ parts) os stop drawn ended are e w = absurd are
+in_wave n from (Page place view rows ∷ legs) (part.Wave v ∷ parts) os stop drawn ended are e w = absurd are.1
+in_wave n from (Wave place jobs ∷ legs) (part.Wave v ∷ parts) os stop drawn ended are e w =
+    let s : v.items ≡ os = same_Some v.items os e in
+    let m : jobs ≡ length os = sym are.1.0 ∙ ap length s in
+    record {
+      place = place;
+      later = legs;
+      is = (λ i. Wave place (m i) ∷ legs);
+      few = subst (λ k. drawn ≤ k) m w.0;
+      some = subst (λ k. ended < k) m w.1;
+      outcomes = subst (λ xs. (j : ℕ) (o : Option MaintFault) → slice_get xs j ≡ Some o → IsOutcome n (place + j) o) s are.1.1;
+      next = λ t. subst (λ k. AreParts n (place + k) legs parts stop) m (are.2 (ap (list_all is_none) s ∙ t));
+    }
+
+-- it is a page
+pub record AtPage (n : Night) (legs : List Leg) (parts : List Part) (op : Op) (stop : Option MaintFault) (drawn ended : ℕ) : Type 0 where
+  pub place : ℕ
+  pub view : ℕ
+  pub rows : Counted
+  pub later : List Leg
+  pub is : legs ≡ Page place view rows ∷ later
+  pub none_drawn : drawn ≡ 0
+  pub none_ended : ended ≡ 0
+  pub writes : operation op ≡ Writes view rows
+  pub next : AreParts n (place + 1) later (drop 1 parts) stop
+
+pub at_page : (n : Night) (from : ℕ) (legs : List Leg) (parts : List Part) (op : Op) (stop : Option MaintFault) (drawn ended : ℕ)
+    → AreParts n from legs parts stop → page_in parts ≡ Some op → IsWithin legs drawn ended → AtPage n legs parts op stop drawn ended
+unfolding AreParts
+at_page n from legs [] op stop drawn ended are e w = cc
+at_page n from legs (part.Wave v ∷ parts) op stop drawn ended are e w = cc
+at_page n from [] (part.Page o ∷ parts) op stop drawn ended are e w = absurd are
+at_page n from (Wave place jobs ∷ legs) (part.Page o ∷ parts) op stop drawn ended are e w = absurd are.1
+at_page n from (Page place view rows ∷ legs) (part.Page o ∷ parts) op stop drawn ended are e w = record {
+  place = place;
+  view = view;
+  rows = rows;
+  later = legs;
+  is = refl;
+  none_drawn = w.0;
+  none_ended = w.1;
+  writes = ap operation (sym (same_Some o op e)) ∙ are.1;
+  next = are.2 refl;
+}
+
+-- nothing is left
+pub at_end : (n : Night) (from : ℕ) (legs : List Leg) (stop : Option MaintFault) → AreParts n from legs [] stop → stop ≡ None → legs ≡ []
+unfolding AreParts
+at_end n from [] stop are e = refl
+at_end n from (leg ∷ legs) stop are e = let f : Some are.0 ≡ None = sym are.1 ∙ e in cc
+
+-- what comes before the next leg is passed, where there is a part for it or the night comes to its end
+pub comes_on : (n : Night) (from : ℕ) (legs : List Leg) (parts : List Part) (stop : Option MaintFault) → AreParts n from legs parts stop → (parts ≢ []) ⊎ (stop ≡ None)
+    → ArePassedAt n (places_from from (come_to (length n.list) legs))
+unfolding AreParts
+comes_on n from [] [] stop are h = ⊎_elim (λ no. absurd (no refl)) (λ e. subst (λ s. IsStop n (places_from from (length n.list)) s) e are) h
+comes_on n from [] (p ∷ parts) stop are h = absurd are
+comes_on n from (leg ∷ legs) [] stop are h = ⊎_elim (λ no. absurd (no refl)) (λ e. let f : Some are.0 ≡ None = sym are.1 ∙ e in cc) h
+comes_on n from (Wave place jobs ∷ legs) (p ∷ parts) stop are h = are.0
+comes_on n from (Page place view rows ∷ legs) (p ∷ parts) stop are h = are.0
+
+pub is_stopped : (n : Night) (from : ℕ) (legs : List Leg) (parts : List Part) (stop : Option MaintFault) (fault : MaintFault) → AreParts n from legs parts stop → parts ≡ [] → stop ≡ Some fault
+    → IsFirstFaultOf n (places_from from (come_to (length n.list) legs)) fault
+unfolding AreParts
+is_stopped n from legs parts stop fault are e s = none_first legs (subst (λ ps. AreParts n from legs ps (Some fault)) e (subst (λ s. AreParts n from legs parts s) s are))
+  where
+    none_first : (legs : List Leg) → AreParts n from legs [] (Some fault) → IsFirstFaultOf n (places_from from (come_to (length n.list) legs)) fault
+    none_first [] are = are
+    none_first (Wave place jobs ∷ legs) are = subst (IsFirstFaultOf n (places_from from place)) (sym (same_Some fault are.0 are.1)) are.2
+    none_first (Page place view rows ∷ legs) are = subst (IsFirstFaultOf n (places_from from (place + 1))) (sym (same_Some fault are.0 are.1)) are.2
+
+-- ---- turns
+
+pub turn_here : (n : Night) (d e p : ℕ) (parts : List Part) (stop : Option MaintFault) (drawn ended : ℕ) (g : GoesOn n d e p parts stop drawn ended)
+    → turn_of (legs_of n) d e p ≡ turn_of g.legs drawn ended 0
+turn_here n d e p parts stop drawn ended g =
+    let x : d ≡ d + 0 = omega arith in
+    let y : e ≡ e + 0 = omega arith in
+    let z : p ≡ p + 0 = omega arith in
+    let u : drawn + 0 ≡ drawn = omega arith in
+    let v : ended + 0 ≡ ended = omega arith in
+    (λ i. turn_of (legs_of n) (x i) (y i) (z i)) ∙ g.ahead 0 0 0 ∙ (λ i. turn_of g.legs (u i) (v i) 0)
+
+module _ (n : Night) (d e p : ℕ) (parts : List Part) (stop : Option MaintFault) (drawn ended : ℕ) (g : GoesOn n d e p parts stop drawn ended) where
+  pub wave_here : (os : List (Option MaintFault)) → wave_in parts ≡ Some os → InWave n g.legs parts os stop drawn ended
+  wave_here os w = in_wave n g.from g.legs parts os stop drawn ended g.are w g.within
+
+  pub wave_turn_here : (os : List (Option MaintFault)) (w : wave_in parts ≡ Some os) → turn_of (legs_of n) d e p ≡ In_wave (wave_here os w).place (length os) drawn
+  wave_turn_here os w =
+      let v = wave_here os w in
+      turn_here n d e p parts stop drawn ended g ∙ ap (λ legs. turn_of legs drawn ended 0) v.is ∙ wave_turn v.place (length os) drawn ended v.later v.some
+
+  pub page_here : (op : Op) → page_in parts ≡ Some op → AtPage n g.legs parts op stop drawn ended
+  page_here op w = at_page n g.from g.legs parts op stop drawn ended g.are w g.within
+
+  pub page_turn_here : (op : Op) (w : page_in parts ≡ Some op) → turn_of (legs_of n) d e p ≡ At_page (page_here op w).place (page_here op w).view (page_here op w).rows
+  page_turn_here op w = let v = page_here op w in turn_here n d e p parts stop drawn ended g ∙ ap (λ legs. turn_of legs drawn ended 0) v.is
+
+  pub end_turn_here : parts ≡ [] → turn_of (legs_of n) d e p ≡ Over
+  end_turn_here w =
+      turn_here n d e p parts stop drawn ended g
+      ∙ ap (λ legs. turn_of legs drawn ended 0) (at_end n g.from g.legs stop (subst (λ ps. AreParts n g.from g.legs ps stop) w g.are) (g.over w))
+
+-- of three turns one is in turn
+pub data IsKind (n : Night) (d e p : ℕ) (parts : List Part) (drawn : ℕ) : Type 0 where
+  wave : (place jobs : ℕ) (os : List (Option MaintFault)) → wave_in parts ≡ Some os → turn_of (legs_of n) d e p ≡ In_wave place jobs drawn → IsKind n d e p parts drawn
+  page : (place view : ℕ) (rows : Counted) (op : Op) → page_in parts ≡ Some op → turn_of (legs_of n) d e p ≡ At_page place view rows → IsKind n d e p parts drawn
+  over : parts ≡ [] → turn_of (legs_of n) d e p ≡ Over → IsKind n d e p parts drawn
+
+pub kind_here : (n : Night) (d e p : ℕ) (parts : List Part) (stop : Option MaintFault) (drawn ended : ℕ) → GoesOn n d e p parts stop drawn ended → IsKind n d e p parts drawn
+kind_here n d e p [] stop drawn ended g = over refl (end_turn_here n d e p [] stop drawn ended g refl)
+kind_here n d e p (part.Wave v ∷ parts) stop drawn ended g =
+    wave (wave_here n d e p (part.Wave v ∷ parts) stop drawn ended g v.items refl).place (length v.items) v.items refl (wave_turn_here n d e p (part.Wave v ∷ parts) stop drawn ended g v.items refl)
+kind_here n d e p (part.Page op ∷ parts) stop drawn ended g =
+    let v = page_here n d e p (part.Page op ∷ parts) stop drawn ended g op refl in
+    page v.place v.view v.rows op refl (page_turn_here n d e p (part.Page op ∷ parts) stop drawn ended g op refl)
+
+-- ---- one deed more
+
+module _ (n : Night) (d e p : ℕ) (parts : List Part) (stop : Option MaintFault) (drawn ended : ℕ) (g : GoesOn n d e p parts stop drawn ended) where
+  pub drew : (os : List (Option MaintFault)) → wave_in parts ≡ Some os → drawn < length os → GoesOn n (d + 1) e p parts stop (drawn + 1) ended
+  drew os w l =
+      let v = wave_here n d e p parts stop drawn ended g os w in
+      record {
+        from = g.from;
+        legs = g.legs;
+        ahead = λ x y z. let m : (k : ℕ) → k + 1 + x ≡ k + (1 + x) = λ k. omega arith in
+            (λ i. turn_of (legs_of n) (m d i) (e + y) (p + z)) ∙ g.ahead (1 + x) y z ∙ (λ i. turn_of g.legs (sym (m drawn) i) (ended + y) z);
+        within = subst (λ legs. IsWithin legs (drawn + 1) ended) (sym v.is) (omega arith, v.some);
+        some = g.some;
+        are = g.are;
+        over = g.over;
+      }
+
+  pub ended_one : (os : List (Option MaintFault)) → wave_in parts ≡ Some os → ended + 1 < length os → GoesOn n d (e + 1) p parts stop drawn (ended + 1)
+  ended_one os w l =
+      let v = wave_here n d e p parts stop drawn ended g os w in
+      record {
+        from = g.from;
+        legs = g.legs;
+        ahead = λ x y z. let m : (k : ℕ) → k + 1 + y ≡ k + (1 + y) = λ k. omega arith in
+            (λ i. turn_of (legs_of n) (d + x) (m e i) (p + z)) ∙ g.ahead x (1 + y) z ∙ (λ i. turn_of g.legs (drawn + x) (sym (m ended) i) z);
+        within = subst (λ legs. IsWithin legs drawn (ended + 1)) (sym v.is) (v.few, l);
+        some = g.some;
+        are = g.are;
+        over = g.over;
+      }
+
+  pub next_in_wave : (os : List (Option MaintFault)) (w : wave_in parts ≡ Some os) → ended + 1 < length os → turn_of (legs_of n) d (e + 1) p ≡ In_wave (wave_here n d e p parts stop drawn ended g os w).place (length os) drawn
+  next_in_wave os w l =
+      let v = wave_here n d e p parts stop drawn ended g os w in
+      let x : d ≡ d + 0 = omega arith in
+      let z : p ≡ p + 0 = omega arith in
+      let a : drawn + 0 ≡ drawn = omega arith in
+      (λ i. turn_of (legs_of n) (x i) (e + 1) (z i)) ∙ g.ahead 0 1 0 ∙ (λ i. turn_of (v.is i) (a i) (ended + 1) 0) ∙ wave_turn v.place (length os) drawn (ended + 1) v.later l
+
+  -- what is ahead when the wave is over
+  pub after_wave : (os : List (Option MaintFault)) (w : wave_in parts ≡ Some os) → ended + 1 ≡ length os → drawn ≡ length os
+      → (x y z : ℕ) → turn_of (legs_of n) (d + x) (e + 1 + y) (p + z) ≡ turn_of (wave_here n d e p parts stop drawn ended g os w).later (0 + x) (0 + y) z
+  after_wave os w l m x y z =
+      let v = wave_here n d e p parts stop drawn ended g os w in
+      let a : e + 1 + y ≡ e + (1 + y) = omega arith in
+      let b : drawn + x - length os ≡ 0 + x = omega arith in
+      let c : ended + (1 + y) - length os ≡ 0 + y = omega arith in
+      (λ i. turn_of (legs_of n) (d + x) (a i) (p + z))
+      ∙ g.ahead x (1 + y) z
+      ∙ ap (λ legs. turn_of legs (drawn + x) (ended + (1 + y)) z) v.is
+      ∙ ap (λ t. cond t (In_wave v.place (length os) (drawn + x)) (turn_of v.later (drawn + x - length os) (ended + (1 + y) - length os) z)) (ge_false (ended + (1 + y)) (length os) (omega arith))
+      ∙ (λ i. turn_of v.later (b i) (c i) z)
+
+  later_jobs : (os : List (Option MaintFault)) (w : wave_in parts ≡ Some os) → HaveJobs (wave_here n d e p parts stop drawn ended g os w).later
+  later_jobs os w = (subst HaveJobs (wave_here n d e p parts stop drawn ended g os w).is g.some).1
+
+  pub wave_over : (os : List (Option MaintFault)) → wave_in parts ≡ Some os → ended + 1 ≡ length os → drawn ≡ length os → list_all is_none os ≡ true → (drop 1 parts ≢ []) ⊎ (stop ≡ None)
+      → GoesOn n d (e + 1) p (drop 1 parts) stop 0 0
+  wave_over os w l m all on =
+      let v = wave_here n d e p parts stop drawn ended g os w in
+      record {
+        from = v.place + length os;
+        legs = v.later;
+        ahead = after_wave os w l m;
+        within = fresh v.later (later_jobs os w);
+        some = later_jobs os w;
+        are = v.next all;
+        over = λ none. ⊎_elim (λ no. absurd (no none)) (λ e. e) on;
+      }
+
+  pub reach_after_wave : (os : List (Option MaintFault)) (w : wave_in parts ≡ Some os) → ended + 1 ≡ length os → drawn ≡ length os
+      → reach n (turn_of (legs_of n) d (e + 1) p) ≡ come_to (length n.list) (wave_here n d e p parts stop drawn ended g os w).later
+  reach_after_wave os w l m =
+      let v = wave_here n d e p parts stop drawn ended g os w in
+      let x : d ≡ d + 0 = omega arith in
+      let y : e + 1 ≡ e + 1 + 0 = omega arith in
+      let z : p ≡ p + 0 = omega arith in
+      ap (reach n) ((λ i. turn_of (legs_of n) (x i) (y i) (z i)) ∙ after_wave os w l m 0 0 0) ∙ reach_is n v.later 0 0 (fresh v.later (later_jobs os w))
+
+  -- and when the page is put
+  pub after_page : (op : Op) (w : page_in parts ≡ Some op) → (x y z : ℕ) → turn_of (legs_of n) (d + x) (e + y) (p + 1 + z) ≡ turn_of (page_here n d e p parts stop drawn ended g op w).later (0 + x) (0 + y) z
+  after_page op w x y z =
+      let v = page_here n d e p parts stop drawn ended g op w in
+      let a : p + 1 + z ≡ p + suc z = omega arith in
+      (λ i. turn_of (legs_of n) (d + x) (e + y) (a i))
+      ∙ g.ahead x y (suc z)
+      ∙ (λ i. turn_of (v.is i) (v.none_drawn i + x) (v.none_ended i + y) (suc z))
+
+  page_jobs : (op : Op) (w : page_in parts ≡ Some op) → HaveJobs (page_here n d e p parts stop drawn ended g op w).later
+  page_jobs op w = subst HaveJobs (page_here n d e p parts stop drawn ended g op w).is g.some
+
+  pub page_over : (op : Op) → page_in parts ≡ Some op → (drop 1 parts ≢ []) ⊎ (stop ≡ None) → GoesOn n d e (p + 1) (drop 1 parts) stop 0 0
+  page_over op w on =
+      let v = page_here n d e p parts stop drawn ended g op w in
+      record {
+        from = v.place + 1;
+        legs = v.later;
+        ahead = after_page op w;
+        within = fresh v.later (page_jobs op w);
+        some = page_jobs op w;
+        are = v.next;
+        over = λ none. ⊎_elim (λ no. absurd (no none)) (λ e. e) on;
+      }
+
+  pub reach_after_page : (op : Op) (w : page_in parts ≡ Some op) → reach n (turn_of (legs_of n) d e (p + 1)) ≡ come_to (length n.list) (page_here n d e p parts stop drawn ended g op w).later
+  reach_after_page op w =
+      let v = page_here n d e p parts stop drawn ended g op w in
+      let x : d ≡ d + 0 = omega arith in
+      let y : e ≡ e + 0 = omega arith in
+      let z : p + 1 ≡ p + 1 + 0 = omega arith in
+      ap (reach n) ((λ i. turn_of (legs_of n) (x i) (y i) (z i)) ∙ after_page op w 0 0 0) ∙ reach_is n v.later 0 0 (fresh v.later (page_jobs op w))
+
+-- ---- the last job of a wave
+
+-- what is passed is not refused
+conflict : (n : Night) (q : ℕ) (fault : MaintFault) → IsPassedAt n q → IsFaultAt n q fault → ⊥
+conflict n q fault h f = f.refused.first.stands (h f.expression f.there f.refused.reason f.refused.first.asked)
+
+all_none : (os : List (Option MaintFault)) → ((j : ℕ) (o : Option MaintFault) → slice_get os j ≡ Some o → o ≡ None) → list_all is_none os ≡ true
+all_none [] h = refl
+all_none (o ∷ os) h = (λ i. is_none (h 0 o refl i) && list_all is_none os) ∙ all_none os (λ j x e. h (suc j) x e)
+
+outcome_none : (n : Night) (q : ℕ) (o : Option MaintFault) → IsPassedAt n q → IsOutcome n q o → o ≡ None
+outcome_none n q None h f = refl
+outcome_none n q (Some fault) h f = absurd (conflict n q fault h f)
+
+-- where a wave is in turn for as long by two accounts, as many of its jobs are done
+not_less : (place jobs drawn a b : ℕ) (l m : List Leg) → a < b → b < jobs → HaveJobs m
+    → ((x y z : ℕ) → turn_of (Wave place jobs ∷ l) (drawn + x) (a + y) z ≡ turn_of (Wave place jobs ∷ m) (drawn + x) (b + y) z) → ⊥
+not_less place jobs drawn a b l m k within some h =
+    let y : ℕ = jobs - b in
+    let x : ℕ = jobs in
+    let left : turn_of (Wave place jobs ∷ l) (drawn + x) (a + y) 0 ≡ In_wave place jobs (drawn + x) = wave_turn place jobs (drawn + x) (a + y) l (omega arith) in
+    let gone : b + y - jobs ≡ 0 = omega arith in
+    let right : turn_of (Wave place jobs ∷ m) (drawn + x) (b + y) 0 ≡ turn_of m (drawn + x - jobs) 0 0 =
+    ap (λ t. cond t (In_wave place jobs (drawn + x)) (turn_of m (drawn + x - jobs) (b + y - jobs) 0)) (ge_false (b + y) jobs (omega arith)) ∙ ap (λ k. turn_of m (drawn + x - jobs) k 0) gone in
+    other m some (sym right ∙ sym (h x y 0) ∙ left)
+  where
+    other : (m : List Leg) → HaveJobs m → turn_of m (drawn + jobs - jobs) 0 0 ≡ In_wave place jobs (drawn + jobs) → ⊥
+    other [] some e = cc
+    other (Page q v r ∷ m) some e = cc
+    other (Wave q k ∷ m) some e =
+        let f : In_wave q k (drawn + jobs - jobs) ≡ In_wave place jobs (drawn + jobs) = sym (wave_turn q k (drawn + jobs - jobs) 0 m some.0) ∙ e in
+        let g : drawn + jobs - jobs ≡ drawn + jobs = cc in
+        omega arith
+
+same_ended : (place jobs drawn a b : ℕ) (l m : List Leg) → a < jobs → b < jobs → HaveJobs l → HaveJobs m
+    → ((x y z : ℕ) → turn_of (Wave place jobs ∷ l) (drawn + x) (a + y) z ≡ turn_of (Wave place jobs ∷ m) (drawn + x) (b + y) z) → a ≡ b
+same_ended place jobs drawn a b l m u v some others h =
+    ⊎_elim (λ k. absurd (not_less place jobs drawn a b l m k v others h))
+    (λ k. ⊎_elim (λ k. absurd (not_less place jobs drawn b a m l k u some (λ x y z. sym (h x y z)))) (λ j. omega arith) (cases_lt b a))
+    (cases_lt a b)
+
+-- the jobs of the wave in turn that are done, and the one that a worker holds
+pub record AreLast (n : Night) (place jobs drawn : ℕ) (job : ℕ) : Type 0 where
+  pub least : jobs ≤ drawn
+  pub passed : (j : ℕ) → j < jobs → (j ≡ job) ⊎ IsPassedAt n (place + j)
+
+-- a job that is held is one of the wave
+pub held_within : (s : Setup) (log : Log) (w job place jobs drawn : ℕ) → IsLegalLog s log → is_open log ≡ true → holding log w ≡ Some job → turn s log ≡ In_wave place jobs drawn → job < drawn
+held_within s log w job place jobs drawn legal o h t =
+    let a = underway s log (deeds_of s log legal) o in
+    let v = wave_legs a.rest a.drawn a.ended place jobs drawn a.within (sym (now _ _ _ _ _ _ _ _ _ a) ∙ t) in
+    subst (λ k. job < k) v.2 (a.held w job h).0
+
+pub last_done : (s : Setup) (log : Log) (parts : List Part) (stop : Option MaintFault) (drawn ended w job : ℕ) (os : List (Option MaintFault)) → IsLegalLog s log → is_open log ≡ true
+    → (g : GoesOn (night s log) (draws log) (ends log) (pages log) parts stop drawn ended) (first : wave_in parts ≡ Some os) → holding log w ≡ Some job → ended + 1 ≡ length os
+    → AreLast (night s log) (wave_here (night s log) (draws log) (ends log) (pages log) parts stop drawn ended g os first).place (length os) drawn job
+unfolding Distinct
+last_done s log parts stop drawn ended w job os legal o g first h l =
+    let n : Night = night s log in
+    let a = underway s log (deeds_of s log legal) o in
+    let here = wave_here n (draws log) (ends log) (pages log) parts stop drawn ended g os first in
+    let jobs : ℕ = length os in
+    let t : turn s log ≡ In_wave here.place jobs drawn = wave_turn_here n (draws log) (ends log) (pages log) parts stop drawn ended g os first in
+    let v = wave_legs a.rest a.drawn a.ended here.place jobs drawn a.within (sym (now _ _ _ _ _ _ _ _ _ a) ∙ t) in
+    let later : List Leg = v.0 in
+    let rest : a.rest ≡ Wave here.place jobs ∷ later = v.1 in
+    let same_drawn : a.drawn ≡ drawn = v.2 in
+    let inside : (a.drawn ≤ jobs) × (a.ended < jobs) = subst (λ legs. IsWithin legs a.drawn a.ended) rest a.within in
+    let both : (x y z : ℕ) → turn_of (Wave here.place jobs ∷ later) (drawn + x) (a.ended + y) z ≡ turn_of (Wave here.place jobs ∷ here.later) (drawn + x) (ended + y) z = λ x y z.
+    (λ i. turn_of (sym rest i) (sym same_drawn i + x) (a.ended + y) z) ∙ sym (a.ahead x y z) ∙ g.ahead x y z ∙ ap (λ legs. turn_of legs (drawn + x) (ended + y) z) here.is in
+    let each : a.ended ≡ ended = same_ended here.place jobs drawn a.ended ended later here.later inside.1 here.some (subst HaveJobs rest a.some).1 (subst HaveJobs here.is g.some).1 both in
+    let held = a.held w job h in
+    let apart : Distinct (job ∷ a.done) = (held.1, a.distinct) in
+    let low : (q : ℕ) → has (job ∷ a.done) q ≡ true → q < a.drawn = λ q m. ⊎_elim (λ e. subst (λ k. k < a.drawn) e held.0) (a.below q) (head_or job q a.done m) in
+    let many : length (job ∷ a.done) ≤ a.drawn = few (job ∷ a.done) a.drawn apart low in
+    let count : length (job ∷ a.done) ≡ jobs = let f = a.each in omega (arith, f, each, l) in
+    record {
+      least = omega (arith, many, count, same_drawn);
+      passed = λ j m. ⊎_elim (λ e. inl (sym e)) (λ e. inr (subst (λ legs. IsPassedAt n (wave_place legs + j)) rest (a.jobs_pass j e)))
+          (head_or job j a.done (all_below (job ∷ a.done) jobs j apart (λ q m. let k = low q m in let f = inside.0 in omega arith) count m));
+    }
+
+-- where the last job is not refused, none is
+pub all_are_passed : (n : Night) (place drawn job : ℕ) (os : List (Option MaintFault)) → ((j : ℕ) (o : Option MaintFault) → slice_get os j ≡ Some o → IsOutcome n (place + j) o)
+    → slice_get os job ≡ Some None → AreLast n place (length os) drawn job → list_all is_none os ≡ true
+all_are_passed n place drawn job os outcomes own last =
+    all_none os (λ j o e. ⊎_elim
+    (λ same. same_Some o None (sym e ∙ ap (slice_get os) same ∙ own))
+    (λ passed. outcome_none n (place + j) o passed (outcomes j o e))
+    (last.passed j (slice_get_within os j o e)))

@@ -1,0 +1,100 @@
+-- A machine with its catalogue and its nights.
+use Rattle.std.proofs.Common.{◌≡◌, ◌≢◌, refl, sym, ap, subst, ◌∙◌, ℕ, zero, suc, ◌+◌, ◌-◌, ◌<◌, ◌≤◌, ◌^◌, List, [], ◌∷◌, length, map, Bool, true, false, Vec, Option, Some, None, ◌⊎◌, ⊎_elim, inl, inr, arith}
+use Rattle.std.specs.Prelude.{slice_get, slice_index_or, nat_le, option_map, ◌==◌}
+use Rattle.std.specs.declared.alloc.Global.{Global}
+use Rattle.std.proofs.lemmas.Option.{get_or_from_slice_get, slice_get-map, slice_get_read}
+use Rattle.std.specs.List.{AllByRecursion}
+use Rattle.wh_dag.specs.Catalog.{CatalogOf, IsCatalog}
+use Rattle.wh_maint.proofs.FromScratch.{catalogs_are_graphs, values_are_tables}
+use Rattle.wh_store.specs.Kept.{AreTables}
+use Rattle.wh_strategy.specs.Rules.{Judged}
+use Rattle.wh_row.specs.Bag.{Bag, IsTable}
+use Rattle.wh_maint.specs.Asked.{AreBags}
+use Rattle.wh_maint.specs.Comp.{bag_at}
+use Rattle.wh_maint.specs.Contents.{AreContents}
+use Rattle.wh_maint.specs.Definition.{graph_of}
+use Rattle.wh_maint.specs.declared.fault.MaintFault.{MaintFault}
+use Rattle.wh_maint.specs.declared.fault.MaintFault.TheVariants as fault
+use Rattle.wh_night.specs.Refused.{AreAllowedBelow, IsBaseFault}
+use Rattle.wh_store.specs.Pages.{Contents}
+use Rattle.wh_store.specs.Versions.{number, version, versions_of}
+use Rattle.wh_course.specs.Night.{Night}
+use Rattle.wh_core.specs.declared.event.Event.TheVariants as event
+use Rattle.wh_core.specs.declared.machine.Machine.{Machine}
+use Rattle.wh_core.specs.declared.reply.Cause.TheVariants as cause
+use Rattle.wh_core.specs.declared.reply.Reply.{Reply}
+use Rattle.wh_core.specs.declared.reply.Reply.TheVariants as reply
+use Rattle.wh_core.specs.Laws.{IsGivenNight, IsSetup, VersionsAreContents}
+use Rattle.wh_core.specs.Log.{Log, is_open, nights_begun}
+use Rattle.wh_core.specs.Nights.{GivenNight, Setup, next_night, versions}
+use Rattle.wh_core.specs.Replies.{AreAllowed, IsLegalLog, IsReply, cause_of}
+use Rattle.wh_core.specs.Standing.{Stands, given_of, nights_of}
+use Rattle.wh_core.proofs.Steps.{le_false, le_true, onward, refuse}
+use Rattle.wh_core.proofs.Moves.{not_equal, number_here, open_here}
+
+equal : (a b : ℕ) → a ≡ b → (a == b) ≡ true
+equal a b e = grind arith
+
+-- ---- the next night
+
+module _ (s : Setup) (log : Log) (m : Machine) (h : Stands s log m) where
+  pub night_open : is_open log ≡ true → IsReply s log event.Begin (reply.Refused cause.NightOpen)
+  night_open o = refuse (is_open log) cause.NightOpen _ o
+
+  pub none_left : is_open log ≡ false → length s.nights ≤ nights_begun log → IsReply s log event.Begin (reply.Refused cause.NoNight)
+  none_left o l = onward (is_open log) cause.NightOpen _ _ o (refuse (nat_le (length s.nights) (nights_begun log)) cause.NoNight _ (le_true (length s.nights) (nights_begun log) l))
+
+  pub last_version : is_open log ≡ false → nights_begun log < length s.nights → number (versions s log) + 1 ≡ 2 ^ 64 → IsReply s log event.Begin (reply.Refused cause.LastVersion)
+  last_version o l e =
+      onward (is_open log) cause.NightOpen _ _ o
+      (onward (nat_le (length s.nights) (nights_begun log)) cause.NoNight _ _ (le_false (length s.nights) (nights_begun log) l)
+      (refuse (number (versions s log) + 1 == 2 ^ 64) cause.LastVersion _ (equal (number (versions s log) + 1) (2 ^ 64) e)))
+
+  pub not_begun : is_open log ≡ false → nights_begun log < length s.nights → number (versions s log) + 1 ≢ 2 ^ 64 → (f : MaintFault)
+      → ((f ≡ fault.Memory) × AreAllowed (next_night s log)) ⊎ IsBaseFault (next_night s log).catalog (next_night s log).tables (next_night s log).changes f
+      → IsReply s log event.Begin (reply.Refused (cause_of f))
+  not_begun o l few f why =
+      onward (is_open log) cause.NightOpen _ _ o
+      (onward (nat_le (length s.nights) (nights_begun log)) cause.NoNight _ _ (le_false (length s.nights) (nights_begun log) l)
+      (onward (number (versions s log) + 1 == 2 ^ 64) cause.LastVersion _ _ (not_equal (number (versions s log) + 1) (2 ^ 64) few)
+      (⊎_elim (λ k. inl (k.1, inr (ap (λ f. reply.Refused (cause_of f)) k.0))) (λ b. inr (f, b, refl)) why)))
+
+-- the given night of this number
+module _ (nights : List (Vec Bag Global × Judged)) (n : ℕ) (given : Vec Bag Global × Judged) (l : n < length nights) (is : given ≡ slice_index_or nights n given) where
+  found : slice_get nights n ≡ Some given
+  found = slice_get_read nights (length nights) n given refl l is
+
+  pub given_there : slice_get (nights_of nights) n ≡ Some (given_of given)
+  given_there = slice_get-map given_of nights n ∙ ap (option_map given_of) found
+
+  pub found_there : slice_get nights n ≡ Some given
+  found_there = found
+
+-- the newest contents are contents of a base
+pub newest_is : (s : Setup) (log : Log) → version (versions s log) (number (versions s log)) ≡ (versions s log).newest
+newest_is s log = let e : number (versions s log) - number (versions s log) ≡ 0 = omega arith in ap (λ k. slice_index_or ((versions s log).newest ∷ (versions s log).older) k []) e
+
+pub newest_are : (s : Setup) (log : Log) → VersionsAreContents → IsSetup s → IsLegalLog s log → AreContents (graph_of s.catalog) (bag_at (versions s log).newest) × AreBags s.catalog (versions s log).newest
+newest_are s log law is legal =
+    subst (λ contents. AreContents (graph_of s.catalog) (bag_at contents) × AreBags s.catalog contents) (newest_is s log) (law s log (number (versions s log)) is legal (omega arith))
+
+-- the night that comes next is the given one, from the newest contents
+pub next_is : (s : Setup) (log : Log) (given : GivenNight) → slice_get s.nights (nights_begun log) ≡ Some given
+    → next_night s log ≡ record { catalog = s.catalog; list = given.list; tables = bag_at (versions s log).newest; changes = bag_at given.changes; keys = s.keys }
+next_is s log given e =
+    let f : slice_index_or s.nights (nights_begun log) (record { changes = []; list = [] }) ≡ given = get_or_from_slice_get s.nights (nights_begun log) given (record { changes = []; list = [] }) e in
+    ap (λ (g : GivenNight). record { catalog = s.catalog; list = g.list; tables = bag_at (versions s log).newest; changes = bag_at g.changes; keys = s.keys }) f
+
+pub same_night : (s : Setup) (log : Log) (catalog : CatalogOf) (given : GivenNight) (tables changes : List Bag) (keys : ℕ) → catalog ≡ s.catalog → keys ≡ s.keys → tables ≡ (versions s log).newest → changes ≡ given.changes
+    → slice_get s.nights (nights_begun log) ≡ Some given → record { catalog = catalog; list = given.list; tables = bag_at tables; changes = bag_at changes; keys = keys } ≡ next_night s log
+same_night s log catalog given tables changes keys c k t d e =
+    (λ i. record { catalog = c i; list = given.list; tables = bag_at (t i); changes = bag_at (d i); keys = k i }) ∙ sym (next_is s log given e)
+
+-- ---- the opening tables
+
+all_tables : (tables : List Bag) → ((v : ℕ) → IsTable (bag_at tables v)) → AllByRecursion IsTable tables
+all_tables [] each = tt
+all_tables (t ∷ tables) each = (each 0, all_tables tables (λ v. each (suc v)))
+
+pub opening_tables : (catalog : CatalogOf) (tables : List Bag) → IsCatalog catalog → AreContents (graph_of catalog) (bag_at tables) → AreTables tables
+opening_tables catalog tables is are = all_tables tables (values_are_tables (graph_of catalog) (bag_at tables) (catalogs_are_graphs catalog is) are.counts are.values)

@@ -1,0 +1,81 @@
+use Rattle.std.proofs.Common.{rules, [], ◌∷◌, ◌++◌, ◌≡◌, ◌≢◌, refl, sym, ap, subst, ◌∙◌, ℕ, ◌+◌, length, drop, List, Bool, true, false, Option, Some, None, ◌⊎◌, ⊎_elim, inl, inr, arith}
+use Rattle.std.specs.Prelude.{is_some}
+use Rattle.wh_store.specs.Operations.{operation}
+use Rattle.wh_store.specs.Windows.{Window, Shows, applied}
+use Rattle.wh_course.specs.Legs.{At_page}
+use Rattle.wh_core.specs.declared.event.Event.TheVariants as event
+use Rattle.wh_core.specs.declared.reply.Reply.TheVariants as reply
+use Rattle.wh_core.specs.Log.{Paged_in, draws, ends, pages}
+use Rattle.wh_core.specs.Nights.{night, page_in_turn, published}
+use Rattle.wh_core.specs.Replies.{IsReply, more}
+use Rattle.wh_core.specs.Standing.{GoesOn, Stands}
+use Rattle.wh_core.proofs.Underway.{night-paged}
+use Rattle.wh_core.proofs.Steps.{drop_one, page_over}
+use Rattle.wh_core.proofs.Moves.{goes_here, no_memory_to_page, no_night_to_page, no_page, page_done, page_in_turn_there, page_stopped, page_there}
+use Rattle.wh_core.proofs.machine.Machine.page_in.Goals as goal
+
+pub returns-then-not-is_active : goal.returns-then-not-is_active
+returns-then-not-is_active c = λ s log h.
+    let idle : is_some c.args.self.now.store.draft ≡ false = search rules in
+    (h, no_night_to_page s log c.args.self.now h idle)
+
+pub returns-in_default : goal.returns-in_default
+returns-in_default c = λ s log h.
+    let active : is_some c.args.self.now.store.draft ≡ true = search rules in
+    (h, no_page s log c.args.self.now h active c.in_default.ensures)
+
+pub returns-in-Some-hindrance : goal.returns-in-Some-hindrance
+returns-in-Some-hindrance c = λ s log h.
+    let m = c.args.self.now in
+    let active : is_some m.store.draft ≡ true = search rules in (
+      h,
+      subst (λ k. IsReply s log event.PageIn (reply.Refused k)) (sym c.cause_of.ensures)
+          (page_stopped s log m h active c.in-Some.op.now c.in-Some.ensures c.in-Some-hindrance.fault.now (drop_one m.place m.course.parts.items ∙ c.in-Some-hindrance.ensures.0) c.in-Some-hindrance.ensures.1),
+    )
+
+pub returns-in_default-apply : goal.returns-in_default-apply
+returns-in_default-apply c = λ s log h.
+    let m = c.args.self.now in
+    let active : is_some m.store.draft ≡ true = search rules in
+    let same : c.apply.new.self ≡ m.store = c.in_default-apply.ensures.err in (
+      record {
+        legal = h.legal;
+        shows = subst (λ w. Shows w s.opening (published s log)) (sym same) h.shows;
+        versions = ap (λ (w : Window). w.limit) same ∙ h.versions;
+        begun = h.begun;
+        desks = h.desks;
+        sessions = h.sessions;
+        workers = h.workers;
+        holders = h.holders;
+        night = h.night;
+      },
+      no_memory_to_page s log m h active c.in-Some.op.now c.in-Some.ensures,
+    )
+
+pub returns : goal.returns
+unfolding published
+returns c = λ s log h.
+    let m = c.args.self.now in
+    let active : is_some m.store.draft ≡ true = search rules in
+    let op = c.in-Some.op.now in
+    let first = c.in-Some.ensures in
+    let there = page_there s log m h active op first in
+    let on : (drop 1 (drop m.place m.course.parts.items) ≢ []) ⊎ (m.course.stop ≡ None) = ⊎_elim (λ no. inl (λ e. no (sym (drop_one m.place m.course.parts.items) ∙ e))) (λ e. inr e) c.in_default-hindrance.ensures in
+    let rows : c.rows_of-rows.result ≡ length there.rows = c.rows_of-rows.ensures there.view there.rows there.writes in
+    let r : IsReply s log event.PageIn (reply.Paged c.rows_of-rows.result) = subst (λ k. IsReply s log event.PageIn (reply.Paged k)) (sym rows) (page_done s log m h active op first on) in
+    let put : operation op ∷ [] ≡ page_in_turn (At_page there.place there.view there.rows) = ap (λ o. o ∷ []) there.writes in (
+      subst (Stands s (Paged_in ∷ log)) (sym c.turn_over.ensures) (record {
+        legal = more log event.PageIn (reply.Paged c.rows_of-rows.result) h.legal r;
+        shows = subst (λ ops. Shows c.apply.new.self s.opening (published s log ++ ops)) (put ∙ ap page_in_turn (sym (page_in_turn_there s log m h active op first))) (c.in-Ok.ensures.shows s.opening (published s log) h.shows);
+        versions = ap (λ (w : Window). w.limit) (c.in-Ok.ensures.ok ∙ ap (applied m.store) there.writes) ∙ h.versions;
+        begun = h.begun;
+        desks = h.desks;
+        sessions = h.sessions;
+        workers = h.workers;
+        holders = h.holders;
+        night = λ o. subst (λ n. GoesOn n (draws log) (ends log) (pages log + 1) (drop (m.place + 1) m.course.parts.items) m.course.stop 0 0) (sym (night-paged s log))
+            (subst (λ parts. GoesOn (night s log) (draws log) (ends log) (pages log + 1) parts m.course.stop 0 0) (drop_one m.place m.course.parts.items)
+            (page_over (night s log) (draws log) (ends log) (pages log) (drop m.place m.course.parts.items) m.course.stop m.drawn m.ended (goes_here s log m h active) op first on));
+      }),
+      r,
+    )

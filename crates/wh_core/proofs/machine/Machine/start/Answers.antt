@@ -1,0 +1,56 @@
+use Rattle.std.proofs.Common.{rules, [], ◌∷◌, ◌++◌, ◌≡◌, refl, sym, ap, subst, ◌∙◌, ℕ, ◌<◌, ◌+◌, length, Bool, true, false, arith}
+use Rattle.wh_store.specs.Windows.{Window, Shows}
+use Rattle.wh_core.specs.declared.event.Event.TheVariants as event
+use Rattle.wh_core.specs.declared.reply.Cause.TheVariants as cause
+use Rattle.wh_core.specs.declared.reply.Reply.TheVariants as reply
+use Rattle.wh_core.specs.Log.{Began}
+use Rattle.wh_core.specs.Nights.{published}
+use Rattle.wh_core.specs.Replies.{IsReply, more}
+use Rattle.wh_core.specs.Standing.{GoesOn}
+use Rattle.wh_core.proofs.Underway.{night-began}
+use Rattle.wh_core.proofs.Moves.{begins_so, goes_from_first, no_memory_to_begin, stopped_at_first}
+use Rattle.wh_core.proofs.machine.Machine.start.Goals as goal
+
+pub returns-in-Some : goal.returns-in-Some
+returns-in-Some c = λ s log h closed left few allowed are. (
+  h,
+  subst (λ k. IsReply s log event.Begin (reply.Refused k)) (sym c.cause_of.ensures)
+      (stopped_at_first s log closed left few allowed c.args.course.parts.items c.args.course.stop are c.in-Some.fault.now c.in-Some.ensures.0 c.in-Some.ensures.1),
+)
+
+pub returns-in_default-apply : goal.returns-in_default-apply
+returns-in_default-apply c = λ s log h closed left few allowed are.
+    let m = c.args.self.now in
+    let same : c.apply.new.self ≡ m.store = c.in_default-apply.ensures.err in (
+      record {
+        legal = h.legal;
+        shows = subst (λ w. Shows w s.opening (published s log)) (sym same) h.shows;
+        versions = ap (λ (w : Window). w.limit) same ∙ h.versions;
+        begun = h.begun;
+        desks = h.desks;
+        sessions = h.sessions;
+        workers = h.workers;
+        holders = h.holders;
+        night = h.night;
+      },
+      no_memory_to_begin s log closed left few allowed c.args.course.parts.items c.args.course.stop are,
+    )
+
+pub returns : goal.returns
+unfolding published
+returns c = λ s log h closed left few allowed are.
+    let r : IsReply s log event.Begin reply.Begun = begins_so s log closed left few allowed c.args.course.parts.items c.args.course.stop are c.in_default.ensures in (
+      record {
+        legal = more log event.Begin reply.Begun h.legal r;
+        shows = c.in-Ok.ensures.shows s.opening (published s log) h.shows;
+        versions = ap (λ (w : Window). w.limit) c.in-Ok.ensures.ok ∙ h.versions;
+        begun = ap (λ n. n + 1) h.begun;
+        desks = h.desks;
+        sessions = h.sessions;
+        workers = c.free_all.ensures.len ∙ h.workers;
+        holders = λ w lt. c.free_all.ensures.free w (let f = h.workers in omega (arith, f, lt));
+        night = λ o. subst (λ n. GoesOn n 0 0 0 c.args.course.parts.items c.args.course.stop 0 0) (sym (night-began s log))
+            (goes_from_first s log closed left few allowed c.args.course.parts.items c.args.course.stop are c.in_default.ensures);
+      },
+      r,
+    )

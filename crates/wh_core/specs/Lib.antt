@@ -1,0 +1,5 @@
+pub mod Log
+pub mod Nights
+pub mod Replies
+pub mod Laws
+pub mod Standing

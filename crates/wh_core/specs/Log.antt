@@ -1,0 +1,106 @@
+-- What was done, the latest first: the accepted events, each with what it was answered. A refused event leaves nothing.
+use Rattle.std.specs.Prelude.{ℕ, ◌+◌, ◌-◌, ◌==◌, List, [], ◌∷◌, Option, Some, None, Bool, true, false, if◌then◌else◌, option_map, slice_get, length}
+use Rattle.wh_row.specs.Row.{Row}
+use Rattle.wh_store.specs.Pages.{Shown}
+use Rattle.wh_core.specs.declared.event.Event.{Event}
+use Rattle.wh_core.specs.declared.event.Event.TheVariants.{Begin, Take, Done, PageIn, Commit, GiveUp, Open, Read, Close}
+use Rattle.wh_core.specs.declared.reply.Reply.{Reply}
+use Rattle.wh_core.specs.declared.reply.Reply.TheVariants as reply
+
+pub data Deed : Type 0 where
+  Began : Deed
+  Drew : (worker job : ℕ) → Deed
+  Finished : (worker : ℕ) → Deed
+  Paged_in : Deed
+  Committed : Deed
+  Gave_up : Deed
+  Sat_down : (desk version : ℕ) → Deed
+  Turned : (desk view : ℕ) → (page : Shown) → Deed
+  Left : (desk : ℕ) → Deed
+
+abbrev pub Log : Type 0
+Log = List Deed
+
+-- the log after an event and its reply
+abbrev pub logged : Log → Event → Reply → Log
+logged log Begin reply.Begun = Began ∷ log
+logged log (Take w) (reply.Job n) = Drew w n ∷ log
+logged log (Done w) reply.Done = Finished w ∷ log
+logged log PageIn (reply.Paged n) = Paged_in ∷ log
+logged log Commit (reply.Version v) = Committed ∷ log
+logged log GiveUp (reply.Version v) = Gave_up ∷ log
+logged log (Open d) (reply.Session v) = Sat_down d v ∷ log
+logged log (Read d view limit) (reply.Page p) = Turned d view p ∷ log
+logged log (Close d) reply.Closed = Left d ∷ log
+logged log e r = log
+
+-- how many nights have begun
+abbrev pub nights_begun : Log → ℕ
+nights_begun [] = 0
+nights_begun (Began ∷ log) = nights_begun log + 1
+nights_begun (d ∷ log) = nights_begun log
+
+-- a night has begun and has no end yet
+abbrev pub is_open : Log → Bool
+is_open [] = false
+is_open (Began ∷ log) = true
+is_open (Committed ∷ log) = false
+is_open (Gave_up ∷ log) = false
+is_open (d ∷ log) = is_open log
+
+-- in the open night: jobs drawn, jobs done, pages put
+abbrev pub draws : Log → ℕ
+draws [] = 0
+draws (Began ∷ log) = 0
+draws (Committed ∷ log) = 0
+draws (Gave_up ∷ log) = 0
+draws (Drew w n ∷ log) = draws log + 1
+draws (d ∷ log) = draws log
+
+abbrev pub ends : Log → ℕ
+ends [] = 0
+ends (Began ∷ log) = 0
+ends (Committed ∷ log) = 0
+ends (Gave_up ∷ log) = 0
+ends (Finished w ∷ log) = ends log + 1
+ends (d ∷ log) = ends log
+
+abbrev pub pages : Log → ℕ
+pages [] = 0
+pages (Began ∷ log) = 0
+pages (Committed ∷ log) = 0
+pages (Gave_up ∷ log) = 0
+pages (Paged_in ∷ log) = pages log + 1
+pages (d ∷ log) = pages log
+
+-- the job that a worker has drawn and not done; a night that ends frees all workers
+abbrev pub holding : Log → ℕ → Option ℕ
+holding [] w = None
+holding (Began ∷ log) w = None
+holding (Committed ∷ log) w = None
+holding (Gave_up ∷ log) w = None
+holding (Drew u n ∷ log) w = if u == w then Some n else holding log w
+holding (Finished u ∷ log) w = if u == w then None else holding log w
+holding (d ∷ log) w = holding log w
+
+-- where a desk's next Read goes on: of which view it read last, and after which row
+pub record Bookmark : Type 0 where
+  pub view : ℕ
+  pub row : Row
+
+-- a desk's session: its version, and its bookmark, if it has one
+pub record SessionOf : Type 0 where
+  pub version : ℕ
+  pub bookmark : Option Bookmark
+
+-- the bookmark that a page leaves: at its last row, where more follow
+abbrev pub bookmark_after : ℕ → Shown → Option Bookmark
+bookmark_after view page = if page.last then None else option_map (λ e. record { view = view; row = e.0 }) (slice_get page.rows (length page.rows - 1))
+
+-- the session of a desk
+abbrev pub session : Log → ℕ → Option SessionOf
+session [] d = None
+session (Sat_down e v ∷ log) d = if e == d then Some (record { version = v; bookmark = None }) else session log d
+session (Turned e view page ∷ log) d = if e == d then option_map (λ (s : SessionOf). record { version = s.version; bookmark = bookmark_after view page }) (session log d) else session log d
+session (Left e ∷ log) d = if e == d then None else session log d
+session (x ∷ log) d = session log d

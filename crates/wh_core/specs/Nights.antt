@@ -1,0 +1,75 @@
+-- The nights that a machine can begin, what is in turn in one, and the operations that it publishes.
+use Rattle.std.specs.Prelude.{ℕ, ◌+◌, ◌-◌, List, [], ◌∷◌, ◌++◌, slice_index_or}
+use Rattle.wh_dag.specs.Catalog.{CatalogOf}
+use Rattle.wh_strategy.specs.declared.expression.Expression.{Expression}
+use Rattle.wh_row.specs.Bag.{Bag}
+use Rattle.wh_maint.specs.Comp.{bag_at}
+use Rattle.wh_store.specs.Operations.{Operation, Opens, Writes, Commits, Gives_up}
+use Rattle.wh_store.specs.Pages.{Contents}
+use Rattle.wh_store.specs.Versions.{Versions, versions_of}
+use Rattle.wh_course.specs.Night.{Night}
+use Rattle.wh_course.specs.Legs.{Turn, In_wave, At_page, Over, legs_of, turn_of}
+use Rattle.wh_core.specs.Log.{Log, Began, Drew, Finished, Paged_in, Committed, Gave_up, Sat_down, Turned, Left, nights_begun, draws, ends, pages}
+
+-- the changes of the base views that a night brings, and the strategy that carries them out
+pub record GivenNight : Type 0 where
+  pub changes : List Bag
+  pub list : List Expression
+
+-- what a machine begins with: a catalogue, how many desks and workers there are, of how many versions the contents are kept, how many
+-- rows a page has at most, the opening contents, and the nights in their order
+pub record Setup : Type 0 where
+  pub catalog : CatalogOf
+  pub desks : ℕ
+  pub workers : ℕ
+  pub versions : ℕ
+  pub keys : ℕ
+  pub opening : Contents
+  pub nights : List GivenNight
+
+-- the given night of this number, from these contents
+abbrev pub night_from : Setup → Contents → ℕ → Night
+night_from s contents n = record {
+  catalog = s.catalog;
+  list = (slice_index_or s.nights n (record { changes = []; list = [] })).list;
+  tables = bag_at contents;
+  changes = bag_at (slice_index_or s.nights n (record { changes = []; list = [] })).changes;
+  keys = s.keys;
+}
+
+-- the operation that puts the page in turn
+abbrev pub page_in_turn : Turn → List Operation
+page_in_turn (At_page place view rows) = Writes view rows ∷ []
+page_in_turn t = []
+
+-- the night that began last, where these operations are published: while it is open, the newest contents are those that it began from
+abbrev pub night_of : Setup → Log → List Operation → Night
+night_of s log ops = night_from s (versions_of s.opening ops).newest (nights_begun log - 1)
+
+-- what is in turn in it
+abbrev pub turn_in : Night → Log → Turn
+turn_in night log = turn_of (legs_of night) (draws log) (ends log) (pages log)
+
+-- the published list: the operations of the accepted events
+unfoldable pub published : Setup → Log → List Operation
+published s [] = []
+published s (Began ∷ log) = published s log ++ Opens ∷ []
+published s (Paged_in ∷ log) = published s log ++ page_in_turn (turn_in (night_of s log (published s log)) log)
+published s (Committed ∷ log) = published s log ++ Commits ∷ []
+published s (Gave_up ∷ log) = published s log ++ Gives_up ∷ []
+published s (d ∷ log) = published s log
+
+-- the versions that it makes
+abbrev pub versions : Setup → Log → Versions
+versions s log = versions_of s.opening (published s log)
+
+-- the open night, and what is in turn in it
+abbrev pub night : Setup → Log → Night
+night s log = night_of s log (published s log)
+
+abbrev pub turn : Setup → Log → Turn
+turn s log = turn_in (night s log) log
+
+-- the night that a Begin takes: the next one, from the newest contents
+abbrev pub next_night : Setup → Log → Night
+next_night s log = night_from s (versions s log).newest (nights_begun log)

@@ -1,0 +1,163 @@
+-- The reply to an event, looked up in what was done before and in the list published so far; and legal runs.
+use Rattle.std.specs.Prelude.{◌≡◌, ◌⊎◌, ℕ, ◌+◌, ◌^◌, ◌==◌, List, [], ◌∷◌, length, Option, Some, None, is_some, is_none, Bool, true, false, not, ◌||◌, nat_le, nat_lt, if◌then◌else◌}
+use Rattle.wh_dag.specs.Catalog.{CatalogOf}
+use Rattle.wh_row.specs.Row.{Row}
+use Rattle.wh_maint.specs.declared.fault.MaintFault.{MaintFault}
+use Rattle.wh_maint.specs.declared.fault.MaintFault.TheVariants as fault
+use Rattle.wh_night.specs.Refused.{AreAllowedBelow, IsBaseFault}
+use Rattle.wh_store.specs.Pages.{Contents, Shown, page_of}
+use Rattle.wh_store.specs.Versions.{Versions, number, is_active, is_unexpired, version, table_of}
+use Rattle.wh_course.specs.Night.{Night, ArePassedAt, IsFirstFaultOf, places_from}
+use Rattle.wh_course.specs.Legs.{Turn, In_wave, At_page, Over, legs_of, turn_of, reach}
+use Rattle.wh_core.specs.declared.event.Event.{Event}
+use Rattle.wh_core.specs.declared.event.Event.TheVariants.{Begin, Take, Done, PageIn, Commit, GiveUp, Open, Read, Close}
+use Rattle.wh_core.specs.declared.reply.Cause.{Cause}
+use Rattle.wh_core.specs.declared.reply.Cause.TheVariants as cause
+use Rattle.wh_core.specs.declared.reply.Reply.{Reply}
+use Rattle.wh_core.specs.declared.reply.Reply.TheVariants as reply
+use Rattle.wh_core.specs.Log.{Bookmark, Log, SessionOf, draws, ends, holding, is_open, logged, nights_begun, pages, session}
+use Rattle.wh_core.specs.Nights.{Setup, next_night, night, turn, versions}
+
+-- How an event is answered: by this reply and no other; by it, unless memory is refused; or the event carries out the expressions of a
+-- night at these places, in this order, and is answered so where each of them is passed; a Begin tests the night's base changes first, and
+-- takes memory only after them
+pub data Ruling : Type 0 where
+  Says : Reply → Ruling
+  Takes : Reply → Ruling
+  Carries : Night → List ℕ → Reply → Ruling
+  Starts : Night → List ℕ → Reply → Ruling
+
+-- refused for this cause where that holds, else ruled so
+abbrev pub unless : Bool → Cause → Ruling → Ruling
+unless refused why ruling = if refused then Says (reply.Refused why) else ruling
+
+-- ---- readers
+
+-- the row after which a Read of the view goes on
+abbrev pub goes_on : ℕ → Option Bookmark → Option Row
+goes_on view None = None
+goes_on view (Some mark) = if mark.view == view then Some mark.row else None
+
+abbrev pub read_ruling : ℕ → Versions → ℕ → ℕ → Option SessionOf → Ruling
+read_ruling kept v view limit None = Says (reply.Refused cause.NoSession)
+read_ruling kept v view limit (Some s) =
+    unless (not (is_unexpired kept v s.version)) (cause.Expired s.version (number v) (is_active v))
+    (unless (nat_le (length (version v s.version)) view) cause.NoView
+    (unless ((limit == 0) || nat_lt 256 limit) cause.Limit
+    (Takes (reply.Page (page_of (table_of v s.version view) (goes_on view s.bookmark) limit)))))
+
+-- ---- workers
+
+-- the lowest job of the wave that is not drawn
+abbrev pub take_ruling : Turn → Ruling
+take_ruling (In_wave place jobs drawn) = unless (nat_le jobs drawn) cause.NoJob (Says (reply.Job drawn))
+take_ruling (At_page place view rows) = Says (reply.Refused cause.NoJob)
+take_ruling Over = Says (reply.Refused cause.NoJob)
+
+-- the job's own expression is carried out, and where it is the last of its wave, those that come up to the next turn
+abbrev pub done_ruling : Night → Turn → Turn → ℕ → Ruling
+done_ruling n (In_wave place jobs drawn) next job = Carries n ((place + job) ∷ places_from (place + jobs) (reach n next)) reply.Done
+done_ruling n (At_page place view rows) next job = Says (reply.Refused cause.Idle)
+done_ruling n Over next job = Says (reply.Refused cause.Idle)
+
+abbrev pub done_by : Night → Turn → Turn → Option ℕ → Ruling
+done_by n now next None = Says (reply.Refused cause.Idle)
+done_by n now next (Some job) = done_ruling n now next job
+
+-- ---- the writer
+
+-- the next page; where it is the last one of its Inst, the expressions up to the next turn are carried out with it
+abbrev pub page_ruling : Night → Turn → Turn → Ruling
+page_ruling n (At_page place view rows) next = Carries n (places_from (place + 1) (reach n next)) (reply.Paged (length rows))
+page_ruling n (In_wave place jobs drawn) next = Says (reply.Refused cause.NotReady)
+page_ruling n Over next = Says (reply.Refused cause.NotReady)
+
+abbrev pub commit_ruling : ℕ → Turn → Ruling
+commit_ruling next Over = Says (reply.Version next)
+commit_ruling next (In_wave place jobs drawn) = Says (reply.Refused cause.NotReady)
+commit_ruling next (At_page place view rows) = Says (reply.Refused cause.NotReady)
+
+-- ---- events
+
+-- how an event is answered after what was done: by the first refusal that holds, in this order
+abbrev pub ruling : Setup → Log → Event → Ruling
+ruling s log Begin =
+    unless (is_open log) cause.NightOpen
+    (unless (nat_le (length s.nights) (nights_begun log)) cause.NoNight
+    (unless (number (versions s log) + 1 == 2 ^ 64) cause.LastVersion
+    (Starts (next_night s log) (places_from 0 (reach (next_night s log) (turn_of (legs_of (next_night s log)) 0 0 0))) reply.Begun)))
+ruling s log (Take w) =
+    unless (nat_le s.workers w) cause.NoWorker
+    (unless (not (is_open log)) cause.NoNight
+    (unless (is_some (holding log w)) cause.Busy
+    (take_ruling (turn s log))))
+ruling s log (Done w) =
+    unless (nat_le s.workers w) cause.NoWorker
+    (unless (not (is_open log)) cause.NoNight
+    (done_by (night s log) (turn s log) (turn_of (legs_of (night s log)) (draws log) (ends log + 1) (pages log)) (holding log w)))
+ruling s log PageIn =
+    unless (not (is_open log)) cause.NoNight
+    (page_ruling (night s log) (turn s log) (turn_of (legs_of (night s log)) (draws log) (ends log) (pages log + 1)))
+ruling s log Commit =
+    unless (not (is_open log)) cause.NoNight
+    (commit_ruling (number (versions s log) + 1) (turn s log))
+ruling s log GiveUp =
+    unless (not (is_open log)) cause.NoNight
+    (Takes (reply.Version (number (versions s log) + 1)))
+ruling s log (Open d) =
+    unless (nat_le s.desks d) cause.NoDesk
+    (unless (is_some (session log d)) cause.SessionOpen
+    (Says (reply.Session (number (versions s log)))))
+ruling s log (Read d view limit) =
+    unless (nat_le s.desks d) cause.NoDesk
+    (read_ruling s.versions (versions s log) view limit (session log d))
+ruling s log (Close d) =
+    unless (nat_le s.desks d) cause.NoDesk
+    (unless (is_none (session log d)) cause.NoSession
+    (Says reply.Closed))
+
+-- the cause that a fault of carrying out is answered by
+abbrev pub cause_of : MaintFault → Cause
+cause_of (fault.Large v) = cause.Large
+cause_of (fault.Range v) = cause.Range
+cause_of (fault.Absent v row) = cause.Absent
+cause_of fault.Memory = cause.Memory
+
+-- memory was refused
+abbrev pub IsMemory : Reply → Type 0
+IsMemory r = r ≡ reply.Refused cause.Memory
+
+-- the expressions at these places are all passed and the reply is this one, or it is the first refusal among them
+abbrev pub IsCarried : Night → List ℕ → Reply → Reply → Type 0
+IsCarried n places said r = (ArePassedAt n places × (r ≡ said)) ⊎ ((f : MaintFault) × IsFirstFaultOf n places f × (r ≡ reply.Refused (cause_of f)))
+
+-- the base changes of a night are allowed
+abbrev pub AreAllowed : Night → Type 0
+AreAllowed n = AreAllowedBelow n.catalog n.tables n.changes (length n.catalog.views.children)
+
+-- the reply is as it is ruled
+abbrev pub IsRuled : Ruling → Reply → Type 0
+IsRuled (Says said) r = r ≡ said
+IsRuled (Takes said) r = (r ≡ said) ⊎ IsMemory r
+IsRuled (Carries n places said) r = IsCarried n places said r ⊎ IsMemory r
+IsRuled (Starts n places said) r =
+    (AreAllowed n × (IsCarried n places said r ⊎ IsMemory r)) ⊎ ((f : MaintFault) × IsBaseFault n.catalog n.tables n.changes f × (r ≡ reply.Refused (cause_of f)))
+
+abbrev pub IsReply : Setup → Log → Event → Reply → Type 0
+IsReply s log event r = IsRuled (ruling s log event) r
+
+-- after what was done, these events may have these replies, one after another
+unfoldable pub IsRunFrom : Setup → Log → List Event → List Reply → Type 0
+IsRunFrom s log [] [] = Unit {0}
+IsRunFrom s log (event ∷ events) (r ∷ replies) = IsReply s log event r × IsRunFrom s (logged log event r) events replies
+IsRunFrom s log [] (r ∷ replies) = ⊥
+IsRunFrom s log (event ∷ events) [] = ⊥
+
+-- a legal run
+abbrev pub IsLegalRun : Setup → List Event → List Reply → Type 0
+IsLegalRun s events replies = IsRunFrom s [] events replies
+
+-- what was done in some legal run
+pub data IsLegalLog (s : Setup) : Log → Type 0 where
+  nothing : IsLegalLog s []
+  more : (log : Log) (event : Event) (r : Reply) → IsLegalLog s log → IsReply s log event r → IsLegalLog s (logged log event r)

@@ -1,0 +1,106 @@
+-- Where a machine stands after what was done.
+use Rattle.std.specs.Prelude.{◌≡◌, ℕ, ◌+◌, ◌<◌, ◌≤◌, Vec, List, [], ◌∷◌, length, map, drop, slice_get, Option, Some, None, option_map, Bool, true}
+use Rattle.wh_dag.specs.Catalog.{CatalogOf}
+use Rattle.wh_strategy.specs.Rules.{Judged}
+use Rattle.wh_row.specs.Bag.{Bag}
+use Rattle.wh_maint.specs.declared.fault.MaintFault.{MaintFault}
+use Rattle.wh_store.specs.Windows.{Shows}
+use Rattle.wh_store.specs.declared.operation.Op.{Op}
+use Rattle.wh_course.specs.declared.course.Part.{Part}
+use Rattle.wh_course.specs.declared.course.Part.TheVariants as part
+use Rattle.wh_course.specs.Night.{Night}
+use Rattle.wh_course.specs.Legs.{Leg, Wave, Page, legs_of, turn_of}
+use Rattle.wh_course.specs.Course.{AreParts}
+use Rattle.wh_core.specs.declared.session.Mark.{Mark}
+use Rattle.wh_core.specs.declared.session.Seat.{Seat}
+use Rattle.wh_core.specs.declared.machine.Machine.{Machine}
+use Rattle.wh_core.specs.declared.warehouse.Core.{Core}
+use Rattle.wh_core.specs.Log.{Bookmark, Log, SessionOf, draws, ends, holding, is_open, nights_begun, pages, session}
+use Rattle.wh_core.specs.Nights.{GivenNight, Setup, night, published}
+use Rattle.wh_core.specs.Replies.{IsLegalLog}
+use Rattle.std.specs.declared.alloc.Global.{Global}
+use Rattle.wh_core.specs.Laws.{IsSetup}
+
+abbrev pub bookmark_of : Mark → Bookmark
+bookmark_of m = record { view = m.view; row = m.row.items }
+
+abbrev pub session_of : Seat → SessionOf
+session_of s = record { version = s.version; bookmark = option_map bookmark_of s.mark }
+
+-- in a wave no more jobs are drawn than there are, and some are not done; outside of one none are
+abbrev pub IsWithin : List Leg → ℕ → ℕ → Type 0
+IsWithin [] drawn ended = (drawn ≡ 0) × (ended ≡ 0)
+IsWithin (Wave place jobs ∷ legs) drawn ended = (drawn ≤ jobs) × (ended < jobs)
+IsWithin (Page place view rows ∷ legs) drawn ended = (drawn ≡ 0) × (ended ≡ 0)
+
+-- each wave has a job
+abbrev pub HaveJobs : List Leg → Type 0
+HaveJobs [] = Unit {0}
+HaveJobs (Wave place jobs ∷ legs) = (1 ≤ jobs) × HaveJobs legs
+HaveJobs (Page place view rows ∷ legs) = HaveJobs legs
+
+-- what becomes of the jobs of the wave that is the first part, and the operation that puts the page which is
+abbrev pub wave_in : List Part → Option (List (Option MaintFault))
+wave_in [] = None
+wave_in (part.Wave outcomes ∷ parts) = Some outcomes.items
+wave_in (part.Page op ∷ parts) = None
+
+abbrev pub page_in : List Part → Option Op
+page_in [] = None
+page_in (part.Wave outcomes ∷ parts) = None
+page_in (part.Page op ∷ parts) = Some op
+
+-- after so many jobs drawn, jobs done and pages put in the whole night: these parts are left, and of the first so many jobs are drawn and
+-- done; whatever is drawn, done and put from here on, the same is in turn
+pub record GoesOn (n : Night) (draws ends pages : ℕ) (parts : List Part) (stop : Option MaintFault) (drawn ended : ℕ) : Type 0 where
+  pub from : ℕ
+  pub legs : List Leg
+  pub ahead : (x y z : ℕ) → turn_of (legs_of n) (draws + x) (ends + y) (pages + z) ≡ turn_of legs (drawn + x) (ended + y) z
+  pub within : IsWithin legs drawn ended
+  pub some : HaveJobs legs
+  pub are : AreParts n from legs parts stop
+  pub over : parts ≡ [] → stop ≡ None
+
+-- what a machine keeps is what a legal run leaves
+pub record Stands (s : Setup) (log : Log) (m : Machine) : Type 0 where
+  pub legal : IsLegalLog s log
+  pub shows : Shows m.store s.opening (published s log)
+  pub versions : m.store.limit ≡ s.versions
+  pub begun : m.begun ≡ nights_begun log
+  pub desks : length m.seats.items ≡ s.desks
+  pub sessions : (d : ℕ) → d < s.desks → slice_get (map (option_map session_of) m.seats.items) d ≡ Some (session log d)
+  pub workers : length m.holders.items ≡ s.workers
+  pub holders : (w : ℕ) → w < s.workers → slice_get m.holders.items w ≡ Some (holding log w)
+  pub night : is_open log ≡ true → GoesOn (night s log) (draws log) (ends log) (pages log) (drop m.place m.course.parts.items) m.course.stop m.drawn m.ended
+
+-- a night as it is given in code
+abbrev pub given_of : Vec Bag Global × Judged → GivenNight
+given_of night = record { changes = night.0.items; list = night.1.list }
+
+abbrev pub nights_of : List (Vec Bag Global × Judged) → List GivenNight
+nights_of nights = map given_of nights
+
+-- the strategies were judged over the catalogue's shape
+abbrev pub AreJudged : CatalogOf → List (Vec Bag Global × Judged) → Type 0
+AreJudged catalog nights = (n : ℕ) (given : Vec Bag Global × Judged) → slice_get nights n ≡ Some given → given.1.children ≡ catalog.views.children
+
+-- so it is of a machine with its catalogue and nights
+pub record StandsWith {F G : Type 0} (s : Setup) (log : Log) (core : Core F G) : Type 0 where
+  pub catalog : core.catalog ≡ s.catalog
+  pub nights : nights_of core.nights.items ≡ s.nights
+  pub judged : AreJudged core.catalog core.nights.items
+  pub keys : core.keys ≡ s.keys
+  pub stands : Stands s log core.machine
+
+-- some legal run leaves it so
+pub record IsStanding {F G : Type 0} (core : Core F G) : Type 0 where
+  pub setup : Setup
+  pub log : Log
+  pub is_setup : IsSetup setup
+  pub stands : StandsWith setup log core
+
+-- nothing was done yet
+pub record IsFresh {F G : Type 0} (core : Core F G) : Type 0 where
+  pub setup : Setup
+  pub is_setup : IsSetup setup
+  pub stands : StandsWith setup [] core

@@ -1,0 +1,60 @@
+//! What holds of every legal run, for proofs: these functions do nothing.
+
+ghost use Rattle.wh_core.specs.Laws.{CommitsMakeContents, JobsAreDrawnOnce, PublishedAreNights, PublishedAreWellFormed, RunsLeaveLegalLogs, SessionsReadTables, VersionsAreContents, WorkersDoTheirJobs};
+
+use wh_night::passed_expressions_have_values;
+use wh_store::{pages_join_law, versions_stay_law};
+
+/// The pages that an open session has read of a view, from its beginning up to a last page, are the view's whole table in
+/// the session's version.
+pub fn sessions_read_tables()
+    ensures { SessionsReadTables }
+{
+    pages_join_law();
+    versions_stay_law();
+}
+
+/// In a night the jobs are drawn in rising order, each once, and each is done once at most, after it was drawn; no later
+/// stage is in turn before all jobs of a wave are done.
+pub fn jobs_are_drawn_once()
+    ensures { JobsAreDrawnOnce }
+{}
+
+/// A worker that is done with a job drew it, and did nothing since.
+pub fn workers_do_their_jobs()
+    ensures { WorkersDoTheirJobs }
+{}
+
+/// What is done in a run from a legal log on is a legal log again.
+pub fn runs_leave_legal_logs()
+    ensures { RunsLeaveLegalLogs }
+{}
+
+/// The published list of a legal run is night lists and cut nights, one for each night that began and in their order, the
+/// last perhaps unfinished.
+pub fn published_are_nights()
+    ensures { PublishedAreNights }
+{
+    passed_expressions_have_values();
+}
+
+/// Each operation of the published list of a legal run may come where it stands, so a store can take them all.
+pub fn published_are_well_formed()
+    ensures { PublishedAreWellFormed }
+{
+    versions_stay_law();
+}
+
+/// Each version of a legal run is the contents of a base.
+pub fn versions_are_contents()
+    ensures { VersionsAreContents }
+{
+    versions_stay_law();
+}
+
+/// Where a night has come to its end, its commit makes the contents of the base with the night's changes.
+pub fn commits_make_contents()
+    ensures { CommitsMakeContents }
+{
+    versions_stay_law();
+}

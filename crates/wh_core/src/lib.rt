@@ -1,0 +1,21 @@
+//! The machine over events: nights, workers and readers of a warehouse as one list of events.
+//!
+//! An [`Event`] is answered by one [`Reply`], and a refused one changes nothing. What a legal run is, whatever the order in
+//! which the steps of workers, readers and the writer follow one another, stands in the definitions, and what follows of it
+//! in the laws.
+#![tactic(auto)]
+
+mod event;
+mod laws;
+mod machine;
+mod reply;
+mod session;
+mod warehouse;
+
+pub use event::Event;
+pub use laws::{
+    commits_make_contents, jobs_are_drawn_once, published_are_nights, published_are_well_formed,
+    runs_leave_legal_logs, sessions_read_tables, versions_are_contents, workers_do_their_jobs,
+};
+pub use reply::{Cause, Reply};
+pub use warehouse::Core;

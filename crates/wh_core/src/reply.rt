@@ -1,0 +1,84 @@
+//! What an event is answered.
+
+ghost use Rattle.std.specs.Prelude.{◌≡◌};
+ghost use Rattle.wh_core.specs.Replies.{cause_of};
+
+use wh_maint::MaintFault;
+use wh_store::Page as Rows;
+
+/// The answer to an event. An event that is refused changes nothing.
+#[derive(Drop)]
+pub enum Reply {
+    /// The night has begun.
+    Begun,
+    /// The worker has drawn the job of this number, from 0, of the wave.
+    Job(usize),
+    /// The job is done.
+    Done,
+    /// So many rows were put.
+    Paged(usize),
+    /// The night is over, and this is the current version.
+    Version(u64),
+    /// The session is of this version.
+    Session(u64),
+    /// What the desk read.
+    Page(Rows),
+    /// The session is closed.
+    Closed,
+    /// The event was refused.
+    Refused(Cause),
+}
+
+/// Why an event was refused.
+#[derive(Clone, Copy, Debug)]
+pub enum Cause {
+    /// The desk has no session.
+    NoSession,
+    /// The desk has one.
+    SessionOpen,
+    /// The session's version, the first of these numbers, can be read no more; the second is the current one, and the flag
+    /// says whether a night is open.
+    Expired(u64, u64, bool),
+    /// There is no such view.
+    NoView,
+    /// Memory was refused.
+    Memory,
+    /// There is no such desk.
+    NoDesk,
+    /// There is no such worker.
+    NoWorker,
+    /// A page has 1 to 256 rows.
+    Limit,
+    /// A night is open.
+    NightOpen,
+    /// No night is open; for a Begin, none is left.
+    NoNight,
+    /// No page, or no commit, is in turn.
+    NotReady,
+    /// There is no job to draw.
+    NoJob,
+    /// The worker has a job.
+    Busy,
+    /// The worker has none.
+    Idle,
+    /// A number of rows leaves its range.
+    Large,
+    /// A formula has no value, or a sum leaves its range.
+    Range,
+    /// A base change takes away what is not there.
+    Absent,
+    /// The numbers of versions are used up.
+    LastVersion,
+}
+
+/// The cause that a fault of carrying out is answered by.
+pub(crate) fn cause_of(fault: &MaintFault) -> Cause
+    ensures { result ≡ cause_of fault.now }
+{
+    match fault {
+        MaintFault::Large(_) => Cause::Large,
+        MaintFault::Range(_) => Cause::Range,
+        MaintFault::Memory => Cause::Memory,
+        MaintFault::Absent(_, _) => Cause::Absent,
+    }
+}

@@ -1,0 +1,132 @@
+//! The machine over events.
+
+ghost use Rattle.std.specs.Prelude.{◌≡◌, ◌≤◌, length, slice_get, Some, [], List, IfOk, OnErr};
+ghost use Rattle.wh_dag.specs.Catalog.{IsCatalog};
+ghost use Rattle.wh_maint.specs.Asked.{AreBags};
+ghost use Rattle.wh_core.specs.Laws.{IsSetup, log_after};
+ghost use Rattle.wh_core.specs.Log.{Log, logged};
+ghost use Rattle.wh_core.specs.Nights.{Setup};
+ghost use Rattle.wh_core.specs.Replies.{IsLegalRun, IsReply};
+ghost use Rattle.wh_core.specs.Standing.{AreJudged, IsFresh, IsStanding, StandsWith, nights_of};
+
+use crate::event::Event;
+use crate::laws::versions_are_contents;
+use crate::machine::Machine;
+use crate::reply::{Cause, Reply, cause_of};
+use std::alloc::{AllocError, Global};
+use wh_course::course_of;
+use wh_dag::Catalog;
+use wh_formula::{RowTest, RowValue};
+use wh_night::contents_are_fit_for_nights;
+use wh_row::Bag;
+use wh_strategy::Correct;
+
+/// A warehouse, the nights that it is to go through, its desks and its workers.
+#[derive(Drop)]
+pub struct Core<F: RowTest, G: RowValue> {
+    alloc: Global,
+    catalog: Catalog<F, G>,
+    nights: Vec<(Vec<Bag>, Correct)>,
+    keys: usize,
+    machine: Machine,
+}
+
+impl<F: RowTest + Drop, G: RowValue + Drop> Core<F, G> {
+    /// A machine that has done nothing yet, over these tables. A night is the changes of the base views and a strategy that
+    /// was judged over this catalogue's shape. There are 1 to 16 desks and as many workers, and a page has 1 to 256 rows.
+    pub fn new(
+        alloc: Global,
+        catalog: Catalog<F, G>,
+        tables: Vec<Bag>,
+        nights: Vec<(Vec<Bag>, Correct)>,
+        desks: usize,
+        workers: usize,
+        keys: usize,
+    ) -> Result<Core<F, G>, AllocError>
+        requires setup { IsSetup (record { catalog = catalog; desks = desks; workers = workers; versions = 2; keys = keys; opening = tables.items; nights = nights_of nights.items }) }
+        requires judged { AreJudged catalog nights.items }
+        ensures { IfOk result (λ core. StandsWith (record { catalog = catalog; desks = desks; workers = workers; versions = 2; keys = keys; opening = tables.items; nights = nights_of nights.items }) [] core) }
+    {
+        let machine = Machine::new(alloc, tables, desks, workers)?;
+        Ok(Core {
+            alloc,
+            catalog,
+            nights,
+            keys,
+            machine,
+        })
+    }
+
+    /// Answers an event.
+    pub fn step(&mut self, event: Event) -> Reply
+        requires { IsStanding self.old }
+        ensures stands { IsStanding self.new }
+        ensures reply { (s : Setup) (log : Log) → IsSetup s → StandsWith s log self.old → StandsWith s (logged log event result) self.new × IsReply s log event result }
+    {
+        self.answer(event)
+    }
+
+    fn answer(&mut self, event: Event) -> Reply
+        requires { IsStanding self.old }
+        ensures reply { (s : Setup) (log : Log) → IsSetup s → StandsWith s log self.old → StandsWith s (logged log event result) self.new × IsReply s log event result }
+    {
+        match event {
+            Event::Begin => self.begin(),
+            Event::Take(worker) => self.machine.take(worker),
+            Event::Done(worker) => self.machine.done(worker),
+            Event::PageIn => self.machine.page_in(),
+            Event::Commit => self.machine.commit(),
+            Event::GiveUp => self.machine.give_up(),
+            Event::Open(desk) => self.machine.open(desk),
+            Event::Read(desk, view, limit) => self.machine.read(desk, view, limit),
+            Event::Close(desk) => self.machine.close(desk),
+        }
+    }
+
+    fn begin(&mut self) -> Reply
+        requires { IsStanding self.old }
+        ensures reply { (s : Setup) (log : Log) → IsSetup s → StandsWith s log self.old → StandsWith s (logged log Event.Begin result) self.new × IsReply s log Event.Begin result }
+    {
+        if self.machine.store.is_active() {
+            return Reply::Refused(Cause::NightOpen);
+        }
+        if self.machine.begun >= self.nights.len() {
+            return Reply::Refused(Cause::NoNight);
+        }
+        if self.machine.store.number() == u64::MAX {
+            return Reply::Refused(Cause::LastVersion);
+        }
+        versions_are_contents();
+        contents_are_fit_for_nights();
+        let (changes, correct) = &self.nights[self.machine.begun];
+        let tables = self.machine.tables();
+        match course_of(
+            self.alloc,
+            &self.catalog,
+            tables,
+            changes.as_slice(),
+            correct,
+            self.keys,
+        ) {
+            Ok(course) => self.machine.start(course),
+            Err(fault) => Reply::Refused(cause_of(&fault)),
+        }
+    }
+
+    /// Answers events, one after another, from a machine that has done nothing yet. Memory comes before the first.
+    pub fn run(&mut self, events: &[Event]) -> Result<Vec<Reply>, AllocError>
+        requires { IsFresh self.old }
+        ensures replies { IfOk result (λ replies. (s : Setup) → IsSetup s → StandsWith s [] self.old → IsLegalRun s events.now replies.items × StandsWith s (log_after [] events.now replies.items) self.new) }
+        ensures err { OnErr result (self.new ≡ self.old) }
+    {
+        let mut replies = Vec::new(self.alloc);
+        replies.reserve(events.len())?;
+        for event in events {
+            let reply = self.step(*event);
+            let Ok(()) = replies.push(reply) else {
+                unreachable!()
+            };
+        }
+        Ok(replies)
+    }
+}

@@ -1,0 +1,4 @@
+pub mod Night
+pub mod Legs
+pub mod Course
+pub mod Standing

@@ -1,0 +1,14 @@
+use Rattle.std.proofs.Common.{inr, map, ap, sym, ◌∙◌}
+use Rattle.wh_catalogue_text.specs.Definitions.{shown_view}
+use Rattle.wh_load.specs.ReadingNight.{first_stray}
+use Rattle.wh_load.proofs.ReadingRows.{stray_named}
+use Rattle.wh_load.proofs.reading.base.only_base_parts.Goals as goal
+
+pub returns-in_ok-new-in-Some-clause-err : goal.returns-in_ok-new-in-Some-clause-err
+returns-in_ok-new-in-Some-clause-err c =
+    let names = c.args.known.now.names.now in
+    let views = map shown_view c.args.known.now.views.now in
+    inr (
+    ap (first_stray names views) (sym c.parts.ensures)
+    ∙ stray_named names views c.parts.result.now c.in-Some.part.now c.in_ok-new-in-Some.field-0 c.in-Some.ensures (c.in_ok-new-in-Some.ensures.word ∙ c.word.ensures)
+    )

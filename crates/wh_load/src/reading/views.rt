@@ -1,0 +1,14 @@
+//! The views that are read for.
+
+ghost use Rattle.std.specs.Prelude.{◌≡◌, length};
+
+use wh_catalogue_text::WrittenView;
+use wh_text::Names;
+
+/// Views that a catalogue says, by number and by name, whose rows and strategies are to be read.
+#[derive(Drop)]
+pub struct KnownViews<'a> {
+    pub names: &'a Names,
+    pub views: &'a [WrittenView],
+    pub ghost each: { length views.now ≡ length names.now },
+}

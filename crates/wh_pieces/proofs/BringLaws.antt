@@ -1,0 +1,263 @@
+-- What is found after an edit, and entries that are known by what is found.
+use Rattle.std.proofs.Common.{◌≡◌, ◌≢◌, refl, sym, ap, subst, ◌∙◌, List, [], ◌∷◌, ◌++◌, Bool, true, false, cond, Option, Some, None, Result, Ok, Err, OnOk, OnErr}
+use Rattle.std.specs.List.Sorted.{IsStrictlySortedBy}
+use Rattle.std.specs.Ordering.{match_ordering}
+use Rattle.std.specs.Cmp.{tied_itself}
+use Rattle.std.specs.declared.cmp.Ordering.{Ordering}
+use Rattle.std.specs.declared.cmp.Ordering.TheVariants.{Less, Equal, Greater}
+use Rattle.wh_pieces.specs.Row.{Row, row_cmp, is_row}
+use Rattle.wh_pieces.specs.Place.{AreRisingRows}
+use Rattle.wh_pieces.specs.Pieces.{found, with_entry, without_entry}
+use Rattle.wh_pieces.specs.Merged.{lacking, either, without, IsCombined}
+use Rattle.wh_pieces.proofs.RowLaws.{rows_exact, rows_total, same_row, itself}
+use Rattle.wh_pieces.proofs.OrderLaws.{turned}
+use Rattle.wh_pieces.proofs.PieceLaws.{found-below}
+
+shadowed : {A : Type 0} (b : Bool) (x y z : A) → cond b x z ≡ cond b x (cond b y z)
+shadowed true x y z = refl
+shadowed false x y z = refl
+
+swapped : {A : Type 0} (a b : Bool) (x y z : A) → (a ≡ true → b ≡ true → ⊥) → cond a x (cond b y z) ≡ cond b y (cond a x z)
+swapped true true x y z apart = absurd (apart refl refl)
+swapped true false x y z apart = refl
+swapped false b x y z apart = refl
+
+pub found-with : {T : Type 0} (es : List (Row × T)) (k : Row) (v : T) (q : Row) → found q (with_entry es k v) ≡ cond (is_row q k) (Some v) (found q es)
+found-with [] k v q = refl
+found-with (e ∷ es) k v q =
+    elim (row_cmp k e.0) as (λ o. row_cmp k e.0 ≡ o → found q (match_ordering o ((k, v) ∷ e ∷ es) ((e.0, v) ∷ es) (e ∷ with_entry es k v)) ≡ cond (is_row q k) (Some v) (found q (e ∷ es))) [
+      | Less ↦ λ p. refl
+      | Equal ↦ λ p. shadowed (is_row q e.0) (Some v) (Some e.1) (found q es) ∙ ap (λ r. cond (is_row q r) (Some v) (found q (e ∷ es))) (sym (rows_exact k e.0 p))
+      | Greater ↦ λ p. ap (cond (is_row q e.0) (Some e.1)) (found-with es k v q)
+          ∙ swapped (is_row q e.0) (is_row q k) (Some e.1) (Some v) (found q es) (λ a b. apart (same_row q e.0 a) (same_row q k b) p)
+    ] refl
+  where
+    apart : q ≡ e.0 → q ≡ k → row_cmp k e.0 ≡ Greater → ⊥
+    apart a b p =
+        let t : row_cmp k e.0 ≡ Equal = ap (row_cmp k) (sym a ∙ b) ∙ tied_itself rows_total k in
+        let bad : Equal ≡ Greater = sym t ∙ p in
+        cc
+
+found-other : {T : Type 0} (es : List (Row × T)) (r q : Row) → is_row q r ≡ false → found q (without_entry es r) ≡ found q es
+found-other [] r q n = refl
+found-other (e ∷ es) r q n =
+    let rest = found-other es r q n in
+    elim (is_row r e.0) as (λ t. is_row r e.0 ≡ t → found q (cond t es (e ∷ without_entry es r)) ≡ found q (e ∷ es)) [
+      | true ↦ λ t. let out : is_row q e.0 ≡ false = ap (is_row q) (sym (same_row r e.0 t)) ∙ n in
+          sym (ap (λ b. cond b (Some e.1) (found q es)) out)
+      | false ↦ λ t. ap (cond (is_row q e.0) (Some e.1)) rest
+    ] refl
+
+-- without a row, which is then not found
+pub found-without : {T : Type 0} (es fs : List (Row × T)) (r : Row) → fs ≡ without_entry es r → found r fs ≡ None → (q : Row) → found q fs ≡ cond (is_row q r) None (found q es)
+found-without es fs r e gone q = elim (is_row q r) as (λ t. is_row q r ≡ t → found q fs ≡ cond t None (found q es)) [
+  | true ↦ λ t. ap (λ x. found x fs) (same_row q r t) ∙ gone
+  | false ↦ λ t. ap (found q) e ∙ found-other es r q t
+] refl
+
+pub found-append : {T : Type 0} (a b : List (Row × T)) (q : Row) → found q (a ++ b) ≡ either (found q a) (found q b)
+found-append [] b q = refl
+found-append (e ∷ a) b q = elim (is_row q e.0) as (λ t. cond t (Some e.1) (found q (a ++ b)) ≡ either (cond t (Some e.1) (found q a)) (found q b)) [ true ↦ refl | false ↦ found-append a b q ]
+
+pub none_after : {T : Type 0} (e : Row × T) (b : List (Row × T)) → AreRisingRows (e ∷ b) → found e.0 b ≡ None
+unfolding IsStrictlySortedBy
+none_after e [] s = refl
+none_after e (f ∷ b) s = found-below e.0 (f ∷ b) s.0.0 s.1
+
+-- ---- entries in order that find the same are the same
+
+pub found_first : {T : Type 0} (e : Row × T) (es : List (Row × T)) → found e.0 (e ∷ es) ≡ Some e.1
+found_first e es = λ i. cond (itself e.0 i) (Some e.1) (found e.0 es)
+
+without_none : {T : Type 0} (x : Option T) → without x None ≡ None
+without_none None = refl
+without_none (Some v) = refl
+
+pub same_found : {T : Type 0} (es fs : List (Row × T)) → AreRisingRows es → AreRisingRows fs → ((q : Row) → found q es ≡ found q fs) → es ≡ fs
+unfolding IsStrictlySortedBy
+same_found [] [] s u h = refl
+same_found [] (f ∷ fs) s u h = absurd (let bad : None ≡ Some f.1 = h f.0 ∙ found_first f fs in cc)
+same_found (e ∷ es) [] s u h = absurd (let bad : Some e.1 ≡ None = sym (found_first e es) ∙ h e.0 in cc)
+same_found {T} (e ∷ es) (f ∷ fs) s u h = by_order (λ same. same_found es fs s.1 u.1 (rest_same same)) (row_cmp e.0 f.0) refl
+  where
+    rest_same : e.0 ≡ f.0 → (q : Row) → found q es ≡ found q fs
+    rest_same same q = elim (is_row q e.0) as (λ t. is_row q e.0 ≡ t → found q es ≡ found q fs) [
+      | true ↦ λ t.
+          let at = same_row q e.0 t in
+          ap (λ x. found x es) at ∙ none_after e es s ∙ sym (ap (λ x. found x fs) (at ∙ same) ∙ none_after f fs u)
+      | false ↦ λ t.
+          let other : is_row q f.0 ≡ false = ap (is_row q) (sym same) ∙ t in
+          sym (ap (λ b. cond b (Some e.1) (found q es)) t) ∙ h q ∙ ap (λ b. cond b (Some f.1) (found q fs)) other
+    ] refl
+
+    by_order : (e.0 ≡ f.0 → es ≡ fs) → (o : Ordering) → row_cmp e.0 f.0 ≡ o → e ∷ es ≡ f ∷ fs
+    by_order rest Less p = absurd (let bad : Some e.1 ≡ None = sym (found_first e es) ∙ h e.0 ∙ found-below e.0 (f ∷ fs) p u in cc)
+    by_order rest Greater p = absurd (let bad : Some f.1 ≡ None = sym (found_first f fs) ∙ sym (h f.0) ∙ found-below f.0 (e ∷ es) (turned e.0 f.0 Greater p) s in cc)
+    by_order rest Equal p =
+        let same : e.0 ≡ f.0 = rows_exact e.0 f.0 p in
+        let value : Some e.1 ≡ Some f.1 = sym (found_first e es) ∙ h e.0 ∙ ap (λ x. found x (f ∷ fs)) same ∙ found_first f fs in
+        let equal : e.1 ≡ f.1 = cc in
+        λ i. (same i, equal i) ∷ rest same i
+
+pub gone_without : {T : Type 0} (row : Row) (es : List (Row × T)) → AreRisingRows es → found row (without_entry es row) ≡ None
+unfolding IsStrictlySortedBy
+gone_without row [] s = refl
+gone_without row (e ∷ es) s = elim (is_row row e.0) as (λ t. is_row row e.0 ≡ t → found row (cond t es (e ∷ without_entry es row)) ≡ None) [
+  | true ↦ λ t. ap (λ x. found x es) (same_row row e.0 t) ∙ none_after e es s
+  | false ↦ λ t. ap (λ b. cond b (Some e.1) (found row (without_entry es row))) t ∙ gone_without row es s.1
+] refl
+
+pub nothing_found : {T : Type 0} (es : List (Row × T)) → ((q : Row) → found q es ≡ None) → es ≡ []
+nothing_found [] h = refl
+nothing_found (e ∷ es) h = absurd (let bad : Some e.1 ≡ None = sym (found_first e es) ∙ h e.0 in cc)
+
+pub none_lacking : {T : Type 0} (o t : Option T) → (o ≡ None → t ≡ None) → lacking o t ≡ None
+none_lacking None t h = h refl
+none_lacking (Some v) t h = refl
+
+pub restored : {T : Type 0} (b m o t : Option T) → b ≡ lacking o t → (b ≡ None → m ≡ o) → without b m ≡ o
+restored None m o t e h = h refl
+restored (Some v) m None t e h = refl
+restored (Some v) m (Some w) t e h = absurd (let bad : Some v ≡ None = e in cc)
+
+-- ---- values that are combined in place, row by row
+
+pub record IsBringing {T : Type 0} (allowed : T → T → Option T → Type 0) (old other brought now rest : List (Row × T)) : Type 0 where
+  pub rising : AreRisingRows rest
+  pub left : (q : Row) → found q rest ≢ None → (found q now ≡ either (found q brought) (found q old)) × (found q rest ≡ found q other)
+  pub done : (q : Row) → found q rest ≡ None → IsCombined allowed (found q old) (found q other) (found q now)
+
+module _ {T : Type 0} (allowed : T → T → Option T → Type 0) (old other brought : List (Row × T)) (lacks : (q : Row) → found q brought ≡ lacking (found q old) (found q other)) where
+  nothing_new : (o t n b : Option T) → b ≡ lacking o t → n ≡ either b o → t ≡ None → IsCombined allowed o t n
+  nothing_new None t n b e h z = h ∙ ap (λ x. either x None) e ∙ ap (λ x. either x None) z ∙ sym z
+  nothing_new (Some v) t n b e h z = subst (λ (x : Option T). IsCombined allowed (Some v) x n) (sym z) (h ∙ ap (λ x. either x (Some v)) e)
+
+  pub bringing_first : (now : List (Row × T)) → AreRisingRows other → ((q : Row) → found q now ≡ either (found q brought) (found q old)) → IsBringing allowed old other brought now other
+  bringing_first now s h = record {
+    rising = s;
+    left = λ q n. (h q, refl);
+    done = λ q n. nothing_new (found q old) (found q other) (found q now) (found q brought) (lacks q) (h q) n;
+  }
+
+  brought_whole : (o t n b : Option T) → b ≡ lacking o t → b ≢ None → n ≡ either b o → IsCombined allowed o t n
+  brought_whole None t n None e k h = absurd (k refl)
+  brought_whole None t n (Some w) e k h = h ∙ e
+  brought_whole (Some v) t n b e k h = absurd (k e)
+
+  module _ (now : List (Row × T)) (e : Row × T) (rest : List (Row × T)) (is : IsBringing allowed old other brought now (e ∷ rest)) where
+    some_first : found e.0 (e ∷ rest) ≢ None
+    some_first n = let bad : Some e.1 ≡ None = sym (found_first e rest) ∙ n in cc
+
+    other_row : (q : Row) → found q rest ≢ None → is_row q e.0 ≡ false
+    other_row q n = elim (is_row q e.0) as (λ t. is_row q e.0 ≡ t → t ≡ false) [
+      | true ↦ λ t. absurd (n (ap (λ x. found x rest) (same_row q e.0 t) ∙ none_after e rest is.rising))
+      | false ↦ λ t. refl
+    ] refl
+
+    passed : (q : Row) → is_row q e.0 ≡ false → found q (e ∷ rest) ≡ found q rest
+    passed q t = ap (λ b. cond b (Some e.1) (found q rest)) t
+
+    rising_rest : AreRisingRows (e ∷ rest) → AreRisingRows rest
+    unfolding IsStrictlySortedBy
+    rising_rest s = s.1
+
+    -- a row that was brought stays as it is
+    pub bringing_kept : found e.0 brought ≢ None → IsBringing allowed old other brought now rest
+    bringing_kept k = record {
+      rising = rising_rest is.rising;
+      left = λ q n.
+          let same = passed q (other_row q n) in
+          let at = is.left q (λ z. n (sym same ∙ z)) in
+          (at.0, sym same ∙ at.1);
+      done = λ q n. elim (is_row q e.0) as (λ t. is_row q e.0 ≡ t → IsCombined allowed (found q old) (found q other) (found q now)) [
+        | true ↦ λ t.
+            let at = is.left e.0 some_first in
+            subst (λ (x : Row). IsCombined allowed (found x old) (found x other) (found x now)) (sym (same_row q e.0 t))
+            (brought_whole (found e.0 old) (found e.0 other) (found e.0 now) (found e.0 brought) (lacks e.0) k at.0)
+        | false ↦ λ t. is.done q (passed q t ∙ n)
+      ] refl;
+    }
+
+    -- a row of both gets what the two values give
+    pub bringing_changed : (new : List (Row × T)) → found e.0 brought ≡ None
+        → ((v : T) → found e.0 now ≡ Some v → (o : Option T) × allowed v e.1 o × ((q : Row) → found q new ≡ cond (is_row q e.0) o (found q now)))
+        → IsBringing allowed old other brought new rest
+    bringing_changed new none step = with_old (found e.0 old) refl
+      where
+        at : (found e.0 now ≡ either (found e.0 brought) (found e.0 old)) × (found e.0 (e ∷ rest) ≡ found e.0 other)
+        at = is.left e.0 some_first
+
+        more : found e.0 other ≡ Some e.1
+        more = sym at.1 ∙ found_first e rest
+
+        with_old : (o : Option T) → found e.0 old ≡ o → IsBringing allowed old other brought new rest
+        with_old None z = absurd (let bad : None ≡ Some e.1 = sym none ∙ lacks e.0 ∙ ap (λ x. lacking x (found e.0 other)) z ∙ more in cc)
+        with_old (Some v) z =
+            let r = step v (at.0 ∙ ap (λ x. either x (found e.0 old)) none ∙ z) in
+            record {
+              rising = rising_rest is.rising;
+              left = λ q n.
+                  let apart = other_row q n in
+                  let same = passed q apart in
+                  let had = is.left q (λ y. n (sym same ∙ y)) in
+                  (r.2 q ∙ ap (λ b. cond b r.0 (found q now)) apart ∙ had.0, sym same ∙ had.1);
+              done = λ q n. elim (is_row q e.0) as (λ t. is_row q e.0 ≡ t → IsCombined allowed (found q old) (found q other) (found q new)) [
+                | true ↦ λ t.
+                    let here : found e.0 new ≡ r.0 = r.2 e.0 ∙ ap (λ b. cond b r.0 (found e.0 now)) (itself e.0) in
+                    subst (λ (x : Row). IsCombined allowed (found x old) (found x other) (found x new)) (sym (same_row q e.0 t))
+                    (subst (λ (x : Option T). IsCombined allowed x (found e.0 other) (found e.0 new)) (sym z)
+                    (subst (λ (x : Option T). IsCombined allowed (Some v) x (found e.0 new)) (sym more)
+                    (subst (λ (x : Option T). allowed v e.1 x) (sym here) r.1)))
+                | false ↦ λ t. subst (λ (x : Option T). IsCombined allowed (found q old) (found q other) x) (sym (r.2 q ∙ ap (λ b. cond b r.0 (found q now)) t)) (is.done q (passed q t ∙ n))
+              ] refl;
+            }
+
+-- ---- a step of each loop, by what is found
+
+module _ {T : Type 0} (e : Row × T) (rest : List (Row × T)) (q : Row) where
+  pub brought_step : (b s : Option T) → (is_row q e.0 ≡ true → s ≡ None) → either (either b (found q (e ∷ []))) (lacking s (found q rest)) ≡ either b (lacking s (found q (e ∷ rest)))
+  brought_step (Some x) s h = refl
+  brought_step None s h = elim (is_row q e.0) as (λ t. (t ≡ true → s ≡ None) → either (cond t (Some e.1) None) (lacking s (found q rest)) ≡ lacking s (cond t (Some e.1) (found q rest))) [
+    | true ↦ λ h. sym (ap (λ x. lacking x (Some e.1)) (h refl))
+    | false ↦ λ h. refl
+  ] h
+
+  pub kept_step : (s : Option T) → (is_row q e.0 ≡ true → s ≢ None) → lacking s (found q rest) ≡ lacking s (found q (e ∷ rest))
+  kept_step (Some x) h = refl
+  kept_step None h = elim (is_row q e.0) as (λ t. (t ≡ true → ⊥) → found q rest ≡ cond t (Some e.1) (found q rest)) [
+    | true ↦ λ h. absurd (h refl)
+    | false ↦ λ h. refl
+  ] (λ t. h t refl)
+
+  pub added_step : (old : Option T) → AreRisingRows (e ∷ rest) → either (found q rest) (cond (is_row q e.0) (Some e.1) old) ≡ either (found q (e ∷ rest)) old
+  added_step old s = elim (is_row q e.0) as (λ t. is_row q e.0 ≡ t → either (found q rest) (cond t (Some e.1) old) ≡ either (cond t (Some e.1) (found q rest)) old) [
+    | true ↦ λ t. ap (λ x. either x (Some e.1)) (ap (λ x. found x rest) (same_row q e.0 t) ∙ none_after e rest s)
+    | false ↦ λ t. refl
+  ] refl
+
+  pub taken_step : (old : Option T) → without (found q rest) (cond (is_row q e.0) None old) ≡ without (found q (e ∷ rest)) old
+  taken_step old = elim (is_row q e.0) as (λ t. without (found q rest) (cond t None old) ≡ without (cond t (Some e.1) (found q rest)) old) [
+    | true ↦ without_none (found q rest)
+    | false ↦ refl
+  ]
+
+  pub part_step : {o : Option T} → (o ≡ None → found q (e ∷ rest) ≡ None) → o ≡ None → found q rest ≡ None
+  part_step h n = elim (is_row q e.0) as (λ t. cond t (Some e.1) (found q rest) ≡ None → found q rest ≡ None) [
+    | true ↦ λ f. absurd (let bad : Some e.1 ≡ None = f in cc)
+    | false ↦ λ f. f
+  ] (h n)
+
+pub rising_tail : {T : Type 0} (e : Row × T) (rest : List (Row × T)) → AreRisingRows (e ∷ rest) → AreRisingRows rest
+unfolding IsStrictlySortedBy
+rising_tail e rest s = s.1
+
+pub none_gone : {T : Type 0} (a xs rest : List (Row × T)) (e : Row × T) → xs ≡ e ∷ rest → (a ≡ [] → xs ≡ []) → a ≡ [] → rest ≡ []
+none_gone a xs rest e h n z = absurd (let bad : [] ≡ e ∷ rest = sym (n z) ∙ h in cc)
+
+-- what cannot fail goes well
+pub sure : {A E : Type 0} (r : Result A E) (P Q : Type 0) → OnOk r P → OnErr r Q → (Q → ⊥) → P
+sure (Ok x) P Q p q n = p
+sure (Err e) P Q p q n = absurd (n q)
+
+pub bringing_at : {T : Type 0} (allowed : T → T → Option T → Type 0) (old other brought now rest es : List (Row × T)) → IsBringing allowed old other brought now rest → rest ≡ es → IsBringing allowed old other brought now es
+bringing_at {T} allowed old other brought now rest es is e = subst (λ (xs : List (Row × T)). IsBringing allowed old other brought now xs) e is

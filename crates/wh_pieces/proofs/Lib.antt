@@ -1,0 +1,7 @@
+pub mod RowLaws
+pub mod FlatLaws
+pub mod OrderLaws
+pub mod PieceLaws
+pub mod EntryLaws
+pub mod MergeLaws
+pub mod BringLaws

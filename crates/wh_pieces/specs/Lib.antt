@@ -1,0 +1,6 @@
+pub mod Row
+pub mod Flat
+pub mod Place
+pub mod Pieces
+pub mod Lent
+pub mod Merged

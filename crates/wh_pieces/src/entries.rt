@@ -1,0 +1,90 @@
+//! The entries of a map, lent one after another.
+
+ghost use Rattle.std.specs.Prelude.{◌≡◌, ◌≤◌, [], ◌∷◌, length, drop, MatchOption};
+ghost use Rattle.std.specs.Iterator.{YieldsFirstBy, item_count};
+ghost use Rattle.wh_pieces.specs.Lent.{lent};
+ghost use Rattle.wh_pieces.specs.Pieces.{all_of, AreNotEmpty, piece_at, BeginsAt};
+
+use crate::piece::Piece;
+use std::marker::Model;
+
+/// The entries of a map that are still to come, in rising order: each row with its value.
+#[derive(Drop)]
+pub struct Entries<'a, T> {
+    pieces: &'a [Piece<T>],
+    /// The place in the first piece at which the entries begin.
+    place: usize,
+}
+
+impl<'a, T> Model for Entries<'a, T> {
+    ghost use Rattle.std.specs.Prelude.{List, ℤ, drop};
+    ghost use Rattle.std.specs.Coded.{coded_list, coded×, coded_ℤ};
+
+    ghost Value = { List (List ℤ × T) };
+
+    ghost coded = { coded_list (coded× (coded_list coded_ℤ) T.code) };
+
+    ghost use Rattle.wh_pieces.specs.Pieces.{all_of, BeginsAt};
+
+    ghost view = { λ e. drop e.place (all_of e.pieces.now) };
+
+    ghost invariant = { λ e. BeginsAt e.pieces.now e.place };
+}
+
+impl<'a, T: Copy + Drop> Entries<'a, T> {
+    /// The entries of pieces, from a place in the first of them on.
+    pub(crate) fn new(pieces: &'a [Piece<T>], place: usize) -> Self
+        requires some { AreNotEmpty pieces.now }
+        requires within { place ≤ length (piece_at pieces.now 0) }
+        ensures { result ≡ drop place (all_of pieces.now) }
+    {
+        let Some((piece, rest)) = pieces.split_first() else {
+            return Entries { pieces, place: 0 };
+        };
+        if place == piece.len() {
+            return Entries {
+                pieces: rest,
+                place: 0,
+            };
+        }
+        Entries { pieces, place }
+    }
+
+    /// The first of these entries.
+    pub(crate) fn first(&self) -> Option<(&'a [i64], T)>
+        ensures { MatchOption result (self.now ≡ []) (λ e. self.now ≡ lent e ∷ drop 1 self.now) }
+    {
+        let piece = self.pieces.first()?;
+        Some(piece.get(self.place))
+    }
+
+    /// Leaves the first of these entries behind.
+    pub(crate) fn pass(&mut self)
+        ensures { self.new ≡ drop 1 self.old }
+    {
+        let Some((piece, rest)) = self.pieces.split_first() else {
+            return;
+        };
+        let len = piece.len();
+        if self.place + 1 < len {
+            self.place += 1;
+            return;
+        }
+        self.pieces = rest;
+        self.place = 0;
+    }
+}
+
+impl<'a, T: Copy + Drop> Iterator for Entries<'a, T> {
+    type Item = (&'a [i64], T);
+
+    ghost next_gives = { YieldsFirstBy lent (λ s. s) };
+
+    ghost remaining = { item_count (λ s. s) };
+
+    fn next(&mut self) -> Option<(&'a [i64], T)> {
+        let entry = self.first()?;
+        self.pass();
+        Some(entry)
+    }
+}

@@ -1,0 +1,19 @@
+//! Finite maps from rows to values, in rising order of the rows.
+//!
+//! The rows of a [`Pieces`] stand side by side in a few flat pieces: a piece has at most some
+//! hundred rows of one width, their cells in one array and their values in another. A row is no
+//! object of its own, so rows are put in, looked up, walked through and copied without following a
+//! pointer for each.
+#![tactic(auto)]
+
+mod bring;
+mod entries;
+mod merge;
+mod piece;
+mod pieces;
+
+pub use entries::Entries;
+pub use pieces::Pieces;
+
+#[cfg(test)]
+mod tests;

@@ -1,0 +1,176 @@
+//! A piece of a map: rows of one width, side by side.
+
+ghost use Rattle.std.specs.Prelude.{◌≡◌, ◌<◌, ◌≤◌, ◌+◌, [], ◌∷◌, ◌++◌, length, take, drop, slice_get, Some, IfOk, OnOk, OnErr, MatchResult, cond};
+ghost use Rattle.std.specs.List.{insert, remove};
+ghost use Rattle.std.specs.Map.{keys_of};
+ghost use Rattle.wh_pieces.specs.Place.{AreRisingRows, IsAt, IsGapFor, set_at};
+
+use std::alloc::{AllocError, Global};
+use std::cmp::Ordering;
+use std::marker::Model;
+
+/// Rows of one width side by side, each with a value.
+#[derive(Drop)]
+pub(crate) struct Piece<T> {
+    width: usize,
+    cells: Vec<i64>,
+    values: Vec<T>,
+}
+
+impl<T> Model for Piece<T> {
+    ghost use Rattle.std.specs.Prelude.{List, ℤ, ◌≡◌, ◌*◌, length};
+    ghost use Rattle.std.specs.Coded.{coded_list, coded×, coded_ℤ};
+
+    ghost Value = { List (List ℤ × T) };
+
+    ghost coded = { coded_list (coded× (coded_list coded_ℤ) T.code) };
+
+    ghost use Rattle.wh_pieces.specs.Flat.{flat};
+
+    ghost view = { λ l. flat l.width l.cells.items l.values.items };
+
+    ghost invariant = { λ l. length l.cells.items ≡ l.width * length l.values.items };
+}
+
+impl<T: Copy + Drop> Piece<T> {
+    /// One row.
+    pub(crate) fn one(alloc: Global, row: &[i64], value: T) -> Result<Self, AllocError>
+        ensures { IfOk result (λ l. l ≡ (row.now, value) ∷ []) }
+    {
+        let cells = Vec::from_slice(alloc, row)?;
+        let mut values = Vec::new(alloc);
+        values.push(value)?;
+        Ok(Piece {
+            width: row.len(),
+            cells,
+            values,
+        })
+    }
+
+    /// How many rows there are.
+    pub(crate) fn len(&self) -> usize
+        ensures { result ≡ length self.now }
+    {
+        self.values.len()
+    }
+
+    /// The row at a place.
+    pub(crate) fn row(&self, place: usize) -> &[i64]
+        requires { place < length self.now }
+        ensures { slice_get (keys_of self.now) place ≡ Some result.now }
+    {
+        let start = self.width * place;
+        &self.cells[start..start + self.width]
+    }
+
+    /// The row at a place, and its value.
+    pub(crate) fn get(&self, place: usize) -> (&[i64], T)
+        requires { place < length self.now }
+        ensures { slice_get self.now place ≡ Some (result.0.now, result.1) }
+    {
+        (self.row(place), self.values[place])
+    }
+
+    /// Where the row stands, or would go.
+    pub(crate) fn find(&self, row: &[i64]) -> Result<usize, usize>
+        requires { AreRisingRows self.now }
+        ensures { MatchResult result (IsAt row.now self.now) (IsGapFor row.now self.now) }
+    {
+        let mut low = 0;
+        let mut high = self.len();
+        while low < high {
+            let middle = low + (high - low) / 2;
+            match row.cmp(self.row(middle)) {
+                Ordering::Less => high = middle,
+                Ordering::Equal => return Ok(middle),
+                Ordering::Greater => low = middle + 1,
+            }
+        }
+        Err(low)
+    }
+
+    /// Sets the value at a place.
+    pub(crate) fn set(&mut self, place: usize, value: T)
+        requires { place < length self.old }
+        ensures { self.new ≡ set_at self.old place value }
+    {
+        self.values[place] = value;
+    }
+
+    /// Puts a row to a place, if it has the width of the others and there are fewer than `most`.
+    pub(crate) fn insert(
+        &mut self,
+        most: usize,
+        place: usize,
+        row: &[i64],
+        value: T,
+    ) -> Result<bool, AllocError>
+        requires { place ≤ length self.old }
+        ensures { MatchResult result
+            (λ done. self.new ≡ cond done (insert self.old place (row.now, value)) self.old)
+            (λ _. self.new ≡ self.old) }
+    {
+        if row.len() != self.width || self.values.len() >= most {
+            return Ok(false);
+        }
+        self.values.reserve(1)?;
+        put_in(&mut self.cells, self.width * place, row)?;
+        let Ok(()) = self.values.insert(place, value) else {
+            return Err(AllocError);
+        };
+        Ok(true)
+    }
+
+    /// Removes the row at a place.
+    pub(crate) fn remove(&mut self, place: usize)
+        requires { place < length self.old }
+        ensures { self.new ≡ remove self.old place }
+    {
+        take_out(&mut self.cells, self.width * place, self.width);
+        let _ = self.values.remove(place);
+    }
+
+    /// A copy of the rows from a place on, with their values.
+    pub(crate) fn tail(&self, alloc: Global, place: usize) -> Result<Self, AllocError>
+        requires { place ≤ length self.now }
+        ensures { IfOk result (λ l. l ≡ drop place self.now) }
+    {
+        let cells = Vec::from_slice(alloc, &self.cells[self.width * place..])?;
+        let values = Vec::from_slice(alloc, &self.values[place..])?;
+        Ok(Piece {
+            width: self.width,
+            cells,
+            values,
+        })
+    }
+
+    /// Keeps the rows before a place.
+    pub(crate) fn truncate(&mut self, place: usize)
+        requires { place ≤ length self.old }
+        ensures { self.new ≡ take place self.old }
+    {
+        self.cells.truncate(self.width * place);
+        self.values.truncate(place);
+    }
+}
+
+/// Puts cells before a place.
+fn put_in(cells: &mut Vec<i64>, start: usize, row: &[i64]) -> Result<(), AllocError>
+    requires { start ≤ length cells.old.items }
+    ensures ok { OnOk result (cells.new.items ≡ take start cells.old.items ++ (row.now ++ drop start cells.old.items)) }
+    ensures err { OnErr result (cells.new.items ≡ cells.old.items) }
+{
+    cells.extend_from_slice(row)?;
+    cells[start..].rotate_right(row.len());
+    Ok(())
+}
+
+/// Takes cells out from a place on.
+fn take_out(cells: &mut Vec<i64>, start: usize, width: usize)
+    requires { start + width ≤ length cells.old.items }
+    ensures { cells.new.items ≡ take start cells.old.items ++ drop (start + width) cells.old.items }
+{
+    let kept = cells.len() - width;
+    cells[start..].rotate_left(width);
+    cells.truncate(kept);
+}

@@ -1,0 +1,404 @@
+//! A map's pieces, one after another.
+
+ghost use Rattle.std.specs.Prelude.{◌≡◌, ◌≢◌, ◌<◌, ◌≤◌, ◌+◌, ◌^◌, ◌↔◌, [], ◌∷◌, ◌++◌, length, take, drop, set, Some, None, IsSome, IfOk, OnOk, OnErr, IsTrue, suc};
+ghost use Rattle.std.specs.List.{insert, remove};
+ghost use Rattle.wh_pieces.specs.Place.{AreRisingRows, IsAbove};
+ghost use Rattle.wh_pieces.specs.Pieces.{found, with_entry, without_entry, above, all_of, AreNotEmpty, ArePieces, AreCounted, IsPieceFor, piece_at, before, after};
+
+use crate::entries::Entries;
+use crate::piece::Piece;
+use std::alloc::{AllocError, Global};
+use std::cmp::Ordering;
+use std::marker::Model;
+
+/// A finite map from rows to values, in rising order of the rows.
+#[derive(Drop)]
+pub struct Pieces<T> {
+    alloc: Global,
+    /// How many rows a piece has at most, where it is made by inserts.
+    most: usize,
+    pieces: Vec<Piece<T>>,
+    len: usize,
+}
+
+impl<T> Model for Pieces<T> {
+    ghost use Rattle.std.specs.Prelude.{List, ℤ};
+    ghost use Rattle.std.specs.Coded.{coded_list, coded×, coded_ℤ};
+
+    ghost Value = { List (List ℤ × T) };
+
+    ghost coded = { coded_list (coded× (coded_list coded_ℤ) T.code) };
+
+    ghost use Rattle.wh_pieces.specs.Pieces.{all_of, AreCounted};
+
+    ghost view = { λ r. all_of r.pieces.items };
+
+    ghost invariant = { λ r. AreCounted r.pieces.items r.len };
+}
+
+impl<T: Copy + Drop> Pieces<T> {
+    /// No rows.
+    pub fn new(alloc: Global) -> Self
+        ensures { result ≡ [] }
+    {
+        Pieces::with_most(alloc, MOST)
+    }
+
+    /// No rows, in a map whose pieces have at most `most` rows, and one where `most` is 0.
+    pub fn with_most(alloc: Global, most: usize) -> Self
+        ensures { result ≡ [] }
+    {
+        Pieces {
+            alloc,
+            most,
+            pieces: Vec::new(alloc),
+            len: 0,
+        }
+    }
+
+    /// No rows, in a map like this one.
+    pub(crate) fn none(&self) -> Self
+        ensures { result ≡ [] }
+    {
+        Pieces::with_most(self.alloc, self.most)
+    }
+
+    /// How many rows there are.
+    pub fn len(&self) -> usize
+        ensures len { result ≡ length self.now }
+        ensures small { result < 2 ^ 63 }
+        ensures rising { AreRisingRows self.now }
+    {
+        self.len
+    }
+
+    /// Whether there are no rows.
+    pub fn is_empty(&self) -> bool
+        ensures { IsTrue result ↔ (self.now ≡ []) }
+    {
+        self.len() == 0
+    }
+
+    /// The value at a row.
+    pub fn get(&self, row: &[i64]) -> Option<T>
+        ensures { result ≡ found row.now self.now }
+    {
+        if self.pieces.is_empty() {
+            return None;
+        }
+        let piece = &self.pieces[find_piece(&self.pieces, row)];
+        match piece.find(row) {
+            Ok(place) => Some(piece.get(place).1),
+            Err(_) => None,
+        }
+    }
+
+    /// The entries in rising order.
+    pub fn entries(&self) -> Entries<'_, T>
+        ensures entries { result ≡ self.now }
+        ensures few { length result < 2 ^ 63 }
+        ensures rising { AreRisingRows result }
+    {
+        Entries::new(&self.pieces, 0)
+    }
+
+    /// The entries above this row, in rising order. Those below it are not walked through.
+    pub fn entries_after(&self, row: &[i64]) -> Entries<'_, T>
+        ensures entries { result ≡ above row.now self.now }
+        ensures few { length result < 2 ^ 63 }
+    {
+        if self.pieces.is_empty() {
+            return self.entries();
+        }
+        let nth = find_piece(&self.pieces, row);
+        let place = match self.pieces[nth].find(row) {
+            Ok(place) => place + 1,
+            Err(place) => place,
+        };
+        Entries::new(&self.pieces[nth..], place)
+    }
+
+    /// Sets the value at a row, and gives the one that stood there. It takes memory only for a row that is new.
+    pub fn insert(&mut self, row: &[i64], value: T) -> Result<Option<T>, AllocError>
+        ensures gives { IfOk result (λ r. r ≡ found row.now self.old) }
+        ensures ok { OnOk result (self.new ≡ with_entry self.old row.now value) }
+        ensures err { OnErr result (self.new ≡ self.old) }
+        ensures memory { OnErr result (found row.now self.old ≡ None) }
+    {
+        if self.pieces.is_empty() {
+            put_piece(self.alloc, &mut self.pieces, 0, row, value)?;
+            self.len = 1;
+            return Ok(None);
+        }
+        let nth = find_piece(&self.pieces, row);
+        match self.pieces[nth].find(row) {
+            Ok(place) => {
+                let old = self.pieces[nth].get(place).1;
+                self.pieces[nth].set(place, value);
+                Ok(Some(old))
+            }
+            Err(place) => {
+                if self.len >= LARGEST {
+                    return Err(AllocError);
+                }
+                put(
+                    self.alloc,
+                    self.most,
+                    &mut self.pieces,
+                    nth,
+                    place,
+                    row,
+                    value,
+                )?;
+                self.len += 1;
+                Ok(None)
+            }
+        }
+    }
+
+    /// Adds a row that is above all others.
+    pub fn push(&mut self, row: &[i64], value: T) -> Result<(), AllocError>
+        requires { IsAbove row.now self.old }
+        ensures ok { OnOk result (self.new ≡ self.old ++ (row.now, value) ∷ []) }
+        ensures err { OnErr result (self.new ≡ self.old) }
+    {
+        if self.len >= LARGEST {
+            return Err(AllocError);
+        }
+        put_last(self.alloc, self.most, &mut self.pieces, row, value)?;
+        self.len += 1;
+        Ok(())
+    }
+
+    /// Removes a row, and gives its value.
+    pub fn remove(&mut self, row: &[i64]) -> Option<T>
+        ensures gives { result ≡ found row.now self.old }
+        ensures entries { self.new ≡ without_entry self.old row.now }
+        ensures gone { found row.now self.new ≡ None }
+    {
+        if self.pieces.is_empty() {
+            return None;
+        }
+        let nth = find_piece(&self.pieces, row);
+        match self.pieces[nth].find(row) {
+            Ok(place) => {
+                let old = self.pieces[nth].get(place).1;
+                take_from(&mut self.pieces, nth, place);
+                self.len -= 1;
+                Some(old)
+            }
+            Err(_) => None,
+        }
+    }
+
+    /// A map with the same entries, made by `alloc`.
+    pub fn copy(&self, alloc: Global) -> Result<Self, AllocError>
+        ensures ok { IfOk result (λ copy. copy ≡ self.now) }
+
+        // Memory only where there is a row.
+        ensures memory { OnErr result (self.now ≢ []) }
+    {
+        let mut pieces = Vec::new(alloc);
+        for piece in &self.pieces {
+            let Ok(()) = pieces.push(piece.tail(alloc, 0)?) else {
+                return Err(AllocError);
+            };
+        }
+        Ok(Pieces {
+            alloc,
+            most: self.most,
+            pieces,
+            len: self.len,
+        })
+    }
+}
+
+/// How many rows a piece has at most.
+const MOST: usize = 256;
+
+/// How many rows there can be.
+const LARGEST: usize = 9223372036854775807;
+
+/// Takes a row out of a piece, and the piece too if it was its only one.
+fn take_from<T: Copy + Drop>(pieces: &mut Vec<Piece<T>>, nth: usize, place: usize)
+    requires nth { nth < length pieces.old.items }
+    requires place { place < length (piece_at pieces.old.items nth) }
+    requires some { AreNotEmpty pieces.old.items }
+    ensures all { all_of pieces.new.items ≡ all_of (set pieces.old.items nth (remove (piece_at pieces.old.items nth) place)) }
+    ensures some { AreNotEmpty pieces.new.items }
+{
+    pieces[nth].remove(place);
+    if pieces[nth].len() == 0 {
+        let _ = pieces.remove(nth);
+    }
+}
+
+/// The piece in which the row stands or would go.
+fn find_piece<T: Copy + Drop>(pieces: &Vec<Piece<T>>, row: &[i64]) -> usize
+    requires some { 0 < length pieces.now.items }
+    requires pieces { ArePieces pieces.now.items }
+    ensures { IsPieceFor row.now pieces.now.items result }
+{
+    let mut low = 0;
+    let mut high = pieces.len();
+    while 1 < high - low {
+        let middle = low + (high - low) / 2;
+        match row.cmp(pieces[middle].row(0)) {
+            Ordering::Less => high = middle,
+            _ => low = middle,
+        }
+    }
+    low
+}
+
+/// Puts a piece of one row before a piece.
+fn put_piece<T: Copy + Drop>(
+    alloc: Global,
+    pieces: &mut Vec<Piece<T>>,
+    nth: usize,
+    row: &[i64],
+    value: T,
+) -> Result<(), AllocError>
+    requires within { nth ≤ length pieces.old.items }
+    requires some { AreNotEmpty pieces.old.items }
+    ensures ok { OnOk result (all_of pieces.new.items
+        ≡ all_of (take nth pieces.old.items) ++ (row.now, value) ∷ all_of (drop nth pieces.old.items)) }
+    ensures err { OnErr result (all_of pieces.new.items ≡ all_of pieces.old.items) }
+    ensures some { AreNotEmpty pieces.new.items }
+{
+    let piece = Piece::one(alloc, row, value)?;
+    let Ok(()) = pieces.insert(nth, piece) else {
+        return Err(AllocError);
+    };
+    Ok(())
+}
+
+/// Puts a row behind all rows of a piece.
+fn put_behind<T: Copy + Drop>(
+    alloc: Global,
+    most: usize,
+    pieces: &mut Vec<Piece<T>>,
+    nth: usize,
+    row: &[i64],
+    value: T,
+) -> Result<(), AllocError>
+    requires within { nth < length pieces.old.items }
+    requires some { AreNotEmpty pieces.old.items }
+    ensures ok { OnOk result (all_of pieces.new.items
+        ≡ all_of (take (suc nth) pieces.old.items) ++ (row.now, value) ∷ all_of (drop (suc nth) pieces.old.items)) }
+    ensures err { OnErr result (all_of pieces.new.items ≡ all_of pieces.old.items) }
+    ensures some { AreNotEmpty pieces.new.items }
+{
+    let end = pieces[nth].len();
+    if pieces[nth].insert(most, end, row, value)? {
+        return Ok(());
+    }
+    put_piece(alloc, pieces, nth + 1, row, value)
+}
+
+/// Cuts a piece in two.
+fn split<T: Copy + Drop>(
+    alloc: Global,
+    pieces: &mut Vec<Piece<T>>,
+    nth: usize,
+    place: usize,
+) -> Result<(), AllocError>
+    requires within { nth < length pieces.old.items }
+    requires low { 0 < place }
+    requires high { place < length (piece_at pieces.old.items nth) }
+    ensures ok { OnOk result (pieces.new.items
+        ≡ take nth pieces.old.items ++ take place (piece_at pieces.old.items nth)
+        ∷ drop place (piece_at pieces.old.items nth) ∷ drop (suc nth) pieces.old.items) }
+    ensures err { OnErr result (pieces.new.items ≡ pieces.old.items) }
+{
+    let tail = pieces[nth].tail(alloc, place)?;
+    let Ok(()) = pieces.insert(nth + 1, tail) else {
+        return Err(AllocError);
+    };
+    pieces[nth].truncate(place);
+    Ok(())
+}
+
+/// Puts a row to a place in a piece. Where it does not go there, the piece is cut at the place.
+fn put_at<T: Copy + Drop>(
+    alloc: Global,
+    most: usize,
+    pieces: &mut Vec<Piece<T>>,
+    nth: usize,
+    place: usize,
+    row: &[i64],
+    value: T,
+) -> Result<(), AllocError>
+    requires nth { nth < length pieces.old.items }
+    requires place { place ≤ length (piece_at pieces.old.items nth) }
+    requires some { AreNotEmpty pieces.old.items }
+    ensures ok { OnOk result (all_of pieces.new.items
+        ≡ before pieces.old.items nth place ++ (row.now, value) ∷ after pieces.old.items nth place) }
+    ensures err { OnErr result (all_of pieces.new.items ≡ all_of pieces.old.items) }
+    ensures some { AreNotEmpty pieces.new.items }
+{
+    if pieces[nth].insert(most, place, row, value)? {
+        return Ok(());
+    }
+    if place == 0 {
+        return put_piece(alloc, pieces, nth, row, value);
+    }
+    if place == pieces[nth].len() {
+        return put_behind(alloc, most, pieces, nth, row, value);
+    }
+    split(alloc, pieces, nth, place)?;
+    put_behind(alloc, most, pieces, nth, row, value)
+}
+
+/// Puts a row to a place in a piece, which is cut in halves first where it is full.
+///
+/// At either end of the map a new piece is begun instead, so that rows that come in order fill theirs.
+fn put<T: Copy + Drop>(
+    alloc: Global,
+    most: usize,
+    pieces: &mut Vec<Piece<T>>,
+    nth: usize,
+    place: usize,
+    row: &[i64],
+    value: T,
+) -> Result<(), AllocError>
+    requires nth { nth < length pieces.old.items }
+    requires place { place ≤ length (piece_at pieces.old.items nth) }
+    requires some { AreNotEmpty pieces.old.items }
+    ensures ok { OnOk result (all_of pieces.new.items
+        ≡ before pieces.old.items nth place ++ (row.now, value) ∷ after pieces.old.items nth place) }
+    ensures err { OnErr result (all_of pieces.new.items ≡ all_of pieces.old.items) }
+    ensures some { AreNotEmpty pieces.new.items }
+{
+    let len = pieces[nth].len();
+    let half = len / 2;
+    let last = place == len && nth + 1 == pieces.len();
+    if len < most || half == 0 || place == 0 || last {
+        return put_at(alloc, most, pieces, nth, place, row, value);
+    }
+    split(alloc, pieces, nth, half)?;
+    if place <= half {
+        return put_at(alloc, most, pieces, nth, place, row, value);
+    }
+    put_at(alloc, most, pieces, nth + 1, place - half, row, value)
+}
+
+/// Puts a row behind all rows.
+fn put_last<T: Copy + Drop>(
+    alloc: Global,
+    most: usize,
+    pieces: &mut Vec<Piece<T>>,
+    row: &[i64],
+    value: T,
+) -> Result<(), AllocError>
+    requires some { AreNotEmpty pieces.old.items }
+    ensures ok { OnOk result (all_of pieces.new.items ≡ all_of pieces.old.items ++ (row.now, value) ∷ []) }
+    ensures err { OnErr result (all_of pieces.new.items ≡ all_of pieces.old.items) }
+    ensures some { AreNotEmpty pieces.new.items }
+{
+    let count = pieces.len();
+    if count == 0 {
+        return put_piece(alloc, pieces, 0, row, value);
+    }
+    put_behind(alloc, most, pieces, count - 1, row, value)
+}

@@ -1,0 +1,168 @@
+// Maps whose pieces have two rows at most, against lists that are written out.
+
+use crate::Pieces;
+use std::alloc::{AllocError, Global};
+use std::process::Abort;
+use std::test::Fail;
+
+/// The sum of two values, and none where it is zero or leaves i64.
+fn added(value: i64, more: i64) -> Option<i64> {
+    let sum = value.checked_add(more)?;
+    if sum == 0 { None } else { Some(sum) }
+}
+
+/// A map of these entries, put in one after another.
+fn map_of(alloc: Global, entries: &[(&[i64], i64)]) -> Result<Pieces<i64>, AllocError> {
+    let mut map = Pieces::with_most(alloc, 2);
+    for (row, value) in entries {
+        map.insert(row, *value)?;
+    }
+    Ok(map)
+}
+
+/// Asserts that the map has these entries, in this order.
+fn assert_lists(rt: &impl Abort, map: &Pieces<i64>, wanted: &[(&[i64], i64)]) {
+    assert_eq!(rt; map.len(), wanted.len());
+    let mut entries = map.entries();
+    for (row, value) in wanted {
+        assert_eq!(rt; entries.next(), Some((*row, *value)));
+    }
+    assert!(rt; entries.next().is_none());
+}
+
+#[test]
+fn rows_rise_whatever_order_they_came_in(rt: HostRuntime) -> Result<(), Fail> {
+    let entries: [(&[i64], i64); 7] = [
+        (&[5], 50),
+        (&[2], 20),
+        (&[7], 70),
+        (&[3], 30),
+        (&[6], 60),
+        (&[1], 10),
+        (&[4], 40),
+    ];
+    let map = map_of(rt.alloc(), &entries)?;
+    let rising: [(&[i64], i64); 7] = [
+        (&[1], 10),
+        (&[2], 20),
+        (&[3], 30),
+        (&[4], 40),
+        (&[5], 50),
+        (&[6], 60),
+        (&[7], 70),
+    ];
+    assert_lists(&rt, &map, &rising);
+    assert_lists(&rt, &map.copy(rt.alloc())?, &rising);
+    assert_eq!(rt; map.get(&[6]), Some(60));
+    assert!(rt; map.get(&[8]).is_none());
+    Ok(())
+}
+
+#[test]
+fn rows_of_other_widths_stand_between(rt: HostRuntime) -> Result<(), Fail> {
+    let entries: [(&[i64], i64); 6] = [
+        (&[2], 1),
+        (&[1, 5], -1),
+        (&[1, 6], 3),
+        (&[], 4),
+        (&[-3, 9], 2),
+        (&[1], 7),
+    ];
+    let map = map_of(rt.alloc(), &entries)?;
+    assert_lists(
+        &rt,
+        &map,
+        &[
+            (&[], 4),
+            (&[-3, 9], 2),
+            (&[1], 7),
+            (&[1, 5], -1),
+            (&[1, 6], 3),
+            (&[2], 1),
+        ],
+    );
+    Ok(())
+}
+
+#[test]
+fn a_row_that_is_there_gets_another_value(rt: HostRuntime) -> Result<(), Fail> {
+    let mut map = map_of(rt.alloc(), &[(&[1], 10), (&[2], 20), (&[3], 30)])?;
+    assert_eq!(rt; map.insert(&[2], 21)?, Some(20));
+    assert!(rt; map.insert(&[0], 5)?.is_none());
+    assert_lists(&rt, &map, &[(&[0], 5), (&[1], 10), (&[2], 21), (&[3], 30)]);
+    Ok(())
+}
+
+#[test]
+fn rows_leave(rt: HostRuntime) -> Result<(), Fail> {
+    let mut map = map_of(
+        rt.alloc(),
+        &[(&[1], 10), (&[2], 20), (&[3], 30), (&[4], 40)],
+    )?;
+    assert_eq!(rt; map.remove(&[3]), Some(30));
+    assert!(rt; map.remove(&[3]).is_none());
+    assert_lists(&rt, &map, &[(&[1], 10), (&[2], 20), (&[4], 40)]);
+    for row in [1, 2, 4] {
+        assert!(rt; map.remove(&[row]).is_some());
+    }
+    assert!(rt; map.is_empty());
+    assert_lists(&rt, &map, &[]);
+    Ok(())
+}
+
+#[test]
+fn a_row_is_pushed_behind_no_rows(rt: HostRuntime) -> Result<(), Fail> {
+    let mut map = Pieces::new(rt.alloc());
+    map.push(&[7, -7], 70)?;
+    assert_lists(&rt, &map, &[(&[7, -7], 70)]);
+    Ok(())
+}
+
+#[test]
+fn entries_begin_after_a_row(rt: HostRuntime) -> Result<(), Fail> {
+    let map = map_of(
+        rt.alloc(),
+        &[(&[1], 1), (&[3], 3), (&[5], 5), (&[7], 7), (&[9], 9)],
+    )?;
+    for (after, first) in [(0, 1), (1, 3), (2, 3), (3, 5), (5, 7), (6, 7), (8, 9)] {
+        let mut entries = map.entries_after(&[after]);
+        assert!(rt; entries.next().is_some_and(|(_, value)| value == first));
+    }
+    assert!(rt; map.entries_after(&[9]).next().is_none());
+    Ok(())
+}
+
+#[test]
+fn two_maps_are_one(rt: HostRuntime) -> Result<(), Fail> {
+    let map = map_of(
+        rt.alloc(),
+        &[(&[1], 1), (&[3], 3), (&[4], 4), (&[6], 6), (&[9], 9)],
+    )?;
+    let more = map_of(
+        rt.alloc(),
+        &[
+            (&[2], 2),
+            (&[3], 7),
+            (&[4], -4),
+            (&[5], 5),
+            (&[7], 7),
+            (&[8], 8),
+        ],
+    )?;
+    let both: [(&[i64], i64); 8] = [
+        (&[1], 1),
+        (&[2], 2),
+        (&[3], 10),
+        (&[5], 5),
+        (&[6], 6),
+        (&[7], 7),
+        (&[8], 8),
+        (&[9], 9),
+    ];
+    assert_lists(&rt, &map.merged(&more, added)?, &both);
+    assert_lists(&rt, &more.merged(&map, added)?, &both);
+    let mut brought = map.copy(rt.alloc())?;
+    brought.merge(&more, added)?;
+    assert_lists(&rt, &brought, &both);
+    Ok(())
+}

@@ -1,0 +1,75 @@
+// What `replay` reads: bundles of several nights, each with what it says or its first fault.
+
+mod given;
+
+use crate::texts::cases::{Reads, agree, fault_line, text_of};
+use crate::texts::definitions::dict_lines;
+use crate::texts::schedules::schedule_lines;
+use given::{FAULTS, NIGHTS, NO_NIGHT};
+use std::alloc::{AllocError, Global};
+use wh_load::{
+    Dict, GivenNight, Names, ReplayInput, WrittenView, read_replay, write_strategy, write_table,
+};
+use wh_row::Bag;
+
+fn rows_text(
+    alloc: Global,
+    views: &[WrittenView],
+    rows: &[Bag],
+    dict: &Dict,
+) -> Result<String, AllocError> {
+    let mut out = Vec::new(alloc);
+    for (view, own) in views.iter().zip(rows) {
+        write_table(&mut out, &view.columns, own, dict)?;
+    }
+    text_of(alloc, &out)
+}
+
+fn night_text(
+    alloc: Global,
+    names: &Names,
+    views: &[WrittenView],
+    night: &GivenNight,
+    dict: &Dict,
+) -> Result<String, AllocError> {
+    let mut text = rows_text(alloc, views, &night.changes, dict)?;
+    let mut list = Vec::new(alloc);
+    write_strategy(&mut list, names, &night.strategy)?;
+    text.push_str(text_of(alloc, &list)?.as_str())?;
+    Ok(text)
+}
+
+fn input_text(alloc: Global, input: &ReplayInput) -> Result<String, AllocError> {
+    let names = Names::of(alloc, &input.shape)?;
+    let opening = &input.opening;
+    let mut text = dict_lines(alloc, &opening.texts)?;
+    let tables = rows_text(alloc, &opening.views, &opening.tables, &opening.texts)?;
+    text.push_str(tables.as_str())?;
+    for night in &input.nights {
+        let own = night_text(alloc, &names, &opening.views, night, &opening.texts)?;
+        text.push_str("night\n")?;
+        text.push_str(own.as_str())?;
+    }
+    text.push_str(schedule_lines(alloc, &input.schedule)?.as_str())?;
+    Ok(text)
+}
+
+/// The texts that cells stand for, the tables, the changes and the strategy of each night, and the schedule; or the fault.
+pub(crate) fn outcome(alloc: Global, text: &[u8]) -> Result<String, AllocError> {
+    match read_replay(alloc, text) {
+        Ok(input) => input_text(alloc, &input),
+        Err(fault) => fault_line(alloc, &fault),
+    }
+}
+
+#[test]
+fn what_is_replayed_is_read(rt: HostRuntime) -> Result<(), AllocError> {
+    let alloc = rt.alloc();
+    agree(&rt, alloc, Reads::Replay, "", NIGHTS)?;
+    agree(&rt, alloc, Reads::Replay, "", NO_NIGHT)
+}
+
+#[test]
+fn of_two_faults_of_what_is_replayed_the_first_is_told(rt: HostRuntime) -> Result<(), AllocError> {
+    agree(&rt, rt.alloc(), Reads::Replay, "", FAULTS)
+}
