@@ -10,6 +10,8 @@ mod bags;
 #[cfg(test)]
 mod formulas;
 #[cfg(test)]
+mod machine;
+#[cfg(test)]
 mod nights;
 #[cfg(test)]
 mod plans;

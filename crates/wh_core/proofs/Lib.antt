@@ -9,6 +9,7 @@ pub mod Writes
 pub mod Sound
 pub mod WellFormed
 pub mod Runs
+pub mod Ones
 pub mod Steps
 pub mod Moves
 pub mod Seats

@@ -23,7 +23,7 @@ use Rattle.wh_core.specs.Log.{Deed, Log, Began, Drew, Finished, Paged_in, Commit
 use Rattle.wh_core.specs.Nights.{GivenNight, Setup, night, night_from, published, turn, versions}
 use Rattle.wh_core.specs.declared.event.Event.{Event}
 use Rattle.wh_core.specs.declared.reply.Reply.{Reply}
-use Rattle.wh_core.specs.Replies.{IsLegalLog, IsRunFrom}
+use Rattle.wh_core.specs.Replies.{IsLegalLog, IsMemory, IsReply, IsRunFrom}
 
 -- ---- what a machine is given
 
@@ -198,6 +198,16 @@ pub record ReadsTable (s : Setup) (log : Log) (of : SessionOf) (v : ℕ) (read :
 abbrev pub SessionsReadTables : Type 0
 SessionsReadTables =
     (s : Setup) (log : Log) (d v : ℕ) (of : SessionOf) → IsLegalLog s log → session log d ≡ Some of → ReadsTable s log of v (pages_read log d v)
+
+-- ---- replies
+
+-- they are the same, or one of them is the refusal for memory
+abbrev pub AreOne : Reply → Reply → Type 0
+AreOne r other = (r ≡ other) ⊎ (IsMemory r ⊎ IsMemory other)
+
+-- after what was done an event has one reply, memory aside
+abbrev pub RepliesAreOne : Type 0
+RepliesAreOne = (s : Setup) (log : Log) (event : Event) (r other : Reply) → IsReply s log event r → IsReply s log event other → AreOne r other
 
 -- ---- runs
 

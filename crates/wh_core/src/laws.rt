@@ -1,6 +1,6 @@
 //! What holds of every legal run, for proofs: these functions do nothing.
 
-ghost use Rattle.wh_core.specs.Laws.{CommitsMakeContents, JobsAreDrawnOnce, PublishedAreNights, PublishedAreWellFormed, RunsLeaveLegalLogs, SessionsReadTables, VersionsAreContents, WorkersDoTheirJobs};
+ghost use Rattle.wh_core.specs.Laws.{CommitsMakeContents, JobsAreDrawnOnce, PublishedAreNights, PublishedAreWellFormed, RepliesAreOne, RunsLeaveLegalLogs, SessionsReadTables, VersionsAreContents, WorkersDoTheirJobs};
 
 use wh_night::passed_expressions_have_values;
 use wh_store::{pages_join_law, versions_stay_law};
@@ -23,6 +23,12 @@ pub fn jobs_are_drawn_once()
 /// A worker that is done with a job drew it, and did nothing since.
 pub fn workers_do_their_jobs()
     ensures { WorkersDoTheirJobs }
+{}
+
+/// After what was done, an event has one legal reply, memory aside: of two, either both are the same or one of them is the
+/// refusal for memory.
+pub fn replies_are_one()
+    ensures { RepliesAreOne }
 {}
 
 /// What is done in a run from a legal log on is a legal log again.

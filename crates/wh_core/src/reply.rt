@@ -30,7 +30,7 @@ pub enum Reply {
 }
 
 /// Why an event was refused.
-#[derive(Clone, Copy, Debug)]
+#[derive(Clone, Copy, Debug, PartialEq, Eq)]
 pub enum Cause {
     /// The desk has no session.
     NoSession,
