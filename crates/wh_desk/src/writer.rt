@@ -308,6 +308,14 @@ impl Writer {
         self.inner.held.is_some() || self.inner.raw.has_pending_operations()
     }
 
+    /// How many views there are.
+    pub fn views(&self) -> usize
+        ensures { result ≡ length (versions_in self.now.ledger.of self.now.ledger.list).newest }
+    {
+        told_law();
+        self.inner.raw.published().store.current_tables().len()
+    }
+
     /// The table of a view in the current version.
     pub fn table(&self, view: usize) -> Result<Bag, AllocError>
         requires { view < length (versions_in self.now.ledger.of self.now.ledger.list).newest }

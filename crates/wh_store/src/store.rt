@@ -53,6 +53,7 @@ impl Store {
         requires { AreTables tables.items }
         ensures shows { IfOk result (λ store. Shows store tables.items []) }
         ensures limit { IfOk result (λ store. store.limit ≡ 2) }
+        ensures current { IfOk result (λ store. current store ≡ tables.items) }
     {
         let mut held = Vec::new(alloc);
         held.push(tables)?;
