@@ -44,11 +44,7 @@ fn assert_one_row(rt: &impl Abort, desk: &mut Desk, cell: i64) -> Result<(), Fai
 }
 
 /// One night, in which the row (2) comes for (1).
-fn publish_night<R: Wait + Abort>(
-    rt: &R,
-    alloc: Global,
-    writer: &mut Writer,
-) -> Result<(), Fail>
+fn publish_night<R: Wait + Abort>(rt: &R, alloc: Global, writer: &mut Writer) -> Result<(), Fail>
     ensures { writer.new.book ≡ writer.old.book }
 {
     let put = put(alloc, &[(&[1], 0), (&[2], 1)])?;
@@ -79,7 +75,10 @@ fn read_next_version<R: Wait + Abort>(
     let table = writer.table(0)?;
     assert_eq!(rt; (table.count(&[1]), table.count(&[2])), (0, 1));
     assert_eq!(rt; writer.give_up(rt), Ok(Ended::NoneOpen));
-    assert_eq!(rt; (writer.current(), writer.active(), writer.held()), (1, false, false));
+    assert_eq!(rt;
+        (writer.current(), writer.active(), writer.held()),
+        (1, false, false)
+    );
     Ok(())
 }
 

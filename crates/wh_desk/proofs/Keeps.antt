@@ -1,7 +1,6 @@
 -- Each step at the store keeps its rule.
 use Rattle.std.proofs.Common.{◌≡◌, ◌≢◌, ◌≤◌, ℕ, List, [], ◌∷◌, ◌++◌, fold, set, sym, refl, ap, subst, ◌∙◌, ⊎_elim, Option, Some, None}
 use mathlib.Core.Option.{some}
-use mathlib.Core.List.{IsPrefix}
 use lib.ListN.{get_elem?}
 use Rattle.left_right.specs.Register.{Admits, Turns, TurnsAt, Forks, Merges}
 use Rattle.atomic_table.proofs.Lists.{at_set, at_snoc}
@@ -91,8 +90,7 @@ copy_next follow goes_on x p copy next free =
     let op = operation p.op in
     let limit : x.store.limit ≡ x.front.of.limit = ap (λ (w : Window). w.limit) copy.0 in
     let enough : 2 ≤ x.store.limit = subst (λ n. 2 ≤ n) (sym limit) copy.1.0 in
-    let is = follow x.store opening x.front.list op enough (shows x copy) free in
-    (
+    let is = follow x.store opening x.front.list op enough (shows x copy) free in (
       is ∙ (ap (λ n. window n (versions_of opening (x.front.list ++ op ∷ []))) (limit_stays x.store op ∙ limit) ∙ ap (λ (k : Known). window_in k.of k.list) (sym next)),
       subst IsStory (sym next) (story_next goes_on x op copy free),
     )

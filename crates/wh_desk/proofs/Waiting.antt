@@ -1,15 +1,14 @@
 -- What waits in a writer.
 use Rattle.std.proofs.Common.{◌≡◌, true, false, Bool, IsTrue, ◌↔◌, ◌<◌, List, [], ◌∷◌, ◌++◌, fold, drop, length, Option, Some, None, Result, Ok, Err, MatchResult, refl, ap, sym, subst, ◌∙◌, arith}
 use Rattle.wh_store.specs.Laws.{WellFormedGoesOn, WindowsFollow}
-use Rattle.wh_store.specs.Operations.{operation}
 use Rattle.wh_publish.specs.Ledgers.{ledger, with_held}
 use Rattle.wh_publish.specs.declared.ended.Ended.{Ended}
 use Rattle.wh_desk.specs.declared.inner.Inner.{Inner}
 use Rattle.wh_desk.specs.declared.kept.Kept.{Kept}
 use Rattle.wh_desk.specs.declared.kept.Publication.{Publication}
-use Rattle.wh_desk.specs.Known.{IsStory, Known, known}
+use Rattle.wh_desk.specs.Known.{IsStory, Known}
 use Rattle.wh_desk.specs.Rules.{IsCopy, taken_in}
-use Rattle.wh_desk.specs.Writers.{IsWriter, Waits, Writing, and_held, copy_of, end_of_held, held_of, ledger_in, waiting, writing, writing_of}
+use Rattle.wh_desk.specs.Writers.{IsWriter, Waits, and_held, copy_of, end_of_held, held_of, ledger_in, waiting, writing, writing_of}
 use Rattle.wh_desk.proofs.Keeps.{copy_next}
 
 pub none_pending : {A : Type 0} (b : Bool) (xs : List A) → IsTrue b ↔ (0 < length xs) → b ≡ false → xs ≡ []
@@ -61,8 +60,7 @@ module _ {E : Type 0} (follow : WindowsFollow) (goes_on : WellFormedGoesOn) (V :
       let are : IsWriter w = (subst IsCopy (sym m.0) t.0, subst (λ qs. Waits (copy_of w) qs w.history) (sym none) same, story, kept ∙ ap (λ qs. end_of_held (held_of qs)) (sym none)) in
       (are, sym (whole w none are))
   published (Err u) nil copy is story end kept m =
-      let same : waiting w ≡ ps = (λ i. and_held (m.1 i) (nil i)) in
-      (
+      let same : waiting w ≡ ps = (λ i. and_held (m.1 i) (nil i)) in (
         (
           subst IsCopy (sym m.0) copy,
           subst (λ (t : Kept × List Publication). Waits t.0 t.1 w.history) (λ i. (sym m.0 i, sym same i)) is,

@@ -1,5 +1,5 @@
 -- What callers see of a desk, and how it is answered.
-use Rattle.std.specs.Prelude.{◌≡◌, ◌≢◌, ◌<◌, ◌≤◌, ℕ, true, false, Bool, IsTrue, List, length, Option, Some, None, refl}
+use Rattle.std.specs.Prelude.{◌≡◌, ◌≢◌, ◌<◌, ◌≤◌, ℕ, false, Bool, IsTrue, List, length, Option, Some, None, refl}
 use Rattle.std.specs.Coded.{Coded, code_by, coded×, coded_ℕ, coded_option}
 use mathlib.Core.List.{IsPrefix}
 use Rattle.left_right.specs.Sides.{view}
@@ -101,3 +101,9 @@ NotRead s t view SessionOpen = ⊥
 NotRead s t view (Expired of current active) = (v : ℕ) × Stays s t v × NoPage t v view (Expired of current active)
 NotRead s t view NoView = (v : ℕ) × Stays s t v × NoPage t v view NoView
 NotRead s t view Memory = (v : ℕ) × Stays s t v
+
+-- a version of a list that a desk saw has the same contents in each list that goes on from it
+abbrev pub SeenVersionsStay : Type 0
+SeenVersionsStay =
+    (s t : Sitting) (v : ℕ) → Grows s t → v ≤ number (versions_seen s)
+    → (v ≤ number (versions_seen t)) × (version (versions_seen t) v ≡ version (versions_seen s) v)

@@ -1,7 +1,6 @@
 -- The rule of the published store.
 use Rattle.std.specs.Prelude.{◌≡◌, ℕ, List, [], ◌∷◌, ◌++◌, Option, Some, None}
 use mathlib.Core.Option.{some}
-use mathlib.Core.List.{IsPrefix}
 use lib.ListN.{get_elem?}
 use Rattle.wh_store.specs.Operations.{operation}
 use Rattle.wh_store.specs.Refusals.{refusal}

@@ -1,5 +1,5 @@
-use Rattle.std.proofs.Common.{◌≡◌, [], ◌∷◌, MatchResult, drop, subst, sym, ap, ◌∙◌}
-use Rattle.wh_desk.specs.Writers.{Writing, and_held, copy_of, held_of, ledger_in, waiting, writing, writing_of}
+use Rattle.std.proofs.Common.{◌≡◌, [], ◌∷◌, MatchResult, drop, subst, sym, ap}
+use Rattle.wh_desk.specs.Writers.{Writing, and_held, copy_of, ledger_in, waiting, writing, writing_of}
 use Rattle.wh_desk.proofs.Waiting.{one_held, out}
 use Rattle.wh_desk.proofs.writer.publish_held.Goals as goal
 

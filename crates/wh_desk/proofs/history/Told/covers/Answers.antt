@@ -1,4 +1,4 @@
-use Rattle.std.proofs.Common.{◌≡◌, MatchBool, ap, subst, refl, List, ◌∙◌, sym}
+use Rattle.std.proofs.Common.{MatchBool, ap, subst, refl, List, ◌∙◌, sym}
 use mathlib.Core.List.{IsPrefix}
 use lib.Dec.{leb}
 use Rattle.wh_desk.specs.declared.history.Chapter.{Chapter}

@@ -1,5 +1,4 @@
-use Rattle.std.proofs.Common.{◌≡◌, true, [], ◌∷◌, ◌++◌, sym, ◌∙◌, ap, subst, arith, length, length-append, ◌+◌}
-use Rattle.wh_store.specs.Operations.{operation}
+use Rattle.std.proofs.Common.{◌≡◌, [], ◌∷◌, ◌++◌, sym, ◌∙◌, ap, subst, arith, length, length-append, ◌+◌}
 use Rattle.wh_desk.specs.declared.history.Chapter.TheVariants.{Done}
 use Rattle.wh_desk.specs.Known.{Known, IsLog}
 use Rattle.wh_desk.proofs.Adding.{adds_moves}
@@ -27,7 +26,7 @@ invariant_of-result c =
     let log = c.self.inside.seen.log in
     let may = log_of_story c.self.inside.seen.book log c.args.op.now _ c.self.view_is (omega (arith, c.self.invariant.0)) c.requires.story in
     let more : c.compare_exchange-found.new.seen.log ≡ log ++ (Done c.args.op.now) ∷ [] =
-        c.compare_exchange-found.ensures.7 c.if-found-count.false ∙ (λ i. (c.again-seen.ensures i).log ++ (c.plain-offer.ensures.1 i) ∷ []) in
+    c.compare_exchange-found.ensures.7 c.if-found-count.false ∙ (λ i. (c.again-seen.ensures i).log ++ (c.plain-offer.ensures.1 i) ∷ []) in
     let len : length (log ++ (Done c.args.op.now) ∷ []) ≡ c.self.inside.count + 1 + 1 = omega (arith, length-append log ((Done c.args.op.now) ∷ []), c.self.invariant.0) in
     (ap length more ∙ len, subst IsLog (sym more) may)
 
@@ -35,6 +34,6 @@ pub returns : goal.returns
 returns c =
     let log = c.self.inside.seen.log in
     let more : c.compare_exchange-found.new.seen.log ≡ log ++ (Done c.args.op.now) ∷ [] =
-        c.compare_exchange-found.ensures.7 c.if-found-count.false ∙ (λ i. (c.again-seen.ensures i).log ++ (c.plain-offer.ensures.1 i) ∷ []) in
+    c.compare_exchange-found.ensures.7 c.if-found-count.false ∙ (λ i. (c.again-seen.ensures i).log ++ (c.plain-offer.ensures.1 i) ∷ []) in
     let same = c.compare_exchange-found.ensures.0 ∙ ap (λ s. s.book) c.again-seen.ensures in
     told_next c.self.inside.seen.book c.compare_exchange-found.new.seen.book log c.compare_exchange-found.new.seen.log c.args.op.now _ c.self.view_is (omega (arith, c.self.invariant.0)) same more
