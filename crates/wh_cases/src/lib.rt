@@ -8,6 +8,8 @@
 #[cfg(test)]
 mod bags;
 #[cfg(test)]
+mod desks;
+#[cfg(test)]
 mod formulas;
 #[cfg(test)]
 mod machine;

@@ -4,7 +4,7 @@ use Rattle.std.specs.Prelude.{IsTrue, ◌&&◌, ◌==◌, is_some, nat_lt, optio
 use Rattle.std.proofs.lemmas.List.{length-set}
 use Rattle.std.proofs.lemmas.Option.{same_Some}
 use Rattle.wh_row.specs.Weigh.{Counted}
-use Rattle.wh_store.specs.Laws.{NoneIsRefused, WellFormedAreAccepted}
+use Rattle.wh_store.specs.Laws.{NoneIsRefused, WellFormedAreAccepted, WellFormedGoesOn}
 use Rattle.wh_store.specs.Operations.{Operation, Opens, Writes, Commits, Gives_up}
 use Rattle.wh_store.specs.Pages.{Contents, is_page}
 use Rattle.wh_store.specs.Refusals.{refusal}
@@ -134,3 +134,19 @@ well_formed_are_accepted opening ops = (each, λ f. formed (length opening) 2 (o
         let P : List Operation → Type 0 = λ xs. IsTrue (is_well_formed (length opening) xs) in
         let Q : Window → Type 0 = λ x. IsFree (refusal x op) in
         subst Q (sym shows) (accepted (length opening) w.limit (opened opening) before rest op (opened_over opening) (subst P e h))
+
+went_on : (views limit : ℕ) (v : Versions) (ops : List Operation) (op : Operation) → AreOver views v → IsTrue (is_well_formed_from views (is_active v) ops) → refusal (window limit (versions_from v ops)) op ≡ None
+    → IsTrue (is_well_formed_from views (is_active v) (ops ++ op ∷ []))
+went_on views limit v [] op are h free =
+    both_true (may_come views (is_active v) op) true (comes views limit (number v) ((window limit v).kept) v.draft op are.draft (inl free)) refl
+went_on views limit v (o ∷ ops) op are h free =
+    let P : Bool → Type 0 = λ active. IsTrue (is_well_formed_from views active ops) in
+    let Q : Bool → Type 0 = λ active. IsTrue (is_well_formed_from views active (ops ++ op ∷ [])) in
+    let later = second_true (may_come views (is_active v) o) (is_well_formed_from views (opens (is_active v) o) ops) h in
+    both_true (may_come views (is_active v) o) (is_well_formed_from views (opens (is_active v) o) (ops ++ op ∷ []))
+    (first_true (may_come views (is_active v) o) (is_well_formed_from views (opens (is_active v) o) ops) h)
+    (subst Q (sym (open_after v o)) (went_on views limit (after v o) ops op (over_after views v o are) (subst P (open_after v o) later) free))
+
+pub well_formed_goes_on : WellFormedGoesOn
+well_formed_goes_on w opening ops op h shows free =
+    went_on (length opening) w.limit (opened opening) ops op (opened_over opening) h (ap (λ x. refusal x op) (sym shows) ∙ free)

@@ -63,6 +63,12 @@ NoneIsRefused opening ops =
 abbrev pub WellFormedAreAccepted : Type 0
 WellFormedAreAccepted = (opening : Contents) (ops : List Operation) → IsTrue (is_well_formed (length opening) ops) ↔ NoneIsRefused opening ops
 
+-- where a well-formed list of operations is shown and one more is not refused, the list with it is well formed
+abbrev pub WellFormedGoesOn : Type 0
+WellFormedGoesOn =
+    (w : Window) (opening : Contents) (ops : List Operation) (op : Operation) → IsTrue (is_well_formed (length opening) ops) → Shows w opening ops → refusal w op ≡ None
+    → IsTrue (is_well_formed (length opening) (ops ++ op ∷ []))
+
 -- no count of a table is below zero, in no version and in nothing that is being written
 pub record AllAreTables (v : Versions) : Type 0 where
   pub in_versions : (s : ℕ) → AreTables (version v s)

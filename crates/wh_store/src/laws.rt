@@ -1,6 +1,6 @@
 //! What holds of all versions, windows and pages, for proofs: these functions do nothing.
 
-ghost use Rattle.wh_store.specs.Laws.{CountsAreGiven, PagesJoin, TablesStay, VersionsStay, WellFormedAreAccepted, WindowsFollow, WindowsTell};
+ghost use Rattle.wh_store.specs.Laws.{CountsAreGiven, PagesJoin, TablesStay, VersionsStay, WellFormedAreAccepted, WellFormedGoesOn, WindowsFollow, WindowsTell};
 
 /// What shows a list of operations shows, after one more that is not refused, the list with it.
 pub fn window_law()
@@ -32,6 +32,11 @@ pub fn counts_given_law()
 /// numbers of versions are used up.
 pub fn well_formed_law()
     ensures { WellFormedAreAccepted }
+{}
+
+/// Where a well-formed list of operations is shown, and one more is not refused, the list with it is well formed.
+pub fn well_formed_goes_on_law()
+    ensures { WellFormedGoesOn }
 {}
 
 /// Where no count of the opening tables is below zero, well-formed operations make none that is.

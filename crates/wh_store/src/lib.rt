@@ -16,7 +16,7 @@ mod tables;
 pub use fault::StoreFault;
 pub use laws::{
     counts_given_law, pages_join_law, tables_stay_law, told_law, versions_stay_law,
-    well_formed_law, window_law,
+    well_formed_goes_on_law, well_formed_law, window_law,
 };
 pub use operation::{MAX_KEYS, Op};
 pub use page::Page;

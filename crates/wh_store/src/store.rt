@@ -53,6 +53,7 @@ impl Store {
         requires { AreTables tables.items }
         ensures shows { IfOk result (λ store. Shows store tables.items []) }
         ensures limit { IfOk result (λ store. store.limit ≡ 2) }
+        ensures current { IfOk result (λ store. current store ≡ tables.items) }
     {
         let mut held = Vec::new(alloc);
         held.push(tables)?;
@@ -157,6 +158,55 @@ impl Store {
         // Makes known what holds of a store.
         let _ = &self.limit;
         self.change(op)
+    }
+
+    /// Why this operation would be refused, if it would, want of memory aside.
+    pub fn refuses(&self, op: &Op) -> Option<StoreFault>
+        ensures { result ≡ refusal self.now (operation op.now) }
+    {
+        match op {
+            Op::Begin => self.refuses_begin(),
+            Op::Put(view, rows) => self.refuses_put(*view, rows.as_slice()),
+            Op::Commit => self.refuses_end(),
+            Op::GiveUp => self.refuses_end(),
+        }
+    }
+
+    fn refuses_begin(&self) -> Option<StoreFault>
+        ensures { result ≡ refusal self.now Opens }
+    {
+        if self.active {
+            return Some(StoreFault::NightOpen);
+        }
+        if self.number == u64::MAX {
+            return Some(StoreFault::LastVersion);
+        }
+        None
+    }
+
+    fn refuses_put(&self, view: usize, rows: &[(Row, i64)]) -> Option<StoreFault>
+        ensures { result ≡ refusal self.now (Writes view (plain rows.now)) }
+    {
+        if !self.active {
+            return Some(StoreFault::NoNight);
+        }
+        if view >= self.held[0].len() {
+            return Some(StoreFault::NoView);
+        }
+        if !is_page(rows) {
+            return Some(StoreFault::BadPage);
+        }
+        None
+    }
+
+    fn refuses_end(&self) -> Option<StoreFault>
+        ensures { (result ≡ refusal self.now Commits) × (result ≡ refusal self.now Gives_up) }
+    {
+        if self.active {
+            None
+        } else {
+            Some(StoreFault::NoNight)
+        }
     }
 
     /// The number of the current version, from 0.

@@ -1,0 +1,6 @@
+mod Prefixes
+mod Stories
+mod Adding
+mod Keeps
+mod Waiting
+mod Growing

@@ -1,0 +1,71 @@
+-- What waits in a writer.
+use Rattle.std.proofs.Common.{◌≡◌, true, false, Bool, IsTrue, ◌↔◌, ◌<◌, List, [], ◌∷◌, ◌++◌, fold, drop, length, Option, Some, None, Result, Ok, Err, MatchResult, refl, ap, sym, subst, ◌∙◌, arith}
+use Rattle.wh_store.specs.Laws.{WellFormedGoesOn, WindowsFollow}
+use Rattle.wh_publish.specs.Ledgers.{ledger, with_held}
+use Rattle.wh_publish.specs.declared.ended.Ended.{Ended}
+use Rattle.wh_desk.specs.declared.inner.Inner.{Inner}
+use Rattle.wh_desk.specs.declared.kept.Kept.{Kept}
+use Rattle.wh_desk.specs.declared.kept.Publication.{Publication}
+use Rattle.wh_desk.specs.Known.{IsStory, Known}
+use Rattle.wh_desk.specs.Rules.{IsCopy, taken_in}
+use Rattle.wh_desk.specs.Writers.{IsWriter, Waits, and_held, copy_of, end_of_held, held_of, ledger_in, waiting, writing, writing_of}
+use Rattle.wh_desk.proofs.Keeps.{copy_next}
+
+pub none_pending : {A : Type 0} (b : Bool) (xs : List A) → IsTrue b ↔ (0 < length xs) → b ≡ false → xs ≡ []
+none_pending b [] is f = refl
+none_pending true (x ∷ xs) is f = absurd (cc f)
+none_pending false (x ∷ xs) is f = absurd (cc (is.1 (omega arith)))
+
+pub nothing_waits : (w : Inner) → w.held ≡ None → drop w.raw.behind w.raw.log.items ≡ [] → waiting w ≡ []
+nothing_waits w nil none = (λ i. and_held (none i) (nil i))
+
+waits_at_most_one : (x : Kept) (h : Known) (ps : List Publication) (p : Publication) → Waits x (ps ++ p ∷ []) h → ps ≡ []
+waits_at_most_one x h [] p is = refl
+waits_at_most_one x h (q ∷ []) p is = absurd is
+waits_at_most_one x h (q ∷ r ∷ ps) p is = absurd is
+
+pub one_held : (w : Inner) (p : Publication) → w.held ≡ Some p → IsWriter w → waiting w ≡ p ∷ []
+one_held w p has is =
+    let all : waiting w ≡ drop w.raw.behind w.raw.log.items ++ p ∷ [] = ap (and_held (drop w.raw.behind w.raw.log.items)) has in
+    all ∙ ap (λ ps. ps ++ p ∷ []) (waits_at_most_one (copy_of w) w.history _ p (subst (λ ps. Waits (copy_of w) ps w.history) all is.1))
+
+-- the history is the published list with what waits
+pub out : (x : Kept) (ps : List Publication) (h : Known) → Waits x ps h
+    → writing h.book (ledger h.of h.list None) ≡ writing x.front.book (ledger x.front.of (with_held x.front.list (held_of ps)) None)
+out x [] h is = ap (λ (k : Known). writing k.book (ledger k.of k.list None)) is
+out x (p ∷ []) h is = ap (λ (k : Known). writing k.book (ledger k.of k.list None)) is.1
+out x (p ∷ q ∷ ps) h is = absurd is
+
+-- with nothing waiting it is the published list
+pub whole : (w : Inner) → waiting w ≡ [] → IsWriter w → writing w.history.book (ledger w.history.of w.history.list None) ≡ writing_of w
+whole w none is =
+    let same : w.history ≡ (copy_of w).front = subst (λ ps. Waits (copy_of w) ps w.history) none is.1 in
+    (λ i. writing (same i).book (ledger (same i).of (same i).list (held_of (sym none i))))
+
+-- a copy that took in what waits shows the whole history
+taken : WindowsFollow → WellFormedGoesOn → (x : Kept) (ps : List Publication) (h : Known) → IsCopy x → Waits x ps h → IsCopy (fold taken_in x ps) × (h ≡ (fold taken_in x ps).front)
+taken follow goes_on x [] h copy is = (copy, is)
+taken follow goes_on x (p ∷ []) h copy is = (copy_next follow goes_on x p copy (is.0 ∙ is.1) is.2, sym is.0)
+taken follow goes_on x (p ∷ q ∷ ps) h copy is = absurd is
+
+module _ {E : Type 0} (follow : WindowsFollow) (goes_on : WellFormedGoesOn) (V : Type 0) (x : Kept) (w : Inner) (ps : List Publication) (ends : Option Ended) where
+  -- what waits was published, or still waits
+  pub published : (r : Result (Unit {0}) E) → w.held ≡ None → IsCopy x → Waits x ps w.history → IsStory w.history → ends ≡ end_of_held (held_of ps) → MatchResult r (λ _. w.ends ≡ None) (λ _. w.ends ≡ ends)
+      → MatchResult r (λ _. (copy_of w ≡ fold taken_in x ps) × (drop w.raw.behind w.raw.log.items ≡ []) × V) (λ _. (copy_of w ≡ x) × (drop w.raw.behind w.raw.log.items ≡ ps))
+      → IsWriter w × MatchResult r (λ _. writing_of w ≡ writing w.history.book (ledger w.history.of w.history.list None)) (λ _. writing_of w ≡ writing x.front.book (ledger_in x ps))
+  published (Ok u) nil copy is story end kept m =
+      let t = taken follow goes_on x ps w.history copy is in
+      let none = nothing_waits w nil m.1 in
+      let same : w.history ≡ (copy_of w).front = t.1 ∙ ap (λ (k : Kept). k.front) (sym m.0) in
+      let are : IsWriter w = (subst IsCopy (sym m.0) t.0, subst (λ qs. Waits (copy_of w) qs w.history) (sym none) same, story, kept ∙ ap (λ qs. end_of_held (held_of qs)) (sym none)) in
+      (are, sym (whole w none are))
+  published (Err u) nil copy is story end kept m =
+      let same : waiting w ≡ ps = (λ i. and_held (m.1 i) (nil i)) in (
+        (
+          subst IsCopy (sym m.0) copy,
+          subst (λ (t : Kept × List Publication). Waits t.0 t.1 w.history) (λ i. (sym m.0 i, sym same i)) is,
+          story,
+          kept ∙ (end ∙ ap (λ qs. end_of_held (held_of qs)) (sym same)),
+        ),
+        (λ i. writing ((m.0 i).front.book) (ledger_in (m.0 i) (same i))),
+      )

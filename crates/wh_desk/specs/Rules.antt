@@ -1,0 +1,39 @@
+-- The rule of the published store.
+use Rattle.std.specs.Prelude.{◌≡◌, ℕ, List, [], ◌∷◌, ◌++◌, Option, Some, None}
+use mathlib.Core.Option.{some}
+use lib.ListN.{get_elem?}
+use Rattle.wh_store.specs.Operations.{operation}
+use Rattle.wh_store.specs.Refusals.{refusal}
+use Rattle.wh_store.specs.Windows.{applied}
+use Rattle.wh_publish.specs.Ledgers.{window_in}
+use Rattle.wh_desk.specs.declared.kept.Kept.{Kept}
+use Rattle.wh_desk.specs.declared.kept.Publication.{Publication}
+use Rattle.wh_desk.specs.Known.{Known, known, Begins, IsStory}
+
+-- what becomes of a copy at an operation
+abbrev pub taken_in : Kept → Publication → Kept
+taken_in k p = record { store = applied k.store (operation p.op); front = p.front }
+
+-- the store shows the list that stands beside it
+abbrev pub IsCopy : Kept → Type 0
+IsCopy x = (x.store ≡ window_in x.front.of x.front.list) × IsStory x.front
+
+-- what a place knows, if anything, is a beginning of f
+abbrev pub Fits : Known → Option Known → Type 0
+Fits f v = (k : Known) → v ≡ Some k → Begins k f
+
+-- the store shows its list, and each place knows a beginning of that
+pub record Holds (x : Kept) (views : List (Option Known)) : Type 0 where
+  pub copy : IsCopy x
+  pub each : (seat : ℕ) (v : Option Known) → get_elem? views seat ≡ some v → Fits x.front v
+
+-- what was known begins what is seen, which the store shows
+abbrev pub Sees : Option Known → Kept → Option Known → Type 0
+Sees v x w = Fits x.front v × IsCopy x × (w ≡ Some x.front)
+
+-- nothing waits, or one operation that goes on from the published list, and is not refused after it
+abbrev pub Follows : Kept → List Publication → Type 0
+Follows x [] = Unit {0}
+Follows x (p ∷ []) =
+    (p.front ≡ known x.front.book x.front.of (x.front.list ++ operation p.op ∷ [])) × (refusal x.store (operation p.op) ≡ None)
+Follows x (p ∷ q ∷ ps) = ⊥

@@ -1,0 +1,236 @@
+//! A desk, which reads what is published and never waits.
+
+ghost use Rattle.std.specs.Prelude.{◌≡◌, ◌⊎◌, ◌≤◌, None, Some, Ok, Err, MatchOption, MatchResult, option_map};
+ghost use mathlib.Core.List.{IsPrefix};
+ghost use Rattle.left_right.specs.Sides.{view};
+ghost use Rattle.wh_store.specs.Versions.{number};
+ghost use Rattle.wh_publish.specs.Ledgers.{versions_in};
+ghost use Rattle.wh_desk.specs.Known.{Begins};
+ghost use Rattle.wh_desk.specs.Rules.{IsCopy};
+ghost use Rattle.wh_desk.specs.Desks.{sitting, sitting_of, Knows, IsDesk, Grows, IsPage, NoPage, OpensAt, NotOpened, Reads, NotRead};
+
+use crate::chair::{Chair, DeskFault};
+use crate::history::Told;
+use crate::kept::Kept;
+use crate::steps::{RawReader, RawReading, enter};
+use core::mem::replace_with;
+use std::marker::Model;
+use wh_store::{Page, told_law};
+
+/// A reader's place at the warehouse. Seen as the warehouse, the longest beginning of its published list that the desk has seen or was
+/// told, and the version of its session.
+#[derive(Drop)]
+pub struct Desk {
+    pub(crate) chair: Chair,
+}
+
+impl Model for Desk {
+    ghost use Rattle.wh_desk.specs.Desks.{Sitting, coded_sitting, sitting_of, IsDesk};
+
+    ghost Value = { Sitting };
+
+    ghost coded = { coded_sitting };
+
+    ghost view = { λ d. sitting_of d.chair };
+
+    ghost invariant = { λ d. IsDesk d.chair };
+}
+
+/// Takes the copy that is shown, where it has all that was seen and told.
+fn look(reader: RawReader, front: Told) -> Result<(RawReading, Told), (RawReader, Told)>
+    requires { Knows (view reader.place) front }
+    ensures { MatchResult result (λ r. IsCopy r.0.part.value × (r.1 ≡ r.0.part.value.front) × Begins front r.1 × (view r.0.place ≡ Some r.1)) (λ r. Knows (view r.0.place) r.1 × (r.1 ≡ front)) }
+{
+    match enter(reader) {
+        Err(reader) => Err((reader, front)),
+        Ok(reading) => {
+            let shown = reading.get().front.again();
+            if shown.covers(&front) {
+                return Ok((reading, shown));
+            }
+            Err((reading.leave(), front))
+        }
+    }
+}
+
+/// Reads a copy, in a session of this version.
+fn read(
+    kept: &Kept,
+    version: u64,
+    view: usize,
+    after: Option<&[i64]>,
+    limit: usize,
+) -> Result<Page, DeskFault>
+    requires copy { IsCopy kept.now }
+    requires least { 1 ≤ limit }
+    requires most { limit ≤ 256 }
+    ensures { MatchResult result (λ page. IsPage (sitting kept.now.front (Some version)) version view (option_map (λ row. row.now) after.entry) limit page) (NoPage (sitting kept.now.front (Some version)) version view) }
+{
+    told_law();
+    let store = &kept.store;
+    if !store.unexpired(version) {
+        return Err(DeskFault::Expired {
+            version,
+            current: store.number(),
+            active: store.is_active(),
+        });
+    }
+    if view >= store.views(version) {
+        return Err(DeskFault::NoView);
+    }
+    match store.visible(version, view, after, limit) {
+        Ok(page) => Ok(page),
+        Err(_) => Err(DeskFault::Memory),
+    }
+}
+
+/// The number of the current version of a copy.
+fn current(kept: &Kept) -> u64
+    requires { IsCopy kept.now }
+    ensures { result ≡ number (versions_in kept.now.front.of kept.now.front.list) }
+{
+    kept.store.number()
+}
+
+/// Opens a session at the version that is shown.
+fn open_at(chair: Chair) -> (Chair, Result<u64, DeskFault>)
+    requires { IsDesk chair }
+    ensures desk { IsDesk result.0 }
+    ensures answer { MatchResult result.1 (OpensAt (sitting_of chair) (sitting_of result.0)) (NotOpened (sitting_of chair) (sitting_of result.0)) }
+{
+    let Chair {
+        reader,
+        front,
+        session,
+    } = chair;
+    if session.is_some() {
+        let chair = Chair {
+            reader,
+            front,
+            session,
+        };
+        return (chair, Err(DeskFault::SessionOpen));
+    }
+    match look(reader, front) {
+        Err((reader, front)) => {
+            let chair = Chair {
+                reader,
+                front,
+                session,
+            };
+            (chair, Err(DeskFault::Away))
+        }
+        Ok((reading, front)) => {
+            let version = current(reading.get());
+            let chair = Chair {
+                reader: reading.leave(),
+                front,
+                session: Some(version),
+            };
+            (chair, Ok(version))
+        }
+    }
+}
+
+/// Reads a page in the session that is open.
+fn page_at(
+    chair: Chair,
+    view: usize,
+    after: Option<&[i64]>,
+    limit: usize,
+) -> (Chair, Result<Page, DeskFault>)
+    requires desk { IsDesk chair }
+    requires least { 1 ≤ limit }
+    requires most { limit ≤ 256 }
+    ensures desk { IsDesk result.0 }
+    ensures answer { MatchResult result.1 (Reads (sitting_of chair) (sitting_of result.0) view (option_map (λ row. row.now) after.entry) limit) (NotRead (sitting_of chair) (sitting_of result.0) view) }
+{
+    let Chair {
+        reader,
+        front,
+        session,
+    } = chair;
+    let Some(version) = session else {
+        let chair = Chair {
+            reader,
+            front,
+            session,
+        };
+        return (chair, Err(DeskFault::NoSession));
+    };
+    match look(reader, front) {
+        Err((reader, front)) => {
+            let chair = Chair {
+                reader,
+                front,
+                session,
+            };
+            (chair, Err(DeskFault::Away))
+        }
+        Ok((reading, front)) => {
+            let answer = read(reading.get(), version, view, after, limit);
+            let chair = Chair {
+                reader: reading.leave(),
+                front,
+                session,
+            };
+            (chair, answer)
+        }
+    }
+}
+
+impl Desk {
+    /// From now on the desk sees no less than was told.
+    pub fn learn(&mut self, told: Told)
+        requires { told.book ≡ self.old.book }
+        ensures one { (self.new.list ≡ self.old.list) ⊎ (self.new.list ≡ told.list) }
+        ensures seen { Grows self.old self.new }
+        ensures told { (told.of ≡ self.new.of) × IsPrefix told.list self.new.list }
+        ensures session { self.new.session ≡ self.old.session }
+    {
+        if !self.chair.front.covers(&told) {
+            self.chair.front = told;
+        }
+    }
+
+    /// Opens a session at the current version, which it answers.
+    #[tactic(auto, using(crate::proofs::Growing::opens_grow))]
+    pub fn open(&mut self) -> Result<u64, DeskFault>
+        ensures grows { Grows self.old self.new }
+        ensures answer { MatchResult result (OpensAt self.old self.new) (NotOpened self.old self.new) }
+    {
+        replace_with(&mut self.chair, (), |chair, _| open_at(chair))
+    }
+
+    /// A page of a view in the session's version: its first rows after this one, or from its beginning, at most `limit`, which is 1 to 256.
+    #[tactic(auto, using(crate::proofs::Growing::reads_grow))]
+    pub fn page(
+        &mut self,
+        view: usize,
+        after: Option<&[i64]>,
+        limit: usize,
+    ) -> Result<Page, DeskFault>
+        requires least { 1 ≤ limit }
+        requires most { limit ≤ 256 }
+        ensures grows { Grows self.old self.new }
+        ensures answer { MatchResult result (Reads self.old self.new view (option_map (λ row. row.now) after.entry) limit) (NotRead self.old self.new view) }
+    {
+        replace_with(
+            &mut self.chair,
+            (view, after, limit),
+            |chair, (view, after, limit)| page_at(chair, view, after, limit),
+        )
+    }
+
+    /// Ends the session, where one is open.
+    pub fn close(&mut self) -> Result<(), DeskFault>
+        ensures closed { self.new ≡ record self.old { session = None } }
+        ensures refused { MatchOption self.old.session (result ≡ Err DeskFault.NoSession) (λ _. result ≡ Ok tt) }
+    {
+        if self.chair.session.is_none() {
+            return Err(DeskFault::NoSession);
+        }
+        self.chair.session = None;
+        Ok(())
+    }
+}

@@ -1,0 +1,15 @@
+//! What a writer has.
+
+use crate::history::History;
+use crate::kept::Publication;
+use crate::steps::Raw;
+use wh_publish::Ended;
+
+/// The two copies, the history, and what could not be handed over to the copies.
+pub struct Inner {
+    pub raw: Raw,
+    pub history: History,
+    pub held: Option<Publication>,
+    /// How the operation that waits, there or in the copies, ends the night, if it does.
+    pub ends: Option<Ended>,
+}

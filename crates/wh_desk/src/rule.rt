@@ -1,0 +1,47 @@
+//! What each place at the store knows, and what each step tells it.
+
+ghost use Rattle.std.specs.Prelude.{◌≡◌, None, Some};
+ghost use Rattle.wh_desk.specs.Rules.{Holds, Sees};
+
+use crate::history::Told;
+use crate::kept::Kept;
+use atomic_table::{Join, Split};
+use crossbeam_utils::rule::{Outcome, Protocol};
+
+/// A place knows the list that it saw last, if it saw one.
+pub struct Published;
+
+impl Protocol<Kept, Option<Told>> for Published {
+    ghost holds = { Holds };
+
+    ghost first = { None };
+}
+
+/// The writer shows a copy.
+pub struct Puts;
+
+impl Outcome<Kept, Option<Told>> for Puts {
+    ghost then = { λ v x y w. w ≡ Some y.front };
+}
+
+/// A reader takes the copy that is shown.
+pub struct Enters;
+
+impl Outcome<Kept, Option<Told>> for Enters {
+    ghost then = { λ v x y w. Sees v x w };
+}
+
+/// A new reader is told which list it is.
+pub struct Tells;
+
+impl Split<Option<Told>> for Tells {
+    ghost left = { λ v. v };
+
+    ghost right = { λ v. v };
+}
+
+impl Join<Option<Told>> for Tells {
+    ghost both = { λ v w. w };
+
+    ghost spent = { None };
+}

@@ -1,0 +1,48 @@
+//! The steps at the store, each over a writer or a reader by value.
+
+ghost use Rattle.std.specs.Prelude.{◌≡◌, [], drop, fold, IfSome, MatchResult, Some};
+ghost use Rattle.left_right.specs.Sides.{view};
+ghost use Rattle.wh_desk.specs.Rules.{Follows, Sees, taken_in};
+
+use crate::history::Told;
+use crate::kept::{Kept, Publication};
+use crate::rule::{Enters, Published, Puts, Tells};
+use left_right::reader::{Reader, Reading};
+use left_right::writer::Writer;
+use std::alloc::AllocError;
+use std::sync::Wait;
+use wh_store::{well_formed_goes_on_law, window_law};
+
+pub type Raw = Writer<Kept, Publication, Option<Told>, Published>;
+
+pub type RawReader = Reader<Kept, Option<Told>, Published>;
+
+pub type RawReading = Reading<Kept, Option<Told>, Published>;
+
+/// Publishes what waits, where that goes on from what is published.
+pub fn publish_raw<R: Wait>(rt: &R, raw: Raw) -> (Raw, Result<(), AllocError>)
+    requires { Follows raw.desk.shown.value (drop raw.behind raw.log.items) }
+    ensures ok { MatchResult result.1 (λ _. (result.0.desk.shown.value ≡ fold taken_in raw.desk.shown.value (drop raw.behind raw.log.items)) × (drop result.0.behind result.0.log.items ≡ []) × (view result.0.desk.place ≡ Some result.0.desk.shown.value.front)) (λ _. (result.0.desk.shown.value ≡ raw.desk.shown.value) × (drop result.0.behind result.0.log.items ≡ drop raw.behind raw.log.items)) }
+{
+    window_law();
+    well_formed_goes_on_law();
+    raw.publish_as::<Puts, R>(rt)
+}
+
+/// A new reader, which knows what the writer published last.
+pub fn reader_of(raw: &mut Raw) -> Option<RawReader>
+    requires { view raw.old.desk.place ≡ Some raw.old.desk.shown.value.front }
+    ensures kept { (raw.new.desk.shown.value ≡ raw.old.desk.shown.value) × (drop raw.new.behind raw.new.log.items ≡ drop raw.old.behind raw.old.log.items) × (view raw.new.desk.place ≡ view raw.old.desk.place) }
+    ensures knows { IfSome result (λ r. view r.place ≡ Some raw.old.desk.shown.value.front) }
+{
+    let mut reader = raw.factory().reader().ok()?;
+    reader.learn::<Tells>(raw.tell::<Tells>());
+    Some(reader)
+}
+
+/// An entry. What is shown begins with all that this reader saw.
+pub fn enter(reader: RawReader) -> Result<RawReading, RawReader>
+    ensures { MatchResult result (λ r. Sees (view reader.place) r.part.value (view r.place)) (λ r. view r.place ≡ view reader.place) }
+{
+    reader.enter_as::<Enters>()
+}
