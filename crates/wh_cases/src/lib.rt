@@ -8,11 +8,7 @@
 #[cfg(test)]
 mod bags;
 #[cfg(test)]
-mod desks;
-#[cfg(test)]
 mod formulas;
-#[cfg(test)]
-mod machine;
 #[cfg(test)]
 mod nights;
 #[cfg(test)]
