@@ -12,7 +12,8 @@ use Rattle.wh_core.specs.Nights.{Setup, night, published, turn}
 use Rattle.wh_core.specs.Replies.{IsLegalLog}
 use Rattle.wh_core.proofs.Deeds.{AreDeeds, deeds_of, none, one_more}
 use Rattle.wh_core.specs.Standing.{IsWithin}
-use Rattle.wh_core.proofs.Underway.{Covers, IsAt, IsRising, front, get-within, now, start_of, underway, wave_place, wave_turn}
+use Rattle.wh_core.proofs.Legs.{Covers, IsRising, get-within}
+use Rattle.wh_core.proofs.Underway.{IsAt, front, now, start_of, underway, wave_place, wave_turn}
 
 module _ (n : Night) (us vs : List ℕ) (from upto drawn ended : ℕ) where
   -- where a leg is in turn, the Comps before it and those drawn of it

@@ -1,6 +1,7 @@
 pub mod Deeds
 pub mod Sessions
 pub mod Stages
+pub mod Legs
 pub mod Underway
 pub mod Jobs
 pub mod Puts

@@ -25,7 +25,8 @@ use Rattle.wh_core.specs.Log.{Log, Began, Drew, Finished, Paged_in, Committed, G
 use Rattle.wh_core.specs.Nights.{Setup, night, next_night, page_in_turn, published, turn, turn_in, versions, night_of}
 use Rattle.wh_core.specs.Replies.{AreAllowed, IsCarried, IsLegalLog, IsMemory, IsReply, IsRuled, Ruling, Says, Takes, Carries, Starts, cause_of, commit_ruling, done_by, done_ruling, more, page_ruling, take_ruling, unless}
 use Rattle.wh_core.specs.Standing.{GoesOn, Stands, page_in, wave_in}
-use Rattle.wh_core.proofs.Underway.{come_to, fresh, have_jobs, reach_is, night-began, night-paged, versions_from-append}
+use Rattle.wh_core.proofs.Legs.{have_jobs}
+use Rattle.wh_core.proofs.Underway.{come_to, fresh, reach_is, night-began, night-paged, versions_from-append}
 use Rattle.wh_core.proofs.Steps.{AreLast, AtPage, InWave, IsKind, next_in_wave, wave, page, over, kind_here, refuse, onward, le_false, le_true, drop_one, wave_here, wave_turn_here, page_here, page_turn_here, end_turn_here, drew, ended_one, wave_over, page_over, reach_after_wave, reach_after_page, comes_on, is_stopped, held_within, last_done, all_are_passed}
 
 -- ---- what is known

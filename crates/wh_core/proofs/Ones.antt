@@ -11,6 +11,7 @@ use Rattle.wh_maint.specs.declared.fault.MaintFault.TheVariants as fault
 use Rattle.wh_night.specs.Carry.{State}
 use Rattle.wh_night.specs.Refused.{ComesBefore, IsAnswer, IsBaseFault, IsEarlier, IsFirstReason, IsStepFault, Reason, RowIsLacking, BaseIsLarge, ChangeIsLarge, ChangeHasNoValue, CompIsLarge, CompMeetsNoValue, PendingIsLarge, TableIsLarge, turn}
 use Rattle.wh_course.specs.Night.{Night, ArePassedAt, IsFaultAt, IsFirstFaultOf, IsPassedAt, state_at}
+use Rattle.wh_core.proofs.Underway.{all-head, all-tail}
 use Rattle.wh_core.specs.declared.reply.Cause.{Cause}
 use Rattle.wh_core.specs.declared.reply.Cause.TheVariants as cause
 use Rattle.wh_core.specs.declared.reply.Reply.{Reply}
@@ -82,15 +83,9 @@ one_there n p f g a b =
     let c : IsStepFault n.catalog n.changes (state_at n p) a.expression g = subst (λ e. IsStepFault n.catalog n.changes (state_at n p) e g) same b.refused in
     one_cause n.catalog n.changes (state_at n p) _ a.refused.reason c.reason f g a.refused.first c.first a.refused.answer c.answer
 
-head-of : (P : ℕ → Type 0) (x : ℕ) (xs : List ℕ) → All P (x ∷ xs) → P x
-head-of P x xs all = all 0 x (omega arith)
-
-tail-of : (P : ℕ → Type 0) (x : ℕ) (xs : List ℕ) → All P (x ∷ xs) → All P xs
-tail-of P x xs all = λ k d l. all (suc k) d (omega arith)
-
 all-amid : (P : ℕ → Type 0) (before : List ℕ) (p : ℕ) (later : List ℕ) → All P (before ++ p ∷ later) → P p
-all-amid P [] p later all = head-of P p later all
-all-amid P (x ∷ before) p later all = all-amid P before p later (tail-of P x (before ++ p ∷ later) all)
+all-amid P [] p later all = all-head P p later all
+all-amid P (x ∷ before) p later all = all-amid P before p later (all-tail P x (before ++ p ∷ later) all)
 
 heads : (x y : ℕ) (xs ys : List ℕ) → x ∷ xs ≡ y ∷ ys → x ≡ y
 heads x y xs ys e = cc
@@ -101,10 +96,10 @@ tails x y xs ys e = cc
 one_place : (n : Night) (a : List ℕ) (p : ℕ) (c b : List ℕ) (q : ℕ) (d : List ℕ) (f g : MaintFault) → a ++ p ∷ c ≡ b ++ q ∷ d
     → ArePassedAt n a → ArePassedAt n b → IsFaultAt n p f → IsFaultAt n q g → p ≡ q
 one_place n [] p c [] q d f g e pa pb fp fq = heads p q c d e
-one_place n [] p c (y ∷ b) q d f g e pa pb fp fq = absurd (not_both n p f (subst (IsPassedAt n) (sym (heads p y c (b ++ q ∷ d) e)) (head-of (IsPassedAt n) y b pb)) fp)
-one_place n (x ∷ a) p c [] q d f g e pa pb fp fq = absurd (not_both n q g (subst (IsPassedAt n) (heads x q (a ++ p ∷ c) d e) (head-of (IsPassedAt n) x a pa)) fq)
+one_place n [] p c (y ∷ b) q d f g e pa pb fp fq = absurd (not_both n p f (subst (IsPassedAt n) (sym (heads p y c (b ++ q ∷ d) e)) (all-head (IsPassedAt n) y b pb)) fp)
+one_place n (x ∷ a) p c [] q d f g e pa pb fp fq = absurd (not_both n q g (subst (IsPassedAt n) (heads x q (a ++ p ∷ c) d e) (all-head (IsPassedAt n) x a pa)) fq)
 one_place n (x ∷ a) p c (y ∷ b) q d f g e pa pb fp fq =
-    one_place n a p c b q d f g (tails x y (a ++ p ∷ c) (b ++ q ∷ d) e) (tail-of (IsPassedAt n) x a pa) (tail-of (IsPassedAt n) y b pb) fp fq
+    one_place n a p c b q d f g (tails x y (a ++ p ∷ c) (b ++ q ∷ d) e) (all-tail (IsPassedAt n) x a pa) (all-tail (IsPassedAt n) y b pb) fp fq
 
 -- ---- rulings
 

@@ -45,7 +45,8 @@ impl<F: RowTest + Drop, G: RowValue + Drop> Core<F, G> {
     ) -> Result<Core<F, G>, AllocError>
         requires setup { IsSetup (record { catalog = catalog; desks = desks; workers = workers; versions = 2; keys = keys; opening = tables.items; nights = nights_of nights.items }) }
         requires judged { AreJudged catalog nights.items }
-        ensures { IfOk result (λ core. StandsWith (record { catalog = catalog; desks = desks; workers = workers; versions = 2; keys = keys; opening = tables.items; nights = nights_of nights.items }) [] core) }
+        ensures stands { IfOk result (λ core. StandsWith (record { catalog = catalog; desks = desks; workers = workers; versions = 2; keys = keys; opening = tables.items; nights = nights_of nights.items }) [] core) }
+        ensures fresh { IfOk result (λ core. IsFresh core) }
     {
         let machine = Machine::new(alloc, tables, desks, workers)?;
         Ok(Core {

@@ -28,7 +28,7 @@ pub use child_lists::ChildLists;
 pub use definition::Definition;
 pub use fault::ShapeFault;
 pub use fitting::fit_law;
-pub use limits::{MAX_COLUMNS, MAX_VIEWS};
+pub use limits::{MAX_COLUMNS, MAX_VIEWS, half_power};
 pub use name::Name;
 pub use output::Output;
 pub use shape::Shape;

@@ -44,7 +44,7 @@ impl<T: Copy + Drop> Pieces<T> {
         Pieces::with_most(alloc, MOST)
     }
 
-    /// No rows, in a map whose pieces have at most `most` rows, and one where `most` is 0.
+    /// No rows, in a map whose pieces have about `most` rows at most. The number makes calls faster or slower and changes no answer.
     pub fn with_most(alloc: Global, most: usize) -> Self
         ensures { result ≡ [] }
     {

@@ -14,7 +14,7 @@ use crate::costs::Costs;
 use crate::earlier::Installed;
 use crate::expression::Expression;
 use crate::sizes::Sizes;
-use wh_dag::{ChildLists, Shape, has_view};
+use wh_dag::{ChildLists, Shape, half_power, has_view};
 
 #[tactic(auto, unfolding(crate::specs::Sizes::sizes_of, crate::specs::Expression::is_new))]
 fn state_rows(
@@ -45,23 +45,6 @@ fn change_rows(sizes: &Sizes, view: usize) -> u64
     ensures small { result ≤ 2 ^ 40 }
 {
     sizes.row(view).change
-}
-
-/// Half of 2^n: in how many terms of a Comp from n views one of them gives its change.
-fn half_power(n: usize) -> u128
-    requires some { 1 ≤ n }
-    requires few { n ≤ 6 }
-    ensures value { 2 * result ≡ 2 ^ n }
-    ensures small { result ≤ 32 }
-{
-    match n {
-        1 => 1,
-        2 => 2,
-        3 => 4,
-        4 => 8,
-        5 => 16,
-        _ => 32,
-    }
 }
 
 /// What all terms of a Comp from `sources` read of one child.

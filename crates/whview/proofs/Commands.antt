@@ -13,7 +13,7 @@ use Rattle.clap.specs.Walk.{action_of, answers_to, arg_by_id, nothing_held, rows
 use Rattle.clap.specs.declared.builder.action.ArgAction.TheVariants as action
 use Rattle.clap.specs.declared.builder.value_parser.ValueParser.{ValueParser}
 use Rattle.clap.proofs.ValueTestLemmas.{accepts-Accepts}
-use Rattle.whview.specs.CommandLine.{IsCommand, NamesCommand, TakesBudget, TakesCosts, budget_parser, check, certify, command_app, cost_parser, night, plan, plan_app, whview_app, with_commands}
+use Rattle.whview.specs.CommandLine.{IsCommand, NamesCommand, TakesBudget, TakesCosts, budget_parser, check, certify, command_app, cost_parser, night, plan, plan_app, replay, whview_app, with_commands}
 use Rattle.whview.proofs.Entered.{EachCommand, IsNotHelp, entered_command}
 use Rattle.whview.proofs.LeafRows.{AreOptionsOf, IsOptionOf, PassesIn, first_of_good}
 
@@ -102,7 +102,10 @@ each_command = (
     λ word words answers named e. plan refl (plan_costs words e) (plan_budget words e),
     (
       λ word words answers named e. certify refl (command_costs (codes "certify") words e),
-      (λ word words answers named e. night refl, (λ word words answers named e. absurd (not_help word answers named), tt)),
+      (
+        λ word words answers named e. night refl,
+        (λ word words answers named e. replay refl, (λ word words answers named e. absurd (not_help word answers named), tt)),
+      ),
     ),
   ),
 )

@@ -9,6 +9,7 @@ pub mod Outputs
 pub mod SingleAnswers
 pub mod SingleFaults
 pub mod SingleNights
+pub mod SingleReplays
 pub mod SinglePlans
 pub mod Told
 pub mod Certified

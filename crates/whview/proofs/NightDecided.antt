@@ -161,7 +161,7 @@ record AreOpenedBy (N : Night) (old : List Bag) (cat : CatalogOf) : Type 0 where
   opened : (v : ℕ) → bag_at old v ≡ contents (graph_of cat) (bag_at N.opening.tables) v
   valued : HaveContentsBelow (graph_of cat) (bag_at N.opening.tables) (length cat.views.children)
 
-opened_by : (N : Night) (old : List Bag) → AreOpenedBy N old (catalog_in N) → AreOpened N old
+opened_by : (N : Night) (old : List Bag) → AreOpenedBy N old (catalog_in N) → AreOpened N.shape N.opening old
 opened_by N old o = record { each = o.each; opened = λ v l. o.opened v; valued = o.valued }
 
 pub refused_from : (N : Night) (old : List Bag) (fault : CarryFault) (cat : CatalogOf) (ts ch : List Bag) (list : List Expression)

@@ -28,6 +28,7 @@ use Rattle.whview.specs.CommandLine.{AsksBy, IsAsked, whview_app}
 use Rattle.whview.specs.FirstLine.{after_first_line, first_line_of, words_in}
 use Rattle.whview.proofs.SingleFaults.{one_broken, one_shown}
 use Rattle.whview.proofs.SingleNights.{one_night}
+use Rattle.whview.proofs.SingleReplays.{one_replay}
 use Rattle.whview.proofs.SinglePlans.{as_planning, one_plan}
 use Rattle.whview.specs.OneAnswer.{AreOneAnswer, AreOneAnswerTo, AreOneLineAnswer, AreSame, OneCertifyOutput, OneCheckOutput, OneHandedOutput, OneInputOutput, one_text}
 use Rattle.whview.specs.Output.{AskFor, Bytes, Failed, IsCommandOutput, IsHandedOutput, IsLineAnswer, IsReadAnswer, IsRefused, IsSourceAnswer, IsWordsAnswer, Reading, ReadsInput, answered, file_of, names_a_file, not_text, refused, of_words, too_long, within}
@@ -179,6 +180,18 @@ plan_is_not_night e = begin_apart (codes "night") (codes "plan") 110 112 refl re
 certify_is_not_night : codes "certify" ≡ codes "night" → ⊥
 certify_is_not_night e = begin_apart (codes "certify") (codes "night") 99 110 refl refl (omega arith) e
 
+check_is_not_replay : codes "check" ≡ codes "replay" → ⊥
+check_is_not_replay e = begin_apart (codes "check") (codes "replay") 99 114 refl refl (omega arith) e
+
+plan_is_not_replay : codes "plan" ≡ codes "replay" → ⊥
+plan_is_not_replay e = begin_apart (codes "plan") (codes "replay") 112 114 refl refl (omega arith) e
+
+certify_is_not_replay : codes "certify" ≡ codes "replay" → ⊥
+certify_is_not_replay e = begin_apart (codes "certify") (codes "replay") 99 114 refl refl (omega arith) e
+
+night_is_not_replay : codes "night" ≡ codes "replay" → ⊥
+night_is_not_replay e = begin_apart (codes "night") (codes "replay") 110 114 refl refl (omega arith) e
+
 -- two commands that the same words ask for print the same
 one_asked : (found : Option (Text × List Row)) (command other : Asked) → IsAsked found command → IsAsked found other
     → (bytes text : List ℕ) (status : ℕ) → IsCommandOutput other bytes text status → IsCommandOutput command bytes text status
@@ -208,6 +221,15 @@ one_asked (Some found) (asked.Plan costs budget input) (asked.Night input') f g 
 one_asked (Some found) (asked.Night input) (asked.Plan costs' budget' input') f g bytes text status is = absurd (plan_is_not_night (sym g.0 ∙ f.0))
 one_asked (Some found) (asked.Certify costs input) (asked.Night input') f g bytes text status is = absurd (certify_is_not_night (sym f.0 ∙ g.0))
 one_asked (Some found) (asked.Night input) (asked.Certify costs' input') f g bytes text status is = absurd (certify_is_not_night (sym g.0 ∙ f.0))
+one_asked (Some found) (asked.Replay input) (asked.Replay input') f g bytes text status is = is
+one_asked (Some found) (asked.Check costs input) (asked.Replay input') f g bytes text status is = absurd (check_is_not_replay (sym f.0 ∙ g.0))
+one_asked (Some found) (asked.Replay input) (asked.Check costs' input') f g bytes text status is = absurd (check_is_not_replay (sym g.0 ∙ f.0))
+one_asked (Some found) (asked.Plan costs budget input) (asked.Replay input') f g bytes text status is = absurd (plan_is_not_replay (sym f.0 ∙ g.0))
+one_asked (Some found) (asked.Replay input) (asked.Plan costs' budget' input') f g bytes text status is = absurd (plan_is_not_replay (sym g.0 ∙ f.0))
+one_asked (Some found) (asked.Certify costs input) (asked.Replay input') f g bytes text status is = absurd (certify_is_not_replay (sym f.0 ∙ g.0))
+one_asked (Some found) (asked.Replay input) (asked.Certify costs' input') f g bytes text status is = absurd (certify_is_not_replay (sym g.0 ∙ f.0))
+one_asked (Some found) (asked.Night input) (asked.Replay input') f g bytes text status is = absurd (night_is_not_replay (sym f.0 ∙ g.0))
+one_asked (Some found) (asked.Replay input) (asked.Night input') f g bytes text status is = absurd (night_is_not_replay (sym g.0 ∙ f.0))
 
 -- what has one text and one status is one answer
 as_one : (command : Asked) (bytes text other : List ℕ) (status ended : ℕ) → AreSame text status other ended → AreOneAnswer command bytes text status other ended
@@ -215,12 +237,14 @@ as_one (asked.Check costs input) bytes text other status ended same = same
 as_one (asked.Plan costs budget input) bytes text other status ended same = one_text same
 as_one (asked.Certify costs input) bytes text other status ended same = same
 as_one (asked.Night input) bytes text other status ended same = same
+as_one (asked.Replay input) bytes text other status ended same = same
 
 one_output : (command : Asked) (bytes text other : List ℕ) (status ended : ℕ) → IsCommandOutput command bytes text status → IsCommandOutput command bytes other ended → AreOneAnswer command bytes text status other ended
 one_output (asked.Check costs input) bytes text other status ended f g = one_check costs bytes text other status ended f g
 one_output (asked.Plan costs budget input) bytes text other status ended f g = one_plan costs budget.nodes bytes text other status ended f g
 one_output (asked.Certify costs input) bytes text other status ended f g = one_certification costs bytes text other status ended f g
 one_output (asked.Night input) bytes text other status ended f g = one_night bytes text other status ended f g
+one_output (asked.Replay input) bytes text other status ended f g = one_replay bytes text other status ended f g
 
 -- two commands that the same words ask for read the same
 file_asked : (name : Text) (options : List Row) (command : Asked) → AsksBy name options command → file_of command ≡ first_of (codes "input") options
@@ -228,6 +252,7 @@ file_asked name options (asked.Check costs input) is = is.1.file
 file_asked name options (asked.Plan costs budget input) is = is.1.file
 file_asked name options (asked.Certify costs input) is = is.1.file
 file_asked name options (asked.Night input) is = is.1
+file_asked name options (asked.Replay input) is = is.1
 
 one_file : (found : Option (Text × List Row)) (command other : Asked) → IsAsked found command → IsAsked found other → file_of other ≡ file_of command
 one_file None command other f g = absurd f

@@ -15,7 +15,7 @@ use Rattle.wh_catalogue_text.proofs.ShapesRead.{from_step, same_Ok}
 use Rattle.wh_catalogue_text.specs.Catalogue.{shape_of}
 use Rattle.wh_catalogue_text.specs.Definitions.{ViewOf, definitions_of}
 use Rattle.wh_catalogue_text.specs.FormulaKinds.{Texts}
-use Rattle.wh_load.specs.ReadingNight.{Night, catalog_in, given_of, night_in, night_of, night_over, tables_of}
+use Rattle.wh_load.specs.ReadingNight.{Night, Opening, catalog_in, given_of, night_in, night_of, night_over, tables_of}
 use Rattle.wh_load.specs.ReadingParts.{parts_in, text_in}
 use Rattle.wh_maint.specs.Comp.{bag_at}
 use Rattle.wh_maint.specs.Contents.{contents}
@@ -35,7 +35,7 @@ use Rattle.wh_strategy.proofs.Agreeing.{refused as not_correct}
 use Rattle.wh_strategy.specs.declared.expression.Expression.{Expression}
 use Rattle.whview.proofs.SingleFaults.{one_broken, one_shown}
 use Rattle.whview.specs.CheckOutput.{IsFaultShown}
-use Rattle.whview.specs.NightOutput.{AreOpened, IsCarriedOut, IsNightTold, broken, carried, carried_text, graph_in, left_text, no_contents, refused, refused_text, report_text, view_text, views_text}
+use Rattle.whview.specs.NightOutput.{AreOpened, IsCarriedOut, IsNightTold, broken, carried, carried_text, graph_in, graph_over, left_text, no_contents, refused, refused_text, report_text, view_text, views_text}
 use Rattle.whview.specs.OneAnswer.{AreSame, OneNightOutput}
 
 -- ---- one reason why there are no contents
@@ -56,7 +56,7 @@ one_evaluate_fault g tables view fault (Absent v row) a b = absurd b
 one_evaluate_fault g tables view Memory other a b = absurd a
 one_evaluate_fault g tables view fault Memory a b = absurd b
 
-one_lack : (g : ViewGraph) (base : ℕ → Bag) (fault other : MaintFault) → HasNoContents g base fault → HasNoContents g base other → fault ≡ other
+pub one_lack : (g : ViewGraph) (base : ℕ → Bag) (fault other : MaintFault) → HasNoContents g base fault → HasNoContents g base other → fault ≡ other
 one_lack g base fault other a b =
     let tables = contents g base in
     ⊎_elim
@@ -70,14 +70,20 @@ one_lack g base fault other a b =
     (cases_lt a.view b.view)
 
 -- contents that are opened lack nothing
-not_opened : (night : Night) (fault : MaintFault) (old : List Bag) → HasNoContents (graph_in night) (bag_at night.opening.tables) fault → AreOpened night old → ⊥
-not_opened night fault old h a = not_evaluated (graph_in night) _ h.view fault h.why (a.valued h.view (within night.shape.children h.view h.derived) h.derived)
+pub never_opened : (shape : Views) (opening : Opening) (fault : MaintFault) (old : List Bag) → HasNoContents (graph_over shape opening) (bag_at opening.tables) fault → AreOpened shape opening old → ⊥
+never_opened shape opening fault old h a = not_evaluated (graph_over shape opening) _ h.view fault h.why (a.valued h.view (within shape.children h.view h.derived) h.derived)
+
+not_opened : (night : Night) (fault : MaintFault) (old : List Bag) → HasNoContents (graph_in night) (bag_at night.opening.tables) fault → AreOpened night.shape night.opening old → ⊥
+not_opened night fault old h a = never_opened night.shape night.opening fault old h a
 
 -- ---- one opening, one list of steps, one text of the tables
 
-one_opening : (night : Night) (old other : List Bag) → AreOpened night old → AreOpened night other → old ≡ other
-one_opening night old other a b =
-    ext_get_or empty old other (a.each ∙ sym b.each) (λ v l. (let within : v < length night.shape.children = omega (arith, l, a.each) in a.opened v within ∙ sym (b.opened v within)))
+pub same_opening : (shape : Views) (opening : Opening) (old other : List Bag) → AreOpened shape opening old → AreOpened shape opening other → old ≡ other
+same_opening shape opening old other a b =
+    ext_get_or empty old other (a.each ∙ sym b.each) (λ v l. (let within : v < length shape.children = omega (arith, l, a.each) in a.opened v within ∙ sym (b.opened v within)))
+
+one_opening : (night : Night) (old other : List Bag) → AreOpened night.shape night.opening old → AreOpened night.shape night.opening other → old ≡ other
+one_opening night old other a b = same_opening night.shape night.opening old other a b
 
 one_report : (shape : List (List ℕ)) (list : List Expression) (old new : ℕ → Bag) (steps others : List (Expression × ℕ)) → AreSteps shape list old new steps → AreSteps shape list old new others → steps ≡ others
 one_report shape list old new steps others a b =
@@ -110,7 +116,7 @@ one_carried night old new other_old other_new steps others each a b =
 
 -- ---- one refusal
 
-one_refusal : (night : Night) (old other_old : List Bag) (fault other : CarryFault) → AreOpened night old → AreOpened night other_old → fault.fault ≢ Memory → other.fault ≢ Memory
+one_refusal : (night : Night) (old other_old : List Bag) (fault other : CarryFault) → AreOpened night.shape night.opening old → AreOpened night.shape night.opening other_old → fault.fault ≢ Memory → other.fault ≢ Memory
     → IsNightFault (catalog_in night) night.given.list (bag_at old) (bag_at night.given.changes) fault
     → IsNightFault (catalog_in night) night.given.list (bag_at other_old) (bag_at night.given.changes) other → fault ≡ other
 one_refusal night old other_old fault other a b m n f g =
@@ -119,7 +125,7 @@ one_refusal night old other_old fault other a b m n f g =
     (subst (λ bags. IsNightFault (catalog_in night) night.given.list (bag_at bags) (bag_at night.given.changes) other) opened g) m n
 
 -- what is carried out is not refused
-not_refused : (night : Night) (old new other_old : List Bag) (steps : List (Expression × ℕ)) (fault : CarryFault) → IsCarriedOut night old new steps → AreOpened night other_old → fault.fault ≢ Memory
+not_refused : (night : Night) (old new other_old : List Bag) (steps : List (Expression × ℕ)) (fault : CarryFault) → IsCarriedOut night old new steps → AreOpened night.shape night.opening other_old → fault.fault ≢ Memory
     → IsNightFault (catalog_in night) night.given.list (bag_at other_old) (bag_at night.given.changes) fault → ⊥
 not_refused night old new other_old steps fault a b m f =
     let opened : other_old ≡ old = one_opening night other_old old b a.opened in

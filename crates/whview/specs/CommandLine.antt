@@ -51,8 +51,8 @@ with_commands a = record a { top = record a.top { no_binary_name = true; subcomm
 
 -- the program, with its commands
 abbrev pub whview_app : App
-whview_app = with_subcommand (with_subcommand (with_subcommand (with_subcommand (with_commands (new_app (codes "whview"))) (command_app (codes "check")).top)
-    plan_app.top) (command_app (codes "certify")).top) (input_app (codes "night")).top
+whview_app = with_subcommand (with_subcommand (with_subcommand (with_subcommand (with_subcommand (with_commands (new_app (codes "whview"))) (command_app (codes "check")).top)
+    plan_app.top) (command_app (codes "certify")).top) (input_app (codes "night")).top) (input_app (codes "replay")).top
 
 -- ---- what they ask for
 
@@ -84,6 +84,7 @@ AsksBy name options (asked.Check costs input) = (name ≡ codes "check") × HasO
 AsksBy name options (asked.Plan costs budget input) = (name ≡ codes "plan") × HasOptions options costs input × (budget.nodes ≡ budget_of options)
 AsksBy name options (asked.Certify costs input) = (name ≡ codes "certify") × HasOptions options costs input
 AsksBy name options (asked.Night input) = (name ≡ codes "night") × IsFile options input
+AsksBy name options (asked.Replay input) = (name ≡ codes "replay") × IsFile options input
 
 -- the command that was found in the words, with its options, is asked for
 abbrev pub IsAsked : Option (Text × List Row) → Asked → Type 0
@@ -109,6 +110,7 @@ pub data IsCommand (found : Text × List Row) : Type 0 where
   plan : found.0 ≡ codes "plan" → TakesCosts found.1 → TakesBudget found.1 → IsCommand found
   certify : found.0 ≡ codes "certify" → TakesCosts found.1 → IsCommand found
   night : found.0 ≡ codes "night" → IsCommand found
+  replay : found.0 ≡ codes "replay" → IsCommand found
 
 -- there is a command, and it is one of the program's
 abbrev pub NamesCommand : Option (Text × List Row) → Type 0

@@ -4,10 +4,13 @@ pub mod CommandFault
 pub mod CommandLine
 pub mod FirstLine
 pub mod FitNight
+pub mod FitReplay
 pub mod NightOutput
 pub mod OneAnswer
 pub mod Output
 pub mod PlanCertified
 pub mod PlanOutput
+pub mod ReplayOutput
+pub mod ReplyText
 pub mod Status
 pub mod StoredClosures

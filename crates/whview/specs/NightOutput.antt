@@ -8,7 +8,8 @@ use Rattle.wh_catalogue_text.specs.Definitions.{ViewOf, shown_view}
 use Rattle.wh_catalogue_text.specs.FormulaKinds.{Texts}
 use Rattle.wh_table_text.specs.TableWritten.{table_text}
 use Rattle.wh_plan_text.specs.ExpressionText.{expression_text}
-use Rattle.wh_load.specs.ReadingNight.{Night, catalog_in, night_of}
+use Rattle.wh_catalogue_text.specs.ReadCatalog.{catalog_of}
+use Rattle.wh_load.specs.ReadingNight.{Night, Opening, catalog_in, night_of}
 use Rattle.wh_maint.specs.Comp.{bag_at}
 use Rattle.wh_maint.specs.Contents.{AreContentsOf, contents}
 use Rattle.wh_maint.specs.Definition.{graph_of}
@@ -75,25 +76,25 @@ left_text names refused = refused_text names refused.fault ++ cond refused.start
 
 -- ---- contents
 
+-- the views of what was read
+abbrev pub graph_over : Views → Opening → ViewGraph
+graph_over shape opening = graph_of (catalog_of shape opening.views)
+
 -- the views of a night
 abbrev pub graph_in : Night → ViewGraph
 graph_in night = graph_of (catalog_in night)
 
--- the contents of the base that was read
-abbrev pub old_contents : Night → ℕ → Bag
-old_contents night = contents (graph_in night) (bag_at night.opening.tables)
-
 -- these lists are the contents of the base that was read
-pub record AreOpened (night : Night) (tables : List Bag) : Type 0 where
-  pub each : length tables ≡ length night.shape.children
-  pub opened : (view : ℕ) → view < length night.shape.children → bag_at tables view ≡ old_contents night view
-  pub valued : HaveContentsBelow (graph_in night) (bag_at night.opening.tables) (length night.shape.children)
+pub record AreOpened (shape : Views) (opening : Opening) (tables : List Bag) : Type 0 where
+  pub each : length tables ≡ length shape.children
+  pub opened : (view : ℕ) → view < length shape.children → bag_at tables view ≡ contents (graph_over shape opening) (bag_at opening.tables) view
+  pub valued : HaveContentsBelow (graph_over shape opening) (bag_at opening.tables) (length shape.children)
 
 -- The strategy, carried out from the contents of the base that was read, makes these tables in these steps, and nothing in it
 -- is refused. The tables are the contents of the base with its changes, whatever the strategy is, so that each derived view has
 -- a value there, which is also of at most 2^56 combined rows.
 pub record IsCarriedOut (night : Night) (old new : List Bag) (steps : List (Expression × ℕ)) : Type 0 where
-  pub opened : AreOpened night old
+  pub opened : AreOpened night.shape night.opening old
   pub allowed : AreAllowedBelow (catalog_in night) (bag_at old) (bag_at night.given.changes) (length night.shape.children)
   pub passed : ArePassedBelow (catalog_in night) night.given.list (bag_at old) (bag_at night.given.changes) (length night.given.list)
   pub carried : (view : ℕ) → view < length night.shape.children
@@ -115,7 +116,7 @@ pub record IsShownFrom (night : Night) (views : List ViewOf) (texts : Texts) (ne
 -- a night is refused from these contents for this reason, which is not want of memory
 pub record IsRefusedFrom (night : Night) (fault : CarryFault) : Type 0 where
   pub old : List Bag
-  pub opened : AreOpened night old
+  pub opened : AreOpened night.shape night.opening old
   pub told : fault.fault ≢ Memory
   pub why : IsNightFault (catalog_in night) night.given.list (bag_at old) (bag_at night.given.changes) fault
 
@@ -157,7 +158,7 @@ pub data IsNightTold (night : Night) (text : List ℕ) (status : ℕ) : Type 0 w
   broken : (rule : Rule) (place : ℕ) → IsFirstBroken night.shape.children night.given.list rule place → text ≡ broken_text rule place → status ≡ 1 → IsNightTold night text status
   no_contents : (fault : MaintFault) → IsCorrect night.shape.children night.given.list → HasNoContents (graph_in night) (bag_at night.opening.tables) fault
       → text ≡ refused_text night.shape.names fault → status ≡ 1 → IsNightTold night text status
-  refused : (old : List Bag) (fault : CarryFault) → IsCorrect night.shape.children night.given.list → AreOpened night old → fault.fault ≢ Memory
+  refused : (old : List Bag) (fault : CarryFault) → IsCorrect night.shape.children night.given.list → AreOpened night.shape night.opening old → fault.fault ≢ Memory
       → IsNightFault (catalog_in night) night.given.list (bag_at old) (bag_at night.given.changes) fault
       → text ≡ left_text night.shape.names fault → status ≡ 1 → IsNightTold night text status
   carried : (old new : List Bag) (steps : List (Expression × ℕ)) → IsCorrect night.shape.children night.given.list → IsCarriedOut night old new steps

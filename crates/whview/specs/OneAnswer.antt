@@ -18,6 +18,7 @@ use Rattle.whview.specs.FirstLine.{after_first_line, first_line_of, words_in}
 use Rattle.whview.specs.NightOutput.{IsNightOutput}
 use Rattle.whview.specs.Output.{AskFor, Bytes, Failed, IsHandedOutput, IsInputOutput, IsRefused, Reading, ReadsInput}
 use Rattle.whview.specs.PlanOutput.{IsPlanOutput, spent_text}
+use Rattle.whview.specs.ReplayOutput.{IsReplayOutput}
 use Rattle.whview.specs.declared.command_line.Asked.{Asked}
 use Rattle.whview.specs.declared.command_line.Asked.TheVariants as asked
 
@@ -90,6 +91,7 @@ AreOneAnswer (asked.Check costs input) bytes text status other ended = AreSame t
 AreOneAnswer (asked.Plan costs budget input) bytes text status other ended = AreOnePlan budget.nodes bytes text status other ended
 AreOneAnswer (asked.Certify costs input) bytes text status other ended = AreSame text status other ended
 AreOneAnswer (asked.Night input) bytes text status other ended = AreSame text status other ended
+AreOneAnswer (asked.Replay input) bytes text status other ended = AreSame text status other ended
 
 -- What two answers for the same reading have in common, where this is what two answers for the same bytes have. Of a reader that
 -- failed there is one.
@@ -129,6 +131,12 @@ abbrev pub OneNightOutput : Type 0
 OneNightOutput =
     (bytes text other : List ℕ) (status ended : ℕ) →
     IsNightOutput bytes text status → IsNightOutput bytes other ended → AreSame text status other ended
+
+-- all replays of the same bytes have one text and one status
+abbrev pub OneReplayOutput : Type 0
+OneReplayOutput =
+    (bytes text other : List ℕ) (status ended : ℕ) →
+    IsReplayOutput bytes text status → IsReplayOutput bytes other ended → AreSame text status other ended
 
 -- words that were handed in, that `clap` takes and that name no file have one answer for what was read
 abbrev pub OneHandedOutput : Type 0

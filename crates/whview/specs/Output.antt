@@ -14,6 +14,7 @@ use Rattle.whview.specs.CommandLine.{IsAsked, whview_app}
 use Rattle.whview.specs.FirstLine.{first_line_of, after_first_line, words_in, names_input}
 use Rattle.whview.specs.NightOutput.{IsNightOutput}
 use Rattle.whview.specs.PlanOutput.{IsPlanOutput}
+use Rattle.whview.specs.ReplayOutput.{IsReplayOutput}
 use Rattle.whview.specs.Status.{status_number}
 use Rattle.whview.specs.declared.answer.Answer.{Answer}
 use Rattle.whview.specs.declared.command_line.Asked.{Asked}
@@ -27,6 +28,7 @@ IsCommandOutput (asked.Check costs input) bytes text status = IsCheckOutput cost
 IsCommandOutput (asked.Plan costs budget input) bytes text status = IsPlanOutput costs budget.nodes bytes text status
 IsCommandOutput (asked.Certify costs input) bytes text status = IsCertifyOutput costs bytes text status
 IsCommandOutput (asked.Night input) bytes text status = IsNightOutput bytes text status
+IsCommandOutput (asked.Replay input) bytes text status = IsReplayOutput bytes text status
 
 -- the file that the command reads in place of the program's reader
 abbrev pub file_of : Asked → Option (List ℕ)
@@ -34,6 +36,7 @@ file_of (asked.Check costs input) = option_map (λ path. path.now) input
 file_of (asked.Plan costs budget input) = option_map (λ path. path.now) input
 file_of (asked.Certify costs input) = option_map (λ path. path.now) input
 file_of (asked.Night input) = option_map (λ path. path.now) input
+file_of (asked.Replay input) = option_map (λ path. path.now) input
 
 -- the command reads the program's reader
 abbrev pub ReadsInput : Asked → Type 0

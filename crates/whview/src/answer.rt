@@ -3,11 +3,14 @@
 ghost use Rattle.std.specs.Prelude.{◌≡◌, IfOk, decimal};
 ghost use Rattle.wh_text.specs.FaultText.{fault_text};
 ghost use Rattle.whview.specs.CheckOutput.{IsFaultShown, broken_text, line};
+ghost use Rattle.whview.specs.NightOutput.{refused_text};
 ghost use Rattle.whview.specs.Status.{status_number};
 
 use crate::status::Status;
 use std::alloc::{AllocError, Global};
+use wh_dag::Shape;
 use wh_load::LoadFault;
+use wh_maint::MaintFault;
 use wh_strategy::Rule;
 
 /// A text, built whole, and the status to end with.
@@ -49,5 +52,22 @@ pub fn broken_text(alloc: Global, rule: Rule, place: usize) -> Result<Vec<u8>, A
 {
     let number = rule.number();
     let text = format!(in alloc; "broken S{number} at {place}\n")?;
+    Ok(text.into_bytes())
+}
+
+/// What is printed of why a night or its opening contents are refused. Of want of memory nothing is.
+pub fn cause_text(
+    alloc: Global,
+    shape: &Shape,
+    fault: &MaintFault,
+) -> Result<Vec<u8>, AllocError>
+    ensures { IfOk result (λ text. text.items ≡ refused_text shape.now.names fault.now) }
+{
+    let text = match fault {
+        MaintFault::Large(view) => format!(in alloc; "refused large {}\n", shape.name(*view))?,
+        MaintFault::Range(view) => format!(in alloc; "refused range {}\n", shape.name(*view))?,
+        MaintFault::Absent(view, _) => format!(in alloc; "refused absent {}\n", shape.name(*view))?,
+        MaintFault::Memory => return Err(AllocError),
+    };
     Ok(text.into_bytes())
 }

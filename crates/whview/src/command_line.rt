@@ -54,6 +54,11 @@ pub enum Asked<'a> {
         /// The file of the input; None for standard input.
         input: Option<&'a str>,
     },
+    /// Go through the events of a schedule.
+    Replay {
+        /// The file of the input; None for standard input.
+        input: Option<&'a str>,
+    },
 }
 
 /// Reads the words that follow the program's name.
@@ -97,6 +102,9 @@ fn asked_of<'a>(matches: &ArgMatches<'a>) -> Asked<'a>
             input: options.get_str("input"),
         },
         Some(("night", options)) => Asked::Night {
+            input: options.get_str("input"),
+        },
+        Some(("replay", options)) => Asked::Replay {
             input: options.get_str("input"),
         },
         _ => unreachable!(),

@@ -1,6 +1,6 @@
 //! Laws of what the program prints.
 
-ghost use Rattle.whview.specs.OneAnswer.{OneCertifyOutput, OneCheckOutput, OneHandedOutput, OneInputOutput, OneNightOutput, OnePlanOutput};
+ghost use Rattle.whview.specs.OneAnswer.{OneCertifyOutput, OneCheckOutput, OneHandedOutput, OneInputOutput, OneNightOutput, OnePlanOutput, OneReplayOutput};
 ghost use Rattle.whview.specs.PlanCertified.{LeastPlanIsCertified, PrintedPlanIsCertified, PrintedPlanIsReadBack};
 
 /// A law of the definitions: the same words and the same reading, which is bytes or an error of the reader, have one text and
@@ -13,6 +13,7 @@ pub fn one_answer_law()
     ensures plan { OnePlanOutput }
     ensures certify { OneCertifyOutput }
     ensures night { OneNightOutput }
+    ensures replay { OneReplayOutput }
     ensures handed { OneHandedOutput }
     ensures in_line { OneInputOutput }
 {}

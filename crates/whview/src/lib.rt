@@ -1,5 +1,5 @@
 //! What the program `whview` does: it judges strategies of a warehouse's night, plans one of least work, judges the
-//! certificates of plans, and carries a night out.
+//! certificates of plans, carries a night out, and replays nights event by event.
 //!
 //! [`run`] is the whole program over a reader and a writer. Its words ask for a command, the reader has a bundle, and what
 //! is written is the command's answer, built whole. What stands above it, `whview_main`, hands it the words of the command
@@ -8,6 +8,7 @@
 
 mod answer;
 mod budget;
+mod catalogue;
 mod certify;
 mod check;
 mod command_line;
@@ -15,6 +16,7 @@ mod laws;
 mod night;
 mod plan;
 mod program;
+mod replay;
 mod status;
 mod words;
 

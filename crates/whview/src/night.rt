@@ -12,13 +12,12 @@ ghost use Rattle.whview.specs.NightOutput.{IsDecided, IsNightOutput, IsNightTold
 ghost use Rattle.whview.specs.Status.{status_number};
 ghost use Rattle.whview.specs.StoredClosures.{AnswersTests, AnswersValues};
 
-mod catalogue;
 mod report;
 
-use crate::answer::{Answer, broken_text};
+use crate::answer::{Answer, broken_text, cause_text};
+use crate::catalogue::catalog_with;
 use crate::status::Status;
-use catalogue::catalog_with;
-use report::{carried_text, cause_text, refused_text};
+use report::{carried_text, refused_text};
 use std::alloc::{AllocError, Global};
 use wh_dag::{Catalog, Shape};
 use wh_formula::{Expr, Native, Pred, RowTest, RowValue};

@@ -12,7 +12,7 @@ use crate::answer::Answer;
 use crate::command_line::{Asked, CommandFault, parse};
 use crate::status::Status;
 use crate::words::{first_line, refuses_input, words_of_line};
-use crate::{certify, check, night, plan};
+use crate::{certify, check, night, plan, replay};
 use std::alloc::{AllocError, Global};
 use std::fs::{self, Files};
 use std::io::{Read, Write};
@@ -31,6 +31,7 @@ fn command_answer(alloc: Global, asked: &Asked<'_>, bytes: &[u8]) -> Result<Answ
         Asked::Plan { costs, budget, .. } => plan::answer(alloc, *costs, *budget, bytes),
         Asked::Certify { costs, .. } => certify::answer(alloc, *costs, bytes),
         Asked::Night { .. } => night::answer(alloc, bytes),
+        Asked::Replay { .. } => replay::answer(alloc, bytes),
     }
 }
 
@@ -42,7 +43,8 @@ fn file_of<'a>(asked: &Asked<'a>) -> Option<&'a str>
         Asked::Check { input, .. }
         | Asked::Plan { input, .. }
         | Asked::Certify { input, .. }
-        | Asked::Night { input } => *input,
+        | Asked::Night { input }
+        | Asked::Replay { input } => *input,
     }
 }
 

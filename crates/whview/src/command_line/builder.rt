@@ -37,7 +37,14 @@ pub fn whview_command<'a>(alloc: Global) -> Result<Command<'a>, AllocError>
         notes::NIGHT,
     )?;
     let with_night = with_certify.subcommand(night)?;
-    Ok(with_night)
+    let replay = input_command(
+        alloc,
+        "replay",
+        "Goes through a schedule of events and prints the reply to each. Reads the catalogue, the data, the changes and the strategy of each night, and the schedule.",
+        notes::REPLAY,
+    )?;
+    let with_replay = with_night.subcommand(replay)?;
+    Ok(with_replay)
 }
 
 /// The program before it has its commands.

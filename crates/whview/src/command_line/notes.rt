@@ -56,3 +56,15 @@ pub const NIGHT: &str = "Ends with:
 
 Example:
   whview night --input examples/night_shop.bundle";
+
+/// Of `replay`.
+pub const REPLAY: &str = "Ends with:
+  0  each event has its reply, also where events are refused
+  1  a strategy breaks a rule, or the opening contents are refused
+  2  these words are not taken
+  3  the input has a fault
+  4  memory was refused
+  5  the output failed
+
+Example:
+  whview replay --input examples/replay_two_nights.bundle";

@@ -4,12 +4,12 @@ ghost use Rattle.std.specs.Prelude.{◌≡◌, ◌++◌, ℕ, codes, decimal, dr
 ghost use Rattle.wh_catalogue_text.specs.Definitions.{shown_view};
 ghost use Rattle.wh_maint.specs.Comp.{bag_at};
 ghost use Rattle.whview.specs.CheckOutput.{line};
-ghost use Rattle.whview.specs.NightOutput.{left_text, refused_text, report_text, step_text, view_text, views_text, work_in};
+ghost use Rattle.whview.specs.NightOutput.{left_text, report_text, step_text, view_text, views_text, work_in};
 
+use crate::answer::cause_text;
 use std::alloc::{AllocError, Global};
 use wh_dag::Shape;
 use wh_load::{Dict, Names, WrittenView, write_expression, write_table};
-use wh_maint::MaintFault;
 use wh_night::{Carried, CarryFault, Report};
 use wh_row::Bag;
 use wh_strategy::Expression;
@@ -136,23 +136,6 @@ pub(crate) fn carried_text(
     append_report(alloc, &mut text, &names, &carried.report)?;
     append_views(&mut text, shape, views, texts, &carried.tables)?;
     Ok(text)
-}
-
-/// What is printed of why a night or its opening contents are refused. Of want of memory nothing is.
-pub(crate) fn cause_text(
-    alloc: Global,
-    shape: &Shape,
-    fault: &MaintFault,
-) -> Result<Vec<u8>, AllocError>
-    ensures { IfOk result (λ text. text.items ≡ refused_text shape.now.names fault.now) }
-{
-    let text = match fault {
-        MaintFault::Large(view) => format!(in alloc; "refused large {}\n", shape.name(*view))?,
-        MaintFault::Range(view) => format!(in alloc; "refused range {}\n", shape.name(*view))?,
-        MaintFault::Absent(view, _) => format!(in alloc; "refused absent {}\n", shape.name(*view))?,
-        MaintFault::Memory => return Err(AllocError),
-    };
-    Ok(text.into_bytes())
 }
 
 /// What is printed of a night that was refused.

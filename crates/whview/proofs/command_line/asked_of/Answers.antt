@@ -6,7 +6,7 @@ use Rattle.clap.specs.declared.parser.matches.ArgMatches.TheViews.{out-ArgMatche
 use Rattle.clap.proofs.WalkLemmas.{first_value-rows}
 use Rattle.whview.specs.CommandLine.{AsksBy, IsAsked}
 use Rattle.whview.specs.declared.command_line.Asked.{Asked}
-use Rattle.whview.specs.declared.command_line.Asked.TheVariants.{Certify, Check, Night, Plan}
+use Rattle.whview.specs.declared.command_line.Asked.TheVariants.{Certify, Check, Night, Plan, Replay}
 use Rattle.whview.proofs.command_line.asked_of.Goals as goal
 
 fused : {X Y Z : Type 0} (f : Y → Z) (g : X → Y) (o : Option X) → option_map (λ x. f (g x)) o ≡ option_map f (option_map g o)
@@ -75,4 +75,12 @@ returns-in-Some-night-default c =
     let file = c.get_str-in-Some-night-default in
     asked_by (subcommand_rows_of c.args.matches.now) (codes "night") (rows_of (found_of options)) (Night file.result)
     (ap Some (sym c.in-Some-night-default.is-night) ∙ c.in-Some-night-default.ensures.name ∙ named c.args.matches.now) c.in-Some-night-default.ensures.rows
+    (refl, file.ensures ∙ first_value-rows (found_of options) (codes "input"))
+
+pub returns-in-Some-replay-default : goal.returns-in-Some-replay-default
+returns-in-Some-replay-default c =
+    let options = c.in-Some-replay-default.options.now in
+    let file = c.get_str-in-Some-replay-default in
+    asked_by (subcommand_rows_of c.args.matches.now) (codes "replay") (rows_of (found_of options)) (Replay file.result)
+    (ap Some (sym c.in-Some-replay-default.is-replay) ∙ c.in-Some-replay-default.ensures.name ∙ named c.args.matches.now) c.in-Some-replay-default.ensures.rows
     (refl, file.ensures ∙ first_value-rows (found_of options) (codes "input"))

@@ -1,0 +1,13 @@
+use Rattle.std.proofs.Common.{◌≡◌, map}
+use Rattle.wh_core.specs.Standing.{nights_of}
+use Rattle.wh_load.specs.ReadingShown.{shown_given}
+use Rattle.whview.specs.FitReplay.{AreJudgedRightly}
+use Rattle.whview.specs.ReplayOutput.{AreCorrect, night_of_machine}
+use Rattle.whview.proofs.replay.judged.Given as goal
+
+abbrev pub invariant-loop-night : goal.invariant-loop-night
+invariant-loop-night l = record {
+  nights : nights_of l.judged.items ≡ map night_of_machine (map shown_given l.yielded);
+  judged : AreJudgedRightly l.shape.children l.judged.items;
+  correct : AreCorrect l.shape.children (map shown_given l.yielded);
+}

@@ -1,0 +1,217 @@
+//! The command `replay`: from the bytes of a bundle to the replies of a machine that goes through its nights.
+
+ghost use Rattle.std.specs.Prelude.{◌≡◌, IsOkAnd, IsTrue, IfErr, IfOk, false, length, map};
+ghost use Rattle.std.specs.List.{list_any};
+ghost use Rattle.wh_core.specs.Laws.{IsSetup};
+ghost use Rattle.wh_core.specs.Replies.{IsLegalRun};
+ghost use Rattle.wh_core.specs.Standing.{AreJudged, nights_of};
+ghost use Rattle.wh_formula.specs.Expr.{fits as fits_expr};
+ghost use Rattle.wh_formula.specs.Pred.{fits as fits_pred};
+ghost use Rattle.wh_load.specs.ReadingShown.{shown_given, shown_replay};
+ghost use Rattle.whview.specs.FitReplay.{AreJudgedRightly, IsFitReplay, IsNightsFault};
+ghost use Rattle.whview.specs.ReplayOutput.{IsReplayOutput, IsReplayTold, event_of, is_memory, machine_of, night_of_machine};
+ghost use Rattle.whview.specs.Status.{status_number};
+ghost use Rattle.whview.specs.StoredClosures.{AnswersTests, AnswersValues};
+
+mod reply;
+
+use crate::answer::{Answer, broken_text, cause_text};
+use crate::catalogue::catalog_with;
+use crate::status::Status;
+use reply::replies_text;
+use std::alloc::{AllocError, Global};
+use wh_core::{Cause, Core, Event, Reply};
+use wh_dag::{Catalog, Shape};
+use wh_formula::{Expr, Native, Pred, RowTest, RowValue};
+use wh_load::{GivenNight, LoadFault, Opening, ReplayInput, Schedule, ScheduledEvent, read_replay};
+use wh_maint::opening_contents;
+use wh_row::Bag;
+use wh_strategy::{CheckFault, Correct, check};
+
+/// The nights with their strategies judged over this shape. The fault is that of the first night whose strategy is not correct.
+fn judged(
+    alloc: Global,
+    shape: &Shape,
+    nights: Vec<GivenNight>,
+) -> Result<Vec<(Vec<Bag>, Correct)>, CheckFault>
+    ensures nights { IfOk result (λ judged. nights_of judged.items ≡ map night_of_machine (map shown_given nights.items)) }
+    ensures correct { IfOk result (λ judged. AreJudgedRightly shape.now.children judged.items) }
+    ensures err { IfErr result (IsNightsFault shape.now.children (map shown_given nights.items)) }
+{
+    let mut judged = Vec::new(alloc);
+    for night in nights {
+        let GivenNight { changes, strategy } = night;
+        let correct = match check(alloc, shape, strategy) {
+            Ok(correct) => correct,
+            Err(fault) => return Err(fault),
+        };
+        if judged.push((changes, correct)).is_err() {
+            return Err(CheckFault::Memory);
+        }
+    }
+    Ok(judged)
+}
+
+/// The event of a schedule over so many views.
+fn event_of(views: usize, event: &ScheduledEvent) -> Event
+    ensures { result ≡ event_of views event.now }
+{
+    match event {
+        ScheduledEvent::Begin => Event::Begin,
+        ScheduledEvent::Take { worker } => Event::Take(*worker),
+        ScheduledEvent::Done { worker } => Event::Done(*worker),
+        ScheduledEvent::Page => Event::PageIn,
+        ScheduledEvent::Commit => Event::Commit,
+        ScheduledEvent::GiveUp => Event::GiveUp,
+        ScheduledEvent::Open { desk } => Event::Open(*desk),
+        ScheduledEvent::Read { desk, view, limit } => {
+            Event::Read(*desk, view.unwrap_or(views), *limit)
+        }
+        ScheduledEvent::Close { desk } => Event::Close(*desk),
+    }
+}
+
+/// The events of a schedule over so many views.
+fn events_of(
+    alloc: Global,
+    views: usize,
+    scheduled: &[ScheduledEvent],
+) -> Result<Vec<Event>, AllocError>
+    ensures { IfOk result (λ events. events.items ≡ map (event_of views) scheduled.now) }
+{
+    let mut events = Vec::new(alloc);
+    for event in scheduled {
+        events.push(event_of(views, event))?;
+    }
+    Ok(events)
+}
+
+/// Whether a reply is that memory was refused.
+fn is_memory(reply: &Reply) -> bool
+    ensures { result ≡ is_memory reply.now }
+{
+    matches!(reply, Reply::Refused(Cause::Memory))
+}
+
+/// Whether memory was refused at one of these replies.
+fn lacks_memory(replies: &[Reply]) -> bool
+    ensures { result ≡ list_any is_memory replies.now }
+{
+    replies.iter().any(|reply| is_memory(reply))
+}
+
+/// What a machine replies to the events of a schedule. Where memory is refused at one of them, there are no replies.
+fn replies_to<F: RowTest + Drop, G: RowValue + Drop>(
+    alloc: Global,
+    catalog: Catalog<F, G>,
+    tables: Vec<Bag>,
+    nights: Vec<(Vec<Bag>, Correct)>,
+    schedule: &Schedule,
+) -> Result<Vec<Reply>, AllocError>
+    requires setup { IsSetup (machine_of catalog schedule.now tables.items (nights_of nights.items)) }
+    requires judged { AreJudged catalog nights.items }
+    ensures legal { IfOk result (λ replies. IsLegalRun (machine_of catalog schedule.now tables.items (nights_of nights.items))
+        (map (event_of (length catalog.views.children)) schedule.now.events) replies.items) }
+    ensures told { IfOk result (λ replies. list_any is_memory replies.items ≡ false) }
+{
+    let events = events_of(alloc, catalog.shape().len(), schedule.events())?;
+    let mut core = Core::new(
+        alloc,
+        catalog,
+        tables,
+        nights,
+        schedule.desks(),
+        schedule.workers(),
+        schedule.keys(),
+    )?;
+    let replies = core.run(&events)?;
+    if lacks_memory(&replies) {
+        return Err(AllocError);
+    }
+    Ok(replies)
+}
+
+/// The answer of a replay that does not begin: this text.
+fn refusal(text: Result<Vec<u8>, AllocError>) -> Result<Answer, AllocError>
+    ensures text { IfOk result (λ a. IsOkAnd text (λ bytes. bytes ≡ a.text)) }
+    ensures status { IfOk result (λ a. a.status ≡ Status.Negative) }
+{
+    Ok(Answer {
+        text: text?,
+        status: Status::Negative,
+    })
+}
+
+/// What a replay makes of what it is given, where each formula is stored with what these make of it.
+fn answer_with<F: RowTest + Drop, G: RowValue + Drop, T: Fn(Pred) -> F, V: Fn(Expr) -> G>(
+    alloc: Global,
+    input: ReplayInput,
+    test: T,
+    value: V,
+) -> Result<Answer, AllocError>
+    requires fit { IsFitReplay input }
+    requires callable_test { T.IsAlwaysCallable test }
+    requires callable_value { V.IsAlwaysCallable value }
+    requires tests { AnswersTests (T.post test) F.can_test F.tests }
+    requires values { AnswersValues (V.post value) G.can_combine G.combines }
+    ensures { IfOk result (λ a. IsReplayTold (shown_replay input) a.text.items (status_number a.status)) }
+{
+    let ReplayInput {
+        shape,
+        opening,
+        nights,
+        schedule,
+    } = input;
+    let Opening { views, tables, .. } = opening;
+    let catalog = catalog_with(alloc, shape, &views, test, value)?;
+    let nights = match judged(alloc, catalog.shape(), nights) {
+        Ok(nights) => nights,
+        Err(CheckFault::Broken { rule, place }) => return refusal(broken_text(alloc, rule, place)),
+        Err(CheckFault::Memory) => return Err(AllocError),
+    };
+    let tables = match opening_contents(alloc, &catalog, tables) {
+        Ok(tables) => tables,
+        Err(fault) => return refusal(cause_text(alloc, catalog.shape(), &fault)),
+    };
+    let replies = replies_to(alloc, catalog, tables, nights, &schedule)?;
+    Ok(Answer {
+        text: replies_text(alloc, &replies)?,
+        status: Status::Done,
+    })
+}
+
+/// What a replay makes of what it is given. Each formula of the catalogue is stored with a closure.
+fn answer_of(alloc: Global, input: ReplayInput) -> Result<Answer, AllocError>
+    requires { IsFitReplay input }
+    ensures { IfOk result (λ a. IsReplayTold (shown_replay input) a.text.items (status_number a.status)) }
+{
+    answer_with(
+        alloc,
+        input,
+        |pred: Pred| {
+            Native(
+                move |row: &[i64]| -> bool
+                    requires { IsTrue (fits_pred (length row.now) pred) }
+                { pred.holds(row) },
+            )
+        },
+        |expr: Expr| {
+            Native(
+                move |row: &[i64]| -> Option<i64>
+                    requires { IsTrue (fits_expr (length row.now) expr) }
+                { expr.value(row) },
+            )
+        },
+    )
+}
+
+/// What `replay` answers for the bytes of a bundle.
+pub fn answer(alloc: Global, bytes: &[u8]) -> Result<Answer, AllocError>
+    ensures { IfOk result (λ a. IsReplayOutput bytes.now a.text.items (status_number a.status)) }
+{
+    match read_replay(alloc, bytes) {
+        Ok(input) => answer_of(alloc, input),
+        Err(LoadFault::Memory) => Err(AllocError),
+        Err(fault) => Answer::fault(alloc, &fault),
+    }
+}
