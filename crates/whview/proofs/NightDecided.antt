@@ -77,7 +77,7 @@ module _ (cat : CatalogOf) (is : IsCatalog cat) (base old : List Bag) (opened : 
       subst (λ ts. CanBeEvaluated g ts v) as_old (valued v (within cat.views.children v some) some)
 
   -- these are the contents of their own base tables
-  are_contents : AreReadTables cat base → HaveContentsBelow g (bag_at base) (length cat.views.children) → AreContents g (bag_at old)
+  pub are_contents : AreReadTables cat base → HaveContentsBelow g (bag_at base) (length cat.views.children) → AreContents g (bag_at old)
   are_contents read valued = record {
     counts = λ b e. subst IsTable (sym (opened b ∙ whole.bases b e)) (base_tables cat is base read b e);
     bases = λ b e. refl;

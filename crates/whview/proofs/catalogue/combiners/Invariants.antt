@@ -1,6 +1,6 @@
 use Rattle.std.proofs.Common.{◌≡◌, All, take}
 use Rattle.wh_dag.specs.Output.{exprs_of}
-use Rattle.whview.proofs.night.catalogue.combiners.Given as goal
+use Rattle.whview.proofs.catalogue.combiners.Given as goal
 
 abbrev pub invariant-loop-expr : goal.invariant-loop-expr
 invariant-loop-expr g l = record {

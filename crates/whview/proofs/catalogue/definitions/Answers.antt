@@ -3,7 +3,7 @@ use Rattle.wh_dag.specs.CatalogParts.{given_definitions}
 use Rattle.wh_catalogue_text.specs.Definitions.{shown_view}
 use Rattle.whview.specs.StoredClosures.{AreSound}
 use Rattle.whview.proofs.StoredCatalog.{definitions_from, first_sound, rest_sound, given_after}
-use Rattle.whview.proofs.night.catalogue.definitions.Goals as goal
+use Rattle.whview.proofs.catalogue.definitions.Goals as goal
 
 pub append_definition-requires-clause-sound : goal.append_definition-requires-clause-sound
 append_definition-requires-clause-sound g c κs within =

@@ -1,7 +1,7 @@
 use Rattle.whview.proofs.IfOks.{if_ok}
 use Rattle.std.proofs.Common.{◌∙◌}
 use Rattle.whview.proofs.StoredCatalog.{all_sound, fit, same}
-use Rattle.whview.proofs.night.catalogue.catalog_with.Goals as goal
+use Rattle.whview.proofs.catalogue.catalog_with.Goals as goal
 
 pub definitions-requires-clause-sound : goal.definitions-requires-clause-sound
 definitions-requires-clause-sound g c κs within = all_sound c.args.shape c.args.views.now c.requires.definitions.catalog

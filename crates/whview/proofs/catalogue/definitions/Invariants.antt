@@ -2,7 +2,7 @@ use Rattle.std.proofs.Common.{◌≡◌, ◌++◌, drop, map}
 use Rattle.wh_dag.specs.CatalogParts.{given_definitions}
 use Rattle.wh_catalogue_text.specs.Definitions.{shown_view}
 use Rattle.whview.specs.StoredClosures.{AreSound}
-use Rattle.whview.proofs.night.catalogue.definitions.Given as goal
+use Rattle.whview.proofs.catalogue.definitions.Given as goal
 
 abbrev pub invariant-loop-view : goal.invariant-loop-view
 invariant-loop-view g l = record {
