@@ -270,7 +270,7 @@ class Drawer:
 
     def base(self, width):
         kinds = ["int"] + [self.source.choice(["int", "text"]) for _ in range(width - 2)] + ["text"]
-        columns = [(f"c{place}", kind) for place, kind in enumerate(kinds)]
+        columns = [(f"c{place}", kind) for place, kind in enumerate(kinds[:width])]
         return self.add(View(f"b{len(self.views)}", columns))
 
     def add(self, view):
@@ -335,7 +335,7 @@ class Drawer:
 
     def summary(self, over):
         kinds = self.kinds(over)
-        group = self.source.sample(range(len(kinds)), self.source.choice([0, 1, 1, 2]))
+        group = self.source.sample(range(len(kinds)), min(self.source.choice([0, 1, 1, 2]), len(kinds)))
         sums = [self.number(over, 1) for _ in range(self.source.randint(0, 2))]
         columns = [(f"g{place}", kinds[found]) for place, found in enumerate(group)] + [("n", "int")]
         columns += [(f"s{place}", "int") for place, _ in enumerate(sums)]
