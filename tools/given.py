@@ -2,6 +2,7 @@
 
 import csv
 import io
+import re
 import sys
 import tomllib
 from collections import Counter
@@ -15,7 +16,7 @@ def parts_of(text):
     once, nights, lines = {}, [{}], []
     for line in text.removesuffix("\n").split("\n"):
         if line.startswith("@") and not line.startswith("@@"):
-            heading, lines = line[1:].rstrip(), []
+            heading, lines = line[1:].removesuffix("\r").rstrip(" \t"), []
             if heading == "night":
                 nights.append({})
             elif heading == "strategy" or heading.startswith("changes "):
@@ -28,7 +29,9 @@ def parts_of(text):
 
 
 def words_of(lines):
-    return [words for words in map(str.split, lines) if words]
+    """The words of each line that is not blank."""
+    split = [[word for word in re.split("[ \t]", line.removesuffix("\r")) if word] for line in lines]
+    return [words for words in split if words]
 
 
 def event_of(words):
