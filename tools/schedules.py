@@ -140,15 +140,15 @@ class Drawn:
             machine = Machine(self.given)
         except NoContents:
             return [self.any_event() for _ in range(3)]
-        found, tries = [], 4
+        found, vain = [], 0
         self.gone = 0
-        while len(found) < 70 and tries:
+        while len(found) < 70 and vain < 6:
             draw = self.source.choices([self.onward, self.at_desk, self.any_event], [11, 4, 4])[0]
             found.append(draw(machine))
             if found[-1] == ("giveup",) and machine.night:
                 self.given_up.append(stage_of(machine.night))
-            machine.reply(*found[-1])
-            tries -= found[-1] == ("begin",) and not machine.night
+            told = machine.reply(*found[-1])
+            vain += told == "refused NoNight" or found[-1] == ("begin",) and not machine.night
         return found
 
     def onward(self, machine):
