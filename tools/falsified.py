@@ -62,7 +62,8 @@ class AChangeIsComputedByItsPage(Machine):
 
 
 class AWaveHasAllCompsBeforeAnInst(Machine):
-    def stages(self, strategy):
+    @staticmethod
+    def stages(strategy):
         found = []
         for v, sources in strategy:
             if sources is None:
