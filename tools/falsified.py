@@ -63,16 +63,8 @@ class AChangeIsComputedByItsPage(Machine):
 
 class AWaveHasAllCompsBeforeAnInst(Machine):
     @staticmethod
-    def stages(strategy):
-        found = []
-        for v, sources in strategy:
-            if sources is None:
-                found.append(v)
-            elif found and isinstance(found[-1], list):
-                found[-1].append((v, sources))
-            else:
-                found.append([(v, sources)])
-        return found
+    def joins(sources, wave):
+        return True
 
 
 # ---- versions
