@@ -61,6 +61,17 @@ class AChangeIsComputedByItsPage(Machine):
         return super().page()
 
 
+class ACompTakesAChangeWithoutAValueForNone(Machine):
+    def changed(self, night, v):
+        try:
+            return super().changed(night, v)
+        except Refused:
+            if not night.wave:
+                raise
+            night.changes[v] = {}
+            return {}
+
+
 class AWaveHasAllCompsBeforeAnInst(Machine):
     @staticmethod
     def joins(sources, wave):

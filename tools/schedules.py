@@ -25,12 +25,12 @@ class Small(Drawer):
     def draw_views(self):
         for _ in range(1 if self.kind == "many" else self.source.choice([1, 1, 2, 2, 3])):
             self.base(self.source.randint(1, 2))
+        if self.kind == "cells" and self.source.random() < 0.5:
+            self.add(View(f"v{len(self.views)}", [("n", "int"), ("sum", "int")], [0], group=[], sums=[Place(0)]))
         for _ in range(1 if self.kind == "many" else self.source.choice([0, 1, 1, 2, 2, 3, 4])):
             most = 1 if self.kind == "many" else self.source.choice([1, 1, 2, 2, 3])
             over = self.source.sample(range(len(self.views)), min(most, len(self.views)))
             self.source.choice([self.joined, self.summary])(over)
-        if self.kind == "cells" and self.source.random() < 0.5:
-            self.add(View(f"v{len(self.views)}", [("n", "int"), ("sum", "int")], [0], group=[], sums=[Place(0)]))
 
     def row(self, view):
         if self.kind == "many":
