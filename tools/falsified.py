@@ -26,6 +26,31 @@ class APageCountsRows(Machine):
         return f"paged {sum(abs(before.changes[before.stage][row]) for row in rows)}"
 
 
+class APageIsLost(Machine):
+    def page(self):
+        before = self.open_night()
+        told = super().page()
+        self.night.tables = before.tables
+        return told
+
+
+class APageWritesItsChangeAsTheCount(Machine):
+    def page(self):
+        before = self.open_night()
+        told = super().page()
+        after, change = dict(before.tables[before.stage]), before.changes[before.stage]
+        after.update({row: change[row] for row in before.left[: self.keys]})
+        self.night.tables[before.stage] = {row: count for row, count in after.items() if count > 0}
+        return told
+
+
+class ACommitShowsTheContentsBefore(Machine):
+    def commit(self):
+        super().commit()
+        self.versions[-1] = self.versions[-2]
+        return f"version {self.current}"
+
+
 class AViewWithoutAChangeHasAPage(Machine):
     def come_to_stage(self, night):
         night.drawn = night.done = 0
