@@ -36,9 +36,12 @@ pub record IsFitForNights (shape : Views) (views : List ViewOf) (tables : List B
 abbrev pub IsFitReplay : ReplayInput → Type 0
 IsFitReplay r = IsFitForNights r.shape (map shown_view r.opening.views.items) r.opening.tables.items (map shown_given r.nights.items)
 
--- each of these nights has a strategy that is correct over these child lists, and was judged by them
+-- its strategy is correct over these child lists, and was judged by them
+abbrev pub IsJudgedRightly : List (List ℕ) → Vec Bag Global × Judged → Type 0
+IsJudgedRightly children night = (night.1.children ≡ children) × IsCorrect children night.1.list
+
 abbrev pub AreJudgedRightly : List (List ℕ) → List (Vec Bag Global × Judged) → Type 0
-AreJudgedRightly children judged = All (λ night. (night.1.children ≡ children) × IsCorrect children night.1.list) judged
+AreJudgedRightly children judged = All (IsJudgedRightly children) judged
 
 -- why nights cannot be judged rightly: the first that is not correct, or memory was refused
 abbrev pub IsNightsFault : List (List ℕ) → List GivenNight → CheckFault → Type 0

@@ -1,6 +1,6 @@
 //! The command `replay`: from the bytes of a bundle to the replies of a machine that goes through its nights.
 
-ghost use Rattle.std.specs.Prelude.{◌≡◌, IsTrue, IfErr, IfOk, false, length, map};
+ghost use Rattle.std.specs.Prelude.{◌≡◌, IsTrue, IfErr, IfOk, OnOk, false, length, map};
 ghost use Rattle.std.specs.List.{list_any};
 ghost use Rattle.wh_catalogue_text.specs.Definitions.{shown_view};
 ghost use Rattle.wh_catalogue_text.specs.ReadCatalog.{catalog_of};
@@ -11,7 +11,7 @@ ghost use Rattle.wh_formula.specs.Pred.{fits as fits_pred};
 ghost use Rattle.wh_load.specs.ReadingShown.{shown_given, shown_opening, shown_replay};
 ghost use Rattle.whview.specs.FitNight.{AreReadTables};
 ghost use Rattle.whview.specs.FitReplay.{AreChangesOf, AreJudgedRightly, IsFitReplay, IsNightsFault, IsReady};
-ghost use Rattle.whview.specs.ReplayOutput.{IsReplayOutput, IsReplayTold, event_of, is_memory, machine_of, night_of_machine};
+ghost use Rattle.whview.specs.ReplayOutput.{AreCorrect, IsReplayOutput, IsReplayTold, event_of, is_memory, machine_of, night_of_machine};
 ghost use Rattle.whview.specs.Status.{status_number};
 ghost use Rattle.whview.specs.StoredClosures.{AnswersTests, AnswersValues};
 
@@ -37,7 +37,8 @@ fn judged(
     nights: Vec<GivenNight>,
 ) -> Result<Vec<(Vec<Bag>, Correct)>, CheckFault>
     ensures nights { IfOk result (λ judged. nights_of judged.items ≡ map night_of_machine (map shown_given nights.items)) }
-    ensures correct { IfOk result (λ judged. AreJudgedRightly shape.now.children judged.items) }
+    ensures judged { IfOk result (λ judged. AreJudgedRightly shape.now.children judged.items) }
+    ensures correct { OnOk result (AreCorrect shape.now.children (map shown_given nights.items)) }
     ensures err { IfErr result (IsNightsFault shape.now.children (map shown_given nights.items)) }
 {
     let mut judged = Vec::new(alloc);
@@ -47,9 +48,9 @@ fn judged(
             Ok(correct) => correct,
             Err(fault) => return Err(fault),
         };
-        if judged.push((changes, correct)).is_err() {
+        let Ok(()) = judged.push((changes, correct)) else {
             return Err(CheckFault::Memory);
-        }
+        };
     }
     Ok(judged)
 }
