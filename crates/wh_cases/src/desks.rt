@@ -1,6 +1,7 @@
 // Desks that read while a writer publishes: the worked example, by the calls of the warehouse.
 
-ghost use Rattle.std.specs.Prelude.{◌≡◌};
+ghost use Rattle.std.specs.Prelude.{◌≡◌, [], IfOk};
+ghost use Rattle.wh_store.specs.Windows.{Shows, current};
 
 use crate::nights::tables::bag as bag_of;
 use std::alloc::{AllocError, Global};
@@ -13,7 +14,10 @@ use wh_row::Row;
 use wh_store::{Op, Store};
 
 /// A store of one view with the row (1), once.
-fn store_of_one(rt: &impl Abort, alloc: Global) -> Result<Store, Fail> {
+fn store_of_one(rt: &impl Abort, alloc: Global) -> Result<Store, Fail>
+    ensures new { IfOk result (λ store. Shows store (current store) []) }
+    ensures limit { IfOk result (λ store. store.limit ≡ 2) }
+{
     let table = bag_of(alloc, &[(&[1], 1)])?;
     assert!(rt; table.is_table());
     let mut tables = Vec::new(alloc);
@@ -31,16 +35,14 @@ fn put(alloc: Global, counts: &[(&[i64], i64)]) -> Result<Op, AllocError> {
 }
 
 /// Asserts that the desk's page of view 0 has one row of one column, once, and is the last.
-fn assert_one_row(rt: &impl Abort, desk: &mut Desk, cell: i64) -> Result<(), Fail> {
-    let page = desk.page(0, None, 10);
-    assert!(rt; page.is_ok());
-    if let Ok(page) = page {
-        assert!(rt; page.last && page.rows.len() == 1);
-        let (row, count) = &page.rows[0];
-        assert_eq!(rt; row.as_slice(), [cell].as_slice());
-        assert_eq!(rt; *count, 1);
-    }
-    Ok(())
+fn assert_one_row(rt: &impl Abort, desk: &mut Desk, cell: i64)
+    ensures { desk.new.book ≡ desk.old.book }
+{
+    let page = desk.page(0, None, 10).ok().expect(rt, "a page");
+    assert!(rt; page.last && page.rows.len() == 1);
+    let (row, count) = &page.rows[0];
+    assert_eq!(rt; row.as_slice(), [cell].as_slice());
+    assert_eq!(rt; *count, 1);
 }
 
 /// One night, in which the row (2) comes for (1).
@@ -65,11 +67,11 @@ fn read_next_version<R: Wait + Abort>(
 {
     assert_eq!(rt; desk.open(), Ok(0));
     publish_night(rt, alloc, writer)?;
-    assert_one_row(rt, desk, 1)?;
+    assert_one_row(rt, desk, 1);
     desk.learn(writer.tell());
     assert!(rt; desk.close().is_ok());
     assert_eq!(rt; desk.open(), Ok(1));
-    assert_one_row(rt, desk, 2)?;
+    assert_one_row(rt, desk, 2);
     assert_eq!(rt; desk.open(), Err(DeskFault::SessionOpen));
     assert!(rt; writer.views() == 1);
     let table = writer.table(0)?;
@@ -116,7 +118,7 @@ fn refuse<R: Wait + Abort>(
     assert_eq!(rt; writer.publish(rt, Op::Begin), Err(PublishFault::NightOpen));
     assert_eq!(rt; writer.publish(rt, bad), Err(PublishFault::BadPage));
     assert_eq!(rt; writer.give_up(rt), Ok(Ended::GivenUp));
-    assert_one_row(rt, desk, 1)?;
+    assert_one_row(rt, desk, 1);
     assert_eq!(rt; writer.publish(rt, Op::Begin), Ok(()));
     assert_eq!(rt;
         desk.page(0, None, 1).err(),
