@@ -16,7 +16,8 @@ use Rattle.wh_maint.proofs.Differences.{same_tables}
 use Rattle.wh_night.proofs.NewValues.{within}
 use Rattle.wh_night.proofs.Agreeing.{count-empty, past}
 use Rattle.std.specs.Prelude.{Vec, Option, Some, map, slice_get, pos, ◌≤ℤ◌}
-use Rattle.std.proofs.Common.{zero, suc, ◌++◌, ints}
+use Rattle.std.proofs.Common.{zero, suc, ◌++◌}
+use Rattle.std.proofs.lemmas.Int.{ints}
 use Rattle.std.specs.declared.alloc.Global.{Global}
 use Rattle.wh_strategy.specs.Rules.{Judged}
 use Rattle.wh_core.specs.Laws.{IsGivenNight}

@@ -108,7 +108,25 @@ fn are_tables(tables: &[Bag]) -> bool
     true
 }
 
-/// The contents of the base that has these tables.
+/// The contents of this base.
+fn contents_over(
+    alloc: Global,
+    catalog: &Catalog<Every, Cell>,
+    base: Vec<Bag>,
+) -> Result<Vec<Bag>, Fail>
+    requires bags { AreBags catalog.now base.items }
+    requires tables { (v : ℕ) → v < length base.items → IsTable (bag_at base.items v) }
+    ensures bags { IfOk result (λ tables. AreBags catalog.now tables.items) }
+    ensures contents { IfOk result (λ tables. AreContents (graph_of catalog.now) (bag_at tables.items)) }
+{
+    let _shape = catalog.shape();
+    match opening_contents(alloc, catalog, base) {
+        Ok(tables) => Ok(tables),
+        Err(_) => Err(Fail::from("contents")),
+    }
+}
+
+/// The contents of this base, once it is found to be of tables.
 fn opened(
     rt: &impl Abort,
     alloc: Global,
@@ -118,11 +136,9 @@ fn opened(
     ensures bags { IfOk result (λ tables. AreBags catalog.now tables.items) }
     ensures contents { IfOk result (λ tables. AreContents (graph_of catalog.now) (bag_at tables.items)) }
 {
-    let _shape = catalog.shape();
     assert!(rt; are_bags(catalog, &base));
     assert!(rt; are_tables(&base));
-    let tables = opening_contents(alloc, catalog, base).ok();
-    Ok(tables.expect(rt, "contents"))
+    contents_over(alloc, catalog, base)
 }
 
 /// A strategy that is correct over this catalogue's shape.

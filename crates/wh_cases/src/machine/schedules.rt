@@ -1,5 +1,5 @@
 // What a machine answers, event by event, beside what it is to answer.
-ghost use Rattle.wh_core.specs.Standing.{IsFresh, IsStanding};
+ghost use Rattle.wh_core.specs.Standing.{IsFresh};
 
 use crate::nights::catalogs::{Cell, Every};
 use std::alloc::Global;
@@ -78,7 +78,7 @@ pub(crate) fn assert_run(
 
 /// Takes the events of the schedule one by one, and asserts that they are answered as it says.
 pub(crate) fn assert_steps(rt: &impl Abort, core: &mut Core<Every, Cell>, schedule: Schedule)
-    requires { IsStanding core.old }
+    requires { IsFresh core.old }
 {
     for (place, (event, said)) in schedule.iter().enumerate() {
         let reply = core.step(*event);

@@ -1,4 +1,6 @@
 // The worked schedules.
+ghost use Rattle.std.specs.Prelude.{IfOk};
+ghost use Rattle.wh_core.specs.Standing.{IsFresh};
 
 use crate::machine::given::{Lists, Places, machine};
 use crate::machine::schedules::{Said, Schedule, assert_run, assert_steps};
@@ -8,10 +10,13 @@ use std::process::Abort;
 use std::test::Fail;
 use wh_core::{Cause, Core, Event};
 
+static A_CHANGE_AND_NONE: [Lists<'static>; 2] = [&[&[(&[1], -1), (&[2], 1)], &[]], &[&[], &[]]];
+
 /// a holds (1), and v is a copy of it. The first night brings -(1) +(2), the second nothing.
-fn two_nights(rt: &impl Abort, alloc: Global, places: Places) -> Result<Core<Every, Cell>, Fail> {
-    let changes: [Lists<'_>; 2] = [&[&[(&[1], -1), (&[2], 1)], &[]], &[&[], &[]]];
-    machine(rt, alloc, &[&[(&[1], 1)], &[]], &changes, places)
+fn two_nights(rt: &impl Abort, alloc: Global, places: Places) -> Result<Core<Every, Cell>, Fail>
+    ensures { IfOk result (λ core. IsFresh core) }
+{
+    machine(rt, alloc, &[&[(&[1], 1)], &[]], &A_CHANGE_AND_NONE, places)
 }
 
 static TWO_NIGHTS: [(Event, Said); 13] = [
@@ -91,7 +96,9 @@ static ONE_KEY_A_PAGE: [(Event, Said); 13] = [
 ];
 
 /// a holds (1), (3), (5), and a night brings +(2) -(3) +(4).
-fn one_night(rt: &impl Abort, alloc: Global) -> Result<Core<Every, Cell>, Fail> {
+fn one_night(rt: &impl Abort, alloc: Global) -> Result<Core<Every, Cell>, Fail>
+    ensures { IfOk result (λ core. IsFresh core) }
+{
     let places = Places {
         desks: 2,
         workers: 1,

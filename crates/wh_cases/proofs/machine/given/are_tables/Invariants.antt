@@ -4,4 +4,4 @@ use Rattle.wh_maint.specs.Comp.{bag_at}
 use Rattle.wh_cases.proofs.machine.given.are_tables.Given as goal
 
 abbrev pub invariant-loop-view : goal.invariant-loop-view
-invariant-loop-view g l = (v : ℕ) → v < l.view → IsTable (bag_at l.tables v)
+invariant-loop-view l = (v : ℕ) → v < l.view → IsTable (bag_at l.fn.tables v)
