@@ -93,8 +93,7 @@ class Drawn:
         head = f"desks {self.desks}\nworkers {self.workers}\nkeys {self.keys}\n"
         self.given, self.given_up = Given(self.bundle(head).decode()), []
         self.given.events = self.events()
-        lines = "".join(" ".join(map(str, event)) + "\n" for event in self.given.events)
-        self.bytes = self.bundle(head + lines)
+        self.bytes = self.bundle(head + "".join(map(self.line, self.given.events)))
 
     # ---- the bundle
 
@@ -129,6 +128,15 @@ class Drawn:
         for piece in [*self.once, part("schedule", schedule.encode())]:
             parts.insert(0 if source.random() < 0.8 else source.randint(0, len(parts)), piece)
         return b"".join(parts)
+
+    def line(self, event):
+        """An event as a line; some have other blanks, leading zeros, a line end of two bytes, or blank lines above them."""
+        if self.source.random() < 0.9:
+            return " ".join(map(str, event)) + "\n"
+        blank = lambda least: "".join(self.source.choice(" \t") for _ in range(self.source.randint(least, 2)))  # noqa: E731
+        words = ["0" * self.source.randint(0, 2) + str(word) if isinstance(word, int) else word for word in event]
+        above = self.source.choice(["", "\n", " \t\n"])
+        return above + blank(0) + blank(1).join(words) + blank(0) + self.source.choice(["\n", "\n", "\r\n"])
 
     # ---- the events
 
