@@ -6,7 +6,7 @@ ghost use Rattle.wh_pieces.specs.Place.{AreRisingRows, IsAbove};
 ghost use Rattle.wh_pieces.specs.Pieces.{found, with_entry, without_entry, above, all_of, AreNotEmpty, ArePieces, AreCounted, IsPieceFor, piece_at, before, after};
 
 use crate::entries::Entries;
-use crate::piece::Piece;
+use crate::piece::{Piece, place_to_ask};
 use std::alloc::{AllocError, Global};
 use std::cmp::Ordering;
 use std::marker::Model;
@@ -242,10 +242,10 @@ fn find_piece<T: Copy + Drop>(pieces: &Vec<Piece<T>>, row: &[i64]) -> usize
     let mut low = 0;
     let mut high = pieces.len();
     while 1 < high - low {
-        let middle = low + (high - low) / 2;
-        match row.cmp(pieces[middle].row(0)) {
-            Ordering::Less => high = middle,
-            _ => low = middle,
+        let asked = place_to_ask(low, high, pieces.len());
+        match row.cmp(pieces[asked].row(0)) {
+            Ordering::Less => high = asked,
+            _ => low = asked,
         }
     }
     low

@@ -9,5 +9,6 @@ pub mod BagLaws
 mod Machine
 mod StoredLaws
 mod MapLaws
+mod OrderLaws
 mod FlatLaws
 mod RunningSums

@@ -16,7 +16,7 @@ returns-in-Equal g c = is_at c.args.row.now c.args.self.now _ c.row.result.now (
 
 pub loop-low-preserved : goal.loop-low-preserved
 loop-low-preserved g c =
-    let middle : ℕ = c.loop-low.low + (c.loop-low.high - c.loop-low.low) / 2 in
+    let middle : ℕ = c.place_to_ask-asked.result in
     let next : suc middle ≡ middle + 1 = omega arith in
     record {
       low = omega arith;
