@@ -154,15 +154,15 @@ impl<T: Copy + Drop> Piece<T> {
     }
 }
 
-/// The place to ask next of those from `low` up to `high`: the last of all first, since rows that
-/// come in order go behind it, and then the middle.
+/// The place to ask next of those from `low` up to `high`: the middle, but the last of all early,
+/// since rows that come in order go behind it.
 pub(crate) fn place_to_ask(low: usize, high: usize, end: usize) -> usize
     requires { low < high }
     ensures from { low ≤ result }
     ensures below { result < high }
     ensures between { low + 1 < high → low < result }
 {
-    if high == end {
+    if high == end && 0 < low {
         return high - 1;
     }
     low + (high - low) / 2

@@ -372,8 +372,10 @@ fn put<T: Copy + Drop>(
 {
     let len = pieces[nth].len();
     let half = len / 2;
-    let last = place == len && nth + 1 == pieces.len();
-    if len < most || half == 0 || place == 0 || last {
+    if place == len && nth + 1 == pieces.len() {
+        return put_at(alloc, filled(most), pieces, nth, place, row, value);
+    }
+    if len < most || half == 0 || place == 0 {
         return put_at(alloc, most, pieces, nth, place, row, value);
     }
     split(alloc, pieces, nth, half)?;
@@ -400,5 +402,12 @@ fn put_last<T: Copy + Drop>(
     if count == 0 {
         return put_piece(alloc, pieces, 0, row, value);
     }
-    put_behind(alloc, most, pieces, count - 1, row, value)
+    put_behind(alloc, filled(most), pieces, count - 1, row, value)
+}
+
+/// How many rows a piece gets from rows that come in order: some room is left for rows in between.
+fn filled(most: usize) -> usize
+    ensures { result ≤ most }
+{
+    most - most / 4
 }
