@@ -230,3 +230,13 @@ has_found a b mine others is_mine is_others stored has q none = counted_found w6
     zero_count (pos zero) h = refl
     zero_count (pos (suc n)) h = absurd (h (λ e. cc))
     zero_count (negsuc n) h = absurd (h (λ e. cc))
+
+-- ---- a number put at a row that counts
+
+pub told_err : {A E : Type 0} (r : Result A E) (P : Type 0) → P → OnErr r P
+told_err (Ok x) P p = tt
+told_err (Err x) P p = p
+
+-- memory is refused only for a row that is new, so it is put there
+pub put_there : {A E : Type 0} (r : Result A E) (es fs : Counted) (row : Row) (v : ℤ) (b : Bag) → from_counts es ≡ b → (count b row ≢ pos 0) → OnOk r (fs ≡ with_entry es row v) → OnErr r (found row es ≡ None) → fs ≡ with_entry es row v
+put_there r es fs row v b is counts ok memory = either_way r _ _ _ ok memory (λ e. e) (λ none. absurd (counts (ap (λ x. count x row) (sym is) ∙ count-from_counts es row ∙ ap (λ o. unwrap_or o (pos 0)) none)))

@@ -1,4 +1,4 @@
-use Rattle.std.proofs.Common.{◌≡◌, ◌+◌, ◌-◌, ◌/◌, suc, take, subst, sym, ◌∙◌, arith, ℕ}
+use Rattle.std.proofs.Common.{◌≡◌, ◌+◌, suc, take, subst, sym, ◌∙◌, arith, ℕ}
 use Rattle.wh_pieces.specs.Place.{IsAbove}
 use Rattle.wh_pieces.proofs.OrderLaws.{above_to, below_from, is_at}
 use Rattle.wh_pieces.proofs.piece.Piece.find.Goals as goal
