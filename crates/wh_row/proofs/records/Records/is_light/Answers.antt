@@ -1,8 +1,7 @@
-use Rattle.std.proofs.Common.{rules, ◌≡◌, ◌+◌, ◌<◌, ◌≤◌, ℤ, ℕ, Some, slice_get, arith, add-one, below_more, ap, ◌∙◌, to_z-of_z, subst, sym, take, FitsSigned, length}
+use Rattle.std.proofs.Common.{rules, ◌≡◌, ◌+◌, ℤ, ℕ, Some, slice_get, arith, add-one, below_more, ap, ◌∙◌, to_z-of_z, subst, sym, take, FitsSigned}
 use Rattle.std.specs.Prelude.{unsigned_abs}
 use mir.Syntax.{w64}
 use Rattle.wh_row.specs.Row.{Row}
-use Rattle.wh_row.specs.Weigh.{Counted}
 use Rattle.wh_row.specs.Records.{FitsAt}
 use Rattle.wh_row.proofs.OrderLaws.{LeaveRoom, room_left, fits_light}
 use Rattle.wh_row.proofs.RunningSums.{fits_each}
