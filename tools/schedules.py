@@ -98,7 +98,8 @@ class Drawn:
     # ---- the bundle
 
     def drawn_parts(self, drawer):
-        """The parts that stand once, and those of each night, whose changes fit where the nights before end as they are to."""
+        """The parts that stand once, and those of each night, whose changes fit where the nights before end as they are to: a wild one
+        is refused and changes nothing."""
         views, nights = drawer.views, []
         records = [[] if view.over else drawer.records(view) for view in views]
         once = [self.warehouse.catalogue(), self.warehouse.tables("data", records)]
@@ -107,8 +108,9 @@ class Drawn:
             wild = self.source.random() < 0.06
             changes = [[] if view.over else drawer.changes(view, tables[v], wild) for v, view in enumerate(views)]
             nights.append([self.warehouse.tables("changes", changes), self.warehouse.listed(self.strategy())])
-            if fate is None:
-                tables = [added([*table.items(), *each]) for table, each in zip(tables, changes)]
+            after = [added([*table.items(), *each]) for table, each in zip(tables, changes)]
+            if fate is None and all(0 <= count < 2**63 for table in after for count in table.values()):
+                tables = after
         return once, nights
 
     def strategy(self):
