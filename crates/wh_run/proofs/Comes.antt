@@ -1,57 +1,46 @@
 -- How far a night comes, wave by wave and Inst by Inst.
-use Rattle.std.proofs.Common.{◌≡◌, refl, sym, ap, subst, ◌∙◌, ℕ, zero, suc, ◌+◌, ◌<◌, ◌≤◌, Bool, true, false, cond, eqb, not, ◌&&◌, ◌||◌, List, [], ◌∷◌, ◌++◌, map, length, take, drop, Option, Some, None, ◌⊎◌, inl, inr, ⊎_elim, arith}
+use Rattle.std.proofs.Common.{◌≡◌, refl, sym, ap, subst, ◌∙◌, ℕ, zero, suc, ◌+◌, ◌<◌, ◌≤◌, true, false, cond, not, ◌&&◌, ◌||◌, List, [], ◌∷◌, ◌++◌, map, length, take, drop, Option, Some, None, ◌⊎◌, inl, inr, ⊎_elim, arith}
 use Rattle.std.specs.Prelude.{slice_get}
 use Rattle.std.specs.List.Sorted.{IsPermutation}
-use Rattle.std.proofs.lemmas.Bool.{cases_Bool, eqb-true, eq-eqb, false≢true, or_cases}
-use Rattle.std.proofs.lemmas.List.{append-nil, length-map}
+use Rattle.std.proofs.lemmas.Bool.{false≢true, or_cases}
 use Rattle.std.proofs.lemmas.List.Sorted.{IsPermutation-refl}
 use Rattle.std.proofs.lemmas.Option.{slice_get-map, slice_get_within}
 use Rattle.wh_dag.specs.Shape.{has, children_of}
 use Rattle.wh_dag.specs.Catalog.{CatalogOf, IsCatalog, definition_of}
 use Rattle.wh_strategy.specs.declared.expression.Expression.{Expression}
-use Rattle.wh_strategy.specs.declared.expression.Expression.TheVariants.{Comp, Inst}
+use Rattle.wh_strategy.specs.declared.expression.Expression.TheVariants.{Comp}
 use Rattle.wh_strategy.specs.Expression.{At}
 use Rattle.wh_strategy.specs.Rules.{IsCorrect}
-use Rattle.wh_row.specs.Bag.{Bag}
-use Rattle.wh_row.specs.Weigh.{Counted}
 use Rattle.wh_maint.specs.declared.fault.MaintFault.{MaintFault}
 use Rattle.wh_maint.specs.declared.fault.MaintFault.TheVariants.{Large, Range, Memory, Absent}
-use Rattle.wh_maint.specs.Comp.{PendingOf, bag_at, comp_columns}
+use Rattle.wh_maint.specs.Comp.{PendingOf, comp_columns}
 use Rattle.wh_maint.specs.Definition.{graph_of, view_of}
 use Rattle.wh_maint.specs.Finishing.{kind_in}
-use Rattle.wh_maint.specs.Refused.{IsInstallFault, IsMergeFault, MergedFit}
+use Rattle.wh_maint.specs.Refused.{IsMergeFault, MergedFit}
 use Rattle.wh_maint.specs.Size.{IsTooLarge}
-use Rattle.wh_maint.specs.View.{ViewGraph}
-use Rattle.wh_store.specs.Operations.{Operation, Writes}
-use Rattle.wh_publish.specs.Ledgers.{Ledger}
 use Rattle.wh_night.specs.declared.stages.Job.{Job}
-use Rattle.wh_night.specs.declared.stages.Stage.{Stage}
-use Rattle.wh_night.specs.declared.stages.Stage.TheVariants as stage
 use Rattle.wh_night.specs.AnyOrder.{IsSameAt, expressions_from}
-use Rattle.wh_night.specs.Carry.{State, before, carried, change_in}
-use Rattle.wh_night.specs.Kept.{Kept, AreKnown, computed, finished, installed, rows_in}
-use Rattle.wh_night.specs.NightList.{inst_pages, new_counts, pages_of}
-use Rattle.wh_night.specs.Refused.{ArePassedBelow, CanAllBeFinishedIn, CanBeComputed, CanBeFinishedIn, ChangeIsLarge, CompIsLarge, CompMeetsNoValue, IsCompFaultIn, IsFirstUnfinishedIn, IsPassed, IsPassedIn, IsRuledOut, IsStepFault, IsStepFaultIn, PendingIsLarge}
+use Rattle.wh_night.specs.Carry.{State, carried, change_in}
+use Rattle.wh_night.specs.Kept.{Kept, AreKnown, computed, finished, rows_in}
+use Rattle.wh_night.specs.Refused.{CanAllBeFinishedIn, CanBeComputed, CanBeFinishedIn, CompIsLarge, CompMeetsNoValue, IsCompFaultIn, IsFirstUnfinishedIn, IsPassedIn, IsRuledOut, PendingIsLarge}
 use Rattle.wh_night.specs.Steps.{AreFirstSteps}
-use Rattle.wh_night.specs.Waves.{comp_of, expressions_of, stages_of}
-use Rattle.wh_night.proofs.Agreeing.{Agrees, comp_done, inst_done, same_reach}
+use Rattle.wh_night.specs.Waves.{comp_of}
+use Rattle.wh_night.proofs.Agreeing.{comp_done, same_reach}
 use Rattle.wh_night.proofs.Amid.{IsSource, source_due, source_in, sources_finished, waves_have_no_order}
 use Rattle.wh_night.proofs.AnyOrder.{carried_on}
 use Rattle.wh_night.proofs.Nights.{agrees_next, passed_next, rows_right, steps_next}
-use Rattle.wh_night.proofs.Reasons.{CanBeFinished, inst_reason}
+use Rattle.wh_night.proofs.Reasons.{CanBeFinished}
 use Rattle.wh_night.proofs.Refusals.{AreTold, added, computes, same_fit, told_next, unfinished}
 use Rattle.wh_night.proofs.Storing.{merge_refused}
 use Rattle.wh_night.proofs.StepRows.{whole_at}
 use Rattle.wh_course.specs.Night.{Night, state_at}
-use Rattle.wh_course.specs.Standing.{IsWaveAt, StandsAt, is_source, place_of}
-use Rattle.wh_course.proofs.Parts.{fits_behind, inst_at, place_next, wave_at}
+use Rattle.wh_course.specs.Standing.{IsWaveAt, StandsAt, is_source}
 use Rattle.wh_course.proofs.Sources.{all_before, its_inst, its_job, job_at, source_finishes, source_of}
 use Rattle.wh_course.proofs.Waves.{source_among, split_at}
-use Rattle.wh_run.specs.Refusals.{IsFirstStageFault, IsWaveFault}
-use Rattle.wh_run.specs.Tonight.{goes_out, made_by}
-use Rattle.wh_run.specs.Underway.{AreAdded, CanCompute, Given, HasCome, IsAt, IsFirstUncomputed, IsInstStopped, IsStopped, IsUnderway, Reports, SourcesAreKnown, SourcesFinish, is_cut, is_refused, night_of, out_below, puts_in}
-use Rattle.wh_run.proofs.Outs.{held_behind, out_more}
-use Rattle.wh_run.proofs.Puts.{begins_at, front_begins, item, out_next, wave_out}
+use Rattle.wh_run.specs.Refusals.{IsWaveFault}
+use Rattle.wh_run.specs.Tonight.{made_by}
+use Rattle.wh_run.specs.Underway.{AreAdded, CanCompute, HasCome, IsFirstUncomputed, Reports, SourcesAreKnown, SourcesFinish}
+use Rattle.wh_run.proofs.Puts.{item}
 use Rattle.wh_run.proofs.WaveFaults.{large_fault, pending_fault, range_fault, source_fault}
 
 -- views that are known are finished
@@ -63,6 +52,7 @@ finished_known catalog k ys known = λ i. record { tables = k.tables; pending = 
       | true ↦ λ t. ap (λ b. cond (not b) ((finished catalog (λ _. true) (record { tables = k.tables; pending = k.pending; changes = k.changes; known = λ _. false })).changes u) (k.changes u)) (known u t)
       | false ↦ λ t. refl
     ] refl
+
     same_known : (u : ℕ) → (has ys u || k.known u) ≡ k.known u
     same_known u = elim (has ys u) as (λ t. has ys u ≡ t → (t || k.known u) ≡ k.known u) [ true ↦ λ t. sym (known u t) | false ↦ λ t. refl ] refl
 
@@ -243,18 +233,21 @@ module _ (n : Night) (place : ℕ) (jobs : List Job) (wave : IsWaveAt n.catalog 
       where
         s : StandsAt n (place + j) k
         s = come.stands
+
         inside : v < length n.catalog.views.children
         inside = (s.correct.allowed (place + j) v ys own_at).0
+
         due : (u : ℕ) → has ys u ≡ true → k.changes u ≡ change_in (graph_of n.catalog) n.changes (state_at n (place + j)) u
         due u m = ap (λ (c : Kept). c.changes u) (sym all_known) ∙ (comp_done n.catalog n.list n.tables n.changes s.catalogue s.correct (place + j) v ys k own_at s.agrees).1 u m
+
         by : (fault : MaintFault) → IsMergeFault v (k.pending v) (comp_columns (view_of (definition_of n.catalog v)) (children_of n.catalog.views.children v) ys k.tables k.changes) fault → (fault ≡ Memory) ⊎ IsWaveFault n place jobs fault
         by (Large w) f =
             let r = added n.catalog n.list n.tables n.changes s.catalogue s.correct (place + j) v ys (state_at n (place + j)) k inside s.agrees due (Large w) (merge_refused n.catalog k v ys (Large w) can f) in
             let fine = computes n.catalog n.list n.tables n.changes s.catalogue s.correct (place + j) v ys (state_at n (place + j)) k inside s.agrees due (view_of (definition_of n.catalog v)) can in
             inr (pending_fault n place jobs wave s.catalogue s.correct all j job here w f.0 every
             (λ i other l there.
-                let at = job_at n.list place jobs wave.are i other there in
-                (same_place s.catalogue s.correct i other there).passed.0 (come.passed (place + i) (comp_of other) (omega arith) at) (PendingIsLarge other.view other.from) (refl, refl))
+            let at = job_at n.list place jobs wave.are i other there in
+            (same_place s.catalogue s.correct i other there).passed.0 (come.passed (place + i) (comp_of other) (omega arith) at) (PendingIsLarge other.view other.from) (refl, refl))
             (λ out. ⊎_elim
             (λ big. fine.few big)
             (λ no. no.1 (((same_place s.catalogue s.correct j job here).ruled_out (PendingIsLarge v ys) (refl, refl)).1 out))

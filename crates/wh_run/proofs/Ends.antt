@@ -1,24 +1,22 @@
 -- How a night ends, by its commit or a give-up.
-use Rattle.std.proofs.Common.{◌≡◌, ◌≢◌, ◌⊎◌, inl, inr, ⊎_elim, refl, sym, ap, subst, ◌∙◌, ℕ, List, [], ◌∷◌, ◌++◌, length, Option, Some, None, Bool, true, false, ◌&&◌, arith}
+use Rattle.std.proofs.Common.{◌≡◌, ⊎_elim, refl, sym, ap, subst, ◌∙◌, List, [], ◌∷◌, ◌++◌, length, Option, Some, None, Bool, true, false, arith}
 use Rattle.std.specs.Prelude.{option_map, is_some, IsTrue}
 use Rattle.std.specs.List.{list_all}
 use Rattle.std.proofs.lemmas.Bool.{and_parts, false≢true}
-use Rattle.std.proofs.lemmas.List.{append-nil, append_assoc}
+use Rattle.std.proofs.lemmas.List.{append_assoc}
 use Rattle.wh_store.specs.Operations.{Operation, Opens, Writes, Commits, Gives_up}
 use Rattle.wh_store.specs.Pages.{Contents}
 use Rattle.wh_store.specs.Versions.{Versions, after, is_active, versions_from, versions_of, written_over}
-use Rattle.wh_publish.specs.Ledgers.{Ledger, Warehouse, closed, gone_out, ledger, stays_open, versions_in, with_held}
+use Rattle.wh_publish.specs.Ledgers.{Ledger, closed, gone_out, ledger, stays_open, versions_in, with_held}
 use Rattle.wh_publish.specs.Faults.{Ends, EndsLater}
 use Rattle.wh_publish.specs.declared.ended.Ended.{Ended}
-use Rattle.wh_night.specs.NightList.{IsCutNight}
-use Rattle.wh_night.specs.Refused.{ArePassedBelow}
 use Rattle.wh_course.specs.Night.{Night}
-use Rattle.wh_run.specs.Tonight.{Begin_it, IsCut, IsDone, IsNext, IsOpen, IsWhole, goes_out, nothing, put, commit, give_up}
+use Rattle.wh_run.specs.Tonight.{Begin_it, IsCut, IsDone, IsNext, IsOpen, goes_out, nothing, put, commit, give_up}
 use Rattle.wh_run.specs.Underway.{IsPut, IsUnderway, WaitsToCommit, out_below}
 use Rattle.wh_run.proofs.Outs.{held_behind}
 use Rattle.wh_run.proofs.Puts.{Opens_it, begins_at, begins_open, begins_shorter, is_write, whole_out}
 
-versions_append : (v : Versions) (a b : List Operation) → versions_from v (a ++ b) ≡ versions_from (versions_from v a) b
+pub versions_append : (v : Versions) (a b : List Operation) → versions_from v (a ++ b) ≡ versions_from (versions_from v a) b
 versions_append v [] b = refl
 versions_append v (x ∷ a) b = versions_append (after v x) a b
 

@@ -4,3 +4,4 @@ pub mod Ends
 pub mod WaveFaults
 pub mod Comes
 pub mod Stages
+pub mod Soundness

@@ -1,5 +1,5 @@
 -- What a night publishes up to a place, and up to the next.
-use Rattle.std.proofs.Common.{◌≡◌, ◌≢◌, refl, sym, ap, subst, ◌∙◌, ℕ, zero, suc, ◌+◌, ◌<◌, ◌≤◌, List, [], ◌∷◌, ◌++◌, map, length, take, Some, Bool, true, false, ◌&&◌, arith}
+use Rattle.std.proofs.Common.{◌≡◌, ◌≢◌, refl, sym, ap, subst, ◌∙◌, ℕ, zero, suc, ◌+◌, ◌<◌, ◌≤◌, List, [], ◌∷◌, ◌++◌, map, length, take, Some, Bool, true, false, arith}
 use Rattle.std.specs.Prelude.{slice_get}
 use Rattle.std.specs.List.{list_all}
 use Rattle.std.proofs.lemmas.Bool.{and_from, and_parts}
@@ -14,7 +14,7 @@ use Rattle.wh_strategy.specs.Expression.{At}
 use Rattle.wh_store.specs.Operations.{Operation, Opens, Writes, Commits, Gives_up}
 use Rattle.wh_night.specs.declared.stages.Job.{Job}
 use Rattle.wh_night.specs.Carry.{State, at_first, carried, step}
-use Rattle.wh_night.specs.NightList.{IsBeginning, inst_pages, puts_at, puts_of, whole as whole_list}
+use Rattle.wh_night.specs.NightList.{inst_pages, puts_at, puts_of, whole as whole_list}
 use Rattle.wh_night.specs.Refused.{ArePassedBelow, HaveValuesBelow}
 use Rattle.wh_night.specs.Waves.{comp_of}
 use Rattle.wh_night.proofs.Prefixes.{take_next}
@@ -103,7 +103,7 @@ front_writes : (a b : List Operation) → list_all is_write (a ++ b) ≡ true �
 front_writes [] b h = refl
 front_writes (x ∷ a) b h = let parts = and_parts (is_write x) (list_all is_write (a ++ b)) h in and_from (is_write x) (list_all is_write a) parts.0 (front_writes a b parts.1)
 
-puts_write : (g : ViewGraph) (changes : ℕ → Bag) (keys : ℕ) (list : List Expression) (s : State) → list_all is_write (puts_of g changes keys list s) ≡ true
+pub puts_write : (g : ViewGraph) (changes : ℕ → Bag) (keys : ℕ) (list : List Expression) (s : State) → list_all is_write (puts_of g changes keys list s) ≡ true
 unfolding puts_of
 puts_write g changes keys [] s = refl
 puts_write g changes keys (Comp v ys ∷ list) s = puts_write g changes keys list (step g changes (Comp v ys) s)

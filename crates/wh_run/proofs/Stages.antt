@@ -1,7 +1,7 @@
 -- A stage of a night: what it carries out and publishes, or why it is refused.
-use Rattle.std.proofs.Common.{◌≡◌, refl, sym, ap, subst, ◌∙◌, ℕ, suc, ◌+◌, ◌<◌, ◌≤◌, eqb, true, false, List, [], ◌∷◌, ◌++◌, map, length, Option, Some, None, ◌⊎◌, inl, inr, ⊎_elim, arith}
+use Rattle.std.proofs.Common.{◌≡◌, sym, ap, subst, ◌∙◌, ℕ, ◌+◌, eqb, List, [], ◌∷◌, ◌++◌, map, length, None, ◌⊎◌, inl, inr, ⊎_elim, arith}
 use Rattle.std.proofs.lemmas.Bool.{cases_Bool}
-use Rattle.std.proofs.lemmas.List.{append-nil, append_assoc, length-map}
+use Rattle.std.proofs.lemmas.List.{append_assoc, length-map}
 use Rattle.wh_dag.specs.Catalog.{CatalogOf}
 use Rattle.wh_strategy.specs.declared.expression.Expression.{Expression}
 use Rattle.wh_strategy.specs.declared.expression.Expression.TheVariants.{Inst}
@@ -12,7 +12,7 @@ use Rattle.wh_maint.specs.Comp.{bag_at}
 use Rattle.wh_maint.specs.Definition.{graph_of}
 use Rattle.wh_maint.specs.Finishing.{kind_in}
 use Rattle.wh_maint.specs.Refused.{IsInstallFault}
-use Rattle.wh_store.specs.Operations.{Operation, Writes}
+use Rattle.wh_store.specs.Operations.{Writes}
 use Rattle.wh_publish.specs.Ledgers.{Ledger, with_held}
 use Rattle.wh_night.specs.declared.stages.Job.{Job}
 use Rattle.wh_night.specs.declared.stages.Stage.{Stage}
@@ -22,7 +22,7 @@ use Rattle.wh_night.specs.Kept.{Kept, finished, installed, rows_in}
 use Rattle.wh_night.specs.NightList.{new_counts, pages_of, puts_at}
 use Rattle.wh_night.specs.Refused.{IsPassedIn, IsStepFault, IsStepFaultIn}
 use Rattle.wh_night.specs.Steps.{AreFirstSteps}
-use Rattle.wh_night.specs.Waves.{comp_of, expressions_of, stages_of}
+use Rattle.wh_night.specs.Waves.{comp_of, stages_of}
 use Rattle.wh_night.proofs.Agreeing.{inst_done}
 use Rattle.wh_night.proofs.Nights.{agrees_next, passed_next, rows_right, steps_next}
 use Rattle.wh_night.proofs.Reasons.{inst_reason}
@@ -30,7 +30,7 @@ use Rattle.wh_night.proofs.Refusals.{same_fit, told_next, unfinished}
 use Rattle.wh_course.specs.Night.{Night, state_at}
 use Rattle.wh_course.specs.Standing.{IsWaveAt, place_of}
 use Rattle.wh_course.proofs.Parts.{fits_behind, inst_at, place_next, wave_at}
-use Rattle.wh_run.specs.Refusals.{IsFirstStageFault, IsWaveFault}
+use Rattle.wh_run.specs.Refusals.{IsWaveFault}
 use Rattle.wh_run.specs.Tonight.{goes_out, made_by}
 use Rattle.wh_run.specs.Underway.{HasCome, IsAt, IsInstStopped, IsPartly, IsStopped, IsUnderway, Reports, is_cut, is_refused, out_below, puts_in}
 use Rattle.wh_run.proofs.Outs.{held_behind, out_more}

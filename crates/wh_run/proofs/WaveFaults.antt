@@ -1,10 +1,10 @@
 -- The first reason of a wave, from what is refused one after another.
-use Rattle.std.proofs.Common.{◌≡◌, refl, sym, ap, subst, ◌∙◌, ℕ, zero, suc, ◌+◌, ◌<◌, ◌≤◌, Bool, true, false, eqb, List, [], ◌∷◌, length, drop, Some, ◌⊎◌, inl, inr, ⊎_elim, arith}
+use Rattle.std.proofs.Common.{◌≡◌, refl, sym, ap, subst, ◌∙◌, ℕ, zero, suc, ◌+◌, ◌<◌, ◌≤◌, true, false, eqb, List, [], ◌∷◌, length, Some, ◌⊎◌, inl, inr, ⊎_elim, arith}
 use Rattle.std.specs.Prelude.{slice_get, if◌then◌else◌}
-use Rattle.std.proofs.lemmas.Bool.{cases_lt, eqb-true, eq-eqb, false≢true}
+use Rattle.std.proofs.lemmas.Bool.{eqb-true, eq-eqb, false≢true}
 use Rattle.std.proofs.lemmas.Option.{same_Some, slice_get_within}
-use Rattle.wh_dag.specs.Shape.{has, children_of}
-use Rattle.wh_dag.specs.Catalog.{CatalogOf, IsCatalog}
+use Rattle.wh_dag.specs.Shape.{has}
+use Rattle.wh_dag.specs.Catalog.{IsCatalog}
 use Rattle.wh_strategy.specs.declared.expression.Expression.TheVariants.{Comp}
 use Rattle.wh_strategy.specs.Expression.{At}
 use Rattle.wh_strategy.specs.Rules.{IsCorrect}

@@ -1,15 +1,15 @@
 -- What a night publishes behind what stood published before, and what a refused one leaves.
-use Rattle.std.specs.Prelude.{◌≡◌, ◌⊎◌, ℕ, ◌≤◌, List, [], ◌∷◌, ◌++◌, Option, Some, None, IsTrue, length}
+use Rattle.std.specs.Prelude.{◌≡◌, ℕ, ◌≤◌, List, [], ◌∷◌, ◌++◌, Option, Some, None, IsTrue, length}
 use Rattle.wh_row.specs.Bag.{Bag}
 use Rattle.wh_dag.specs.Catalog.{CatalogOf}
 use Rattle.wh_strategy.specs.declared.expression.Expression.{Expression}
 use Rattle.wh_maint.specs.Comp.{bag_at}
 use Rattle.wh_maint.specs.Contents.{AreContents}
 use Rattle.wh_maint.specs.Definition.{graph_of}
-use Rattle.wh_store.specs.Operations.{Operation, Opens, Commits, Gives_up}
+use Rattle.wh_store.specs.Operations.{Operation, Commits, Gives_up}
 use Rattle.wh_store.specs.Pages.{Contents}
 use Rattle.wh_store.specs.Versions.{is_well_formed, number, version}
-use Rattle.wh_publish.specs.Ledgers.{Ledger, Warehouse, ledger, versions_in}
+use Rattle.wh_publish.specs.Ledgers.{Ledger, ledger, versions_in}
 use Rattle.wh_night.specs.Carry.{tables_after}
 use Rattle.wh_night.specs.NightList.{IsBeginning, IsCutNight, IsNightList}
 use Rattle.wh_course.specs.Night.{Night}

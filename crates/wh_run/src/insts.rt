@@ -160,7 +160,15 @@ pub(crate) fn inst<P: Publish, F: RowTest, G: RowValue, R: Wait>(
     let Ok(()) = steps.push((Expression::Inst(view), rows)) else {
         return Err(MaintFault::Memory);
     };
-    match publish_change(rt, alloc, writer, view, keys, state.table(view), state.change(view)) {
+    match publish_change(
+        rt,
+        alloc,
+        writer,
+        view,
+        keys,
+        state.table(view),
+        state.change(view),
+    ) {
         Ok(()) => Ok(()),
         Err(_) => Err(MaintFault::Memory),
     }

@@ -8,8 +8,8 @@ mod cause;
 mod gate;
 mod insts;
 mod left;
-mod running;
 mod opening;
+mod running;
 mod waves;
 
 pub use cause::NightCause;

@@ -198,7 +198,9 @@ fn through<P: Publish, F: RowTest, G: RowValue, T: Gate, R: Wait>(
 {
     let mut steps = Vec::new(alloc);
     for stage in stages {
-        if let Err(fault) = stage_of(rt, alloc, writer, catalog, stage, keys, state, &mut steps, gate) {
+        if let Err(fault) = stage_of(
+            rt, alloc, writer, catalog, stage, keys, state, &mut steps, gate,
+        ) {
             return Err(fault);
         }
     }
@@ -271,6 +273,7 @@ pub fn night<P: Publish, F: RowTest, G: RowValue, T: Gate, R: Wait>(
     ensures allowed { OnOk result (AreAllowed (tonight catalog.now correct.now.list (P.kept writer.old) changes.now options.page_keys)) }
     ensures passed { OnOk result (ArePassedBelow catalog.now correct.now.list (bag_at (newest_in (P.kept writer.old))) (bag_at changes.now) (length correct.now.list)) }
     ensures leaves { IfErr result (λ f. Leaves (tonight catalog.now correct.now.list (P.kept writer.old) changes.now options.page_keys) (P.kept writer.old) f.left (P.kept writer.new)) }
+    ensures sound { IsSound catalog.now (P.kept writer.old) → IsSound catalog.now (P.kept writer.new) }
     ensures refused { MatchOption (publish_refusal (P.kept writer.old) Opens)
         (IfErr result (IsRefused (tonight catalog.now correct.now.list (P.kept writer.old) changes.now options.page_keys)))
         (λ fault. result ≡ Err (record { cause = cause_of_begin fault; left = Untouched })) }
@@ -292,5 +295,17 @@ pub fn night<P: Publish, F: RowTest, G: RowValue, T: Gate, R: Wait>(
     let Ok(stages) = waves(alloc, correct) else {
         return Err(untouched(NightCause::Memory));
     };
-    run(rt, alloc, writer, catalog, stages.as_slice(), options.page_keys, &mut state, gate)
+    let answer = run(
+        rt,
+        alloc,
+        writer,
+        catalog,
+        stages.as_slice(),
+        options.page_keys,
+        &mut state,
+        gate,
+    );
+    // Makes known that the published list is well formed.
+    let _ = writer.current();
+    answer
 }

@@ -1,7 +1,6 @@
 use Rattle.std.proofs.Common.{rules, ◌≡◌, ◌≢◌, sym, ap, subst, [], length, map, None, arith}
 use Rattle.wh_row.specs.Stored.{plain}
 use Rattle.wh_store.specs.Operations.{Writes}
-use Rattle.wh_night.specs.NightList.{pages_of}
 use Rattle.wh_course.proofs.Lengths.{plain_length}
 use Rattle.wh_course.proofs.Pages.{last_page, no_rows}
 use Rattle.wh_run.specs.Tonight.{goes_out}

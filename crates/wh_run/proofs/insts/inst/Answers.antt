@@ -1,8 +1,7 @@
-use Rattle.std.proofs.Common.{rules, ◌≡◌, refl, sym, ap, subst, ◌∙◌, eqb, ℕ, List, map, cond, inl, inr, None}
+use Rattle.std.proofs.Common.{rules, ◌≡◌, refl, ap, subst, ◌∙◌, eqb, ℕ, map, cond, inr, None}
 use Rattle.std.proofs.lemmas.Bool.{eq-eqb, or_left}
 use Rattle.wh_row.specs.Bag.{Bag, SumFits, count, size, sum_of, written}
 use Rattle.wh_row.specs.Row.{Row}
-use Rattle.wh_row.specs.Weigh.{Counted}
 use Rattle.std.proofs.Common.{ℤ}
 use Rattle.wh_maint.specs.Refused.{IsInstallFault}
 use Rattle.wh_store.specs.Operations.{Writes}

@@ -1,4 +1,4 @@
-use Rattle.std.proofs.Common.{◌≡◌, ap, subst, ◌∙◌, [], ◌∷◌, ◌++◌, map, arith}
+use Rattle.std.proofs.Common.{ap, subst, ◌∙◌, [], ◌∷◌, ◌++◌, map, arith}
 use Rattle.wh_row.specs.Stored.{plain}
 use Rattle.wh_store.specs.Operations.{Writes}
 use Rattle.wh_night.specs.NightList.{pages_of}

@@ -1,4 +1,4 @@
-use Rattle.std.proofs.Common.{◌≡◌, ap, ◌∙◌}
+use Rattle.std.proofs.Common.{ap, ◌∙◌}
 use Rattle.wh_row.specs.Stored.{plain}
 use Rattle.wh_store.specs.Operations.{Writes}
 use Rattle.wh_publish.specs.Faults.{refused}

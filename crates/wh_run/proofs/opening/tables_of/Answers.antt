@@ -1,5 +1,4 @@
 use Rattle.std.proofs.Common.{◌≡◌, refl, sym, ap, ◌∙◌, ℕ, zero, suc, ◌+◌, ◌<◌, List, [], ◌∷◌, ◌++◌, take, length, arith}
-use Rattle.std.specs.Prelude.{slice_index_or}
 use Rattle.wh_row.specs.Bag.{Bag}
 use Rattle.wh_store.specs.Versions.{table_in}
 use Rattle.wh_course.proofs.Waves.{take_all}

@@ -1,10 +1,9 @@
-use Rattle.std.proofs.Common.{◌≡◌, sym, ap, ◌∙◌, [], ◌∷◌, Some, true}
+use Rattle.std.proofs.Common.{◌≡◌, sym, ap, ◌∙◌, [], Some, true}
 use Rattle.std.proofs.lemmas.List.{append-nil}
 use Rattle.wh_store.specs.Operations.{Opens}
 use Rattle.wh_publish.specs.Faults.{refused}
 use Rattle.wh_publish.specs.Ledgers.{ledger}
 use Rattle.wh_publish.specs.declared.fault.PublishFault.TheVariants.{Memory}
-use Rattle.wh_run.specs.Tonight.{goes_out}
 use Rattle.wh_run.proofs.Puts.{opening_begins}
 use Rattle.wh_run.proofs.running.begin.Goals as goal
 

@@ -1,4 +1,4 @@
-use Rattle.std.proofs.Common.{◌≡◌, ◌≢◌, refl, sym, ap, subst, ◌∙◌, ℕ, ◌<◌, List, [], length, Option, Some, None, inl, inr, ⊎_elim, arith}
+use Rattle.std.proofs.Common.{◌≡◌, ◌≢◌, refl, sym, subst, ◌∙◌, ℕ, List, [], length, Option, Some, None, inl, inr, ⊎_elim, arith}
 use Rattle.std.specs.Prelude.{MatchOption}
 use Rattle.wh_dag.specs.Catalog.{CatalogOf}
 use Rattle.wh_row.specs.Bag.{Bag}
@@ -25,6 +25,7 @@ use Rattle.wh_run.specs.Refusals.{AreAllowed, IsFirstStageFault, IsRefused, IsRe
 use Rattle.wh_run.specs.Tonight.{newest_in, tonight}
 use Rattle.wh_run.specs.Underway.{Given, HasCome, IsRefusedLater, night_of}
 use Rattle.wh_run.proofs.Outs.{if_err, if_ok, if_ok_on}
+use Rattle.wh_run.proofs.Soundness.{stays_sound}
 use Rattle.wh_run.proofs.running.night.Goals as goal
 
 -- where nothing stands in its way
@@ -62,8 +63,8 @@ returns-in-Err-clause-refused g c =
       why = inr (subst (λ ts. IsBaseFault cat (bag_at ts) (bag_at c.args.changes.now) c.in-Err.fault) same c.in-Err.ensures.refused);
     }))
 
-pub run-requires-clause-stages : goal.run-requires-clause-stages
-run-requires-clause-stages g c κs within =
+pub run-answer-requires-clause-stages : goal.run-answer-requires-clause-stages
+run-answer-requires-clause-stages g c κs within =
     let ok : IsCorrect c.args.catalog.now.views.children c.args.correct.now.list = subst (λ shape. IsCorrect shape c.args.correct.now.list) c.requires.judged c.strategy.ensures.rules in
     stages_in c.args.catalog.now c.args.correct.now.list ok c.as_slice.result.now (c.as_slice.ensures.value ∙ c.in-Ok-waves.ensures.stages)
 
@@ -81,7 +82,7 @@ returns-clause-done g c =
     let are : c.as_slice.result.now ≡ stages_of list = c.as_slice.ensures.value ∙ c.in-Ok-waves.ensures.stages in
     let come = comes_first cat list (bag_at newest) (bag_at c.args.changes.now) c.args.options.page_keys k
     (stands_first cat list (bag_at newest) (bag_at c.args.changes.now) c.args.options.page_keys k c.in-Ok-new.ensures.parts.catalogue ok first) in
-    if_ok_on _ _ c.run.result (λ r h. (h t refl are come).0) c.run.ensures.done
+    if_ok_on _ _ c.run-answer.result (λ r h. (h t refl are come).0) c.run-answer.ensures.done
 
 pub returns-clause-steps : goal.returns-clause-steps
 returns-clause-steps g c =
@@ -97,7 +98,7 @@ returns-clause-steps g c =
     let are : c.as_slice.result.now ≡ stages_of list = c.as_slice.ensures.value ∙ c.in-Ok-waves.ensures.stages in
     let come = comes_first cat list (bag_at newest) (bag_at c.args.changes.now) c.args.options.page_keys k
     (stands_first cat list (bag_at newest) (bag_at c.args.changes.now) c.args.options.page_keys k c.in-Ok-new.ensures.parts.catalogue ok first) in
-    if_ok _ _ c.run.result (λ r h. (h t refl are come).2) c.run.ensures.done
+    if_ok _ _ c.run-answer.result (λ r h. (h t refl are come).2) c.run-answer.ensures.done
 
 pub returns-clause-passed : goal.returns-clause-passed
 returns-clause-passed g c =
@@ -113,7 +114,7 @@ returns-clause-passed g c =
     let are : c.as_slice.result.now ≡ stages_of list = c.as_slice.ensures.value ∙ c.in-Ok-waves.ensures.stages in
     let come = comes_first cat list (bag_at newest) (bag_at c.args.changes.now) c.args.options.page_keys k
     (stands_first cat list (bag_at newest) (bag_at c.args.changes.now) c.args.options.page_keys k c.in-Ok-new.ensures.parts.catalogue ok first) in
-    if_ok_on _ _ c.run.result (λ r h. (h t refl are come).1) c.run.ensures.done
+    if_ok_on _ _ c.run-answer.result (λ r h. (h t refl are come).1) c.run-answer.ensures.done
 
 pub returns-clause-leaves : goal.returns-clause-leaves
 returns-clause-leaves g c =
@@ -129,7 +130,7 @@ returns-clause-leaves g c =
     let are : c.as_slice.result.now ≡ stages_of list = c.as_slice.ensures.value ∙ c.in-Ok-waves.ensures.stages in
     let come = comes_first cat list (bag_at newest) (bag_at c.args.changes.now) c.args.options.page_keys k
     (stands_first cat list (bag_at newest) (bag_at c.args.changes.now) c.args.options.page_keys k c.in-Ok-new.ensures.parts.catalogue ok first) in
-    if_err _ _ c.run.result (λ f h. (h t refl are come).0) c.run.ensures.refused
+    if_err _ _ c.run-answer.result (λ f h. (h t refl are come).0) c.run-answer.ensures.refused
 
 pub returns-clause-refused : goal.returns-clause-refused
 returns-clause-refused g c =
@@ -148,4 +149,25 @@ returns-clause-refused g c =
     let old : c.deref.result.now ≡ newest = c.deref.ensures.value ∙ c.in-Ok.ensures in
     let allowed : AreAllowed (night_of cat c.args.options.page_keys t) = subst (λ ts. AreAllowedBelow cat (bag_at ts) (bag_at c.args.changes.now) (length cat.views.children)) old c.in_default-base_changes.ensures.allowed in
     none_refuses (publish_refusal l Opens) _ _ c.in_default.ensures
-    (if_err _ _ c.run.result (λ f h. later_so (night_of cat c.args.options.page_keys t) f allowed (h t refl are come).1) c.run.ensures.refused)
+    (if_err _ _ c.run-answer.result (λ f h. later_so (night_of cat c.args.options.page_keys t) f allowed (h t refl are come).1) c.run-answer.ensures.refused)
+
+pub returns-clause-sound : goal.returns-clause-sound
+returns-clause-sound g c = λ sound.
+    let cat : CatalogOf = c.args.catalog.now in
+    let list : List Expression = c.args.correct.now.list in
+    let l : Ledger = g.P.Publish.kept c.args.writer.now in
+    let newest : List Bag = newest_in l in
+    let ok : IsCorrect cat.views.children list = subst (λ shape. IsCorrect shape list) c.requires.judged c.strategy.ensures.rules in
+    let same : c.deref-2.result.now ≡ newest = c.deref-2.ensures.value ∙ c.in-Ok.ensures in
+    let k : Kept = kept c.in-Ok-new.state in
+    let first : IsFirst cat (bag_at newest) (bag_at c.args.changes.now) k = subst (λ ts. IsFirst cat (bag_at ts) (bag_at c.args.changes.now) k) same c.in-Ok-new.ensures.first in
+    let t : Given = record { list = list; tables = bag_at newest; changes = bag_at c.args.changes.now; before = l } in
+    let are : c.as_slice.result.now ≡ stages_of list = c.as_slice.ensures.value ∙ c.in-Ok-waves.ensures.stages in
+    let come = comes_first cat list (bag_at newest) (bag_at c.args.changes.now) c.args.options.page_keys k
+    (stands_first cat list (bag_at newest) (bag_at c.args.changes.now) c.args.options.page_keys k c.in-Ok-new.ensures.parts.catalogue ok first) in
+    let old : c.deref.result.now ≡ newest = c.deref.ensures.value ∙ c.in-Ok.ensures in
+    let allowed : AreAllowed (night_of cat c.args.options.page_keys t) = subst (λ ts. AreAllowedBelow cat (bag_at ts) (bag_at c.args.changes.now) (length cat.views.children)) old c.in_default-base_changes.ensures.allowed in
+    stays_sound cat list l (g.P.Publish.kept c.run-answer.new.writer) c.args.changes.now c.args.options.page_keys c.in-Ok-new.ensures.parts.catalogue ok c.requires.tables c.requires.changes c.requires.least c.requires.most allowed sound
+    c.current.ensures.well_formed c.run-answer.result
+    (if_ok_on _ _ c.run-answer.result (λ r h. (h t refl are come).0) c.run-answer.ensures.done)
+    (if_err _ _ c.run-answer.result (λ f h. (h t refl are come).0) c.run-answer.ensures.refused)

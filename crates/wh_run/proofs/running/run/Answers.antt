@@ -5,12 +5,11 @@ use Rattle.wh_publish.specs.Ledgers.{Ledger}
 use Rattle.wh_night.specs.Kept.{Kept, kept}
 use Rattle.wh_night.proofs.Nights.{steps_end}
 use Rattle.wh_strategy.specs.declared.expression.Expression.{Expression}
-use Rattle.wh_strategy.specs.Rules.{Judged}
 use Rattle.wh_course.specs.Night.{Night}
 use Rattle.wh_run.specs.Tonight.{Leaves, goes_out, made_by}
 use Rattle.wh_run.specs.Underway.{HasCome, IsAt}
 use Rattle.wh_night.specs.Steps.{AreSteps}
-use Rattle.wh_run.specs.Underway.{night_of, out_below}
+use Rattle.wh_run.specs.Underway.{night_of}
 use Rattle.wh_run.proofs.Outs.{if_err_both, if_ok_both}
 use Rattle.wh_run.proofs.Puts.{opening_out}
 use Rattle.wh_run.proofs.running.run.Goals as goal

@@ -1,10 +1,8 @@
 use Rattle.std.proofs.Common.{◌≡◌, refl, sym, ap, subst, ◌∙◌, ℕ, suc, ◌+◌, List, [], ◌∷◌, ◌++◌, take, drop, length, Some, arith}
 use Rattle.std.specs.Prelude.{slice_get}
-use Rattle.std.specs.List.{flat_map}
 use Rattle.std.proofs.lemmas.Option.{slice_get_read}
 use Rattle.wh_night.specs.declared.stages.Stage.{Stage}
 use Rattle.wh_night.specs.Kept.{kept}
-use Rattle.wh_night.specs.Waves.{expressions_of}
 use Rattle.wh_night.proofs.StageLaws.{lists_have_one_stages}
 use Rattle.wh_course.specs.Standing.{place_of}
 use Rattle.wh_course.proofs.Waves.{split_at, take_all, take_next}

@@ -1,4 +1,4 @@
-use Rattle.std.proofs.Common.{◌≡◌, refl, sym, ap, subst, ◌∙◌, ℕ, ◌+◌, ◌<◌, List, length, Bool, Some, inl, ⊎_elim, arith}
+use Rattle.std.proofs.Common.{◌≡◌, refl, sym, ap, subst, ◌∙◌, ℕ, ◌+◌, List, length, Bool, Some, inl, ⊎_elim, arith}
 use Rattle.std.specs.Prelude.{slice_get}
 use Rattle.std.proofs.lemmas.Option.{slice_get_read}
 use Rattle.wh_dag.specs.Catalog.{CatalogOf}
@@ -74,8 +74,8 @@ loop-number-preserved g c =
       come = λ keys place t wave come.
           let n = night_of c.args.catalog.now keys t in
           job_comes n place jobs wave i c.index-jobs-number.result here (kept c.loop-number.state) c.loop-number.steps.items (c.loop-number.invariant.come keys place t wave come)
-              (λ u m. ap (λ (f : ℕ → Bool). f u) c.loop-number.invariant.known ∙ c.requires.known u (source_among jobs i c.index-jobs-number.result here u m))
-              own.can c.in_default.ensures.fits (kept c.add_one.new.state) c.in_default.ensures.done c.add_one.new.steps.items c.in_default.ensures.reported;
+          (λ u m. ap (λ (f : ℕ → Bool). f u) c.loop-number.invariant.known ∙ c.requires.known u (source_among jobs i c.index-jobs-number.result here u m))
+          own.can c.in_default.ensures.fits (kept c.add_one.new.state) c.in_default.ensures.done c.add_one.new.steps.items c.in_default.ensures.reported;
     }
 
 pub returns-clause-goes : goal.returns-clause-goes

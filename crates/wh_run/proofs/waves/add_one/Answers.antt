@@ -1,7 +1,7 @@
-use Rattle.std.proofs.Common.{rules, ◌≡◌, sym, ap, ◌∙◌, ℕ, List, false}
+use Rattle.std.proofs.Common.{rules, sym, ap, ◌∙◌, ℕ, List, false}
 use Rattle.wh_dag.specs.Shape.{children_of}
 use Rattle.wh_maint.specs.Size.{operand_rows_of}
-use Rattle.wh_night.specs.Kept.{Kept, computed, kept}
+use Rattle.wh_night.specs.Kept.{Kept, kept}
 use Rattle.wh_night.proofs.Storing.{added_computes, can_finish_computed}
 use Rattle.wh_run.proofs.Comes.{finished_known}
 use Rattle.wh_run.proofs.waves.add_one.Goals as goal

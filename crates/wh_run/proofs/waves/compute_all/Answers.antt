@@ -1,12 +1,10 @@
-use Rattle.std.proofs.Common.{◌≡◌, refl, sym, ap, subst, ◌∙◌, ℕ, ◌+◌, ◌<◌, List, [], ◌∷◌, ◌++◌, length, Some, ◌⊎◌, inr, ⊎_elim, arith}
+use Rattle.std.proofs.Common.{◌≡◌, refl, sym, ap, subst, ◌∙◌, ℕ, ◌+◌, ◌<◌, List, [], ◌∷◌, ◌++◌, length, Some, inr, ⊎_elim, arith}
 use Rattle.std.specs.Prelude.{slice_get}
 use Rattle.std.proofs.lemmas.Bool.{cases_lt}
 use Rattle.std.proofs.lemmas.Option.{same_Some, slice_get_read, slice_get_within}
 use Rattle.wh_maint.specs.Comp.{PendingOf}
-use Rattle.wh_night.specs.declared.stages.Job.{Job}
 use Rattle.wh_night.specs.Kept.{kept}
 use Rattle.wh_course.proofs.Growing.{front_item, last_item, longer}
-use Rattle.wh_course.proofs.Sources.{its_job}
 use Rattle.wh_course.proofs.Waves.{source_among}
 use Rattle.wh_run.specs.Underway.{IsAdded}
 use Rattle.wh_run.proofs.Puts.{item}

@@ -1,8 +1,7 @@
-use Rattle.std.proofs.Common.{◌≡◌, sym, ap, subst, ◌∙◌, ℕ, List, ◌||◌, true, arith}
+use Rattle.std.proofs.Common.{◌≡◌, sym, ap, subst, ◌∙◌, arith}
 use Rattle.std.proofs.lemmas.Bool.{or_left}
 use Rattle.wh_dag.specs.Shape.{has}
-use Rattle.wh_night.specs.Kept.{Kept, CanFinish, finished, kept}
-use Rattle.wh_night.specs.Refused.{CanAllBeFinishedIn, IsFirstUnfinishedIn}
+use Rattle.wh_night.specs.Kept.{Kept, kept}
 use Rattle.wh_night.proofs.Storing.{can_finish_after}
 use Rattle.wh_course.proofs.Sources.{its_job}
 use Rattle.wh_course.specs.Standing.{StandsAt, is_source}

@@ -1,6 +1,6 @@
-use Rattle.std.proofs.Common.{◌≡◌, sym, ap, subst, ◌∙◌, ◌⊎◌, inl, ⊎_elim}
+use Rattle.std.proofs.Common.{inl, ⊎_elim}
 use Rattle.wh_night.specs.Kept.{kept}
-use Rattle.wh_run.specs.Underway.{HasCome, night_of}
+use Rattle.wh_run.specs.Underway.{night_of}
 use Rattle.wh_run.proofs.Comes.{first_uncomputed}
 use Rattle.wh_run.proofs.Outs.{if_err, on_ok}
 use Rattle.wh_run.proofs.waves.wave.Goals as goal
