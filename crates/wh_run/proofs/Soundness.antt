@@ -1,13 +1,13 @@
 -- A published list that is sound stays so.
-use Rattle.std.proofs.Common.{◌≡◌, refl, sym, ap, subst, ◌∙◌, ℕ, suc, ◌-◌, ◌≤◌, true, false, List, [], ◌∷◌, ◌++◌, length, take, None, ⊎_elim, arith}
+use Rattle.std.proofs.Common.{◌≡◌, refl, sym, ap, subst, ◌∙◌, ℕ, suc, ◌-◌, ◌≤◌, true, false, List, [], ◌∷◌, ◌++◌, length, take, Some, None, ⊎_elim, arith}
 use Rattle.std.specs.Prelude.{IsTrue, IfErr, OnOk, Result, Ok, Err, slice_index_or}
 use Rattle.std.specs.List.{list_all}
 use Rattle.std.proofs.lemmas.Bool.{and_parts, cases_lt, false≢true}
 use Rattle.wh_dag.specs.Shape.{children_of}
-use Rattle.wh_dag.specs.Catalog.{CatalogOf, IsCatalog}
+use Rattle.wh_dag.specs.Catalog.{CatalogOf, IsCatalog, width_of}
 use Rattle.wh_strategy.specs.declared.expression.Expression.{Expression}
 use Rattle.wh_strategy.specs.Rules.{IsCorrect}
-use Rattle.wh_row.specs.Bag.{Bag, IsTable, empty, sum_of}
+use Rattle.wh_row.specs.Bag.{Bag, HasWidth, IsTable, empty, sum_of}
 use Rattle.wh_maint.specs.Asked.{AreBags}
 use Rattle.wh_maint.specs.Comp.{bag_at}
 use Rattle.wh_maint.specs.Contents.{AreBaseTables, AreContents, AreContentsOf, contents}
@@ -20,19 +20,22 @@ use Rattle.wh_store.specs.Operations.{Operation, Opens, Writes, Commits, Gives_u
 use Rattle.wh_store.specs.Pages.{Contents}
 use Rattle.wh_store.specs.Versions.{Versions, after, is_well_formed, number, versions_from, versions_of}
 use Rattle.wh_publish.specs.Ledgers.{Ledger, versions_in}
-use Rattle.wh_night.specs.Carry.{at_first}
+use Rattle.wh_night.specs.Carry.{at_first, carried}
+use Rattle.wh_night.specs.NightLaws.{HaveTables}
 use Rattle.wh_night.specs.NightList.{IsNightList, ends_before, night_below, puts_of, whole as whole_list}
 use Rattle.wh_night.specs.Refused.{HaveValuesBelow}
 use Rattle.wh_night.specs.declared.report.Report.{Report}
 use Rattle.wh_night.proofs.Agreeing.{past}
+use Rattle.wh_night.proofs.Prefixes.{take_whole}
 use Rattle.wh_night.proofs.NewValues.{changed_base, strategies_end_in_contents}
-use Rattle.wh_night.proofs.NightLists.{night_lists_end_in_contents}
+use Rattle.wh_night.proofs.NightLists.{night_lists_end_in_contents, night_lists_write_tables}
 use Rattle.wh_course.specs.Night.{Night}
 use Rattle.wh_run.specs.declared.left.Left.{Left}
 use Rattle.wh_run.specs.declared.left.Left.TheVariants.{Untouched, GivenUp, StillOpen}
 use Rattle.wh_run.specs.declared.left.NightFault.{NightFault}
 use Rattle.wh_run.specs.Refusals.{AreAllowed}
-use Rattle.wh_run.specs.Tonight.{Begin_it, IsCut, IsDone, IsOpen, IsSound, Leaves, newest_in, tonight}
+use Rattle.wh_run.specs.Tonight.{Begin_it, IsCut, IsDone, IsOpen, IsSound, Leaves, made_by, newest_in, tonight}
+use Rattle.wh_run.specs.Underway.{AreWide}
 use Rattle.wh_run.proofs.Ends.{versions_append}
 use Rattle.wh_run.proofs.Puts.{begins_open, is_write, puts_write}
 
@@ -187,3 +190,21 @@ module _ (catalog : CatalogOf) (list : List Expression) (l m : Ledger) (changes 
   pub stays_sound : (r : Result Report NightFault) → OnOk r (IsDone n l m) → IfErr r (λ f. Leaves n l f.left m) → IsSound catalog m
   stays_sound (Ok report) done left = done_sound done
   stays_sound (Err f) done left = left_sound f.left left
+
+-- ---- the new contents
+
+pub done_tables : (catalog : CatalogOf) (list : List Expression) (l m : Ledger) (changes : List Bag) (keys : ℕ) → IsCorrect catalog.views.children list → AreBags catalog (newest_in l) → 1 ≤ keys
+    → IsDone (tonight catalog list l changes keys) l m → HaveTables (newest_in m) (length catalog.views.children) (made_by (tonight catalog list l changes keys))
+done_tables catalog list l m changes keys ok bags some o =
+    let n : Night = tonight catalog list l changes keys in
+    let v0 : Versions = versions_in l.of l.list in
+    let night : List Operation = night_below (graph_of catalog) (bag_at changes) keys list (bag_at v0.newest) (length list) in
+    let w = whole_is n o.ops o.whole.puts o.whole.night_list o.whole.commits in
+    let written = night_lists_write_tables catalog list (bag_at v0.newest) (bag_at changes) keys v0 ok some (record { each = bags.each; are = λ v r. refl }) (length list) in
+    let now : versions_in m.of m.list ≡ after (record { newest = v0.newest; older = v0.older; draft = Some written.0 }) Commits =
+    ap (λ (x : Ledger). versions_in x.of x.list) o.now ∙ versions_append (versions_of l.of.opening []) l.list o.ops ∙ ap (versions_from v0) w.is ∙ versions_append v0 night (Commits ∷ []) ∙ ap (λ v. after v Commits) written.1 in
+    subst (λ c. HaveTables c (length catalog.views.children) (made_by n)) (sym (ap (λ (v : Versions). v.newest) now))
+    (subst (λ es. HaveTables written.0 (length catalog.views.children) (carried (graph_of catalog) (bag_at changes) es (at_first (bag_at v0.newest))).tables) (take_whole list) written.2)
+
+pub done_bags : (catalog : CatalogOf) (tables : ℕ → Bag) (new : List Bag) → HaveTables new (length catalog.views.children) tables → AreWide catalog tables → AreBags catalog new
+done_bags catalog tables new have wide = record { each = have.each; widths = λ u l. subst (λ t. HasWidth t (width_of catalog u)) (sym (have.are u l)) (wide u l) }

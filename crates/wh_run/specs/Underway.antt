@@ -1,11 +1,11 @@
 -- Where a night has come to: what is carried out, reported and published.
 use Rattle.std.specs.Prelude.{◌≡◌, ◌≢◌, ◌⊎◌, ◌==◌, ℕ, ◌<◌, ◌^◌, true, List, [], ◌∷◌, ◌++◌, map, Option, Some, None, length, slice_get}
 use Rattle.wh_dag.specs.Shape.{children_of}
-use Rattle.wh_dag.specs.Catalog.{CatalogOf, definition_of}
+use Rattle.wh_dag.specs.Catalog.{CatalogOf, definition_of, width_of}
 use Rattle.wh_strategy.specs.declared.expression.Expression.{Expression}
 use Rattle.wh_strategy.specs.declared.expression.Expression.TheVariants.{Inst}
 use Rattle.wh_row.specs.Weigh.{Counted}
-use Rattle.wh_row.specs.Bag.{Bag}
+use Rattle.wh_row.specs.Bag.{Bag, HasWidth}
 use Rattle.wh_maint.specs.Comp.{PendingOf, comp_columns}
 use Rattle.wh_maint.specs.Definition.{graph_of, view_of}
 use Rattle.wh_maint.specs.declared.fault.MaintFault.{MaintFault}
@@ -145,3 +145,7 @@ pub record IsRefusedLater (n : Night) (f : NightFault) : Type 0 where
   pub fault : MaintFault
   pub told : f.cause ≡ cause_of fault
   pub why : (fault ≡ Memory) ⊎ (IsFirstStageFault n fault × (f.left ≢ Untouched))
+
+-- of each view the table has the view's width
+abbrev pub AreWide : CatalogOf → (ℕ → Bag) → Type 0
+AreWide catalog tables = (v : ℕ) → v < length catalog.views.children → HasWidth (tables v) (width_of catalog v)

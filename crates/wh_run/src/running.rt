@@ -4,7 +4,9 @@ ghost use Rattle.std.specs.Prelude.{◌≡◌, ◌≢◌, ◌⊎◌, ◌≤◌, 
 ghost use Rattle.wh_strategy.specs.declared.expression.Expression.{Expression as Step};
 ghost use Rattle.wh_maint.specs.Asked.{AreBags};
 ghost use Rattle.wh_maint.specs.Comp.{bag_at};
+ghost use Rattle.wh_maint.specs.Contents.{AreContents, AreContentsOf};
 ghost use Rattle.wh_maint.specs.Definition.{graph_of};
+ghost use Rattle.wh_maint.specs.Laws.{changed};
 ghost use Rattle.wh_maint.specs.declared.fault.MaintFault.TheVariants.{Memory};
 ghost use Rattle.wh_store.specs.Operations.{Commits, Opens};
 ghost use Rattle.wh_store.specs.Versions.{number};
@@ -12,6 +14,7 @@ ghost use Rattle.wh_publish.specs.Faults.{publish_refusal};
 ghost use Rattle.wh_publish.specs.Ledgers.{Ledger, versions_in};
 ghost use Rattle.wh_night.specs.Fit.{AreFitFor};
 ghost use Rattle.wh_night.specs.Kept.{kept, AreParts, CanFinish};
+ghost use Rattle.wh_night.specs.NightLaws.{HaveTables};
 ghost use Rattle.wh_night.specs.Refused.{ArePassedBelow};
 ghost use Rattle.wh_night.specs.Steps.{AreSteps};
 ghost use Rattle.wh_night.specs.Waves.{stages_of};
@@ -22,7 +25,7 @@ ghost use Rattle.wh_run.specs.Causes.{cause_of, cause_of_begin};
 ghost use Rattle.wh_run.specs.declared.left.Left.TheVariants.{Untouched};
 ghost use Rattle.wh_run.specs.Refusals.{AreAllowed, IsRefused};
 ghost use Rattle.wh_run.specs.Tonight.{IsDone, IsSound, IsWhole, Leaves, goes_out, made_by, newest_in, tonight};
-ghost use Rattle.wh_run.specs.Underway.{Given, HasCome, IsAt, IsPut, IsRefusedLater, IsStopped, IsUnderway, WaitsToCommit, night_of};
+ghost use Rattle.wh_run.specs.Underway.{AreWide, Given, HasCome, IsAt, IsPut, IsRefusedLater, IsStopped, IsUnderway, WaitsToCommit, night_of};
 
 use crate::gate::Gate;
 use crate::insts::inst;
@@ -189,6 +192,7 @@ fn through<P: Publish, F: RowTest, G: RowValue, T: Gate, R: Wait>(
     requires fit { CanFinish catalog.now (kept state.old) }
     requires stages { (i : ℕ) (stage : StageOf) → slice_get stages.now i ≡ Some stage → IsStageIn catalog.now stage }
     requires some { 1 ≤ keys }
+    ensures parts { OnOk result (AreParts catalog.now state.new) }
     ensures goes { IfOk result (λ steps. (t : Given) → stages.now ≡ stages_of t.list
         → IsAt (night_of catalog.now keys t) t.before 0 (kept state.old) [] (P.kept writer.old)
         → IsAt (night_of catalog.now keys t) t.before (length t.list) (kept state.new) steps.items (P.kept writer.new)) }
@@ -227,7 +231,8 @@ fn run<P: Publish, F: RowTest, G: RowValue, T: Gate, R: Wait>(
     ensures done { IfOk result (λ r. (t : Given) → t.before ≡ P.kept writer.old → stages.now ≡ stages_of t.list → HasCome (night_of catalog.now keys t) 0 (kept state.old) []
         → IsDone (night_of catalog.now keys t) t.before (P.kept writer.new)
         × ArePassedBelow catalog.now t.list t.tables t.changes (length t.list)
-        × AreSteps catalog.now.views.children t.list t.tables (made_by (night_of catalog.now keys t)) r.steps.items) }
+        × AreSteps catalog.now.views.children t.list t.tables (made_by (night_of catalog.now keys t)) r.steps.items
+        × AreWide catalog.now (made_by (night_of catalog.now keys t))) }
     ensures refused { IfErr result (λ f. (t : Given) → t.before ≡ P.kept writer.old → stages.now ≡ stages_of t.list → HasCome (night_of catalog.now keys t) 0 (kept state.old) []
         → Leaves (night_of catalog.now keys t) t.before f.left (P.kept writer.new) × IsRefusedLater (night_of catalog.now keys t) f) }
 {
@@ -267,6 +272,11 @@ pub fn night<P: Publish, F: RowTest, G: RowValue, T: Gate, R: Wait>(
     requires least { 1 ≤ options.page_keys }
     requires most { options.page_keys ≤ 256 }
     ensures done { OnOk result (IsDone (tonight catalog.now correct.now.list (P.kept writer.old) changes.now options.page_keys) (P.kept writer.old) (P.kept writer.new)) }
+    ensures bags { OnOk result (AreBags catalog.now (newest_in (P.kept writer.new))) }
+    ensures tables { OnOk result (HaveTables (newest_in (P.kept writer.new)) (length catalog.now.views.children)
+        (made_by (tonight catalog.now correct.now.list (P.kept writer.old) changes.now options.page_keys))) }
+    ensures contents { OnOk result (AreContents (graph_of catalog.now) (bag_at (newest_in (P.kept writer.old)))
+        → AreContentsOf (graph_of catalog.now) (changed (bag_at (newest_in (P.kept writer.old))) (bag_at changes.now)) (bag_at (newest_in (P.kept writer.new)))) }
     ensures version { IfOk result (λ r. r.version ≡ number (versions_in (P.kept writer.new).of (P.kept writer.new).list)) }
     ensures steps { IfOk result (λ r. AreSteps catalog.now.views.children correct.now.list (bag_at (newest_in (P.kept writer.old)))
         (made_by (tonight catalog.now correct.now.list (P.kept writer.old) changes.now options.page_keys)) r.steps.items) }

@@ -22,10 +22,11 @@ use Rattle.wh_run.specs.declared.left.Left.{Left}
 use Rattle.wh_run.specs.declared.left.Left.TheVariants.{Untouched, GivenUp, StillOpen}
 use Rattle.wh_run.specs.declared.left.NightFault.{NightFault}
 use Rattle.wh_run.specs.Refusals.{AreAllowed, IsFirstStageFault, IsRefused, IsRefusedSo}
-use Rattle.wh_run.specs.Tonight.{newest_in, tonight}
+use Rattle.wh_run.specs.Tonight.{IsDone, made_by, newest_in, tonight}
 use Rattle.wh_run.specs.Underway.{Given, HasCome, IsRefusedLater, night_of}
 use Rattle.wh_run.proofs.Outs.{if_err, if_ok, if_ok_on}
-use Rattle.wh_run.proofs.Soundness.{stays_sound}
+use Rattle.wh_night.proofs.NewValues.{ends_in_contents}
+use Rattle.wh_run.proofs.Soundness.{done_bags, done_tables, stays_sound}
 use Rattle.wh_run.proofs.running.night.Goals as goal
 
 -- where nothing stands in its way
@@ -171,3 +172,65 @@ returns-clause-sound g c = λ sound.
     c.current.ensures.well_formed c.run-answer.result
     (if_ok_on _ _ c.run-answer.result (λ r h. (h t refl are come).0) c.run-answer.ensures.done)
     (if_err _ _ c.run-answer.result (λ f h. (h t refl are come).0) c.run-answer.ensures.refused)
+
+pub returns-clause-tables : goal.returns-clause-tables
+returns-clause-tables g c =
+    let cat : CatalogOf = c.args.catalog.now in
+    let list : List Expression = c.args.correct.now.list in
+    let l : Ledger = g.P.Publish.kept c.args.writer.now in
+    let newest : List Bag = newest_in l in
+    let ok : IsCorrect cat.views.children list = subst (λ shape. IsCorrect shape list) c.requires.judged c.strategy.ensures.rules in
+    let same : c.deref-2.result.now ≡ newest = c.deref-2.ensures.value ∙ c.in-Ok.ensures in
+    let k : Kept = kept c.in-Ok-new.state in
+    let first : IsFirst cat (bag_at newest) (bag_at c.args.changes.now) k = subst (λ ts. IsFirst cat (bag_at ts) (bag_at c.args.changes.now) k) same c.in-Ok-new.ensures.first in
+    let t : Given = record { list = list; tables = bag_at newest; changes = bag_at c.args.changes.now; before = l } in
+    let are : c.as_slice.result.now ≡ stages_of list = c.as_slice.ensures.value ∙ c.in-Ok-waves.ensures.stages in
+    let come = comes_first cat list (bag_at newest) (bag_at c.args.changes.now) c.args.options.page_keys k
+    (stands_first cat list (bag_at newest) (bag_at c.args.changes.now) c.args.options.page_keys k c.in-Ok-new.ensures.parts.catalogue ok first) in
+    let n : Night = tonight cat list l c.args.changes.now c.args.options.page_keys in
+    let made = λ (h : IsDone n l (g.P.Publish.kept c.run-answer.new.writer)). done_tables cat list l (g.P.Publish.kept c.run-answer.new.writer) c.args.changes.now c.args.options.page_keys ok c.requires.tables c.requires.least h in
+    if_ok_on _ _ c.run-answer.result (λ r h. made (h t refl are come).0) c.run-answer.ensures.done
+
+pub returns-clause-bags : goal.returns-clause-bags
+returns-clause-bags g c =
+    let cat : CatalogOf = c.args.catalog.now in
+    let list : List Expression = c.args.correct.now.list in
+    let l : Ledger = g.P.Publish.kept c.args.writer.now in
+    let newest : List Bag = newest_in l in
+    let ok : IsCorrect cat.views.children list = subst (λ shape. IsCorrect shape list) c.requires.judged c.strategy.ensures.rules in
+    let same : c.deref-2.result.now ≡ newest = c.deref-2.ensures.value ∙ c.in-Ok.ensures in
+    let k : Kept = kept c.in-Ok-new.state in
+    let first : IsFirst cat (bag_at newest) (bag_at c.args.changes.now) k = subst (λ ts. IsFirst cat (bag_at ts) (bag_at c.args.changes.now) k) same c.in-Ok-new.ensures.first in
+    let t : Given = record { list = list; tables = bag_at newest; changes = bag_at c.args.changes.now; before = l } in
+    let are : c.as_slice.result.now ≡ stages_of list = c.as_slice.ensures.value ∙ c.in-Ok-waves.ensures.stages in
+    let come = comes_first cat list (bag_at newest) (bag_at c.args.changes.now) c.args.options.page_keys k
+    (stands_first cat list (bag_at newest) (bag_at c.args.changes.now) c.args.options.page_keys k c.in-Ok-new.ensures.parts.catalogue ok first) in
+    let n : Night = tonight cat list l c.args.changes.now c.args.options.page_keys in
+    let made = λ (h : IsDone n l (g.P.Publish.kept c.run-answer.new.writer)). done_tables cat list l (g.P.Publish.kept c.run-answer.new.writer) c.args.changes.now c.args.options.page_keys ok c.requires.tables c.requires.least h in
+    if_ok_on _ _ c.run-answer.result (λ r h. let x = h t refl are come in done_bags cat (made_by n) (newest_in (g.P.Publish.kept c.run-answer.new.writer)) (made x.0) x.3) c.run-answer.ensures.done
+
+pub returns-clause-contents : goal.returns-clause-contents
+returns-clause-contents g c =
+    let cat : CatalogOf = c.args.catalog.now in
+    let list : List Expression = c.args.correct.now.list in
+    let l : Ledger = g.P.Publish.kept c.args.writer.now in
+    let newest : List Bag = newest_in l in
+    let ok : IsCorrect cat.views.children list = subst (λ shape. IsCorrect shape list) c.requires.judged c.strategy.ensures.rules in
+    let same : c.deref-2.result.now ≡ newest = c.deref-2.ensures.value ∙ c.in-Ok.ensures in
+    let k : Kept = kept c.in-Ok-new.state in
+    let first : IsFirst cat (bag_at newest) (bag_at c.args.changes.now) k = subst (λ ts. IsFirst cat (bag_at ts) (bag_at c.args.changes.now) k) same c.in-Ok-new.ensures.first in
+    let t : Given = record { list = list; tables = bag_at newest; changes = bag_at c.args.changes.now; before = l } in
+    let are : c.as_slice.result.now ≡ stages_of list = c.as_slice.ensures.value ∙ c.in-Ok-waves.ensures.stages in
+    let come = comes_first cat list (bag_at newest) (bag_at c.args.changes.now) c.args.options.page_keys k
+    (stands_first cat list (bag_at newest) (bag_at c.args.changes.now) c.args.options.page_keys k c.in-Ok-new.ensures.parts.catalogue ok first) in
+    let n : Night = tonight cat list l c.args.changes.now c.args.options.page_keys in
+    let made = λ (h : IsDone n l (g.P.Publish.kept c.run-answer.new.writer)). done_tables cat list l (g.P.Publish.kept c.run-answer.new.writer) c.args.changes.now c.args.options.page_keys ok c.requires.tables c.requires.least h in
+    let old : c.deref.result.now ≡ newest = c.deref.ensures.value ∙ c.in-Ok.ensures in
+    let allowed : AreAllowed n = subst (λ ts. AreAllowedBelow cat (bag_at ts) (bag_at c.args.changes.now) (length cat.views.children)) old c.in_default-base_changes.ensures.allowed in
+    if_ok_on _ _ c.run-answer.result
+    (λ r h are_old.
+    let x = h t refl are come in
+    let new : List Bag = newest_in (g.P.Publish.kept c.run-answer.new.writer) in
+    let have = made x.0 in
+    ends_in_contents cat list newest c.args.changes.now new c.in-Ok-new.ensures.parts.catalogue ok c.requires.tables c.requires.changes (done_bags cat (made_by n) new have x.3) allowed x.1 (λ v m. have.are v m) are_old)
+    c.run-answer.ensures.done

@@ -2,12 +2,14 @@ use Rattle.std.proofs.Common.{◌≡◌, refl, sym, ap, subst, ◌∙◌, ℕ, L
 use Rattle.wh_maint.specs.declared.fault.MaintFault.TheVariants.{Memory}
 use Rattle.wh_store.specs.Operations.{Opens}
 use Rattle.wh_publish.specs.Ledgers.{Ledger}
-use Rattle.wh_night.specs.Kept.{Kept, kept}
-use Rattle.wh_night.proofs.Nights.{steps_end}
+use Rattle.wh_dag.specs.Catalog.{width_of}
+use Rattle.wh_row.specs.Bag.{HasWidth}
+use Rattle.wh_night.specs.Kept.{AreParts, Kept, KeptLists, kept}
+use Rattle.wh_night.proofs.Nights.{steps_end, tables_end}
 use Rattle.wh_strategy.specs.declared.expression.Expression.{Expression}
 use Rattle.wh_course.specs.Night.{Night}
 use Rattle.wh_run.specs.Tonight.{Leaves, goes_out, made_by}
-use Rattle.wh_run.specs.Underway.{HasCome, IsAt}
+use Rattle.wh_run.specs.Underway.{AreWide, HasCome, IsAt}
 use Rattle.wh_night.specs.Steps.{AreSteps}
 use Rattle.wh_run.specs.Underway.{night_of}
 use Rattle.wh_run.proofs.Outs.{if_err_both, if_ok_both}
@@ -22,6 +24,12 @@ begun_at n l old m k e out come = record { come = come; out = out ∙ (λ i. goe
 all_reported : (n : Night) (k : Kept) (steps told : List (Expression × ℕ)) → told ≡ steps → HasCome n (length n.list) k steps → AreSteps n.catalog.views.children n.list n.tables (made_by n) told
 all_reported n k steps told e come =
     subst (AreSteps n.catalog.views.children n.list n.tables (made_by n)) (sym e) (steps_end n.catalog.views.children n.list n.tables (made_by n) (length n.list) steps refl come.reported)
+
+-- the tables that it makes have the views' widths
+made_wide : (n : Night) (s : KeptLists) (steps : List (Expression × ℕ)) → AreParts n.catalog s → HasCome n (length n.list) (kept s) steps → AreWide n.catalog (made_by n)
+made_wide n s steps parts come v l =
+    subst (λ t. HasWidth t (width_of n.catalog v))
+    (tables_end n.catalog n.list n.tables n.changes come.stands.catalogue come.stands.correct (length n.list) (kept s) refl come.stands.agrees v) (parts.tables.widths v l)
 
 pub through-requires-clause-held : goal.through-requires-clause-held
 through-requires-clause-held g c κs within = ap (λ (l : Ledger). l.held) c.in_default.ensures.ok
@@ -39,7 +47,7 @@ returns-in-Ok-clause-done g c =
     (λ report done steps t before are come.
     let n = night_of c.args.catalog.now c.args.keys t in
     let at = c.in-Ok.ensures.goes t are (begun_at n t.before (g.P.Publish.kept c.args.writer.now) (g.P.Publish.kept c.begin.new.writer) (kept c.args.state.now) before c.in_default.ensures.ok come) in
-    (done n t.before (record { passed = at.come.passed; out = at.out }), at.come.passed, all_reported n (kept c.through.new.state) c.in-Ok.steps.items report.steps.items steps at.come))
+    (done n t.before (record { passed = at.come.passed; out = at.out }), at.come.passed, all_reported n (kept c.through.new.state) c.in-Ok.steps.items report.steps.items steps at.come, made_wide n c.through.new.state c.in-Ok.steps.items c.in-Ok.ensures.parts at.come))
     c.commit.ensures.done c.commit.ensures.steps
 
 pub returns-in-Ok-clause-refused : goal.returns-in-Ok-clause-refused
