@@ -12,7 +12,7 @@ ghost use Rattle.wh_store.specs.Operations.{Commits, Opens};
 ghost use Rattle.wh_store.specs.Versions.{number};
 ghost use Rattle.wh_publish.specs.Faults.{publish_refusal};
 ghost use Rattle.wh_publish.specs.Ledgers.{Ledger, versions_in};
-ghost use Rattle.wh_night.specs.Fit.{AreFitFor};
+ghost use Rattle.wh_night.specs.Fit.{AreFitTables};
 ghost use Rattle.wh_night.specs.Kept.{kept, AreParts, CanFinish};
 ghost use Rattle.wh_night.specs.NightLaws.{HaveTables};
 ghost use Rattle.wh_night.specs.Refused.{ArePassedBelow};
@@ -245,8 +245,8 @@ fn run<P: Publish, F: RowTest, G: RowValue, T: Gate, R: Wait>(
     }
 }
 
-/// Carries a night out over what is published, wave by wave, from the tables of the current version: one bag a view, and
-/// fit for these changes, as the contents of a base are. There is a change for each view; those of derived views are not
+/// Carries a night out over what is published, wave by wave, from the tables of the current version: one bag a view, each
+/// fit, as the contents of a base are (`are_fit` tests it). There is a change for each view; those of derived views are not
 /// read. The strategy was judged over this catalogue's shape (`is_of` tests it). Readers go on meanwhile.
 ///
 /// First Held, NightOpen and LastVersion are tested, then the base changes, view by view: Absent, then Large. Then the
@@ -267,7 +267,7 @@ pub fn night<P: Publish, F: RowTest, G: RowValue, T: Gate, R: Wait>(
     requires judged { correct.now.children ≡ catalog.now.views.children }
     requires tables { AreBags catalog.now (newest_in (P.kept writer.old)) }
     requires changes { AreBags catalog.now changes.now }
-    requires fit { AreFitFor (graph_of catalog.now) (bag_at changes.now) correct.now.list (bag_at (newest_in (P.kept writer.old))) }
+    requires fit { AreFitTables catalog.now (newest_in (P.kept writer.old)) }
     requires workers { options.workers ≡ 1 }
     requires least { 1 ≤ options.page_keys }
     requires most { options.page_keys ≤ 256 }
