@@ -1,0 +1,150 @@
+-- A stage of a night: what it carries out and publishes, or why it is refused.
+use Rattle.std.proofs.Common.{◌≡◌, sym, ap, subst, ◌∙◌, ℕ, ◌+◌, eqb, List, [], ◌∷◌, ◌++◌, map, length, None, ◌⊎◌, inl, inr, ⊎_elim, arith}
+use Rattle.std.proofs.lemmas.Bool.{cases_Bool}
+use Rattle.std.proofs.lemmas.List.{append_assoc, length-map}
+use Rattle.wh_dag.specs.Catalog.{CatalogOf}
+use Rattle.wh_strategy.specs.declared.expression.Expression.{Expression}
+use Rattle.wh_strategy.specs.declared.expression.Expression.TheVariants.{Inst}
+use Rattle.wh_strategy.specs.Expression.{At}
+use Rattle.wh_maint.specs.declared.fault.MaintFault.{MaintFault}
+use Rattle.wh_maint.specs.declared.fault.MaintFault.TheVariants.{Memory}
+use Rattle.wh_maint.specs.Comp.{bag_at}
+use Rattle.wh_maint.specs.Definition.{graph_of}
+use Rattle.wh_maint.specs.Finishing.{kind_in}
+use Rattle.wh_maint.specs.Refused.{IsInstallFault}
+use Rattle.wh_store.specs.Operations.{Writes}
+use Rattle.wh_publish.specs.Ledgers.{Ledger, with_held}
+use Rattle.wh_night.specs.declared.stages.Job.{Job}
+use Rattle.wh_night.specs.declared.stages.Stage.{Stage}
+use Rattle.wh_night.specs.declared.stages.Stage.TheVariants as stage
+use Rattle.wh_night.specs.Carry.{State}
+use Rattle.wh_night.specs.Kept.{Kept, finished, installed, rows_in}
+use Rattle.wh_night.specs.NightList.{new_counts, pages_of, puts_at}
+use Rattle.wh_night.specs.Refused.{IsPassedIn, IsStepFault, IsStepFaultIn}
+use Rattle.wh_night.specs.Steps.{AreFirstSteps}
+use Rattle.wh_night.specs.Waves.{comp_of, stages_of}
+use Rattle.wh_night.proofs.Agreeing.{inst_done}
+use Rattle.wh_night.proofs.Nights.{agrees_next, passed_next, rows_right, steps_next}
+use Rattle.wh_night.proofs.Reasons.{inst_reason}
+use Rattle.wh_night.proofs.Refusals.{same_fit, told_next, unfinished}
+use Rattle.wh_course.specs.Night.{Night, state_at}
+use Rattle.wh_course.specs.Standing.{IsWaveAt, place_of}
+use Rattle.wh_course.proofs.Parts.{fits_behind, inst_at, place_next, wave_at}
+use Rattle.wh_run.specs.Refusals.{IsWaveFault}
+use Rattle.wh_run.specs.Tonight.{goes_out, made_by}
+use Rattle.wh_run.specs.Underway.{HasCome, IsAt, IsInstStopped, IsPartly, IsStopped, IsUnderway, Reports, is_cut, is_refused, out_below, puts_in}
+use Rattle.wh_run.proofs.Outs.{held_behind, out_more}
+use Rattle.wh_run.proofs.Puts.{begins_at, front_begins, out_next, wave_out}
+
+module _ (n : Night) (l m : Ledger) (before after : List Stage) (k : Kept) (steps : List (Expression × ℕ)) (here : IsAt n l (place_of before) k steps m) where
+  abbrev p : ℕ
+  p = place_of before
+
+  -- where it has come to it is underway
+  underway : (x : Stage) → stages_of n.list ≡ before ++ x ∷ after → IsUnderway n l m
+  underway x split = record {
+    ops = out_below n p;
+    held = None;
+    now = here.out;
+    begun = λ e. cc;
+    beginning = begins_at n p (let f = fits_behind n before after x split in omega (arith, f)) here.come.passed;
+  }
+
+  -- ---- a wave
+
+  module _ (jobs : List Job) (split : stages_of n.list ≡ before ++ stage.Wave jobs ∷ after) where
+    pub its_wave : IsWaveAt n.catalog jobs n p
+    its_wave = wave_at n before after jobs k here.come.stands split
+
+    pub wave_goes : (next : Kept) (more : List (Expression × ℕ)) → HasCome n (p + length jobs) next more → IsAt n l (place_of (before ++ stage.Wave jobs ∷ [])) next more m
+    wave_goes next more come =
+        let e : p + length jobs ≡ place_of (before ++ stage.Wave jobs ∷ []) = sym (place_next before (stage.Wave jobs) ∙ ap (λ j. p + j) (length-map jobs comp_of)) in
+        subst (λ q. IsAt n l q next more m) e (record { come = come; out = here.out ∙ ap (λ ops. goes_out l ops None) (sym (wave_out n p jobs its_wave (length jobs) (omega arith))) })
+
+    pub wave_stops : (fault : MaintFault) → (fault ≡ Memory) ⊎ IsWaveFault n p jobs fault → IsStopped n l fault m
+    wave_stops fault f = (
+      underway (stage.Wave jobs) split,
+      ⊎_elim (λ e. inl e) (λ w. inr (record { before = before; refused = stage.Wave jobs; after = after; split = split; passed = here.come.passed; is = w })) f,
+    )
+
+  -- ---- an Inst
+
+  module _ (v : ℕ) (split : stages_of n.list ≡ before ++ stage.Inst v ∷ after) where
+    at : At n.list p (Inst v)
+    at = inst_at n before after v k here.come.stands split
+
+    -- its pages
+    same_puts : puts_in n.catalog n.keys v k ≡ puts_at (graph_of n.catalog) n.changes n.keys (state_at n p) (Inst v)
+    same_puts =
+        let s = here.come.stands in
+        let change = (inst_done n.catalog n.list n.tables n.changes s.catalogue s.correct p v k at s.agrees).1 in
+        (λ i. map (Writes v) (pages_of n.keys (new_counts (s.agrees.tables v i) (change i))))
+
+    out_behind : out_below n (p + 1) ≡ out_below n p ++ puts_in n.catalog n.keys v k
+    out_behind = out_next n p (Inst v) at ∙ ap (λ ops. out_below n p ++ ops) (sym same_puts)
+
+    inst_comes : (next : Kept) (more : List (Expression × ℕ)) → IsPassedIn n.catalog k (Inst v) → next ≡ installed v (finished n.catalog (λ u. eqb v u) k)
+        → Reports (rows_in n.catalog (Inst v) k) (Inst v) steps more → HasCome n (p + 1) next more
+    inst_comes next more passed done report =
+        let s = here.come.stands in
+        record {
+          stands = record {
+            catalogue = s.catalogue;
+            correct = s.correct;
+            agrees = agrees_next n.catalog n.list n.tables n.changes s.catalogue s.correct p (Inst v) k next at s.agrees done;
+            told = told_next n.catalog n.list n.tables n.changes s.catalogue s.correct p (Inst v) k next at s.agrees s.told passed done;
+          };
+          passed = passed_next n.catalog n.list n.tables n.changes s.catalogue s.correct p (Inst v) k at s.agrees s.told here.come.passed passed;
+          reported = subst (AreFirstSteps n.catalog.views.children n.list n.tables (made_by n) (p + 1)) (sym report.steps)
+              (steps_next n.catalog.views.children n.list n.tables (made_by n) p steps (Inst v) report.told here.come.reported at
+              (rows_right n.catalog n.list n.tables n.changes s.catalogue s.correct p (Inst v) k report.told at s.agrees report.is report.few));
+        }
+
+    pub inst_goes : (next : Kept) (more : List (Expression × ℕ)) (o : Ledger) → IsPassedIn n.catalog k (Inst v) → next ≡ installed v (finished n.catalog (λ u. eqb v u) k)
+        → Reports (rows_in n.catalog (Inst v) k) (Inst v) steps more → o ≡ goes_out m (puts_in n.catalog n.keys v k) None → IsAt n l (place_of (before ++ stage.Inst v ∷ [])) next more o
+    inst_goes next more o passed done report out =
+        subst (λ q. IsAt n l q next more o) (sym (place_next before (stage.Inst v))) (record {
+          come = inst_comes next more passed done report;
+          out = out_more l m o (out_below n p) (puts_in n.catalog n.keys v k) None here.out out ∙ ap (λ ops. goes_out l ops None) (sym out_behind);
+        })
+
+    fault_is : (fault : MaintFault) → IsStepFaultIn n.catalog k (Inst v) fault → (fault ≡ Memory) ⊎ IsStepFault n.catalog n.changes (state_at n p) (Inst v) fault
+    fault_is fault h =
+        let cat : CatalogOf = n.catalog in
+        let stands = here.come.stands in
+        let s : State = state_at n p in
+        let done = inst_done cat n.list n.tables n.changes stands.catalogue stands.correct p v k at stands.agrees in
+        let inside = stands.correct.views p v at in
+        inst_reason cat n.changes s v fault (⊎_elim
+        (λ u. inl (unfinished cat n.list n.tables n.changes stands.catalogue stands.correct p s k stands.agrees v inside fault u))
+        (λ r. inr (
+          λ derived. ⊎_elim
+              (λ y. stands.told p v at y derived)
+              (λ unknown. same_fit (kind_in cat v) (k.tables v) (s.tables v) (bag_at (k.pending v)) (s.pending v) (stands.agrees.tables v) (λ i j. stands.agrees.pending v inside j i) (r.0 unknown))
+              (cases_Bool (k.known v)),
+          subst (λ b. IsInstallFault v (s.tables v) b fault) done.1 (subst (λ b. IsInstallFault v b ((finished cat (λ u. eqb v u) k).changes v) fault) (stands.agrees.tables v) r.1),
+        ))
+        h)
+
+    -- some of its pages have gone out
+    cut_underway : (o : Ledger) → IsPassedIn n.catalog k (Inst v) → IsPartly m (puts_in n.catalog n.keys v k) o → IsUnderway n l o
+    cut_underway o passed part =
+        let s = here.come.stands in
+        let f = fits_behind n before after (stage.Inst v) split in
+        let behind = held_behind (out_below n p) part.out part.held in
+        record {
+          ops = out_below n p ++ part.out;
+          held = part.held;
+          now = out_more l m o (out_below n p) part.out part.held here.out part.now;
+          begun = λ e. let g : out_below n p ++ with_held part.out part.held ≡ [] = sym behind ∙ e in cc;
+          beginning = front_begins n (p + 1) (with_held (out_below n p ++ part.out) part.held) part.rest (omega (arith, f))
+              (passed_next n.catalog n.list n.tables n.changes s.catalogue s.correct p (Inst v) k at s.agrees s.told here.come.passed passed)
+              (out_behind ∙ ap (λ ops. out_below n p ++ ops) part.split ∙ sym (append_assoc (out_below n p) (with_held part.out part.held) part.rest) ∙ ap (λ ops. ops ++ part.rest) (sym behind));
+        }
+
+    pub inst_stops : (fault : MaintFault) (o : Ledger) → IsInstStopped n.catalog n.keys v k fault m o → IsStopped n l fault o
+    inst_stops fault o (is_refused same h) = (
+      subst (IsUnderway n l) (sym same) (underway (stage.Inst v) split),
+      ⊎_elim (λ e. inl e) (λ w. inr (record { before = before; refused = stage.Inst v; after = after; split = split; passed = here.come.passed; is = w })) (fault_is fault h),
+    )
+    inst_stops fault o (is_cut memory passed part) = (cut_underway o passed part, inl memory)

@@ -1,0 +1,30 @@
+use Rattle.std.proofs.Common.{inl, ⊎_elim}
+use Rattle.wh_night.specs.Kept.{kept}
+use Rattle.wh_run.specs.Underway.{night_of}
+use Rattle.wh_run.proofs.Comes.{first_uncomputed}
+use Rattle.wh_run.proofs.Outs.{if_err, on_ok}
+use Rattle.wh_run.proofs.waves.wave.Goals as goal
+
+pub returns-in-Err-compute_all-clause-refused : goal.returns-in-Err-compute_all-clause-refused
+returns-in-Err-compute_all-clause-refused g c = λ keys place t wave come.
+    let n = night_of c.args.catalog.now keys t in
+    let x = c.in_default.ensures.stands keys place t wave come.stands in
+    ⊎_elim (λ m. inl m)
+    (λ f. first_uncomputed n place c.args.jobs.now wave (kept c.finish_sources.new.state) x.0 c.in_default.ensures.known x.1 c.in-Err-compute_all.fault f)
+    c.in-Err-compute_all.ensures.refused
+
+pub returns-clause-goes : goal.returns-clause-goes
+returns-clause-goes g c =
+    on_ok _ _ c.add_all.result
+    (λ goes keys place t wave come.
+    let x = c.in_default.ensures.stands keys place t wave come.stands in
+    goes keys place t wave (record { stands = x.0; passed = come.passed; reported = come.reported }))
+    c.add_all.ensures.goes
+
+pub returns-clause-refused : goal.returns-clause-refused
+returns-clause-refused g c =
+    if_err _ _ c.add_all.result
+    (λ fault refused keys place t wave come.
+    let x = c.in_default.ensures.stands keys place t wave come.stands in
+    refused keys place t wave (record { stands = x.0; passed = come.passed; reported = come.reported }) x.1)
+    c.add_all.ensures.refused

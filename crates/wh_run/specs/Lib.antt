@@ -1,0 +1,4 @@
+pub mod Causes
+pub mod Tonight
+pub mod Refusals
+pub mod Underway

@@ -1,0 +1,18 @@
+//! Runs a night: carries a strategy out over whatever publishes, wave by wave.
+//!
+//! [`night`] publishes the night list of a correct strategy, operation by operation, from the tables of the current version; readers go
+//! on meanwhile. A night that is refused once it has begun is given up.
+#![tactic(auto)]
+
+mod cause;
+mod gate;
+mod insts;
+mod left;
+mod opening;
+mod running;
+mod waves;
+
+pub use cause::NightCause;
+pub use gate::{Gate, NoGate};
+pub use left::{Left, NightFault};
+pub use running::{Options, night};
