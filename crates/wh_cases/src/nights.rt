@@ -8,6 +8,7 @@ mod groups;
 mod indexed;
 mod limits;
 mod opened;
+mod run;
 mod steps;
 pub(crate) mod tables;
 mod waves;

@@ -26,7 +26,7 @@ fn changes(alloc: Global, of_a: &[(&[i64], i64)]) -> Result<Vec<Bag>, Fail> {
 }
 
 /// comp v from a; inst a; comp v from b; inst b; inst v
-fn one_way(alloc: Global) -> Result<Strategy, Fail> {
+pub(crate) fn one_way(alloc: Global) -> Result<Strategy, Fail> {
     let mut list = Vec::new(alloc);
     list.push(Expression::Comp(2, Sources::new(vec![in alloc; 0]?)))?;
     list.push(Expression::Inst(0))?;
