@@ -67,11 +67,7 @@ pub fn broken_text(alloc: Global, rule: Rule, place: usize) -> Result<Vec<u8>, A
 }
 
 /// What is printed of why a night or its opening contents are refused. Of want of memory nothing is.
-pub fn cause_text(
-    alloc: Global,
-    shape: &Shape,
-    fault: &MaintFault,
-) -> Result<Vec<u8>, AllocError>
+pub fn cause_text(alloc: Global, shape: &Shape, fault: &MaintFault) -> Result<Vec<u8>, AllocError>
     ensures text { IfOk result (λ text. text.items ≡ refused_text shape.now.names fault.now) }
     ensures told { OnOk result (fault.now ≢ MaintFault.Memory) }
 {

@@ -28,12 +28,7 @@ fn append_cells(alloc: Global, out: &mut Vec<u8>, row: &[i64]) -> Result<(), All
 }
 
 /// Appends a row with its count.
-fn append_entry(
-    alloc: Global,
-    out: &mut Vec<u8>,
-    row: &Row,
-    count: i64,
-) -> Result<(), AllocError>
+fn append_entry(alloc: Global, out: &mut Vec<u8>, row: &Row, count: i64) -> Result<(), AllocError>
     ensures { OnOk result (out.new.items ≡ out.old.items ++ entry_text (row.now.items, count)) }
 {
     let text = format!(in alloc; " [{count}")?;
@@ -44,11 +39,7 @@ fn append_entry(
 }
 
 /// Appends the rows of a page.
-fn append_entries(
-    alloc: Global,
-    out: &mut Vec<u8>,
-    rows: &[(Row, i64)],
-) -> Result<(), AllocError>
+fn append_entries(alloc: Global, out: &mut Vec<u8>, rows: &[(Row, i64)]) -> Result<(), AllocError>
     ensures { OnOk result (out.new.items ≡ out.old.items ++ flat_map entry_text (plain rows.now)) }
 {
     for (row, count) in rows {

@@ -12,8 +12,8 @@ returns-clause-legal g c =
     let setup = machine_of c.args.catalog c.args.schedule.now c.args.tables.items nights in
     let is = ready_setup c.args.catalog c.args.schedule.now c.args.tables.items nights c.requires.ready c.keys.result c.keys.ensures.value c.keys.ensures.some c.keys.ensures.most in
     let stands = of_schedule c.args.catalog c.args.schedule.now c.args.tables.items nights c.desks.result c.workers.result c.keys.result
-        c.desks.ensures.value c.workers.ensures.value c.keys.ensures.value (λ s. StandsWith s [] c.in_ok-core.core) c.in_ok-core.ensures.stands in
+    c.desks.ensures.value c.workers.ensures.value c.keys.ensures.value (λ s. StandsWith s [] c.in_ok-core.core) c.in_ok-core.ensures.stands in
     let events = c.deref.ensures.value ∙ c.in_ok-events.ensures
-        ∙ ap (λ n. map (event_of n) c.events.result.now) (c.len.ensures.len ∙ ap (λ (v : Views). length v.children) c.shape.ensures.views)
-        ∙ ap (map (event_of (length c.args.catalog.views.children))) c.events.ensures in
+    ∙ ap (λ n. map (event_of n) c.events.result.now) (c.len.ensures.len ∙ ap (λ (v : Views). length v.children) c.shape.ensures.views)
+    ∙ ap (map (event_of (length c.args.catalog.views.children))) c.events.ensures in
     subst (λ es. IsLegalRun setup es c.in_ok-replies.replies.items) events ((c.in_ok-replies.ensures.replies setup is stands).0)
