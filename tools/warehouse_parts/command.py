@@ -7,7 +7,7 @@ from pathlib import Path
 from .finding import Failure
 from .program import OWN_PROGRAM
 
-COMMANDS = ("pack", "unpack", "night", "lint", "check", "plan", "certify")
+COMMANDS = ("pack", "unpack", "night", "lint", "check", "plan", "certify", "sizes")
 WITH_A_VALUE = ("--program", "--workers", "--readers", "--page-keys", "--comp-cost", "--inst-cost", "--budget")
 GOES_THROUGH = {
     "night": ("--workers", "--readers", "--page-keys"),
