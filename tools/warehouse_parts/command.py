@@ -4,6 +4,7 @@ import sys
 from importlib import import_module
 from pathlib import Path
 
+from .commit import is_stopped
 from .finding import Failure
 from .program import OWN_PROGRAM
 
@@ -59,6 +60,8 @@ def main(given, about):
         words = Words(given)
         if words.command != "unpack" and not words.folder.is_dir():
             raise Failure(2, f"{words.folder} is no folder")
+        if words.command not in ("unpack", "night") and is_stopped(words.folder):
+            raise Failure(3, f"a commit was stopped in {words.folder}; `tools/warehouse night {words.folder}` finishes or undoes it")
         return import_module(f"warehouse_parts.{words.command}").run(words)
     except Failure as failure:
         for line in failure.lines:

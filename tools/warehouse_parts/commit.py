@@ -14,6 +14,14 @@ PARTS = ("data", "changes", "views")
 BAD_INPUT = 3
 
 
+def settle(folder):
+    """Has all that is in a folder written to the disk."""
+    for path in folder.rglob("*"):
+        handle = os.open(path, os.O_RDONLY)
+        os.fsync(handle)
+        os.close(handle)
+
+
 def prepare(path, bases):
     """Makes commit.part/ of new/ and report.txt, and decides by its rename."""
     part = path / "commit.part"
@@ -22,7 +30,7 @@ def prepare(path, bases):
     for table in sorted((path / "new").glob("*.csv")):
         shutil.copyfile(table, part / ("data" if table.stem in bases else "views") / table.name)
     shutil.copyfile(path / "report.txt", part / "views" / "report.txt")
-    os.sync()
+    settle(part)
     os.rename(part, path / "commit")
 
 
@@ -44,6 +52,11 @@ def remove(path):
         shutil.rmtree(path)
 
 
+def is_stopped(path):
+    """Whether a commit was begun and is not done."""
+    return (path / "commit.part").exists() or (path / "commit").exists()
+
+
 def finish(path):
     """Undoes a commit that was not decided, and finishes one that was. Answers what it did, or None where there was none."""
     undone = (path / "commit.part").exists()
@@ -54,7 +67,6 @@ def finish(path):
         move(path, name)
     remove(path / "new")
     remove(path / "before")
-    os.sync()
     os.rename(path / "commit", path / "before")
     return "a commit that was stopped is finished"
 
