@@ -57,7 +57,7 @@ def left_out(folder):
     """The files of a folder that are no part of a bundle, by their paths."""
     parts = {file for _, file in files(folder, BEFORE + NIGHT + AFTER)}
     parts.update(file for night in nights(folder) for _, file in files(night, NIGHT))
-    parts.add(folder / "report.txt")
+    parts.update(folder / name for name in ("report.txt", "graph.dot", "graph.svg"))
     others = (path for path in folder.rglob("*") if path.is_file() and path not in parts)
     return sorted(path for path in others if path.relative_to(folder).parts[0] not in OWN)
 

@@ -8,7 +8,7 @@ from .commit import is_stopped
 from .finding import Failure
 from .program import OWN_PROGRAM
 
-COMMANDS = ("pack", "unpack", "night", "lint", "check", "plan", "certify", "sizes")
+COMMANDS = ("pack", "unpack", "night", "lint", "check", "plan", "certify", "sizes", "diff", "explain", "graph")
 WITH_A_VALUE = ("--program", "--workers", "--readers", "--page-keys", "--comp-cost", "--inst-cost", "--budget")
 GOES_THROUGH = {
     "night": ("--workers", "--readers", "--page-keys"),
@@ -30,9 +30,10 @@ class Words:
         folders = []
         while given:
             self.take(given, folders)
-        if len(folders) != 1:
-            raise Failure(2, f"{self.command} takes one folder")
-        self.folder = Path(folders[0])
+        self.folders = list(map(Path, folders))
+        if len(folders) != (2 if self.command == "diff" else 1):
+            raise Failure(2, "diff takes two files" if self.command == "diff" else f"{self.command} takes one folder")
+        self.folder = self.folders[0]
 
     def take(self, given, folders):
         """Takes the next word, and its value where it has one."""
@@ -51,6 +52,14 @@ class Words:
             folders.append(word)
 
 
+def judge_folder(words):
+    """Refuses what is no folder, and one whose commit was stopped, which only a night goes on with."""
+    if not words.folder.is_dir():
+        raise Failure(2, f"{words.folder} is no folder")
+    if words.command != "night" and is_stopped(words.folder):
+        raise Failure(3, f"a commit was stopped in {words.folder}; `tools/warehouse night {words.folder}` finishes or undoes it")
+
+
 def main(given, about):
     """Carries a command out, and answers its status."""
     if not given or given[0] in ("-h", "--help", "help"):
@@ -58,10 +67,8 @@ def main(given, about):
         return 0 if given else 2
     try:
         words = Words(given)
-        if words.command != "unpack" and not words.folder.is_dir():
-            raise Failure(2, f"{words.folder} is no folder")
-        if words.command not in ("unpack", "night") and is_stopped(words.folder):
-            raise Failure(3, f"a commit was stopped in {words.folder}; `tools/warehouse night {words.folder}` finishes or undoes it")
+        if words.command not in ("unpack", "diff"):
+            judge_folder(words)
         return import_module(f"warehouse_parts.{words.command}").run(words)
     except Failure as failure:
         for line in failure.lines:
