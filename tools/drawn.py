@@ -7,9 +7,8 @@ from math import prod
 from operator import eq, ge, gt, le, lt, ne
 
 sys.dont_write_bytecode = True
-from examples import tool  # noqa: E402
+from warehouse_parts.bundle import part  # noqa: E402
 
-part = tool("bundle").part
 WORDS = ["oak", "elm, old", 'the "ash"', "fir\n@data pine", "", "view yew\nview v1", "Linde\r\n#", "Bäume"]
 SIGNS = {"=": eq, "<>": ne, "<": lt, "<=": le, ">": gt, ">=": ge}
 

@@ -1,28 +1,17 @@
-#!/usr/bin/env python3
-"""Packs a folder of files into a bundle, and unpacks the views of an answer into CSV files.
-
-    tools/bundle pack FOLDER > night.bundle
-    tools/bundle unpack FOLDER < answer.txt
+"""A folder of files as a bundle, and the tables of an answer.
 
 A folder has any of these files: catalogue.toml, data/NAME.csv, changes/NAME.csv, strategy.txt, sizes.csv, plan.txt,
 schedule.txt. Further nights are folders of nights/, in the order of their names, with changes/NAME.csv and strategy.txt each.
 A file that is missing gives no part of the bundle, and an empty one gives a part with no lines. Bytes are kept as they
-are: a line that begins with `@` gets a second one, and a last line without a line feed gets one. Other files are left out, and
-named on standard error.
-
-`unpack` takes the tables out of what `whview night` printed and writes each to FOLDER/NAME.csv. Where the answer has no tables, as a
-fault or a refusal has none, it makes no file, prints the answer's own first line, such as `refused absent NAME`, and ends with 3.
-Words that are none of these end with 1.
+are: a line that begins with `@` gets a second one, and a last line without a line feed gets one.
 """
 
 import re
-import sys
-from pathlib import Path
 
 BEFORE = [("catalogue", "catalogue.toml"), ("data", "data/*.csv")]
 NIGHT = [("changes", "changes/*.csv"), ("strategy", "strategy.txt")]
 AFTER = [("sizes", "sizes.csv"), ("plan", "plan.txt"), ("schedule", "schedule.txt")]
-NO_TABLES = 3
+OWN = ("new", "views", "before", "commit", "commit.part", "new.part", "new.old")
 NAME = re.compile(rb"[A-Za-z_][A-Za-z0-9_]{0,63}")
 
 
@@ -68,7 +57,9 @@ def left_out(folder):
     """The files of a folder that are no part of a bundle, by their paths."""
     parts = {file for _, file in files(folder, BEFORE + NIGHT + AFTER)}
     parts.update(file for night in nights(folder) for _, file in files(night, NIGHT))
-    return sorted(path for path in folder.rglob("*") if path.is_file() and path not in parts)
+    parts.update(folder / name for name in ("report.txt", "graph.dot", "graph.svg"))
+    others = (path for path in folder.rglob("*") if path.is_file() and path not in parts)
+    return sorted(path for path in others if path.relative_to(folder).parts[0] not in OWN)
 
 
 def opened_view(line):
@@ -101,35 +92,3 @@ def unpack(answer):
             lines_by_view[view].append(line)
             inside_a_cell ^= line.count(b'"') % 2 == 1
     return {view: b"".join(lines) for view, lines in lines_by_view.items()}
-
-
-def said_instead(answer):
-    """What an answer without tables says: its first line, or that it is empty."""
-    first = answer.partition(b"\n")[0].rstrip(b"\r").decode(errors="replace")
-    return first or "tools/bundle: this answer is empty"
-
-
-def main():
-    words = sys.argv[1:]
-    if len(words) != 2 or words[0] not in ("pack", "unpack"):
-        sys.exit(__doc__)
-    folder = Path(words[1])
-    if words[0] == "pack":
-        if not folder.is_dir():
-            sys.exit(f"{folder} is no folder")
-        for path in left_out(folder):
-            print(f"tools/bundle: {path} is no part of a bundle", file=sys.stderr)
-        sys.stdout.buffer.write(pack(folder))
-        return
-    answer = sys.stdin.buffer.read()
-    tables = unpack(answer)
-    if not tables:
-        print(said_instead(answer), file=sys.stderr)
-        sys.exit(NO_TABLES)
-    folder.mkdir(parents=True, exist_ok=True)
-    for view, table in tables.items():
-        (folder / f"{view}.csv").write_bytes(table)
-
-
-if __name__ == "__main__":
-    main()

@@ -1,0 +1,39 @@
+"""`check`: judges the folder's strategy.txt. Without sizes.csv and a report its work is not known, and it is judged all the same."""
+
+from . import program
+from .finding import Failure
+from .folder import BAD_INPUT, sound
+from .planning import parts
+from .sizes import sized, told_before
+from .strategy import FILE, Strategy
+
+BROKEN = 1
+
+
+def strategy_of(folder):
+    """The text of strategy.txt, which has no fault and breaks no rule."""
+    file = folder.path / FILE
+    if not file.is_file():
+        raise Failure(BAD_INPUT, f"there is no {FILE} in this folder")
+    text = file.read_text()
+    strategy = Strategy(text, folder.views)
+    if strategy.findings:
+        raise Failure(BAD_INPUT, *strategy.findings)
+    broken = strategy.broken()
+    if broken:
+        raise Failure(BROKEN, broken)
+    return text
+
+
+def run(words):
+    folder = sound(words.folder)
+    given = folder.path / "sizes.csv"
+    told = told_before(folder)
+    sizes = given.read_text() if given.is_file() else sized(told or {view.name: (0, 0, 0) for view in folder.views})
+    text = strategy_of(folder)
+    status, answer = program.run(words.program, "check", parts(folder, sizes, strategy=text), words.through)
+    if status != 0:
+        raise Failure(status, answer.decode().strip())
+    lines = answer.decode().splitlines()
+    print("\n".join(lines if given.is_file() or told else lines[:1]))
+    return 0

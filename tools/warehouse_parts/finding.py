@@ -1,0 +1,30 @@
+"""What is found in a folder: where, and what is wrong there."""
+
+from typing import NamedTuple
+
+
+class Place(NamedTuple):
+    """A place in a file, its line and column counted from 1; a column counts characters."""
+
+    file: str
+    line: int = 1
+    column: int = 1
+
+
+class Finding(NamedTuple):
+    """A fault, which the program would not take, or a warning of what it takes and was hardly meant."""
+
+    place: Place
+    text: str
+    warns: bool = False
+
+    def __str__(self):
+        return f"{self.place.file}:{self.place.line}:{self.place.column}: {'warning: ' if self.warns else ''}{self.text}"
+
+
+class Failure(Exception):
+    """Why a command ends: its status, and the lines that say it."""
+
+    def __init__(self, status, *lines):
+        super().__init__(status, *lines)
+        self.status, self.lines = status, lines

@@ -1,0 +1,23 @@
+"""`lint`: all that is wrong in a folder, a line each, warnings too."""
+
+import sys
+
+from .folder import BAD_INPUT, Folder
+from .strategy import FILE, Strategy
+
+
+def strategy_findings(folder):
+    """What is wrong with strategy.txt, where there is one and the catalogue has no fault."""
+    file = folder.path / FILE
+    if not file.is_file() or any(not finding.warns for finding in folder.catalogue.findings):
+        return []
+    strategy = Strategy(file.read_text(errors="replace"), folder.views)
+    return strategy.findings or list(filter(None, [strategy.broken()]))
+
+
+def run(words):
+    folder = Folder(words.folder)
+    findings = sorted(folder.findings + strategy_findings(folder))
+    for finding in findings:
+        print(finding, file=sys.stderr)
+    return 0 if all(finding.warns for finding in findings) else BAD_INPUT

@@ -1,0 +1,13 @@
+"""`plan`: a plan of least work for a folder, on standard output; from where its sizes are, on standard error."""
+
+import sys
+
+from .folder import sound
+from .planning import planned
+
+
+def run(words):
+    plan, _, source = planned(sound(words.folder), words, words.through)
+    print(f"sizes {source}", file=sys.stderr)
+    print(plan, end="")
+    return 0

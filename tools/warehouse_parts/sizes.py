@@ -1,0 +1,121 @@
+"""Sizes of a folder's views for a night: given, from the last report, or measured by a night that changes nothing."""
+
+from . import program
+from .bundle import part, unpack
+from .finding import Failure
+from .strategy import at_once, written
+
+REPORT = "views/report.txt"
+HEADER = "view,pre,post,change"
+
+
+def sized(rows):
+    """The part of sizes, of a view's numbers by its name."""
+    return "".join(f"{line}\n" for line in [HEADER, *(f"{name},{pre},{post},{change}" for name, (pre, post, change) in rows.items())])
+
+
+def base_sizes(folder):
+    """The sizes of the base views, which their files say."""
+    found = {}
+    for view in folder.views:
+        if view.is_base:
+            before = folder.data[view.name].rows.total() if view.name in folder.data else 0
+            changes = folder.changes[view.name].rows.values() if view.name in folder.changes else ()
+            found[view.name] = (before, before + sum(changes), sum(map(abs, changes)))
+    return found
+
+
+def of_report(text):
+    """The sizes that a report tells."""
+    lines = text.partition(f"{HEADER}\n")[2].splitlines()
+    return {name: tuple(map(int, numbers)) for name, *numbers in (line.split(",") for line in lines)}
+
+
+def told_before(folder):
+    """Sizes from the last report: derived views change as they did then, by as much more as the base views do. None without one."""
+    file = folder.path / REPORT
+    last = of_report(file.read_text()) if file.is_file() else {}
+    if set(last) != {view.name for view in folder.views}:
+        return None
+    found = base_sizes(folder)
+    now, then = (sum(sizes[name][2] for name in found) for sizes in (found, last))
+    for view in folder.views:
+        if not view.is_base:
+            pre, change = last[view.name][1], -(-last[view.name][2] * now // max(then, 1))
+            found[view.name] = (pre, pre, change)
+    return {view.name: found[view.name] for view in folder.views}
+
+
+def bundle_of(folder, strategy, with_changes=True):
+    """The bundle of one night with this strategy."""
+    files = [("catalogue", "catalogue.toml")]
+    for kind, kept in (("data", folder.data), ("changes", folder.changes)):
+        files += [(f"{kind} {name}", f"{kind}/{name}.csv") for name in kept if kind == "data" or with_changes]
+    parts = [part(heading, (folder.path / file).read_bytes()) for heading, file in files]
+    return b"".join([*parts, part("strategy", strategy.encode())])
+
+
+def counted(table):
+    """How many rows a printed table has: the sum of its counts."""
+    inside, total = False, 0
+    for number, line in enumerate(table.split(b"\n")):
+        if number and line and not inside:
+            total += int(line.partition(b",")[0])
+        inside ^= line.count(b'"') % 2 == 1
+    return total
+
+
+def installed(answer):
+    """How many rows each view's Inst changed, by its name."""
+    head = answer.partition(b"\nwork ")[0].decode()
+    return {name: int(count) for name, count in (line[5:].split(": ") for line in head.split("\n") if line.startswith("inst "))}
+
+
+def of_night(folder, answer, before):
+    """The sizes of a night that was carried out, with the derived views' rows before it."""
+    changed, tables, base = installed(answer), unpack(answer), base_sizes(folder)
+    derived = {name: (before[name], counted(table), changed[name]) for name, table in tables.items()}
+    return {view.name: base[view.name] if view.is_base else derived[view.name] for view in folder.views}
+
+
+def rows_before(folder, words):
+    """How many rows each derived view has before the night: the last report says it, or a night without changes."""
+    file = folder.path / REPORT
+    last = of_report(file.read_text()) if file.is_file() else {}
+    derived = [view.name for view in folder.views if not view.is_base]
+    if all(name in last for name in derived):
+        return {name: last[name][1] for name in derived}
+    status, answer = program.run(words.program, "night", bundle_of(folder, written(at_once(folder.views)), False))
+    if status != 0:
+        raise Failure(status, answer.decode(errors="replace").strip())
+    return {name: counted(table) for name, table in unpack(answer).items()}
+
+
+def measured(folder, words):
+    """Sizes by a night that is carried out and not kept."""
+    status, answer = program.run(words.program, "night", bundle_of(folder, written(at_once(folder.views))))
+    if status != 0:
+        raise Failure(status, answer.decode(errors="replace").strip())
+    return of_night(folder, answer, rows_before(folder, words))
+
+
+def sizes_text(folder, words):
+    """The sizes' text, and from where it is."""
+    given = folder.path / "sizes.csv"
+    if given.is_file():
+        return given.read_text(), "given in sizes.csv"
+    told = told_before(folder)
+    if told is not None:
+        return sized(told), "from the change files and the last report"
+    return sized(measured(folder, words)), "measured by a night that is not kept"
+
+
+def run(words):
+    import sys
+
+    from .folder import sound
+
+    text, source = sizes_text(sound(words.folder), words)
+    print(f"sizes {source}", file=sys.stderr)
+    print(text, end="")
+    return 0
