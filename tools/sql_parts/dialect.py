@@ -22,6 +22,8 @@ class Dialect:
     limit = None
     folds = False
     row_number = None
+    sums_in_64_bits = False
+    is_count = '"#" > 0'
 
     def literal(self, text):
         return "'" + text.replace("'", "''") + "'"

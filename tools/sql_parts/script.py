@@ -68,15 +68,12 @@ class Script:
     def declared(self, v):
         found, columns = self.typed(v), self.groups(v)
         if self.is_counted(v):
-            found.append(f'"#" {self.dialect.kinds["int"]} NOT NULL CHECK ({self.is_count()})')
+            found.append(f'"#" {self.dialect.kinds["int"]} NOT NULL DEFAULT 1 CHECK ({self.dialect.is_count})')
         elif self.is_summary(v):
             found.append(f"CHECK ({self.sums(v)[0]} > 0)")
         if v not in self.plain and 0 < len(columns) <= WIDEST_INDEX:
             found.append(f"UNIQUE ({self.listed(columns)})")
         return found
-
-    def is_count(self):
-        return "\"#\" > 0 AND typeof(\"#\") = 'integer'" if self.dialect.name == "sqlite" else '"#" > 0'
 
     def indexes(self):
         """An index for each column that a join asks for."""

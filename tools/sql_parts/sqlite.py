@@ -12,6 +12,8 @@ class SQLite(Dialect):
     name = "sqlite"
     folds = True
     row_number = "rowid"
+    sums_in_64_bits = True
+    is_count = "\"#\" > 0 AND typeof(\"#\") = 'integer'"
     kinds = {"int": "INTEGER", "text": "TEXT"}
     # Without a type a number stays what it was computed as; a column of integers would turn a real back.
     free_number = ""
