@@ -12,7 +12,7 @@ BEFORE = [("catalogue", "catalogue.toml"), ("data", "data/*.csv")]
 NIGHT = [("changes", "changes/*.csv"), ("strategy", "strategy.txt")]
 AFTER = [("sizes", "sizes.csv"), ("plan", "plan.txt"), ("schedule", "schedule.txt")]
 OWN = ("new", "views", "before", "commit", "commit.part", "new.part", "new.old")
-NAME = re.compile(rb"[A-Za-z_][A-Za-z0-9_]{0,63}")
+HEADING = re.compile(rb"^(?:view ([A-Za-z_][A-Za-z0-9_]{0,63})|reader [^\n]*)$", re.MULTILINE)
 
 
 def lines_of(content):
@@ -62,33 +62,22 @@ def left_out(folder):
     return sorted(path for path in others if path.relative_to(folder).parts[0] not in OWN)
 
 
-def opened_view(line):
-    """The view that this line opens, or None. A record begins with its count, and a header with `#`."""
-    if not line.startswith(b"view "):
-        return None
-    name = line[len(b"view ") :].rstrip(b"\n")
-    return name.decode() if NAME.fullmatch(name) else None
-
-
 def unpack(answer):
     """The tables of an answer by the names of their views.
 
     A line inside a quoted cell is no line of the answer, whatever it reads: quotes in a cell are doubled, so a line ends
     inside a cell exactly where the quotes so far are odd.
     """
-    lines_by_view = {}
-    view = None
-    inside_a_cell = False
-    for line in lines_of(answer):
-        if not inside_a_cell:
-            opened = opened_view(line)
-            if opened is not None:
-                view = opened
-                lines_by_view[view] = []
-                continue
-            if line.startswith(b"reader "):
-                view = None
-        if view is not None:
-            lines_by_view[view].append(line)
-            inside_a_cell ^= line.count(b'"') % 2 == 1
-    return {view: b"".join(lines) for view, lines in lines_by_view.items()}
+    answer += b"" if answer.endswith(b"\n") else b"\n"
+    tables, view, start, counted, quotes = {}, None, 0, 0, 0
+    for heading in HEADING.finditer(answer):
+        quotes += answer.count(b'"', counted, heading.start()) if view else 0
+        counted = heading.start()
+        if quotes % 2 == 0:
+            if view:
+                tables[view] = answer[start : heading.start()]
+            view, start = heading[1] and heading[1].decode(), heading.end() + 1
+            counted = start
+    if view:
+        tables[view] = answer[start:]
+    return tables

@@ -8,7 +8,7 @@ from .catalogue import Catalogue
 from .finding import Failure, Finding, Place
 from .records import Records, absent
 
-BAD_INPUT = 3
+REFUSED, BAD_INPUT = 1, 3
 
 
 class Folder:
@@ -18,11 +18,12 @@ class Folder:
         self.path, self.catalogue = path, Catalogue(path)
         self.views = self.catalogue.views
         self.findings = list(self.catalogue.findings)
-        self.data, self.changes = {}, {}
+        self.data, self.changes, self.absent = {}, {}, []
         for view in self.views:
             if view.is_base and view.columns:
                 self.read(view)
         self.judge_other_files()
+        self.findings += self.absent
 
     @property
     def faults(self):
@@ -43,7 +44,7 @@ class Folder:
             text = f"there is no data/{view.name}.csv: {view.name} is empty"
             self.findings.append(Finding(view.place("name", 0), text, True))
         if view.name in self.changes and not self.changes[view.name].findings:
-            self.findings += absent(self.data.get(view.name), self.changes[view.name])
+            self.absent += absent(self.data.get(view.name), self.changes[view.name])
 
     def files(self, kind):
         """The files of `data` or `changes`, as their names are written."""
@@ -79,8 +80,8 @@ class Folder:
 
 
 def sound(path):
-    """The folder, with its warnings printed; where it has faults, they end the command."""
+    """The folder. Where it has faults, they end the command; rows that are not there alone are a refused night."""
     folder = Folder(path)
     if folder.faults:
-        raise Failure(BAD_INPUT, *folder.warnings, *folder.faults)
+        raise Failure(REFUSED if folder.faults == folder.absent else BAD_INPUT, *folder.warnings, *folder.faults)
     return folder

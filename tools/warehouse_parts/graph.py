@@ -5,6 +5,10 @@ from html import escape
 from .explain import steps
 
 BOX_WIDTH, BOX_HEIGHT, ACROSS, DOWN, MARGIN, LINE = 190, 40, 230, 110, 20, 18
+TIP = (
+    '<defs><marker id="tip" markerWidth="8" markerHeight="8" refX="8" refY="4" orient="auto">'
+    '<path d="M0,0 L8,4 L0,8 z" fill="#345"/></marker></defs>'
+)
 
 
 def levels(views):
@@ -62,7 +66,8 @@ def arrow(below, above, note):
     end = (above[0] + BOX_WIDTH / 2, above[1] + BOX_HEIGHT)
     drawn = f'<line x1="{start[0]:.0f}" y1="{start[1]}" x2="{end[0]:.0f}" y2="{end[1]}" stroke="#345" marker-end="url(#tip)"/>'
     across, down = (start[0] + (end[0] - start[0]) * 0.35, start[1] + (end[1] - start[1]) * 0.35)
-    return drawn + f'<g paint-order="stroke" stroke="white" stroke-width="4">{text(across, down, note, 11)}</g>' + text(across, down, note, 11)
+    words = text(across, down, note, 11)
+    return drawn + f'<g stroke="white" stroke-width="4">{words}</g>' + words
 
 
 def svg(views, named, edges):
@@ -71,10 +76,9 @@ def svg(views, named, edges):
     width = max(across for across, _ in at.values()) + BOX_WIDTH + MARGIN
     height = max(down for _, down in at.values()) + BOX_HEIGHT + MARGIN
     head = f'<svg xmlns="http://www.w3.org/2000/svg" width="{width}" height="{height}" font-family="sans-serif">'
-    tip = '<defs><marker id="tip" markerWidth="8" markerHeight="8" refX="8" refY="4" orient="auto"><path d="M0,0 L8,4 L0,8 z" fill="#345"/></marker></defs>'
     arrows = [arrow(at[child], at[view.name], edges[child, view.name]) for view in views for child in view.over]
     boxes = [box(at[view.name], view.name, named[view.name]) for view in views]
-    return "\n".join([head, tip, *arrows, *boxes, "</svg>\n"])
+    return "\n".join([head, TIP, *arrows, *boxes, "</svg>\n"])
 
 
 def run(words):

@@ -1,8 +1,11 @@
 """Sizes of a folder's views for a night: given, from the last report, or measured by a night that changes nothing."""
 
+import sys
+
 from . import program
 from .bundle import part, unpack
 from .finding import Failure
+from .folder import sound
 from .strategy import at_once, written
 
 REPORT = "views/report.txt"
@@ -111,10 +114,6 @@ def sizes_text(folder, words):
 
 
 def run(words):
-    import sys
-
-    from .folder import sound
-
     text, source = sizes_text(sound(words.folder), words)
     print(f"sizes {source}", file=sys.stderr)
     print(text, end="")
