@@ -7,9 +7,9 @@ from pathlib import Path
 
 sys.dont_write_bytecode = True
 from drawn import Text, Warehouse  # noqa: E402
-from examples import tool  # noqa: E402
 from given import Given, parts_of, words_of  # noqa: E402
 from machine import broken  # noqa: E402
+from warehouse_parts.bundle import pack  # noqa: E402
 
 
 class Unfit(Exception):
@@ -17,9 +17,9 @@ class Unfit(Exception):
 
 
 def text_of(path):
-    """The bundle in a file, or of a folder as `tools/bundle pack` makes it."""
+    """The bundle in a file, or of a folder as `tools/warehouse pack` makes it."""
     path = Path(path)
-    given = tool("bundle").pack(path) if path.is_dir() else path.read_bytes()
+    given = pack(path) if path.is_dir() else path.read_bytes()
     return given.decode()
 
 

@@ -44,6 +44,10 @@ class PostgreSQL(Dialect):
         """Whether a number is no bigint."""
         return f"NOT {number} BETWEEN {self.number(LEAST)} AND {self.number(MOST)}"
 
+    def inexact(self, _):
+        """Sums in numeric are exact."""
+        return []
+
     # ---- statements
 
     def begin(self, tables):

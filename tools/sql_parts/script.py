@@ -220,7 +220,15 @@ class Script:
             f"INSERT INTO {pending} ({filled}) SELECT {self.listed([*self.groups(v), *added])} FROM (\n  {terms}\n) AS terms"
             f"{groups} HAVING count(*) > 0;"
         )
-        return [insert, *self.range(v, f'SELECT 1 FROM {pending} WHERE "~lost" > 0'), *self.dialect.filled(pending)]
+        return [insert, *self.exact(v, pending), *self.dialect.filled(pending)]
+
+    def exact(self, v, pending):
+        """A word where an output has no value, or where the engine could not add up exactly."""
+        count, *sums = self.sums(v)
+        found = self.range(v, f"SELECT 1 FROM {pending} WHERE " + " OR ".join(['"~lost" > 0', *self.dialect.inexact(sums)]))
+        for test in self.dialect.inexact([count]):
+            found += self.dialect.refuse(f"refused large {self.views[v].name}", f"SELECT 1 FROM {pending} WHERE {test}")
+        return found
 
     def range(self, v, query):
         return self.dialect.refuse(f"refused range {self.views[v].name}", query)

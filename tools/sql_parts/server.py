@@ -78,9 +78,18 @@ class PostgreSQLEngine:
     def command(self):
         return [self.programs / "psql", "-h", str(self.folder), "-U", "postgres", "-X", "-q", "-A", "-t", "-v", "ON_ERROR_STOP=1", "postgres"]
 
+    def in_schema(self, lines):
+        return "\n".join(["SET client_min_messages = warning;", f"SET search_path = s{self.schemas};", *lines, ""])
+
     def psql(self, lines):
-        given = "\n".join(["SET client_min_messages = warning;", f"SET search_path = s{self.schemas};", *lines])
-        return subprocess.run(self.command(), input=given.encode(), capture_output=True)
+        return subprocess.run(self.command(), input=self.in_schema(lines).encode(), capture_output=True)
+
+    def session(self, lines):
+        """A session that has been given these lines and takes more."""
+        found = subprocess.Popen(self.command(), stdin=subprocess.PIPE, stdout=subprocess.PIPE, text=True)
+        found.stdin.write(self.in_schema(lines))
+        found.stdin.flush()
+        return found
 
     def fresh(self):
         self.schemas += 1

@@ -43,6 +43,10 @@ class SQLite(Dialect):
     def is_lost(self, number):
         return f"typeof({number}) <> 'integer'"
 
+    def inexact(self, columns):
+        """Tests for sums that turned into reals."""
+        return [f"typeof({column}) <> 'integer'" for column in columns]
+
     # ---- statements
 
     def begin(self, _):
