@@ -30,7 +30,7 @@ def words_of(name):
     if given.exists():
         return given.read_text().split()
     command = name.partition("_")[0]
-    return [command if command in ("plan", "certify", "night") else "check"]
+    return [command if command in ("plan", "certify", "night", "replay") else "check"]
 
 
 def examples():

@@ -8,7 +8,11 @@
 #[cfg(test)]
 mod bags;
 #[cfg(test)]
+mod desks;
+#[cfg(test)]
 mod formulas;
+#[cfg(test)]
+mod machine;
 #[cfg(test)]
 mod nights;
 #[cfg(test)]

@@ -79,11 +79,11 @@ impl<T: Copy + Drop> Piece<T> {
         let mut low = 0;
         let mut high = self.len();
         while low < high {
-            let middle = low + (high - low) / 2;
-            match row.cmp(self.row(middle)) {
-                Ordering::Less => high = middle,
-                Ordering::Equal => return Ok(middle),
-                Ordering::Greater => low = middle + 1,
+            let asked = place_to_ask(low, high, self.len());
+            match row.cmp(self.row(asked)) {
+                Ordering::Less => high = asked,
+                Ordering::Equal => return Ok(asked),
+                Ordering::Greater => low = asked + 1,
             }
         }
         Err(low)
@@ -152,6 +152,20 @@ impl<T: Copy + Drop> Piece<T> {
         self.cells.truncate(self.width * place);
         self.values.truncate(place);
     }
+}
+
+/// The place to ask next of those from `low` up to `high`: the middle, but the last of all early,
+/// since rows that come in order go behind it.
+pub(crate) fn place_to_ask(low: usize, high: usize, end: usize) -> usize
+    requires { low < high }
+    ensures from { low ≤ result }
+    ensures below { result < high }
+    ensures between { low + 1 < high → low < result }
+{
+    if high == end && 0 < low {
+        return high - 1;
+    }
+    low + (high - low) / 2
 }
 
 /// Puts cells before a place.

@@ -6,7 +6,7 @@ ghost use Rattle.wh_pieces.specs.Place.{AreRisingRows, IsAbove};
 ghost use Rattle.wh_pieces.specs.Pieces.{found, with_entry, without_entry, above, all_of, AreNotEmpty, ArePieces, AreCounted, IsPieceFor, piece_at, before, after};
 
 use crate::entries::Entries;
-use crate::piece::Piece;
+use crate::piece::{Piece, place_to_ask};
 use std::alloc::{AllocError, Global};
 use std::cmp::Ordering;
 use std::marker::Model;
@@ -242,10 +242,10 @@ fn find_piece<T: Copy + Drop>(pieces: &Vec<Piece<T>>, row: &[i64]) -> usize
     let mut low = 0;
     let mut high = pieces.len();
     while 1 < high - low {
-        let middle = low + (high - low) / 2;
-        match row.cmp(pieces[middle].row(0)) {
-            Ordering::Less => high = middle,
-            _ => low = middle,
+        let asked = place_to_ask(low, high, pieces.len());
+        match row.cmp(pieces[asked].row(0)) {
+            Ordering::Less => high = asked,
+            _ => low = asked,
         }
     }
     low
@@ -372,8 +372,10 @@ fn put<T: Copy + Drop>(
 {
     let len = pieces[nth].len();
     let half = len / 2;
-    let last = place == len && nth + 1 == pieces.len();
-    if len < most || half == 0 || place == 0 || last {
+    if place == len && nth + 1 == pieces.len() {
+        return put_at(alloc, filled(most), pieces, nth, place, row, value);
+    }
+    if len < most || half == 0 || place == 0 {
         return put_at(alloc, most, pieces, nth, place, row, value);
     }
     split(alloc, pieces, nth, half)?;
@@ -400,5 +402,12 @@ fn put_last<T: Copy + Drop>(
     if count == 0 {
         return put_piece(alloc, pieces, 0, row, value);
     }
-    put_behind(alloc, most, pieces, count - 1, row, value)
+    put_behind(alloc, filled(most), pieces, count - 1, row, value)
+}
+
+/// How many rows a piece gets from rows that come in order: some room is left for rows in between.
+fn filled(most: usize) -> usize
+    ensures { result ≤ most }
+{
+    most - most / 4
 }

@@ -2,6 +2,7 @@
 
 use crate::Pieces;
 use std::alloc::{AllocError, Global};
+use std::collections::BTreeMap;
 use std::process::Abort;
 use std::test::Fail;
 
@@ -164,5 +165,39 @@ fn two_maps_are_one(rt: HostRuntime) -> Result<(), Fail> {
     let mut brought = map.copy(rt.alloc())?;
     brought.merge(&more, added)?;
     assert_lists(&rt, &brought, &both);
+    Ok(())
+}
+
+/// The next number of a xorshift generator.
+fn next(state: u64) -> u64 {
+    let a = state ^ (state << 13);
+    let b = a ^ (a >> 7);
+    b ^ (b << 17)
+}
+
+#[test]
+fn drawn_calls_leave_what_they_leave_in_an_ordered_map(rt: HostRuntime) -> Result<(), Fail> {
+    let mut map = Pieces::with_most(rt.alloc(), 2);
+    let mut plain = BTreeMap::new(rt.alloc());
+    let mut state: u64 = 88172645463325252;
+    for value in 0..600 {
+        state = next(state);
+        let key = (state % 50) as i64;
+        let width = if key % 3 == 0 { 1 } else { 2 };
+        let cells = [key, 7];
+        let row = &cells[..width];
+        if state % 7 < 2 {
+            assert_eq!(rt; map.remove(row), plain.remove(&key));
+        } else {
+            let stood = plain.insert(key, value)?;
+            assert_eq!(rt; map.insert(row, value)?, stood);
+        }
+    }
+    assert_eq!(rt; map.len(), plain.len());
+    let mut entries = map.entries();
+    for (key, value) in &plain {
+        let entry = entries.next();
+        assert!(rt; entry.is_some_and(|(row, found)| row.first() == Some(key) && found == *value));
+    }
     Ok(())
 }

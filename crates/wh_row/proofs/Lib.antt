@@ -5,10 +5,10 @@ pub mod CountLaws
 pub mod BagWeights
 pub mod WrittenLaws
 pub mod OneRow
-pub mod RangeLaws
 pub mod BagLaws
 mod Machine
 mod StoredLaws
+mod MapLaws
+mod OrderLaws
 mod FlatLaws
-mod RoomLaws
 mod RunningSums

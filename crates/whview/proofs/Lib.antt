@@ -18,5 +18,6 @@ pub mod NamesRead
 pub mod PlansCertified
 pub mod SmallWorks
 pub mod NightDecided
+pub mod ReplayDecided
 pub mod ReadRows
 pub mod StoredCatalog

@@ -2,9 +2,10 @@
 use Rattle.std.proofs.Common.{◌≡◌, ◌≢◌, ℕ, ◌<◌, ◌≤◌, ◌∷◌, true, List, [], length, refl, sym, ap, subst, ◌∙◌, arith, ⊎_elim, ◌⊎◌}
 use Rattle.std.proofs.lemmas.Bool.{cases_lt}
 use Rattle.wh_dag.specs.Catalog.{CatalogOf, IsCatalog, is_empty}
-use Rattle.wh_dag.specs.Shape.{children_of}
+use Rattle.wh_dag.specs.Shape.{Views, children_of}
 use Rattle.wh_row.specs.Bag.{Bag, IsTable, sum_of, empty}
-use Rattle.wh_load.specs.ReadingNight.{Night, catalog_in}
+use Rattle.wh_catalogue_text.specs.ReadCatalog.{catalog_of}
+use Rattle.wh_load.specs.ReadingNight.{Night, Opening, catalog_in}
 use Rattle.wh_maint.specs.Comp.{bag_at}
 use Rattle.wh_maint.specs.Contents.{AreBaseTables, AreContents, AreContentsOf, IsFromScratch, contents}
 use Rattle.wh_maint.specs.Definition.{graph_of}
@@ -77,7 +78,7 @@ module _ (cat : CatalogOf) (is : IsCatalog cat) (base old : List Bag) (opened : 
       subst (λ ts. CanBeEvaluated g ts v) as_old (valued v (within cat.views.children v some) some)
 
   -- these are the contents of their own base tables
-  are_contents : AreReadTables cat base → HaveContentsBelow g (bag_at base) (length cat.views.children) → AreContents g (bag_at old)
+  pub are_contents : AreReadTables cat base → HaveContentsBelow g (bag_at base) (length cat.views.children) → AreContents g (bag_at old)
   are_contents read valued = record {
     counts = λ b e. subst IsTable (sym (opened b ∙ whole.bases b e)) (base_tables cat is base read b e);
     bases = λ b e. refl;
@@ -156,13 +157,14 @@ shown_carried N old new steps cat ts ch list e same same_changes same_list f =
     (subst (λ xs. CarryFacts N old new steps cat ts xs N.given.list) same_changes
     (subst (λ xs. CarryFacts N old new steps cat ts ch xs) same_list f))))
 
-record AreOpenedBy (N : Night) (old : List Bag) (cat : CatalogOf) : Type 0 where
-  each : length old ≡ length cat.views.children
-  opened : (v : ℕ) → bag_at old v ≡ contents (graph_of cat) (bag_at N.opening.tables) v
-  valued : HaveContentsBelow (graph_of cat) (bag_at N.opening.tables) (length cat.views.children)
+-- these lists are the contents of the base that was read, over this catalogue
+pub record AreOpenedBy (opening : Opening) (old : List Bag) (cat : CatalogOf) : Type 0 where
+  pub each : length old ≡ length cat.views.children
+  pub opened : (v : ℕ) → bag_at old v ≡ contents (graph_of cat) (bag_at opening.tables) v
+  pub valued : HaveContentsBelow (graph_of cat) (bag_at opening.tables) (length cat.views.children)
 
-opened_by : (N : Night) (old : List Bag) → AreOpenedBy N old (catalog_in N) → AreOpened N.shape N.opening old
-opened_by N old o = record { each = o.each; opened = λ v l. o.opened v; valued = o.valued }
+pub opened_by : (shape : Views) (opening : Opening) (old : List Bag) → AreOpenedBy opening old (catalog_of shape opening.views) → AreOpened shape opening old
+opened_by shape opening old o = record { each = o.each; opened = λ v l. o.opened v; valued = o.valued }
 
 pub refused_from : (N : Night) (old : List Bag) (fault : CarryFault) (cat : CatalogOf) (ts ch : List Bag) (list : List Expression)
     → cat ≡ catalog_in N → ts ≡ old → ch ≡ N.given.changes → list ≡ N.given.list
@@ -171,7 +173,7 @@ pub refused_from : (N : Night) (old : List Bag) (fault : CarryFault) (cat : Cata
     → IsNightFault cat list (bag_at ts) (bag_at ch) fault → fault.fault ≢ Memory → IsRefusedFrom N fault
 refused_from N old fault cat ts ch list e same same_changes same_list each opened valued why not = record {
   old = old;
-  opened = opened_by N old (subst (AreOpenedBy N old) e (record { each = each; opened = opened; valued = valued }));
+  opened = opened_by N.shape N.opening old (subst (AreOpenedBy N.opening old) e (record { each = each; opened = opened; valued = valued }));
   told = not;
   why = subst (λ k. IsNightFault k N.given.list (bag_at old) (bag_at N.given.changes) fault) e
       (subst (λ xs. IsNightFault cat N.given.list (bag_at xs) (bag_at N.given.changes) fault) same

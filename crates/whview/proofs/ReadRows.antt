@@ -37,12 +37,12 @@ rows_tables (view ∷ views) [] a u l = absurd a
 rows_tables (view ∷ views) (bag ∷ bags) a zero l = a.0.1
 rows_tables (view ∷ views) (bag ∷ bags) a (suc u) l = rows_tables views bags a.1 u (omega arith)
 
-read_bags : (kind : Rows) (shape : Views) (views : List ViewOf) (rows : List Bag) → IsCatalog (catalog_of shape views) → AreReadRows kind views rows → AreBags (catalog_of shape views) rows
+pub read_bags : (kind : Rows) (shape : Views) (views : List ViewOf) (rows : List Bag) → IsCatalog (catalog_of shape views) → AreReadRows kind views rows → AreBags (catalog_of shape views) rows
 read_bags kind shape views rows is a =
     let same : length rows ≡ length shape.children = rows_length kind views rows a ∙ is.each_width in
     record { each = same; widths = λ u l. rows_wide kind views rows a u (omega (arith, same)) }
 
-read_tables : (shape : Views) (views : List ViewOf) (rows : List Bag) → IsCatalog (catalog_of shape views) → AreReadRows TableRows views rows → AreReadTables (catalog_of shape views) rows
+pub read_tables : (shape : Views) (views : List ViewOf) (rows : List Bag) → IsCatalog (catalog_of shape views) → AreReadRows TableRows views rows → AreReadTables (catalog_of shape views) rows
 read_tables shape views rows is a =
     let same : length rows ≡ length shape.children = rows_length TableRows views rows a ∙ is.each_width in
     record { bags = read_bags TableRows shape views rows is a; bases = λ u l b. rows_tables views rows a u (omega (arith, same)) }

@@ -49,10 +49,14 @@ input_app name = with_rule (new_app name) input_rule
 abbrev pub with_commands : App → App
 with_commands a = record a { top = record a.top { no_binary_name = true; subcommand_required = true } }
 
--- the program, with its commands
+-- the program, with its commands that read no data
+abbrev pub planning_app : App
+planning_app = with_subcommand (with_subcommand (with_subcommand (with_commands (new_app (codes "whview"))) (command_app (codes "check")).top)
+    plan_app.top) (command_app (codes "certify")).top
+
+-- the program, with all its commands
 abbrev pub whview_app : App
-whview_app = with_subcommand (with_subcommand (with_subcommand (with_subcommand (with_subcommand (with_commands (new_app (codes "whview"))) (command_app (codes "check")).top)
-    plan_app.top) (command_app (codes "certify")).top) (input_app (codes "night")).top) (input_app (codes "replay")).top
+whview_app = with_subcommand (with_subcommand planning_app (input_app (codes "night")).top) (input_app (codes "replay")).top
 
 -- ---- what they ask for
 

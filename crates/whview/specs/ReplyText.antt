@@ -69,6 +69,9 @@ reply_text (reply.Page page) = page_text page
 reply_text reply.Closed = codes "closed"
 reply_text (reply.Refused why) = refusal_text why
 
+abbrev pub reply_line : Reply → List ℕ
+reply_line reply = line (reply_text reply)
+
 -- a line for each reply
 abbrev pub replies_text : List Reply → List ℕ
-replies_text replies = flat_map (λ r. line (reply_text r)) replies
+replies_text replies = flat_map reply_line replies

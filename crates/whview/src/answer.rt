@@ -1,6 +1,6 @@
 //! What the program writes, and the status that it ends with.
 
-ghost use Rattle.std.specs.Prelude.{◌≡◌, IfOk, decimal};
+ghost use Rattle.std.specs.Prelude.{◌≡◌, ◌≢◌, IfOk, OnOk};
 ghost use Rattle.wh_text.specs.FaultText.{fault_text};
 ghost use Rattle.whview.specs.CheckOutput.{IsFaultShown, broken_text, line};
 ghost use Rattle.whview.specs.NightOutput.{refused_text};
@@ -36,6 +36,17 @@ impl Answer {
         })
     }
 
+    /// The answer where what was asked is not done, and this text says why.
+    pub fn refused(text: Vec<u8>) -> Answer
+        ensures text { result.text ≡ text }
+        ensures status { result.status ≡ Status.Negative }
+    {
+        Answer {
+            text,
+            status: Status::Negative,
+        }
+    }
+
     /// An answer of this text.
     pub fn of(alloc: Global, text: &str, status: Status) -> Result<Answer, AllocError>
         ensures text { IfOk result (λ a. a.text.items ≡ text.now) }
@@ -61,7 +72,8 @@ pub fn cause_text(
     shape: &Shape,
     fault: &MaintFault,
 ) -> Result<Vec<u8>, AllocError>
-    ensures { IfOk result (λ text. text.items ≡ refused_text shape.now.names fault.now) }
+    ensures text { IfOk result (λ text. text.items ≡ refused_text shape.now.names fault.now) }
+    ensures told { OnOk result (fault.now ≢ MaintFault.Memory) }
 {
     let text = match fault {
         MaintFault::Large(view) => format!(in alloc; "refused large {}\n", shape.name(*view))?,

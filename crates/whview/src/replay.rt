@@ -1,15 +1,17 @@
 //! The command `replay`: from the bytes of a bundle to the replies of a machine that goes through its nights.
 
-ghost use Rattle.std.specs.Prelude.{◌≡◌, IsOkAnd, IsTrue, IfErr, IfOk, false, length, map};
+ghost use Rattle.std.specs.Prelude.{◌≡◌, IsTrue, IfErr, IfOk, OnOk, false, length, map};
 ghost use Rattle.std.specs.List.{list_any};
-ghost use Rattle.wh_core.specs.Laws.{IsSetup};
+ghost use Rattle.wh_catalogue_text.specs.Definitions.{shown_view};
+ghost use Rattle.wh_catalogue_text.specs.ReadCatalog.{catalog_of};
 ghost use Rattle.wh_core.specs.Replies.{IsLegalRun};
 ghost use Rattle.wh_core.specs.Standing.{AreJudged, nights_of};
 ghost use Rattle.wh_formula.specs.Expr.{fits as fits_expr};
 ghost use Rattle.wh_formula.specs.Pred.{fits as fits_pred};
-ghost use Rattle.wh_load.specs.ReadingShown.{shown_given, shown_replay};
-ghost use Rattle.whview.specs.FitReplay.{AreJudgedRightly, IsFitReplay, IsNightsFault};
-ghost use Rattle.whview.specs.ReplayOutput.{IsReplayOutput, IsReplayTold, event_of, is_memory, machine_of, night_of_machine};
+ghost use Rattle.wh_load.specs.ReadingShown.{shown_given, shown_opening, shown_replay};
+ghost use Rattle.whview.specs.FitNight.{AreReadTables};
+ghost use Rattle.whview.specs.FitReplay.{AreChangesOf, AreJudgedRightly, IsFitReplay, IsNightsFault, IsReady};
+ghost use Rattle.whview.specs.ReplayOutput.{AreCorrect, IsReplayOutput, IsReplayTold, event_of, is_memory, machine_of, night_of_machine};
 ghost use Rattle.whview.specs.Status.{status_number};
 ghost use Rattle.whview.specs.StoredClosures.{AnswersTests, AnswersValues};
 
@@ -35,7 +37,8 @@ fn judged(
     nights: Vec<GivenNight>,
 ) -> Result<Vec<(Vec<Bag>, Correct)>, CheckFault>
     ensures nights { IfOk result (λ judged. nights_of judged.items ≡ map night_of_machine (map shown_given nights.items)) }
-    ensures correct { IfOk result (λ judged. AreJudgedRightly shape.now.children judged.items) }
+    ensures judged { IfOk result (λ judged. AreJudgedRightly shape.now.children judged.items) }
+    ensures correct { OnOk result (AreCorrect shape.now.children (map shown_given nights.items)) }
     ensures err { IfErr result (IsNightsFault shape.now.children (map shown_given nights.items)) }
 {
     let mut judged = Vec::new(alloc);
@@ -45,9 +48,9 @@ fn judged(
             Ok(correct) => correct,
             Err(fault) => return Err(fault),
         };
-        if judged.push((changes, correct)).is_err() {
+        let Ok(()) = judged.push((changes, correct)) else {
             return Err(CheckFault::Memory);
-        }
+        };
     }
     Ok(judged)
 }
@@ -108,7 +111,7 @@ fn replies_to<F: RowTest + Drop, G: RowValue + Drop>(
     nights: Vec<(Vec<Bag>, Correct)>,
     schedule: &Schedule,
 ) -> Result<Vec<Reply>, AllocError>
-    requires setup { IsSetup (machine_of catalog schedule.now tables.items (nights_of nights.items)) }
+    requires ready { IsReady catalog tables.items (nights_of nights.items) }
     requires judged { AreJudged catalog nights.items }
     ensures legal { IfOk result (λ replies. IsLegalRun (machine_of catalog schedule.now tables.items (nights_of nights.items))
         (map (event_of (length catalog.views.children)) schedule.now.events) replies.items) }
@@ -131,14 +134,40 @@ fn replies_to<F: RowTest + Drop, G: RowValue + Drop>(
     Ok(replies)
 }
 
-/// The answer of a replay that does not begin: this text.
-fn refusal(text: Result<Vec<u8>, AllocError>) -> Result<Answer, AllocError>
-    ensures text { IfOk result (λ a. IsOkAnd text (λ bytes. bytes ≡ a.text)) }
-    ensures status { IfOk result (λ a. a.status ≡ Status.Negative) }
+/// What a replay makes of what it is given, over a catalogue of its views.
+fn answer_over<F: RowTest + Drop, G: RowValue + Drop>(
+    alloc: Global,
+    catalog: Catalog<F, G>,
+    opening: Opening,
+    nights: Vec<GivenNight>,
+    schedule: &Schedule,
+) -> Result<Answer, AllocError>
+    requires shown { catalog ≡ catalog_of catalog.views (map shown_view opening.views.items) }
+    requires tables { AreReadTables catalog opening.tables.items }
+    requires changes { AreChangesOf catalog (map shown_given nights.items) }
+    ensures { IfOk result (λ a. IsReplayTold (record { shape = catalog.views; opening = shown_opening opening; nights = map shown_given nights.items; schedule = schedule.now })
+        a.text.items (status_number a.status)) }
 {
+    let nights = match judged(alloc, catalog.shape(), nights) {
+        Ok(nights) => nights,
+        Err(CheckFault::Broken { rule, place }) => {
+            let text = broken_text(alloc, rule, place)?;
+            return Ok(Answer::refused(text));
+        }
+        Err(CheckFault::Memory) => return Err(AllocError),
+    };
+    let tables = match opening_contents(alloc, &catalog, opening.tables) {
+        Ok(tables) => tables,
+        Err(fault) => {
+            let text = cause_text(alloc, catalog.shape(), &fault)?;
+            return Ok(Answer::refused(text));
+        }
+    };
+    let replies = replies_to(alloc, catalog, tables, nights, schedule)?;
+    let text = replies_text(alloc, &replies)?;
     Ok(Answer {
-        text: text?,
-        status: Status::Negative,
+        text,
+        status: Status::Done,
     })
 }
 
@@ -162,22 +191,8 @@ fn answer_with<F: RowTest + Drop, G: RowValue + Drop, T: Fn(Pred) -> F, V: Fn(Ex
         nights,
         schedule,
     } = input;
-    let Opening { views, tables, .. } = opening;
-    let catalog = catalog_with(alloc, shape, &views, test, value)?;
-    let nights = match judged(alloc, catalog.shape(), nights) {
-        Ok(nights) => nights,
-        Err(CheckFault::Broken { rule, place }) => return refusal(broken_text(alloc, rule, place)),
-        Err(CheckFault::Memory) => return Err(AllocError),
-    };
-    let tables = match opening_contents(alloc, &catalog, tables) {
-        Ok(tables) => tables,
-        Err(fault) => return refusal(cause_text(alloc, catalog.shape(), &fault)),
-    };
-    let replies = replies_to(alloc, catalog, tables, nights, &schedule)?;
-    Ok(Answer {
-        text: replies_text(alloc, &replies)?,
-        status: Status::Done,
-    })
+    let catalog = catalog_with(alloc, shape, &opening.views, test, value)?;
+    answer_over(alloc, catalog, opening, nights, &schedule)
 }
 
 /// What a replay makes of what it is given. Each formula of the catalogue is stored with a closure.

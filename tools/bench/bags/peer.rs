@@ -4,6 +4,7 @@ use std::time::Instant;
 
 const ROWS: usize = 1_000_000;
 const CHANGES: usize = 10_000;
+const MANY: usize = 300_000;
 
 fn next(state: u64) -> u64 {
     let a = state ^ (state << 13);
@@ -27,6 +28,16 @@ fn map_of(rows: &[[i64; 2]]) -> BTreeMap<Vec<i64>, i64> {
         *bag.entry(row.to_vec()).or_insert(0) += 1;
     }
     bag
+}
+
+fn merge_into(map: &mut BTreeMap<Vec<i64>, i64>, changed: &BTreeMap<Vec<i64>, i64>) {
+    for (row, count) in changed {
+        let stored = map.entry(row.clone()).or_insert(0);
+        *stored += count;
+        if *stored == 0 {
+            map.remove(row);
+        }
+    }
 }
 
 /// Rows rise, each once, with its count.
@@ -66,29 +77,31 @@ fn merged(bag: &[([i64; 2], i64)], changes: &[([i64; 2], i64)]) -> Vec<([i64; 2]
     sum
 }
 
+/// Runs a step and prints its microseconds.
+fn timed<T>(name: &str, step: impl FnOnce() -> T) -> T {
+    let start = Instant::now();
+    let made = step();
+    println!("{name} {} us", start.elapsed().as_micros());
+    made
+}
+
 fn main() {
     let rows = random_rows(88172645463325252, ROWS);
     let changes = random_rows(1234567, CHANGES);
+    let many = random_rows(7654321, MANY);
+    let mut rising = rows.clone();
+    rising.sort();
 
-    let start = Instant::now();
-    let mut map = map_of(&rows);
-    println!("map {} us {}", start.elapsed().as_micros(), map.len());
-    let changed = map_of(&changes);
-    let start = Instant::now();
-    for (row, count) in &changed {
-        let stored = map.entry(row.clone()).or_insert(0);
-        *stored += count;
-        if *stored == 0 {
-            map.remove(row);
-        }
-    }
-    println!("map_merge {} us {}", start.elapsed().as_micros(), map.len());
+    let mut map = timed("map", || map_of(&rows));
+    let in_order = timed("map_rising", || map_of(&rising));
+    let (few, more) = (map_of(&changes), map_of(&many));
+    timed("map_merge", || merge_into(&mut map, &few));
+    timed("map_merge_many", || merge_into(&mut map, &more));
 
-    let start = Instant::now();
-    let array = array_of(&rows);
-    println!("array {} us {}", start.elapsed().as_micros(), array.len());
-    let changed = array_of(&changes);
-    let start = Instant::now();
-    let sum = merged(&array, &changed);
-    println!("array_merge {} us {}", start.elapsed().as_micros(), sum.len());
+    let array = timed("array", || array_of(&rows));
+    timed("array_rising", || array_of(&rising));
+    let (few, more) = (array_of(&changes), array_of(&many));
+    let array = timed("array_merge", || merged(&array, &few));
+    let array = timed("array_merge_many", || merged(&array, &more));
+    assert_eq!((map.len(), in_order.len()), (array.len(), rows.len()));
 }

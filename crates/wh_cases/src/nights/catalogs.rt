@@ -26,7 +26,7 @@ impl RowTest for Every {
 /// The cell at a place.
 #[derive(Drop)]
 pub(crate) struct Cell {
-    place: usize,
+    pub(crate) place: usize,
 }
 
 impl RowValue for Cell {

@@ -3,7 +3,7 @@
 ghost use Rattle.std.specs.Prelude.{◌≡◌, codes, false, IfOk};
 ghost use Rattle.clap.specs.Words.{app_of, new_app, rule_of, with_subcommand};
 ghost use Rattle.clap.specs.declared.builder.command.Command.TheViews.{out-Command};
-ghost use Rattle.whview.specs.CommandLine.{budget_rule, command_app, cost_rule, input_app, input_rule, plan_app, whview_app, with_commands};
+ghost use Rattle.whview.specs.CommandLine.{budget_rule, command_app, cost_rule, input_app, input_rule, plan_app, planning_app, whview_app, with_commands};
 
 use super::notes;
 use clap::builder::ValueParser;
@@ -13,6 +13,28 @@ use std::alloc::{AllocError, Global};
 /// The program with its commands.
 pub fn whview_command<'a>(alloc: Global) -> Result<Command<'a>, AllocError>
     ensures { IfOk result (λ c. app_of c ≡ whview_app) }
+{
+    let planning = planning_command(alloc)?;
+    let night = input_command(
+        alloc,
+        "night",
+        "Carries a strategy out and shows the new tables. Reads the catalogue, the data, the changes and the strategy.",
+        notes::NIGHT,
+    )?;
+    let with_night = planning.subcommand(night)?;
+    let replay = input_command(
+        alloc,
+        "replay",
+        "Goes through a schedule of events and prints the reply to each. Reads the catalogue, the data, the changes and the strategy of each night, and the schedule.",
+        notes::REPLAY,
+    )?;
+    let with_replay = with_night.subcommand(replay)?;
+    Ok(with_replay)
+}
+
+/// The program with its commands that read no data.
+fn planning_command<'a>(alloc: Global) -> Result<Command<'a>, AllocError>
+    ensures { IfOk result (λ c. app_of c ≡ planning_app) }
 {
     let whview = bare_command(alloc)?;
     let with_check = with_command(
@@ -30,21 +52,7 @@ pub fn whview_command<'a>(alloc: Global) -> Result<Command<'a>, AllocError>
         "Judges a plan by its certificate. Reads the catalogue, the sizes and the plan.",
         notes::CERTIFY,
     )?;
-    let night = input_command(
-        alloc,
-        "night",
-        "Carries a strategy out and shows the new tables. Reads the catalogue, the data, the changes and the strategy.",
-        notes::NIGHT,
-    )?;
-    let with_night = with_certify.subcommand(night)?;
-    let replay = input_command(
-        alloc,
-        "replay",
-        "Goes through a schedule of events and prints the reply to each. Reads the catalogue, the data, the changes and the strategy of each night, and the schedule.",
-        notes::REPLAY,
-    )?;
-    let with_replay = with_night.subcommand(replay)?;
-    Ok(with_replay)
+    Ok(with_certify)
 }
 
 /// The program before it has its commands.

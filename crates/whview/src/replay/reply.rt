@@ -2,20 +2,27 @@
 
 ghost use Rattle.std.specs.Prelude.{◌≡◌, ◌++◌, decimal, flat_map, IfOk, OnOk};
 ghost use Rattle.wh_row.specs.Stored.{plain};
-ghost use Rattle.whview.specs.ReplyText.{cause_name, cell_text, entry_text, expired_text, page_text, refusal_text, replies_text, reply_text};
+ghost use Rattle.whview.specs.ReplyText.{cause_name, cell_text, entry_text, expired_text, page_text, refusal_text, replies_text, reply_line, reply_text};
 
 use std::alloc::{AllocError, Global};
 use wh_core::{Cause, Reply};
 use wh_row::Row;
 use wh_store::Page;
 
+/// Appends a cell.
+fn append_cell(alloc: Global, out: &mut Vec<u8>, cell: i64) -> Result<(), AllocError>
+    ensures { OnOk result (out.new.items ≡ out.old.items ++ cell_text cell) }
+{
+    let text = format!(in alloc; " {cell}")?;
+    out.extend_from_slice(text.as_bytes())
+}
+
 /// Appends the cells of a row.
 fn append_cells(alloc: Global, out: &mut Vec<u8>, row: &[i64]) -> Result<(), AllocError>
     ensures { OnOk result (out.new.items ≡ out.old.items ++ flat_map cell_text row.now) }
 {
     for cell in row {
-        let text = format!(in alloc; " {cell}")?;
-        out.extend_from_slice(text.as_bytes())?;
+        append_cell(alloc, out, *cell)?;
     }
     Ok(())
 }
@@ -150,14 +157,22 @@ fn append_reply(alloc: Global, out: &mut Vec<u8>, reply: &Reply) -> Result<(), A
     }
 }
 
+/// Appends the line of a reply.
+fn append_line(alloc: Global, out: &mut Vec<u8>, reply: &Reply) -> Result<(), AllocError>
+    ensures { OnOk result (out.new.items ≡ out.old.items ++ reply_line reply.now) }
+{
+    append_reply(alloc, out, reply)?;
+    out.push(b'\n')?;
+    Ok(())
+}
+
 /// What is printed of these replies: a line each.
 pub(crate) fn replies_text(alloc: Global, replies: &[Reply]) -> Result<Vec<u8>, AllocError>
     ensures { IfOk result (λ text. text.items ≡ replies_text replies.now) }
 {
     let mut text = Vec::new(alloc);
     for reply in replies {
-        append_reply(alloc, &mut text, reply)?;
-        text.push(b'\n')?;
+        append_line(alloc, &mut text, reply)?;
     }
     Ok(text)
 }

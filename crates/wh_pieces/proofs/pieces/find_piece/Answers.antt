@@ -1,4 +1,4 @@
-use Rattle.std.proofs.Common.{◌≡◌, ◌<◌, ◌+◌, ◌-◌, ◌/◌, ℕ, suc, length, drop, List, ap, subst, sym, ◌∙◌, arith, slice_get, Some}
+use Rattle.std.proofs.Common.{◌≡◌, ◌<◌, ℕ, suc, length, drop, List, ap, subst, sym, ◌∙◌, arith, slice_get, Some}
 use Rattle.std.specs.Map.{keys_of}
 use Rattle.wh_pieces.specs.Row.{Row}
 use Rattle.wh_pieces.specs.Place.{IsBelowFirst}
@@ -9,7 +9,7 @@ use Rattle.wh_pieces.proofs.pieces.find_piece.Goals as goal
 pub loop-high-preserved-in-Less : goal.loop-high-preserved-in-Less
 loop-high-preserved-in-Less g c =
     let ls = c.args.pieces.now.items in
-    let middle : ℕ = c.loop-high.low + (c.loop-high.high - c.loop-high.low) / 2 in
+    let middle : ℕ = c.place_to_ask-asked.result in
     let within : middle < length ls = omega arith in
     let first : slice_get (keys_of (piece_at ls middle)) 0 ≡ Some c.row.result.now = ap (λ (x : List (Row × g.row.T.Denot)). slice_get (keys_of x) 0) (sym (piece_read ls middle c.index.result.now within c.index.ensures)) ∙ c.row.ensures in
     record {
@@ -22,7 +22,7 @@ loop-high-preserved-in-Less g c =
 pub loop-high-preserved : goal.loop-high-preserved
 loop-high-preserved g c =
     let ls = c.args.pieces.now.items in
-    let middle : ℕ = c.loop-high.low + (c.loop-high.high - c.loop-high.low) / 2 in
+    let middle : ℕ = c.place_to_ask-asked.result in
     let within : middle < length ls = omega arith in
     let first : slice_get (keys_of (piece_at ls middle)) 0 ≡ Some c.row.result.now = ap (λ (x : List (Row × g.row.T.Denot)). slice_get (keys_of x) 0) (sym (piece_read ls middle c.index.result.now within c.index.ensures)) ∙ c.row.ensures in
     record {

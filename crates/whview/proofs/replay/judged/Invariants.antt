@@ -1,4 +1,5 @@
-use Rattle.std.proofs.Common.{◌≡◌, map}
+use Rattle.std.proofs.Common.{◌≡◌, ◌++◌, map}
+use Rattle.std.specs.Vec.Iter.{into_iter_items}
 use Rattle.wh_core.specs.Standing.{nights_of}
 use Rattle.wh_load.specs.ReadingShown.{shown_given}
 use Rattle.whview.specs.FitReplay.{AreJudgedRightly}
@@ -10,4 +11,5 @@ invariant-loop-night l = record {
   nights : nights_of l.judged.items ≡ map night_of_machine (map shown_given l.yielded);
   judged : AreJudgedRightly l.shape.children l.judged.items;
   correct : AreCorrect l.shape.children (map shown_given l.yielded);
+  all : l.yielded ++ into_iter_items l.night-iterator ≡ into_iter_items l.initial.night-iterator;
 }

@@ -1,4 +1,4 @@
-use Rattle.std.proofs.Common.{◌≡◌, ◌+◌, ◌-◌, ◌/◌, suc, take, subst, sym, ◌∙◌, arith, ℕ}
+use Rattle.std.proofs.Common.{◌≡◌, ◌+◌, suc, take, subst, sym, ◌∙◌, arith, ℕ}
 use Rattle.wh_pieces.specs.Place.{IsAbove}
 use Rattle.wh_pieces.proofs.OrderLaws.{above_to, below_from, is_at}
 use Rattle.wh_pieces.proofs.piece.Piece.find.Goals as goal
@@ -16,7 +16,7 @@ returns-in-Equal g c = is_at c.args.row.now c.args.self.now _ c.row.result.now (
 
 pub loop-low-preserved : goal.loop-low-preserved
 loop-low-preserved g c =
-    let middle : ℕ = c.loop-low.low + (c.loop-low.high - c.loop-low.low) / 2 in
+    let middle : ℕ = c.place_to_ask-asked.result in
     let next : suc middle ≡ middle + 1 = omega arith in
     record {
       low = omega arith;
