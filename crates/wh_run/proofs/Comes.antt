@@ -160,7 +160,7 @@ module _ (n : Night) (place : ℕ) (jobs : List Job) (wave : IsWaveAt n.catalog 
   take_take (suc i) (suc m) (x ∷ xs) l = ap (λ ys. x ∷ ys) (take_take i m xs (omega arith))
 
   -- it is refused there for what it is refused for before the wave
-  same_place : IsCatalog n.catalog → IsCorrect n.catalog.views.children n.list → (j : ℕ) (job : Job) → slice_get jobs j ≡ Some job → IsSameAt n.catalog n.changes (state_at n (place + j)) (state_at n place) (comp_of job)
+  pub same_place : IsCatalog n.catalog → IsCorrect n.catalog.views.children n.list → (j : ℕ) (job : Job) → slice_get jobs j ≡ Some job → IsSameAt n.catalog n.changes (state_at n (place + j)) (state_at n place) (comp_of job)
   same_place is ok j job here =
       let comps : List Expression = map comp_of jobs in
       let law = waves_have_no_order n.catalog n.list n.tables n.changes is ok place (length jobs) wave.side in

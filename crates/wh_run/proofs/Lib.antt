@@ -5,3 +5,4 @@ pub mod WaveFaults
 pub mod Comes
 pub mod Stages
 pub mod Soundness
+pub mod OneRefusal

@@ -72,7 +72,7 @@ module _ (n : Night) (place : ℕ) (jobs : List Job) (wave : IsWaveAt n.catalog 
       (job_at n.list place jobs wave.are j job e)
       (subst (λ v. At n.list (place + k) (Comp v other.from)) (sym same) (job_at n.list place jobs wave.are k other f))
 
-  number_is : (j : ℕ) (job : Job) → slice_get jobs j ≡ Some job → number_of jobs job.view ≡ j
+  pub number_is : (j : ℕ) (job : Job) → slice_get jobs j ≡ Some job → number_of jobs job.view ≡ j
   number_is j job e = let other = found jobs j job e in one_job (number_of jobs job.view) j other.0 job other.1 e (sym other.2)
 
   same_job : (j k : ℕ) (job other : Job) → slice_get jobs j ≡ Some job → slice_get jobs k ≡ Some other → j ≡ k → job ≡ other

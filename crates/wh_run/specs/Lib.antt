@@ -2,3 +2,4 @@ pub mod Causes
 pub mod Tonight
 pub mod Refusals
 pub mod Underway
+pub mod Laws

@@ -7,6 +7,7 @@
 mod cause;
 mod gate;
 mod insts;
+mod laws;
 mod left;
 mod opening;
 mod running;
@@ -14,5 +15,6 @@ mod waves;
 
 pub use cause::NightCause;
 pub use gate::{Gate, NoGate};
+pub use laws::nights_have_one_refusal;
 pub use left::{Left, NightFault};
 pub use running::{Options, night};

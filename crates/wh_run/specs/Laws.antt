@@ -1,0 +1,21 @@
+-- That a night is refused for one reason at most.
+use Rattle.std.specs.Prelude.{◌≡◌, ◌≢◌, ◌↔◌, length}
+use Rattle.wh_dag.specs.Catalog.{IsCatalog}
+use Rattle.wh_strategy.specs.Rules.{IsCorrect}
+use Rattle.wh_maint.specs.declared.fault.MaintFault.{MaintFault}
+use Rattle.wh_maint.specs.declared.fault.MaintFault.TheVariants.{Memory}
+use Rattle.wh_night.specs.Refused.{ArePassedBelow}
+use Rattle.wh_course.specs.Night.{Night}
+use Rattle.wh_run.specs.declared.left.Left.{Left}
+use Rattle.wh_run.specs.declared.left.Left.TheVariants.{Untouched}
+use Rattle.wh_run.specs.Refusals.{AreAllowed, IsRefusedSo}
+
+-- Memory aside, two refusals of a night of a correct strategy are one, and come both before anything is published or both after it; and
+-- there is none where each base change is allowed and each expression is passed
+pub record OneRefusal (n : Night) : Type 0 where
+  pub one : (left other : Left) (f g : MaintFault) → IsRefusedSo n left f → IsRefusedSo n other g → f ≢ Memory → g ≢ Memory
+      → (f ≡ g) × ((left ≡ Untouched) ↔ (other ≡ Untouched))
+  pub none : AreAllowed n → ArePassedBelow n.catalog n.list n.tables n.changes (length n.list) → (left : Left) (f : MaintFault) → IsRefusedSo n left f → f ≡ Memory
+
+abbrev pub NightsHaveOneRefusal : Type 0
+NightsHaveOneRefusal = (n : Night) → IsCatalog n.catalog → IsCorrect n.catalog.views.children n.list → OneRefusal n
