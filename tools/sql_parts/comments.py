@@ -39,7 +39,8 @@ class Comments:
         """What a step reads, in words."""
         name = self.views[step.view].name
         if step.kind != "comp":
-            return {"net": f"the rows of {name}~changes", "finish": f"what the comps of {name} made"}.get(step.kind, f"{name} and its change")
+            others = {"net": f"the rows of {name}~changes", "finish": f"what the comps of {name} made"}
+            return others.get(step.kind, f"{name} and its change")
         parts = [" x ".join(("change of " if o.is_change else "") + self.views[o.view].name for o in term) for term in step.terms]
         return "; ".join(parts)
 

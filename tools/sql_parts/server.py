@@ -71,12 +71,12 @@ class PostgreSQLEngine:
         return next(name for name in ("postgres", "nobody") if name in there)
 
     def called(self, name, *words):
-        subprocess.run(
-            [self.programs / name, *map(str, words)], check=True, user=self.user, cwd="/", stdout=subprocess.DEVNULL, stderr=subprocess.STDOUT
-        )
+        started = [self.programs / name, *map(str, words)]
+        subprocess.run(started, check=True, user=self.user, cwd="/", stdout=subprocess.DEVNULL, stderr=subprocess.STDOUT)
 
     def command(self):
-        return [self.programs / "psql", "-h", str(self.folder), "-U", "postgres", "-X", "-q", "-A", "-t", "-v", "ON_ERROR_STOP=1", "postgres"]
+        words = ["-h", str(self.folder), "-U", "postgres", "-X", "-q", "-A", "-t", "-v", "ON_ERROR_STOP=1", "postgres"]
+        return [self.programs / "psql", *words]
 
     def in_schema(self, lines):
         return "\n".join(["SET client_min_messages = warning;", f"SET search_path = s{self.schemas};", *lines, ""])
