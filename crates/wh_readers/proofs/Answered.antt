@@ -130,5 +130,6 @@ module _ (s : Setup) (log : Log) (d : ℕ) (before after : Sitting) (are : AreAl
         passed (nat_le s.desks d) cause.NoDesk _ (reply.Refused cause.NoSession) desk
         (subst (λ o. IsRuled (read_ruling s.versions (versions s log) view limit o) (reply.Refused cause.NoSession)) (sym (no_session of (same_session None r.1))) refl);
   }
+
 pub answered : DesksAnswerAsTheMachine
 answered s log d before after are = alike s log d before after are
