@@ -9,9 +9,8 @@ from .finding import Failure
 from .program import OWN_PROGRAM
 
 COMMANDS = ("pack", "unpack", "night", "lint", "check", "plan", "certify", "sizes", "diff", "explain", "graph")
-WITH_A_VALUE = ("--program", "--workers", "--readers", "--page-keys", "--comp-cost", "--inst-cost", "--budget")
+WITH_A_VALUE = ("--program", "--comp-cost", "--inst-cost", "--budget")
 GOES_THROUGH = {
-    "night": ("--workers", "--readers", "--page-keys"),
     "check": ("--comp-cost", "--inst-cost"),
     "certify": ("--comp-cost", "--inst-cost"),
     "plan": ("--comp-cost", "--inst-cost", "--budget"),
