@@ -7,7 +7,7 @@ from pathlib import Path
 
 sys.dont_write_bytecode = True
 from drawn import Text, Warehouse  # noqa: E402
-from given import Given, parts_of, words_of  # noqa: E402
+from given import Given, parts_of  # noqa: E402
 from machine import broken  # noqa: E402
 from warehouse_parts.bundle import pack  # noqa: E402
 

@@ -22,7 +22,7 @@ class Dialect:
     limit = None
     folds = False
     row_number = None
-    sums_in_64_bits = False
+    own_columns = ()
     is_count = '"#" > 0'
 
     def literal(self, text):
@@ -48,6 +48,23 @@ class Dialect:
     def value(self, formula, column):
         """An expression; where it has no value, anything."""
         return self.kept(formula, column) if nodes(formula) else self.plain(formula, column)
+
+    # ---- sums: an engine that does not add up exactly keeps one in halves, each of which adds up by itself
+
+    def halves(self, number):
+        return [number]
+
+    def times(self, count, number):
+        """The halves of a product."""
+        return self.halves(f"{count} * {number}")
+
+    def columns_of(self, column):
+        """The columns that the halves of a sum stand in."""
+        return [column]
+
+    def joined(self, halves):
+        """The number that halves make; where it leaves 64 bits, it is lost."""
+        return halves[0]
 
     # ---- predicates
 

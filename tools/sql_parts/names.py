@@ -4,8 +4,8 @@
 class Names:
     """Names of one kind, tables or the columns of a table, each the same whenever it is asked for."""
 
-    def __init__(self, limit, folds, wanted):
-        self.limit, self.folds, self.found, self.taken = limit, folds, {}, set()
+    def __init__(self, limit, folds, wanted, taken=()):
+        self.limit, self.folds, self.found, self.taken = limit, folds, {}, set(taken)
         for name in sorted(wanted, key=lambda name: limit is not None and len(name) > limit):
             self.of(name)
 

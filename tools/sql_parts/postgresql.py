@@ -12,6 +12,7 @@ class PostgreSQL(Dialect):
     name = "postgresql"
     limit = 63
     row_number = "ctid"
+    own_columns = ("tableoid", "xmin", "cmin", "xmax", "cmax", "ctid")
     kinds = {"int": "bigint", "text": 'text COLLATE "C"'}
     free_number = "numeric"
 
@@ -48,6 +49,9 @@ class PostgreSQL(Dialect):
         """Sums in numeric are exact."""
         return []
 
+    def net_count(self, _):
+        return "bigint NOT NULL"
+
     # ---- statements
 
     def begin(self, tables):
@@ -64,16 +68,33 @@ class PostgreSQL(Dialect):
         """What follows where a working table has been filled: without statistics nested loops may be planned."""
         return [f"ANALYZE {table};"]
 
-    def refuse(self, told, query):
-        return [f"DO $refuse$ BEGIN IF EXISTS ({query}) THEN RAISE EXCEPTION '{told}'; END IF; END $refuse$;"]
+    def block(self, body, declared=""):
+        """Statements with conditions. A column's name means the column, also where PL/pgSQL has a variable of that name."""
+        tag = "night"
+        while f"${tag}$" in body:
+            tag += "_"
+        return f"DO ${tag}$\n#variable_conflict use_column\n{declared}BEGIN {body} END ${tag}$;"
 
-    def fits(self, table, columns):
-        """A query for a column that is not as it has to be."""
+    def refuse(self, told, query):
+        return [self.block(f"IF EXISTS ({query}) THEN RAISE EXCEPTION '{told}'; END IF;")]
+
+    def counted(self, told, statements, _=None):
+        """Statements that compute counts, with a word where one leaves 64 bits."""
+        caught = f"EXCEPTION WHEN numeric_value_out_of_range THEN RAISE EXCEPTION '{told}';"
+        return [self.block(f"{statement}\n{caught}") for statement in statements]
+
+    def misfit(self, told, table, columns):
+        """A word where columns are not as they have to be, with their names."""
         expected = ", ".join(f"({self.literal(name)}, {self.literal(kind)})" for name, kind in columns)
-        return (
-            f"SELECT 1 FROM (VALUES {expected}) AS expected (name, kind) WHERE NOT EXISTS (SELECT 1 FROM pg_attribute AS a"
+        query = (
+            "SELECT string_agg(name || ' ' || kind, ', ') INTO misfits"
+            f" FROM (VALUES {expected}) AS expected (name, kind) WHERE NOT EXISTS (SELECT 1 FROM pg_attribute AS a"
             f" LEFT JOIN pg_collation AS c ON c.oid = a.attcollation WHERE a.attrelid = to_regclass({self.literal(table)})"
             " AND a.attname = expected.name AND a.attnotnull AND NOT a.attisdropped"
-            " AND a.atttypid = ANY (CASE expected.kind WHEN 'int' THEN '{int2,int4,int8}'::regtype[] ELSE '{text,varchar}'::regtype[] END)"
-            " AND coalesce(c.collname IN ('C', 'default') AND c.collisdeterministic, TRUE))"
+            " AND a.atttypid = ANY (CASE expected.kind WHEN 'bigint' THEN '{int2,int4,int8}'::regtype[]"
+            " ELSE '{text,varchar}'::regtype[] END)"
+            " AND coalesce(c.collname IN ('C', 'default') AND c.collisdeterministic, TRUE));"
         )
+        wanted = f"{told}: it wants %, NOT NULL and of a deterministic collation"
+        body = f"{query} IF misfits IS NOT NULL THEN RAISE EXCEPTION '{wanted}', misfits; END IF;"
+        return [self.block(body, "DECLARE misfits text;\n")]

@@ -10,6 +10,10 @@ from sql_parts.steps import Steps  # noqa: E402
 WIDEST_INDEX = 32
 
 
+def summed(halves):
+    return [f"sum({half})" for half in halves]
+
+
 class Script:
     """The statements over a catalogue in a dialect. `plain` has the base views whose tables have no column of counts."""
 
@@ -17,7 +21,7 @@ class Script:
         self.views, self.words, self.dialect, self.plain = catalogue.views, catalogue.words, dialect, set(plain)
         self.steps = Steps(self.views)
         self.tables = Names(dialect.limit, dialect.folds, [view.name for view in self.views])
-        self.cells = [Names(dialect.limit, dialect.folds, [name for name, _ in view.columns]) for view in self.views]
+        self.cells = [Names(dialect.limit, dialect.folds, [name for name, _ in view.columns], dialect.own_columns) for view in self.views]
 
     # ---- names
 
@@ -44,6 +48,10 @@ class Script:
     def sums(self, v):
         """The columns that a pending adds up: a summary's count and sums, or the count of a joined row."""
         return self.columns(v)[len(self.views[v].group) :] if self.is_summary(v) else ['"#"']
+
+    def kept_sums(self, v):
+        """The columns that these are kept in until they are a change."""
+        return [half for column in self.sums(v) for half in self.dialect.columns_of(column)]
 
     def same(self, v, left, right, columns=None):
         """Whether two rows of a view are equal, or belong to one group."""
@@ -72,7 +80,7 @@ class Script:
         elif self.is_summary(v):
             found.append(f"CHECK ({self.sums(v)[0]} > 0)")
         if v not in self.plain and 0 < len(columns) <= WIDEST_INDEX:
-            found.append(f"UNIQUE ({self.listed(columns)})")
+            found.append(f"CONSTRAINT {self.table(v, '~key')} UNIQUE ({self.listed(columns)})")
         return found
 
     def indexes(self):
@@ -86,11 +94,11 @@ class Script:
 
     def working(self, v):
         """The temporary tables of a view: its change and, of a derived one, what its Comps make."""
-        kinds = self.dialect.kinds
-        found = [(self.table(v, "~net"), [*self.typed(v), f'"#" {kinds["int"]} NOT NULL'])]
+        kinds, told = self.dialect.kinds, self.told_large(v)
+        found = [(self.table(v, "~net"), [*self.typed(v), f'"#" {self.dialect.net_count(told)}'])]
         if self.views[v].over:
             cells = [f"{column} {kinds[kind]}" for column, (_, kind) in zip(self.groups(v), self.views[v].columns)]
-            cells += [f"{column} {self.dialect.free_number}" for column in self.sums(v)]
+            cells += [f"{column} {self.dialect.free_number}" for column in self.kept_sums(v)]
             found.append((self.table(v, "~pending"), [*cells, f'"~lost" {kinds["int"]}']))
             found += [(self.table(v, "~folded"), cells)] if self.is_summary(v) else []
         return found
@@ -128,32 +136,47 @@ class Script:
 
     def fits(self, v):
         """A clear word where a table that is there has other columns."""
-        columns = [(column[1:-1].replace('""', '"'), kind) for column, (_, kind) in zip(self.columns(v), self.views[v].columns)]
-        columns += [("#", "int")] if self.is_counted(v) else []
-        told = f"table {self.views[v].name} does not fit"
-        return self.dialect.refuse(told, self.dialect.fits(self.table(v), columns))
+        kinds = {"int": "bigint", "text": "text"}
+        columns = [(column[1:-1].replace('""', '"'), kinds[kind]) for column, (_, kind) in zip(self.columns(v), self.views[v].columns)]
+        columns += [("#", "bigint")] if self.is_counted(v) else []
+        return self.dialect.misfit(f"table {self.views[v].name} does not fit", self.table(v), columns)
+
+    def told_large(self, v):
+        return f"refused large {self.views[v].name}"
+
+    def large(self, v, statements, query=None):
+        """Statements that compute counts of a view's rows."""
+        return self.dialect.counted(self.told_large(v), statements, query)
 
     # ---- base changes
 
     def net(self, step):
         """Equal rows of the changes add up, and opposite ones cancel."""
-        v, columns = step.view, self.listed(self.columns(step.view))
-        net = self.table(v, "~net")
-        return [
-            f'INSERT INTO {net} ({columns}, "#") SELECT {columns}, sum("#") FROM {self.table(v, "~changes")}'
-            f' GROUP BY {columns} HAVING sum("#") <> 0;',
-            *self.dialect.filled(net),
-        ]
+        v = step.view
+        return [*self.counted_change(v, "~changes", self.dialect.halves('"#"')), *self.dialect.filled(self.table(v, "~net"))]
+
+    def counted_change(self, v, source, halves):
+        """The change of a view's rows: of those in a table these counts, added up."""
+        columns, count = self.listed(self.columns(v)), self.dialect.joined(summed(halves))
+        insert = (
+            f'INSERT INTO {self.table(v, "~net")} ({columns}, "#") SELECT {columns}, {count} FROM {self.table(v, source)}'
+            f" GROUP BY {columns} HAVING {count} <> 0;"
+        )
+        return self.large(v, [insert])
 
     def judge(self, step):
         """A change that takes away what is not there."""
         v = step.view
-        same, there = self.same(v, "t", "d"), f"{self.table(v)} AS t"
+        same, there, net = self.same(v, "t", "d"), f"{self.table(v)} AS t", f'{self.table(v, "~net")} AS d'
         if v in self.plain:
-            left = f'(SELECT count(*) FROM {there} WHERE {same}) + d."#" < 0'
+            row = self.listed(self.columns(v), "d")
+            query = (
+                f'SELECT 1 FROM (SELECT {row}, 1 AS "#" FROM {there}, {net} WHERE {same} AND d."#" < 0'
+                f' UNION ALL SELECT {row}, d."#" FROM {net} WHERE d."#" < 0) AS kept'
+                f' GROUP BY {self.listed(self.columns(v))} HAVING sum("#") < 0'
+            )
         else:
-            left = f'NOT EXISTS (SELECT 1 FROM {there} WHERE {same} AND t."#" + d."#" >= 0)'
-        query = f'SELECT 1 FROM {self.table(v, "~net")} AS d WHERE d."#" < 0 AND {left}'
+            query = f'SELECT 1 FROM {net} WHERE d."#" < 0 AND NOT EXISTS (SELECT 1 FROM {there} WHERE {same} AND t."#" + d."#" >= 0)'
         return self.dialect.refuse(f"refused absent {self.views[v].name}", query)
 
     # ---- comps
@@ -212,23 +235,24 @@ class Script:
     def comp(self, step):
         """All terms in one statement, folded, and a word where an output has no value."""
         v, pending = step.view, self.table(step.view, "~pending")
-        added = ['sum("#")', *(f'sum("#" * {column})' for column in self.sums(v)[1:]), 'sum("~lost")']
+        halves = [*self.dialect.halves('"#"'), *(half for column in self.sums(v)[1:] for half in self.dialect.times('"#"', column))]
+        added = summed([*halves, '"~lost"'])
         groups = f" GROUP BY {self.listed(self.groups(v))}" if self.groups(v) else ""
         terms = "\n  UNION ALL ".join(self.term(v, term) for term in step.terms)
-        filled = self.listed([*self.groups(v), *self.sums(v), '"~lost"'])
+        filled = self.listed([*self.groups(v), *self.kept_sums(v), '"~lost"'])
         insert = (
             f"INSERT INTO {pending} ({filled}) SELECT {self.listed([*self.groups(v), *added])} FROM (\n  {terms}\n) AS terms"
             f"{groups} HAVING count(*) > 0;"
         )
-        return [insert, *self.exact(v, pending), *self.dialect.filled(pending)]
+        return [*self.large(v, [insert]), *self.exact(v, pending), *self.dialect.filled(pending)]
 
     def exact(self, v, pending):
-        """A word where an output has no value, or where the engine could not add up exactly."""
+        """A word where an output has no value, or where a count or a product left 64 bits and the engine did not say so."""
         count, *sums = self.sums(v)
-        found = self.range(v, f"SELECT 1 FROM {pending} WHERE " + " OR ".join(['"~lost" > 0', *self.dialect.inexact(sums)]))
+        found = []
         for test in self.dialect.inexact([count]):
-            found += self.dialect.refuse(f"refused large {self.views[v].name}", f"SELECT 1 FROM {pending} WHERE {test}")
-        return found
+            found += self.dialect.refuse(self.told_large(v), f"SELECT 1 FROM {pending} WHERE {test}")
+        return found + self.range(v, f"SELECT 1 FROM {pending} WHERE " + " OR ".join(['"~lost" > 0', *self.dialect.inexact(sums)]))
 
     def range(self, v, query):
         return self.dialect.refuse(f"refused range {self.views[v].name}", query)
@@ -241,23 +265,19 @@ class Script:
         return [*made, *self.dialect.filled(self.table(step.view, "~net"))]
 
     def joined_change(self, v):
-        columns = self.listed(self.columns(v))
-        return [
-            f'INSERT INTO {self.table(v, "~net")} ({columns}, "#") SELECT {columns}, sum("#") FROM {self.table(v, "~pending")}'
-            f' GROUP BY {columns} HAVING sum("#") <> 0;'
-        ]
+        return self.counted_change(v, "~pending", self.dialect.columns_of('"#"'))
 
     def summary_change(self, v):
         """The rows before leave, and the rows after come; a group without rows has none."""
         groups, sums, folded, net = self.groups(v), self.sums(v), self.table(v, "~folded"), self.table(v, "~net")
         grouped = f" GROUP BY {self.listed(groups)}" if groups else ""
-        added = [f"sum({column})" for column in sums]
-        changed = " OR ".join(f"{each} <> 0" for each in added)
-        after = [f"coalesce(t.{column}, 0) + d.{column}" for column in sums]
+        added = [summed(self.dialect.columns_of(column)) for column in sums]
+        changed = " OR ".join(f"{self.dialect.joined(halves)} <> 0" for halves in added)
+        after = [self.after(column) for column in sums]
         beside = f"FROM {folded} AS d LEFT JOIN {self.table(v)} AS t ON {self.same(v, 't', 'd', groups)}"
         names = self.listed([*self.columns(v), '"#"'])
         return [
-            f"INSERT INTO {folded} ({self.listed([*groups, *sums])}) SELECT {self.listed([*groups, *added])}"
+            f"INSERT INTO {folded} ({self.listed([*groups, *self.kept_sums(v)])}) SELECT {self.listed([*groups, *sum(added, [])])}"
             f" FROM {self.table(v, '~pending')}{grouped} HAVING {changed};",
             *self.dialect.filled(folded),
             *self.range(v, f"SELECT 1 {beside} WHERE {' OR '.join(self.dialect.is_lost(f'({each})') for each in after)}"),
@@ -266,6 +286,11 @@ class Script:
             f"INSERT INTO {net} ({names}) SELECT {', '.join([*(f'd.{column}' for column in groups), *after])}, 1 {beside}"
             f" WHERE {after[0]} <> 0;",
         ]
+
+    def after(self, column):
+        """A group's sum after the night, from its row before, t, and from what is added to it, d."""
+        before, change = self.dialect.halves(f"coalesce(t.{column}, 0)"), self.dialect.columns_of(column)
+        return self.dialect.joined([f"{old} + d.{new}" for old, new in zip(before, change)])
 
     # ---- insts
 
@@ -276,19 +301,32 @@ class Script:
         return self.summary_inst(step.view) if self.is_summary(step.view) else self.counted_inst(step.view)
 
     def counted_inst(self, v):
+        leaving, changing, coming = self.counted_statements(v)
+        too_many = self.dialect.is_lost('(t."#" + d."#")')
+        query = f'SELECT 1 FROM {self.table(v)} AS t, {self.table(v, "~net")} AS d WHERE {self.same(v, "d", "t")} AND {too_many}'
+        return [*self.large(v, [leaving, changing], query), coming]
+
+    def counted_statements(self, v):
+        """Rows that leave, rows that stand more or less often, and rows that come."""
         table, net, columns = self.table(v), self.table(v, "~net"), [*self.columns(v), '"#"']
         same = self.same(v, "d", "t")
         return [
-            f'DELETE FROM {table} AS t WHERE EXISTS (SELECT 1 FROM {net} AS d WHERE {same} AND t."#" + d."#" = 0);',
+            self.left(v, 't."#" + d."#" = 0'),
             f'UPDATE {table} AS t SET "#" = t."#" + d."#" FROM {net} AS d WHERE {same};',
             f"INSERT INTO {table} ({self.listed(columns)}) SELECT {self.listed(columns, 'd')} FROM {net} AS d"
             f' WHERE d."#" > 0 AND NOT EXISTS (SELECT 1 FROM {table} AS t WHERE {same});',
         ]
 
+    def left(self, v, condition):
+        """Rows of a view's table leave by their change. They are looked up from the change, which is small, by the table's index."""
+        number, same = self.dialect.row_number, self.same(v, "d", "t")
+        there = f"SELECT t.{number} FROM {self.table(v, '~net')} AS d, {self.table(v)} AS t WHERE {same} AND {condition}"
+        return f"DELETE FROM {self.table(v)} WHERE {number} IN ({there});"
+
     def summary_inst(self, v):
         table, net, columns = self.table(v), self.table(v, "~net"), self.listed(self.columns(v))
         return [
-            f'DELETE FROM {table} AS t WHERE EXISTS (SELECT 1 FROM {net} AS d WHERE {self.same(v, "d", "t")} AND d."#" < 0);',
+            self.left(v, 'd."#" < 0'),
             f'INSERT INTO {table} ({columns}) SELECT {columns} FROM {net} WHERE "#" > 0;',
         ]
 

@@ -100,10 +100,13 @@ class PostgreSQLEngine:
         ran = self.psql(lines)
         return ran.stderr.decode() if ran.returncode else None
 
+    def questions(self, asked):
+        """What asks for each table's rows, which are answered by a line."""
+        return [f"SELECT coalesce(jsonb_agg(jsonb_build_array({', '.join(columns)})), '[]') FROM {table};" for table, columns in asked]
+
     def contents(self, asked):
         """Each table's rows."""
-        lines = [f"SELECT coalesce(jsonb_agg(jsonb_build_array({', '.join(columns)})), '[]') FROM {table};" for table, columns in asked]
-        return [json.loads(line) for line in self.psql(lines).stdout.decode().splitlines()]
+        return [json.loads(line) for line in self.psql(self.questions(asked)).stdout.decode().splitlines()]
 
 
 def installed():
@@ -115,6 +118,11 @@ def installed():
 
 def postgresql():
     """The folder of PostgreSQL's programs, which are installed where they are missing and that can be done; else None."""
-    if not installed():
-        subprocess.run(["apt-get", "install", "-y", "postgresql"], stdout=subprocess.DEVNULL, stderr=subprocess.DEVNULL, check=False)
+    for command in (["install", "-y"], ["update"], ["install", "-y"]):
+        if installed():
+            break
+        words = ["apt-get", *command, *(["postgresql"] if command[0] == "install" else [])]
+        quiet = {**os.environ, "DEBIAN_FRONTEND": "noninteractive"}
+        if shutil.which("apt-get"):
+            subprocess.run(words, env=quiet, stdout=subprocess.DEVNULL, stderr=subprocess.DEVNULL, check=False)
     return installed()

@@ -48,9 +48,9 @@ class ChangesAreNotUsedUp(Script):
 
 
 class RowsThatAreThereCountNoMore(Script):
-    def counted_inst(self, v):
-        leaving, _, coming = super().counted_inst(v)
-        return [leaving, coming]
+    def counted_statements(self, v):
+        leaving, _, coming = super().counted_statements(v)
+        return [leaving, "", coming]
 
 
 class GroupsThatChangeStay(Script):

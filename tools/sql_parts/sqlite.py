@@ -5,6 +5,10 @@ import sys
 sys.dont_write_bytecode = True
 from sql_parts.dialect import Dialect  # noqa: E402
 
+HALF = 2**32
+# The high half of a product may have 2^39 at most, so that only sums of 2^24 of them could leave 64 bits.
+ROOM = 2**24
+
 
 class SQLite(Dialect):
     """Integers that leave 64 bits turn into reals there, and what is made of a real never turns back into an integer."""
@@ -12,7 +16,7 @@ class SQLite(Dialect):
     name = "sqlite"
     folds = True
     row_number = "rowid"
-    sums_in_64_bits = True
+    own_columns = ("rowid",)
     is_count = "\"#\" > 0 AND typeof(\"#\") = 'integer'"
     kinds = {"int": "INTEGER", "text": "TEXT"}
     # Without a type a number stays what it was computed as; a column of integers would turn a real back.
@@ -44,8 +48,31 @@ class SQLite(Dialect):
         return f"typeof({number}) <> 'integer'"
 
     def inexact(self, columns):
-        """Tests for sums that turned into reals."""
-        return [f"typeof({column}) <> 'integer'" for column in columns]
+        """Tests for sums of what turned into reals."""
+        return [self.is_lost(column) for column in columns]
+
+    def net_count(self, told):
+        """The name of a check is what SQLite tells where it fails."""
+        return f"INTEGER NOT NULL CONSTRAINT \"{told}\" CHECK (typeof(\"#\") = 'integer')"
+
+    # ---- sums, which SQLite refuses where they leave 64 bits on the way: those of halves do not
+
+    def halves(self, number):
+        """Both have the number's sign. The high half of a real is a real."""
+        return [f"{number} / {HALF}", f"{number} % {HALF}"]
+
+    def times(self, count, number):
+        """A product may leave 64 bits by a byte; one that is larger turns into a real."""
+        high, low = (f"{count} * ({half})" for half in self.halves(number))
+        return [f"({high} + {low} / {HALF}) * {ROOM} / {ROOM}", f"{low} % {HALF}"]
+
+    def columns_of(self, column):
+        return [column, f'{column[:-1]}~low"']
+
+    def joined(self, halves):
+        """The low half is brought between 0 and 2^32, so that nothing leaves 64 bits, and turns into a real, but what is joined."""
+        high, low = halves
+        return f"(({high} + ({low} >> 32)) * {HALF} + ({low} & {HALF - 1}))"
 
     # ---- statements
 
@@ -69,10 +96,19 @@ class SQLite(Dialect):
             'DROP TABLE "~refused";',
         ]
 
+    def counted(self, told, statements, query=None):
+        """Statements that compute counts, behind a query for a count that leaves 64 bits; without one SQLite's own word is told."""
+        return [*(self.refuse(told, query) if query else []), *statements]
+
+    def misfit(self, told, table, columns):
+        """A word where a column is not as it has to be."""
+        wanted = ", ".join(f"{name} {kind}" for name, kind in columns)
+        return self.refuse(f"{told}: it wants {wanted}, NOT NULL and without COLLATE", self.fits(table, columns))
+
     def fits(self, table, columns):
         """A query for a column that is not as it has to be, or for a table of other collations."""
         bare = self.literal(table[1:-1].replace('""', '"'))
-        kinds = {"int": "('INTEGER', 'INT', 'BIGINT')", "text": "('TEXT')"}
+        kinds = {"bigint": "('INTEGER', 'INT', 'BIGINT')", "text": "('TEXT')"}
         tests = [
             f"NOT EXISTS (SELECT 1 FROM pragma_table_info({bare}) WHERE name = {self.literal(name)} AND \"notnull\""
             f" AND upper(type) IN {kinds[kind]})"

@@ -13,6 +13,8 @@ NIGHT = [("changes", "changes/*.csv"), ("strategy", "strategy.txt")]
 AFTER = [("sizes", "sizes.csv"), ("plan", "plan.txt"), ("schedule", "schedule.txt")]
 OWN = ("new", "views", "before", "commit", "commit.part", "new.part", "new.old")
 HEADING = re.compile(rb"^(?:view ([A-Za-z_][A-Za-z0-9_]{0,63})|reader [^\n]*)$", re.MULTILINE)
+READER = re.compile(rb"reader [0-9]+ version [0-9]+ rows [0-9]+")
+READERS_END = 4096
 
 
 def lines_of(content):
@@ -81,3 +83,13 @@ def unpack(answer):
     if view:
         tables[view] = answer[start:]
     return tables
+
+
+def readers(answer):
+    """The lines of an answer's readers, which stand at its end, sixteen at most."""
+    found = []
+    for line in reversed(answer[-READERS_END:].removesuffix(b"\n").split(b"\n")):
+        if not READER.fullmatch(line):
+            break
+        found.insert(0, line.decode())
+    return found

@@ -4,7 +4,7 @@ from . import program
 from .finding import Failure
 from .folder import BAD_INPUT, sound
 from .planning import parts
-from .sizes import sized, told_before
+from .sizes import given_text, sized, told_before
 from .strategy import FILE, Strategy
 
 BROKEN = 1
@@ -27,13 +27,12 @@ def strategy_of(folder):
 
 def run(words):
     folder = sound(words.folder)
-    given = folder.path / "sizes.csv"
-    told = told_before(folder)
-    sizes = given.read_text() if given.is_file() else sized(told or {view.name: (0, 0, 0) for view in folder.views})
+    given, told = given_text(folder), told_before(folder)
+    sizes = sized(told or {view.name: (0, 0, 0) for view in folder.views}) if given is None else given
     text = strategy_of(folder)
     status, answer = program.run(words.program, "check", parts(folder, sizes, strategy=text), words.through)
     if status != 0:
         raise Failure(status, answer.decode().strip())
     lines = answer.decode().splitlines()
-    print("\n".join(lines if given.is_file() or told else lines[:1]))
+    print("\n".join(lines if given is not None or told else lines[:1]))
     return 0

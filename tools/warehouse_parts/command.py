@@ -5,12 +5,13 @@ from importlib import import_module
 from pathlib import Path
 
 from .commit import is_stopped
-from .finding import Failure
+from .finding import Failure, nearest
 from .program import OWN_PROGRAM
 
 COMMANDS = ("pack", "unpack", "night", "lint", "check", "plan", "certify", "sizes", "diff", "explain", "graph")
-WITH_A_VALUE = ("--program", "--comp-cost", "--inst-cost", "--budget")
+WITH_A_VALUE = ("--program", "--comp-cost", "--inst-cost", "--budget", "--workers", "--readers", "--page-keys")
 GOES_THROUGH = {
+    "night": ("--workers", "--readers", "--page-keys"),
     "check": ("--comp-cost", "--inst-cost"),
     "certify": ("--comp-cost", "--inst-cost"),
     "plan": ("--comp-cost", "--inst-cost", "--budget"),
@@ -25,7 +26,8 @@ class Words:
         self.program, self.commit, self.through = OWN_PROGRAM, False, []
         self.command = given.pop(0) if given else ""
         if self.command not in COMMANDS:
-            raise Failure(2, f"there is no command {self.command!r}; there are {', '.join(COMMANDS)}")
+            near = nearest(self.command, COMMANDS)
+            raise Failure(2, f"there is no command {self.command!r}; there are {', '.join(COMMANDS)}{near}")
         folders = []
         while given:
             self.take(given, folders)

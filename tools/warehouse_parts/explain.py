@@ -1,7 +1,6 @@
 """`explain`: a strategy line by line: what is read, old or new, how many rows, and why it stands there."""
 
 from itertools import combinations
-from math import prod
 
 from .check import strategy_of as given_strategy
 from .folder import sound

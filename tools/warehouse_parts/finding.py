@@ -1,6 +1,13 @@
 """What is found in a folder: where, and what is wrong there."""
 
+from difflib import get_close_matches
 from typing import NamedTuple
+
+
+def nearest(word, words):
+    """A half-sentence with the nearest of these words, where one is near."""
+    near = get_close_matches(word, words, 1)
+    return f"; did you mean {near[0]}?" if near else ""
 
 
 class Place(NamedTuple):

@@ -43,7 +43,8 @@ class Folder:
         if view.name not in self.data:
             text = f"there is no data/{view.name}.csv: {view.name} is empty"
             self.findings.append(Finding(view.place("name", 0), text, True))
-        if view.name in self.changes and not self.changes[view.name].findings:
+        read = [kept[view.name] for kept in (self.data, self.changes) if view.name in kept]
+        if view.name in self.changes and not any(records.findings for records in read):
             self.absent += absent(self.data.get(view.name), self.changes[view.name])
 
     def files(self, kind):

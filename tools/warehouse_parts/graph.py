@@ -1,26 +1,26 @@
 """`graph`: the views of a folder, who is over whom, and the order and work of a strategy: graph.dot and graph.svg in the folder."""
 
-from html import escape
-
 from .explain import steps
+from .folder import sound
+from .finding import Failure
+from .layers import Layers
+from .planning import BUDGET_SPENT
 
-BOX_WIDTH, BOX_HEIGHT, ACROSS, DOWN, MARGIN, LINE = 190, 40, 230, 110, 20, 18
+# A letter's width, of a font in which all have the same, over its size.
+LETTER = 0.62
+NAME_SIZE, NOTE_SIZE, HEIGHT, CELL_HEIGHT, DOWN, MARGIN = 13, 11, 42, 20, 80, 20
 TIP = (
     '<defs><marker id="tip" markerWidth="8" markerHeight="8" refX="8" refY="4" orient="auto">'
     '<path d="M0,0 L8,4 L0,8 z" fill="#345"/></marker></defs>'
 )
-
-
-def levels(views):
-    """How many views stand below each one on the longest way down."""
-    found = {}
-    for view in views:
-        found[view.name] = 1 + max(map(found.get, view.over)) if view.over else 0
-    return found
+LEGEND = [
+    "A box is a view: under its name the step that installs it, and how many rows that puts.",
+    "A cell below it is a Comp from the view that its arrow comes from: its step, and how many rows it reads.",
+]
 
 
 def notes(listed):
-    """What is said beside each view: its Inst's place and rows; and beside each edge: its Comp's."""
+    """What is said of each view: its Inst's place and rows; and of each edge: its Comp's."""
     views, edges = {}, {}
     for place, (_, step) in enumerate(listed, 1):
         if step.sources:
@@ -32,58 +32,118 @@ def notes(listed):
 
 def dot(views, named, edges):
     """The graph as DOT."""
-    lines = [f'  "{view.name}" [shape=box, label="{view.name}\\n{named[view.name]}"];' for view in views]
-    lines += [f'  "{child}" -> "{view.name}" [label="{edges[child, view.name]}"];' for view in views for child in view.over]
+    lines = [f'  "{view.name}" [shape=box, label="{view.name}\\n{named.get(view.name, "")}"];' for view in views]
+    lines += [f'  "{child}" -> "{view.name}" [label="{edges.get((child, view.name), "")}"];' for view in views for child in view.over]
     return "digraph warehouse {\n  rankdir=BT;\n" + "\n".join(lines) + "\n}\n"
 
 
-def corners(views):
-    """The upper left corner of each view's box; base views stand at the bottom."""
-    level, column, found = levels(views), {}, {}
-    top = max(level.values())
-    for view in views:
-        place = column.setdefault(level[view.name], 0)
-        column[level[view.name]] += 1
-        found[view.name] = (MARGIN + place * ACROSS, MARGIN + (top - level[view.name]) * DOWN)
-    return found
+def wide(words, size):
+    """How wide these words are, with some room on both sides."""
+    return len(words) * size * LETTER + 12
 
 
-def text(across, down, words, size=13):
-    return f'<text x="{across:.0f}" y="{down:.0f}" font-size="{size}" text-anchor="middle">{escape(words)}</text>'
+class Picture:
+    """The graph as a picture: base views stand at the bottom, and each other view in the row above the highest one that it is over."""
 
+    def __init__(self, views, named, edges):
+        self.views, self.named, self.edges = views, named, edges
+        self.layers = Layers(views, {view.name: self.width(view) for view in views})
+        self.highest = len(self.layers.rows) - 1
 
-def box(corner, name, note):
-    """A view's box with its name and its Inst."""
-    across, down = corner
-    middle = across + BOX_WIDTH / 2
-    drawn = f'<rect x="{across}" y="{down}" width="{BOX_WIDTH}" height="{BOX_HEIGHT}" rx="4" fill="#eef3fb" stroke="#345"/>'
-    return drawn + text(middle, down + 17, name) + text(middle, down + 33, note, 11)
+    def width(self, view):
+        cell = max((wide(self.edges.get((child, view.name), ""), NOTE_SIZE) for child in view.over), default=0)
+        return max(wide(view.name, NAME_SIZE), wide(self.named.get(view.name, ""), NOTE_SIZE), cell * len(view.over), 80)
 
+    # ---- places
 
-def arrow(below, above, note):
-    """A line from a child up to the view over it, with its Comp beside the child's end."""
-    start = (below[0] + BOX_WIDTH / 2, below[1])
-    end = (above[0] + BOX_WIDTH / 2, above[1] + BOX_HEIGHT)
-    drawn = f'<line x1="{start[0]:.0f}" y1="{start[1]}" x2="{end[0]:.0f}" y2="{end[1]}" stroke="#345" marker-end="url(#tip)"/>'
-    across, down = (start[0] + (end[0] - start[0]) * 0.35, start[1] + (end[1] - start[1]) * 0.35)
-    words = text(across, down, note, 11)
-    return drawn + f'<g stroke="white" stroke-width="4">{words}</g>' + words
+    def top(self, level):
+        return MARGIN + (self.highest - level) * (HEIGHT + CELL_HEIGHT + DOWN)
+
+    def bottom(self, level):
+        return self.top(level) + HEIGHT + (CELL_HEIGHT if level else 0)
+
+    def middle(self, member):
+        return MARGIN + self.layers.middles[member]
+
+    def left(self, view):
+        return self.middle(view.name) - self.width(view) / 2
+
+    def cells(self, view):
+        """The children of a view from left to right as their lines come, each with the left end of its cell."""
+        children = sorted(view.over, key=lambda child: self.layers.middles[self.layers.ways[child, view.name][-2]])
+        wide_each = self.width(view) / len(children)
+        return wide_each, [(child, self.left(view) + number * wide_each) for number, child in enumerate(children)]
+
+    # ---- what is drawn
+
+    def text(self, across, down, words, size):
+        return f'<text x="{across:.0f}" y="{down:.0f}" font-size="{size}" text-anchor="middle">{words}</text>'
+
+    def box(self, view):
+        """A view's box with its name and its Inst."""
+        top, middle = self.top(self.layers.levels[view.name]), self.middle(view.name)
+        fill = "#eef3fb" if view.over else "#f6f1e4"
+        drawn = f'<rect x="{self.left(view):.1f}" y="{top}" width="{self.width(view):.1f}" height="{HEIGHT}" fill="{fill}" stroke="#345"/>'
+        note = self.named.get(view.name)
+        name = self.text(middle, top + (17 if note else 26), view.name, NAME_SIZE)
+        return drawn + name + (self.text(middle, top + 34, note, NOTE_SIZE) if note else "")
+
+    def comps(self, view):
+        """The cells below a view's box, and the arrow to each."""
+        drawn, level = [], self.layers.levels[view.name]
+        top = self.top(level) + HEIGHT
+        width, cells = self.cells(view)
+        for child, left in cells:
+            words = self.edges.get((child, view.name), "")
+            drawn.append(f'<rect x="{left:.1f}" y="{top}" width="{width:.1f}" height="{CELL_HEIGHT}" fill="#fff" stroke="#345"/>')
+            drawn.append(self.text(left + width / 2, top + 14, words, NOTE_SIZE))
+            drawn.append(self.arrow(self.layers.ways[child, view.name], (left + width / 2, top + CELL_HEIGHT)))
+        return "".join(drawn)
+
+    def line(self, way, end):
+        """The corners of the line that goes this way and ends here."""
+        child, *between, _ = way
+        corners = [(self.middle(child), self.top(self.layers.levels[child]))]
+        for passing in between:
+            corners += [(self.middle(passing), self.bottom(passing.level)), (self.middle(passing), self.top(passing.level))]
+        return [*corners, end]
+
+    def arrow(self, way, end):
+        corners = " ".join(f"{across:.1f},{down:.1f}" for across, down in self.line(way, end))
+        return f'<polyline points="{corners}" fill="none" stroke="#345" marker-end="url(#tip)"/>'
+
+    def svg(self):
+        legend = LEGEND if self.named else []
+        width = max([self.layers.breadth, *(wide(words, NOTE_SIZE) for words in legend)]) + 2 * MARGIN
+        under = self.bottom(0) + 2 * MARGIN
+        height = under + 18 * len(legend)
+        head = f'<svg xmlns="http://www.w3.org/2000/svg" width="{width:.0f}" height="{height}" font-family="monospace">'
+        drawn = [TIP, f'<rect width="{width:.0f}" height="{height}" fill="#fff"/>']
+        drawn += [self.comps(view) for view in self.views if view.over] + [self.box(view) for view in self.views]
+        drawn += [
+            f'<text x="{MARGIN}" y="{under + 18 * number}" font-size="{NOTE_SIZE}">{words}</text>' for number, words in enumerate(legend)
+        ]
+        return "\n".join([head, *drawn, "</svg>\n"])
 
 
 def svg(views, named, edges):
-    """The graph as a picture."""
-    at = corners(views)
-    width = max(across for across, _ in at.values()) + BOX_WIDTH + MARGIN
-    height = max(down for _, down in at.values()) + BOX_HEIGHT + MARGIN
-    head = f'<svg xmlns="http://www.w3.org/2000/svg" width="{width}" height="{height}" font-family="sans-serif">'
-    arrows = [arrow(at[child], at[view.name], edges[child, view.name]) for view in views for child in view.over]
-    boxes = [box(at[view.name], view.name, named[view.name]) for view in views]
-    return "\n".join([head, TIP, *arrows, *boxes, "</svg>\n"])
+    return Picture(views, named, edges).svg()
+
+
+def drawn(words):
+    """The folder and its steps; none where the search for a plan was given up."""
+    try:
+        return steps(words)
+    except Failure as failure:
+        if failure.status != BUDGET_SPENT:
+            raise
+        return sound(words.folder), []
 
 
 def run(words):
-    folder, listed = steps(words)
+    folder, listed = drawn(words)
     named, edges = notes(listed)
-    for name, made in (("graph.dot", dot), ("graph.svg", svg)):
-        (folder.path / name).write_text(made(folder.views, named, edges))
+    if folder.views:
+        for name, made in (("graph.dot", dot), ("graph.svg", svg)):
+            (folder.path / name).write_text(made(folder.views, named, edges))
     return 0

@@ -3,6 +3,7 @@
 import sys
 
 from .folder import BAD_INPUT, Folder
+from .given_sizes import GivenSizes
 from .strategy import FILE, Strategy
 
 
@@ -17,7 +18,7 @@ def strategy_findings(folder):
 
 def run(words):
     folder = Folder(words.folder)
-    findings = sorted(folder.findings + strategy_findings(folder))
+    findings = sorted(folder.findings + strategy_findings(folder) + GivenSizes(folder.path, folder.views).findings)
     for finding in findings:
         print(finding, file=sys.stderr)
     return 0 if all(finding.warns for finding in findings) else BAD_INPUT

@@ -11,7 +11,7 @@ import sys
 from collections import Counter
 
 from . import program
-from .bundle import unpack
+from .bundle import readers, unpack
 from .check import strategy_of as given_strategy
 from .commit import commit, finish, remove
 from .finding import Failure
@@ -54,9 +54,10 @@ def tables(folder, answer):
 
 
 def report(folder, how, answer, before):
-    """What the night did: how its strategy was come by, the rows of each expression, and the views' sizes."""
+    """What the night did: how its strategy was come by, the rows of each expression, what readers saw, and the views' sizes."""
     head = answer.partition(b"\nversion ")[0].decode()
-    return f"{how}\n{head}\n{sized(of_night(folder, answer, before))}"
+    seen = "".join(f"{line}\n" for line in readers(answer))
+    return f"{how}\n{head}\n{seen}{sized(of_night(folder, answer, before))}"
 
 
 def write(path, found, told):

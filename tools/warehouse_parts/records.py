@@ -9,6 +9,8 @@ from .finding import Finding, Place
 
 NUMBER = re.compile(r"[+-]?[0-9]+")
 MOST = 2**63
+# A cell may be as long as an input.
+csv.field_size_limit(2**26)
 
 
 class Records:
@@ -16,7 +18,7 @@ class Records:
 
     def __init__(self, folder, file, view, are_changes):
         self.file, self.view, self.are_changes = file, view, are_changes
-        self.rows, self.lines, self.findings = Counter(), {}, []
+        self.rows, self.lines, self.findings, self.begun = Counter(), {}, [], []
         content = (folder / file).read_bytes().removeprefix(b"\xef\xbb\xbf")
         try:
             self.text = content.decode()
@@ -67,6 +69,12 @@ class Records:
         self.rows[row] += count
         self.lines.setdefault(row, line)
 
+    def starts(self):
+        """Where each line begins; a carriage return alone ends one, as it does a record."""
+        if not self.begun:
+            self.begun = [0, *(found.end() for found in re.finditer("\r\n|\r|\n", self.text))]
+        return self.begun
+
     def number(self, cell, line, number):
         """A cell's whole number, or None where it has none."""
         if NUMBER.fullmatch(cell) and -MOST <= int(cell) < MOST:
@@ -79,7 +87,8 @@ class Records:
     def place_of(self, line, number):
         """The line and column of the cell with this number in the record that begins at this line."""
         column, inside = 1, False
-        for letter in "\n".join(self.text.split("\n")[line - 1 :]):
+        for at in range(self.starts()[line - 1], len(self.text)):
+            letter = self.text[at]
             if number == 0:
                 break
             inside ^= letter == '"'

@@ -5,7 +5,8 @@ import sys
 from . import program
 from .bundle import part, unpack
 from .finding import Failure
-from .folder import sound
+from .folder import BAD_INPUT, sound
+from .given_sizes import FILE, GivenSizes
 from .strategy import at_once, written
 
 REPORT = "views/report.txt"
@@ -102,11 +103,20 @@ def measured(folder, words):
     return of_night(folder, answer, rows_before(folder, words))
 
 
+def given_text(folder):
+    """The text of sizes.csv, which has no fault; None where there is none."""
+    findings = GivenSizes(folder.path, folder.views).findings
+    if findings:
+        raise Failure(BAD_INPUT, *findings)
+    file = folder.path / FILE
+    return file.read_bytes().decode() if file.is_file() else None
+
+
 def sizes_text(folder, words):
     """The sizes' text, and from where it is."""
-    given = folder.path / "sizes.csv"
-    if given.is_file():
-        return given.read_text(), "given in sizes.csv"
+    given = given_text(folder)
+    if given is not None:
+        return given, "given in sizes.csv"
     told = told_before(folder)
     if told is not None:
         return sized(told), "from the change files and the last report"

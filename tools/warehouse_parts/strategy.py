@@ -4,8 +4,7 @@ from types import SimpleNamespace
 
 from machine import rules
 
-from .catalogue import nearest
-from .finding import Finding, Place
+from .finding import Finding, Place, nearest
 
 FILE = "strategy.txt"
 WORDS = {

@@ -1,4 +1,4 @@
-"""Where the values of a catalogue stand in its text: of each view its keys, and of each key its texts, numbers and truths, in order."""
+"""Where the values of a catalogue stand in its text: of each view its keys, and of each key its value with all that is in it."""
 
 import re
 from typing import NamedTuple
@@ -19,11 +19,18 @@ class Token(NamedTuple):
     column: int
 
 
+class Spot(NamedTuple):
+    """Where a value begins, and the spots of its members, which an inline table has by their keys."""
+
+    place: tuple
+    members: object = ()
+
+
 class KeyPlaces(NamedTuple):
-    """Where a key stands, and its values one after another."""
+    """Where a key stands, and its value."""
 
     key: tuple
-    values: list
+    value: Spot
 
 
 def tokens(text):
@@ -38,7 +45,7 @@ def tokens(text):
 
 
 def statements(text):
-    """The tokens of each line of TOML: a value that is open at a line's end goes on in the next one."""
+    """The tokens of each statement: a value that is open at a line's end goes on in the next line."""
     statement, depth = [], 0
     for token in tokens(text):
         if token.kind == "line" and depth == 0:
@@ -50,19 +57,52 @@ def statements(text):
     yield statement
 
 
-def without_names(values):
-    """The values without the keys of inline tables."""
-    return [token for token, after in zip(values, [*values[1:], None]) if token.kind == "value" and (not after or after.text != "=")]
+def is_mark(token, marks):
+    return token.kind == "mark" and token.text in marks
+
+
+def spot(found):
+    """The spot of the value that these tokens begin with, which are taken off their list. The tokens are those of sound TOML."""
+    first = found.pop(0)
+    if is_mark(first, "["):
+        return Spot(first[2:], members(found, "]", spot))
+    if is_mark(first, "{"):
+        return Spot(first[2:], dict(members(found, "}", entry)))
+    return Spot(first[2:])
+
+
+def members(found, end, taken):
+    """What stands between two brackets, up to this end."""
+    listed = []
+    while not is_mark(found[0], end):
+        listed.append(taken(found))
+        while not is_mark(found[0], "," + end):
+            found.pop(0)
+        if is_mark(found[0], ","):
+            found.pop(0)
+    found.pop(0)
+    return listed
+
+
+def entry(found):
+    """A key of an inline table, and its value."""
+    key = found.pop(0)
+    while not is_mark(found.pop(0), "="):
+        pass
+    return key.text.strip("\"'"), KeyPlaces(key[2:], spot(found))
 
 
 def places(text):
-    """Of each `[[view]]` the place of its heading, and its keys by name."""
+    """Of each view the place of its heading, and its keys by name."""
     found = []
     for statement in filter(None, statements(text)):
         words = [token.text for token in statement]
         if words == ["[", "[", "view", "]", "]"]:
             found.append((statement[0][2:], {}))
-        elif found and words[1:2] == ["="]:
-            values = [token[2:] for token in without_names(statement[2:])]
-            found[-1][1][words[0].strip("\"'")] = KeyPlaces(statement[0][2:], values)
+        elif words[1:2] == ["="] and (found or words[0] != "view"):
+            if found:
+                found[-1][1][words[0].strip("\"'")] = entry(list(statement))[1]
+        elif words[:2] == ["view", "="]:
+            listed = entry(list(statement))[1].value.members
+            found += [(each.place, each.members if isinstance(each.members, dict) else {}) for each in listed]
     return found

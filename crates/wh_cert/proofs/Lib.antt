@@ -9,6 +9,7 @@ pub mod OneVerdict
 pub mod OneWay
 pub mod PairSums
 pub mod Preorders
+pub mod Raising
 pub mod Sums
 pub mod Tables
 pub mod Trees

@@ -1,6 +1,6 @@
 //! The pair bound, which no correct strategy stays below.
 
-ghost use Rattle.std.specs.Prelude.{◌≡◌, ◌+◌, ◌*◌, ◌^◌, ◌<◌, ◌≤◌, ℕ, List, length};
+ghost use Rattle.std.specs.Prelude.{◌≡◌, ◌≢◌, ◌++◌, ◌∷◌, [], false, ◌+◌, ◌*◌, ◌^◌, ◌<◌, ◌≤◌, ℕ, List, length};
 ghost use Rattle.std.specs.List.{All, sum_by};
 ghost use Rattle.wh_dag.specs.Shape.{IsShape};
 ghost use Rattle.wh_strategy.specs.declared.expression.Expression.{Expression};
@@ -8,10 +8,12 @@ ghost use Rattle.wh_strategy.specs.declared.sizes.SizeRow.{SizeRow};
 ghost use Rattle.wh_strategy.specs.Rules.{IsCorrect};
 ghost use Rattle.wh_strategy.specs.Sizes.{AreSizes, sizes_of};
 ghost use Rattle.wh_strategy.specs.Work.{work_of};
-ghost use Rattle.wh_cert.specs.Bound.{in_order, pair_min, decided_value, rows_by, decided_bound_of, pair_bound_of};
+ghost use Rattle.wh_strategy.specs.Sums.{sum_below};
+ghost use Rattle.wh_cert.specs.Graph.{decides};
+ghost use Rattle.wh_cert.specs.Bound.{more_under, in_order, pair_min, decided_value, rows_by, decided_bound_of, pair_bound_of};
 
 use crate::decisions::Decisions;
-use wh_dag::Shape;
+use wh_dag::{ChildLists, Shape};
 use wh_strategy::{Costs, Sizes};
 
 #[tactic(auto, unfolding(wh_strategy::specs::Sizes::sizes_of))]
@@ -113,6 +115,57 @@ pub fn decided_bound(shape: &Shape, sizes: &Sizes, costs: Costs, decided: &[(usi
         changes += changed_rows(sizes, view);
     }
     costs.comp as u128 * rows + costs.inst as u128 * changes
+}
+
+/// So much more where the view is over both of these.
+fn more_at(children: &ChildLists, view: usize, first: usize, second: usize, more: u128) -> u128
+    ensures value { result ≡ more_under children.now first second more view }
+    ensures small { result ≤ more }
+{
+    if children.is_over(view, first) && children.is_over(view, second) {
+        more
+    } else {
+        0
+    }
+}
+
+/// What the Comps of all views that are over both of these read more at least, where each reads so much more.
+fn more_rows(children: &ChildLists, first: usize, second: usize, more: u128) -> u128
+    requires { more ≤ 2 ^ 42 }
+    ensures value { result ≡ sum_below (more_under children.now first second more) (length children.now) }
+    ensures small { result ≤ length children.now * 2 ^ 42 }
+{
+    let mut rows = 0;
+    for view in 0..children.len() {
+        rows += more_at(children, view, first, second, more);
+    }
+    rows
+}
+
+/// The decided bound under one decision more, that the first view is installed before the second, from the bound without it:
+/// under each common parent the couple costs what it costs in this order, and no longer its minimum. Takes no memory.
+pub fn decided_bound_with(
+    shape: &Shape,
+    sizes: &Sizes,
+    costs: Costs,
+    decided: &[(usize, usize)],
+    bound: u128,
+    first: usize,
+    second: usize,
+) -> u128
+    requires same { length sizes.now ≡ length shape.now.children }
+    requires bound { bound ≡ decided_bound_of shape.now.children (sizes_of sizes.now) costs.comp costs.inst decided.now }
+    requires first { first < length sizes.now }
+    requires second { second < length sizes.now }
+    requires two { first ≢ second }
+    requires open { decides decided.now first second ≡ false }
+    requires open_too { decides decided.now second first ≡ false }
+    ensures { result ≡ decided_bound_of shape.now.children (sizes_of sizes.now) costs.comp costs.inst (decided.now ++ (first, second) ∷ []) }
+{
+    // The proof needs what was decided, and what the rows of sizes keep to.
+    let (_decided, _views) = (decided, sizes.len());
+    let more = in_order(sizes, first, second) - pair_min(sizes, first, second);
+    bound + costs.comp as u128 * more_rows(shape.child_lists(), first, second, more)
 }
 
 /// The pair bound by its definition: no couple is decided.

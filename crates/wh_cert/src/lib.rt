@@ -18,7 +18,7 @@ mod search;
 mod tree;
 
 pub use acceptance::{certify, no_one_way_strategy_is_below_a_tree, one_verdict};
-pub use bound::{decided_bound, no_strategy_is_below_the_bound, pair_bound};
+pub use bound::{decided_bound, decided_bound_with, no_strategy_is_below_the_bound, pair_bound};
 pub use certificate::{Certificate, PairMin, PairMins, Planned, Scope, Verdict};
 pub use lines::right_line;
 pub use order::comes_first;

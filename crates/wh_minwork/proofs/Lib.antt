@@ -1,11 +1,17 @@
+pub mod Bits
 pub mod Counting
 pub mod Decisions
+pub mod Drafting
 pub mod Edges
 pub mod Exact
+pub mod Hinting
 pub mod Inserted
 pub mod Listed
+pub mod Looking
+pub mod Opening
 pub mod Ordering
 pub mod Placing
+pub mod Rounds
 pub mod SiblingViews
 pub mod Sorting
 pub mod Tables

@@ -30,7 +30,7 @@ parent_swap : (shape : List (List ℕ)) (u w : ℕ) → have_parent shape u w �
 parent_swap shape u w h = let p = parent_of_both shape u w h in both_have_parent shape p.0 w u p.2 p.1
 
 -- both of a couple are views
-couple_within : (shape : List (List ℕ)) (u w : ℕ) → IsShape shape → have_parent shape u w ≡ true → (u < length shape) × (w < length shape)
+pub couple_within : (shape : List (List ℕ)) (u w : ℕ) → IsShape shape → have_parent shape u w ≡ true → (u < length shape) × (w < length shape)
 couple_within shape u w sh h =
     let p = parent_of_both shape u w h in
     let v : p.0 < length shape = has_within shape p.0 u p.1 in

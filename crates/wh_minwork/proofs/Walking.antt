@@ -40,7 +40,7 @@ walk_leads shape decided x (w ∷ ws) (suc j) y z h at e = (walk_node shape deci
 walk_closes : (shape : List (List ℕ)) (decided : List (ℕ × ℕ)) (x : Expression) (ys : List Expression) (j : ℕ) (y : Expression) → IsWalk shape decided x ys → slice_get (x ∷ ys) j ≡ Some y → HasEdge shape decided y x → IsCycle shape decided (x ∷ take j ys)
 walk_closes shape decided x ys j y h at e = (walk_node shape decided x ys h, walk_leads shape decided x ys j y x h at e)
 
-take_front : (x : Node) (xs : List Node) (j : ℕ) → take (j + 1) (x ∷ xs) ≡ x ∷ take j xs
+pub take_front : (x : Node) (xs : List Node) (j : ℕ) → take (j + 1) (x ∷ xs) ≡ x ∷ take j xs
 take_front x xs j = rw add-one refl
 
 -- a node that stands among those that are stuck is led to by one of them

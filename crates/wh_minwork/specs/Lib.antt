@@ -1,6 +1,9 @@
 pub mod Decided
 pub mod Desired
+pub mod Draft
 pub mod Drawn
+pub mod Left
 pub mod Nodes
 pub mod Plan
+pub mod Sets
 pub mod Sorted

@@ -10,7 +10,7 @@ use crate::graph::Graph;
 use crate::node::Node;
 use std::alloc::{AllocError, Global};
 
-fn place_of(list: &[Node], node: Node) -> Option<usize>
+pub(crate) fn place_of(list: &[Node], node: Node) -> Option<usize>
     ensures { MatchOption result (All (λ e. e ≢ node) list.now) (λ i. (i < length list.now) × (slice_index_or list.now i node ≡ node)) }
 {
     list.iter().position(|e| *e == node)

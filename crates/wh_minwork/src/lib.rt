@@ -4,14 +4,20 @@
 mod cycle;
 mod decided;
 mod desired;
+mod draft;
+mod edge_sets;
 mod graph;
 mod lines;
 mod minwork;
 mod node;
+mod ready;
+mod sets;
 mod unplaced;
+mod walk;
 
 pub use decided::Decided;
 pub use desired::desired_order;
+pub use draft::{Draft, Found};
 pub use graph::{Graph, SortFault};
 pub use lines::pair_mins;
 pub use minwork::{MinFault, min_work, sorted_is_a_strategy};

@@ -1,18 +1,18 @@
 -- What is decided of the couples, and what is left.
-use Rattle.std.proofs.Common.{◌≡◌, ℕ, ◌+◌, ◌-◌, ◌<◌, ◌≤◌, List, [], ◌∷◌, ◌++◌, true, false, ◌&&◌, eqb, ltb, map, take, drop, reverse, refl, sym, ap, ◌∙◌, subst, length, get_or, ⊎_elim, inl, inr, arith, ◌⊎◌, append_assoc}
-use Rattle.std.proofs.lemmas.Bool.{cases_Bool, cases_lt, cases_order, cond-true, cond-false, false≢true, false_from_ne_true, lt-ltb, le-ltb, ltb-true, eqb-true, eq-eqb, and_parts, and_from, or_left, or_right, or_cases}
-use Rattle.std.proofs.lemmas.List.{append-nil, drop_more, map-append, take_rest, length-drop}
+use Rattle.std.proofs.Common.{◌≡◌, ◌≢◌, ℕ, ◌+◌, ◌-◌, ◌<◌, ◌≤◌, List, [], ◌∷◌, ◌++◌, true, false, ◌&&◌, eqb, ltb, map, take, drop, reverse, refl, sym, ap, ◌∙◌, subst, length, get_or, ⊎_elim, inl, inr, arith, ◌⊎◌, append_assoc}
+use Rattle.std.proofs.lemmas.Bool.{cases_Bool, cases_lt, cases_order, cond-true, cond-false, false≢true, false_from_ne_true, lt-ltb, le-ltb, ltb-true, eqb-true, eq-eqb, and_parts, and_from, or_left, or_right, or_cases, both_ways}
+use Rattle.std.proofs.lemmas.List.{append-nil, drop_more, map-append, length-append}
 use Rattle.std.proofs.Math.Seq.{take-append_seam}
 use Rattle.std.proofs.lemmas.List.Sorted.{list_any-IsPermutation, IsPermutation-reverse}
 use Rattle.wh_dag.specs.Shape.{IsShape}
-use Rattle.wh_dag.specs.Siblings.{have_parent, couples_of}
+use Rattle.wh_dag.specs.Siblings.{have_parent, IsCouple, couples_of}
 use Rattle.wh_dag.specs.declared.siblings.Couple.{Couple}
 use Rattle.wh_dag.proofs.CommonParents.{parent_of_both, both_have_parent}
 use Rattle.wh_dag.proofs.FewCouples.{is_of, count_cons}
 use Rattle.wh_cert.specs.Graph.{decides, DecidesAll}
 use Rattle.wh_cert.specs.Search.{IsOpen}
 use Rattle.wh_prune.specs.Searching.{couple_of, AreLeft}
-use Rattle.wh_prune.proofs.CoupleLists.{counted, not_counted, stands, stands-append, stands-this, stands-once, stands-couple, couple-stands}
+use Rattle.wh_prune.proofs.CoupleLists.{counted, is_that, not_counted, stands, stands-append, stands-this, stands-once, stands-couple, couple-stands}
 
 -- the couple of a decision, whichever of the two is first
 couple_of_lower : (a b : ℕ) → a ≤ b → couple_of (a, b) ≡ record { lower = a; higher = b }
@@ -43,7 +43,7 @@ on_couple d a b l on =
     below : (x y : ℕ) → x ≡ a → y ≡ b → x ≤ y
     below x y e f = omega arith
 
-couple_on : (d : ℕ × ℕ) (a b : ℕ) → is_of a b (couple_of d) ≡ true → IsOn d a b
+pub couple_on : (d : ℕ × ℕ) (a b : ℕ) → is_of a b (couple_of d) ≡ true → IsOn d a b
 couple_on d a b is =
     elim (cases_Bool (ltb d.0 d.1)) [
       | inl t ↦
@@ -52,6 +52,23 @@ couple_on d a b is =
       | inr f ↦
           let e = and_parts _ _ (subst (λ z. is_of a b z ≡ true) (cond-false (ltb d.0 d.1) (record { lower = d.0; higher = d.1 }) (record { lower = d.1; higher = d.0 }) f) is) in
           inr (sym (eqb-true b d.0 e.1), sym (eqb-true a d.1 e.0))
+    ]
+
+-- the lower of its numbers is the first one
+pub rises : (d : ℕ × ℕ) (a b : ℕ) → d.0 ≢ d.1 → is_of a b (couple_of d) ≡ true → a < b
+rises d a b two is =
+    elim (cases_Bool (ltb d.0 d.1)) [
+      | inl t ↦
+          let e = is_that a b _ (subst (λ z. is_of a b z ≡ true) (cond-true (ltb d.0 d.1) (record { lower = d.0; higher = d.1 }) (record { lower = d.1; higher = d.0 }) t) is) in
+          let l : d.0 < d.1 = ltb-true d.0 d.1 t in
+          let x : a ≡ d.0 = e.0 in
+          let y : b ≡ d.1 = e.1 in
+          omega arith
+      | inr f ↦
+          let e = is_that a b _ (subst (λ z. is_of a b z ≡ true) (cond-false (ltb d.0 d.1) (record { lower = d.0; higher = d.1 }) (record { lower = d.1; higher = d.0 }) f) is) in
+          let x : a ≡ d.1 = e.0 in
+          let y : b ≡ d.0 = e.1 in
+          ⊎_elim (λ same. absurd (two same)) (λ o. ⊎_elim (λ l. absurd (both_ways _ f (lt-ltb d.0 d.1 l))) (λ l. omega arith) o) (cases_order d.0 d.1)
     ]
 
 -- what is decided stands among the couples of the decisions
@@ -70,7 +87,7 @@ decided_stands (d ∷ ds) a b u w l on h =
     (λ e. let rest : 1 ≤ stands a b (map couple_of ds) = decided_stands ds a b u w l on e in omega arith)
     (or_cases _ _ h)
 
-stands_decided : (ds : List (ℕ × ℕ)) (a b : ℕ) → 1 ≤ stands a b (map couple_of ds) → (decides ds a b ≡ true) ⊎ (decides ds b a ≡ true)
+pub stands_decided : (ds : List (ℕ × ℕ)) (a b : ℕ) → 1 ≤ stands a b (map couple_of ds) → (decides ds a b ≡ true) ⊎ (decides ds b a ≡ true)
 unfolding decides
 stands_decided [] a b l = absurd (omega arith)
 stands_decided (d ∷ ds) a b l =
@@ -106,6 +123,15 @@ next_open shape ds c rest left =
 pub is_lower : (shape : List (List ℕ)) (ds : List (ℕ × ℕ)) (c : Couple) → IsOpen shape ds c → c.lower < c.higher
 is_lower shape ds c o = ltb-true c.lower c.higher (and_parts _ _ o.couple).0
 
+pub open_couple : (shape : List (List ℕ)) (ds : List (ℕ × ℕ)) (c : Couple) → IsOpen shape ds c → IsCouple shape c.lower c.higher
+open_couple shape ds c o = let l : c.lower < c.higher = is_lower shape ds c o in (λ e. omega arith, (and_parts _ _ o.couple).1)
+
+pub open_couple_turned : (shape : List (List ℕ)) (ds : List (ℕ × ℕ)) (c : Couple) → IsOpen shape ds c → IsCouple shape c.higher c.lower
+open_couple_turned shape ds c o =
+    let l : c.lower < c.higher = is_lower shape ds c o in
+    let p = parent_of_both shape c.lower c.higher (and_parts _ _ o.couple).1 in
+    (λ e. omega arith, both_have_parent shape p.0 c.higher c.lower p.2 p.1)
+
 -- a decision on it
 left_more : (shape : List (List ℕ)) (ds : List (ℕ × ℕ)) (c : Couple) (rest : List Couple) (d : ℕ × ℕ) → couple_of d ≡ c → AreLeft shape ds (c ∷ rest) → AreLeft shape (ds ++ d ∷ []) rest
 left_more shape ds c rest d e left =
@@ -115,11 +141,6 @@ pub left_lower : (shape : List (List ℕ)) (ds : List (ℕ × ℕ)) (c : Couple)
 left_lower shape ds c rest left =
     let l : c.lower < c.higher = is_lower shape ds c (next_open shape ds c rest left) in
     left_more shape ds c rest (c.lower, c.higher) (couple_of_lower c.lower c.higher (omega arith)) left
-
-pub left_higher : (shape : List (List ℕ)) (ds : List (ℕ × ℕ)) (c : Couple) (rest : List Couple) → AreLeft shape ds (c ∷ rest) → AreLeft shape (ds ++ (c.higher, c.lower) ∷ []) rest
-left_higher shape ds c rest left =
-    let l : c.lower < c.higher = is_lower shape ds c (next_open shape ds c rest left) in
-    left_more shape ds c rest (c.higher, c.lower) (couple_of_higher c.lower c.higher (omega arith)) left
 
 -- nothing is decided yet
 pub left_all : (shape : List (List ℕ)) (couples : List Couple) → couples ≡ couples_of shape → AreLeft shape [] couples
@@ -174,17 +195,8 @@ open-reverse shape ds c o = record {
 pub left_at : (shape : List (List ℕ)) (ds : List (ℕ × ℕ)) (couples : List Couple) (i : ℕ) (none : Couple) → i < length couples → AreLeft shape ds (drop i couples) → AreLeft shape ds (get_or couples i none ∷ drop (i + 1) couples)
 left_at shape ds couples i none l left = subst (AreLeft shape ds) (drop_more couples i none l) left
 
--- and of the first one of a list
-pub left_first : (shape : List (List ℕ)) (ds : List (ℕ × ℕ)) (couples : List Couple) (none : Couple) → 1 ≤ length couples → AreLeft shape ds couples → AreLeft shape ds (get_or couples 0 none ∷ take (length couples - 1) (drop 1 couples))
-left_first shape ds couples none l left = subst (AreLeft shape ds) (parts couples l) left
-  where
-    parts : (xs : List Couple) → 1 ≤ length xs → xs ≡ get_or xs 0 none ∷ take (length xs - 1) (drop 1 xs)
-    parts [] l = absurd (omega arith)
-    parts (x ∷ xs) l = ap (λ zs. x ∷ zs) (sym (take_rest (x ∷ xs) 1))
-
-pub length-later : (couples : List Couple) → 1 ≤ length couples → length (take (length couples - 1) (drop 1 couples)) + 1 ≡ length couples
-length-later couples l = simp (take_rest, length-drop) (omega arith)
-
 -- a decision is taken back
-pub taken_back : (ds after now : List (ℕ × ℕ)) (d : ℕ × ℕ) (n : ℕ) → n ≡ length ds → after ≡ ds ++ d ∷ [] → now ≡ take n after → now ≡ ds
-taken_back ds after now d n e made back = back ∙ ap (λ k. take k after) e ∙ ap (take (length ds)) made ∙ take-append_seam ds (d ∷ [])
+pub taken_back : (ds after now : List (ℕ × ℕ)) (d : ℕ × ℕ) → after ≡ ds ++ d ∷ [] → now ≡ take (length after - 1) after → now ≡ ds
+taken_back ds after now d made back =
+    let n : length after - 1 ≡ length ds = let l = ap length made ∙ length-append ds (d ∷ []) in omega arith in
+    back ∙ ap (λ k. take k after) n ∙ ap (take (length ds)) made ∙ take-append_seam ds (d ∷ [])

@@ -1,5 +1,5 @@
 -- What the nodes of a search show.
-use Rattle.std.proofs.Common.{◌≡◌, ℕ, ◌+◌, ◌^◌, ◌<◌, ◌≤◌, List, [], ◌∷◌, ◌++◌, refl, sym, ap, ◌∙◌, subst, length, reverse, arith, append_assoc, ⊎_elim, inl, inr}
+use Rattle.std.proofs.Common.{◌≡◌, ℕ, ◌+◌, ◌^◌, ◌<◌, ◌≤◌, List, [], ◌∷◌, ◌++◌, refl, sym, ap, ◌∙◌, subst, length, reverse, arith, append_assoc}
 use Rattle.std.specs.List.{All}
 use Rattle.std.proofs.Math.Pow.{pow_mono}
 use Rattle.std.proofs.lemmas.List.{reverse-append}
@@ -14,7 +14,7 @@ use Rattle.wh_strategy.specs.Sizes.{Size}
 use Rattle.wh_strategy.specs.Work.{work_of}
 use Rattle.wh_cert.specs.Bound.{decided_bound_of}
 use Rattle.wh_cert.specs.Certificate.{IsJudged}
-use Rattle.wh_cert.specs.Graph.{IsCycle, DecidesAll}
+use Rattle.wh_cert.specs.Graph.{IsCycle, DecidesAll, IsOrdered}
 use Rattle.wh_cert.specs.Search.{Placed, IsGood, IsGoodNode, IsAcceptedTree, IsOpen, nodes_below}
 use Rattle.wh_cert.specs.Tree.{CaseTree, Bound, Cycle, Branch, preorder, depth, tree_of, IsTreeOf}
 use Rattle.wh_cert.specs.declared.certificate.Certificate.{Certificate}
@@ -24,14 +24,18 @@ use Rattle.wh_cert.specs.declared.tree.TreeNode.{TreeNode}
 use Rattle.wh_cert.specs.declared.tree.TreeNode.TheVariants as node
 use Rattle.wh_cert.proofs.Preorders.{tree_of-preorder}
 use Rattle.wh_cert.proofs.Trees.{accepted_shows}
+use Rattle.wh_minwork.specs.Decided.{AreDecisions}
+use Rattle.wh_minwork.specs.Draft.{completed, DecidesCouples}
 use Rattle.wh_minwork.specs.Sorted.{IsSorted}
-use Rattle.wh_minwork.proofs.Ordering.{edge_moves, cycle_moves}
+use Rattle.wh_minwork.proofs.Drafting.{decisions_one_way}
+use Rattle.wh_minwork.proofs.Ordering.{cycle_moves}
 use Rattle.wh_minwork.proofs.Sorting.{sorted_is_correct, sorted_is_one_way, sorted_costs_decided}
 use Rattle.wh_prune.specs.declared.fault.PruneFault.{PruneFault}
 use Rattle.wh_prune.specs.declared.fault.PruneFault.TheVariants.{Budget, Memory}
 use Rattle.wh_prune.specs.Plan.{IsSearchReason, IsWithinBudget}
 use Rattle.wh_prune.specs.Searching.{IsExplored, IsHeld, IsStopped}
 use Rattle.wh_prune.specs.Spent.{IsWithinLowest}
+use Rattle.wh_prune.proofs.Bounding.{bound-reverse, bound-completed, completed_all}
 use Rattle.wh_prune.proofs.Deciding.{decides-reverse, open-reverse}
 
 -- a sorted list of all couples' graph
@@ -42,25 +46,11 @@ held_sorted shape sizes comp inst work ds list sh da so e = record {
   costs = sorted_costs_decided shape sizes comp inst ds list sh so da ∙ sym e;
 }
 
--- the order of the decisions does not matter
-sorted-reverse : (shape : List (List ℕ)) (ds : List (ℕ × ℕ)) (list : List Expression) → IsSorted shape ds list → IsSorted shape (reverse ds) list
-sorted-reverse shape ds list so = record {
-  nodes = so.nodes;
-  once = so.once;
-  all = so.all;
-  forward = λ p q x y a b e. so.forward p q x y a b (edge_moves shape (reverse ds) ds (λ u w t. sym (decides-reverse ds u w) ∙ t) x y e);
-}
-
-all-reverse : (shape : List (List ℕ)) (ds : List (ℕ × ℕ)) → DecidesAll shape ds → DecidesAll shape (reverse ds)
-all-reverse shape ds da = record {
-  couples = λ u w t. da.couples u w (sym (decides-reverse ds u w) ∙ t);
-  all = λ u w c. ⊎_elim (λ t. inl (decides-reverse ds u w ∙ t)) (λ t. inr (decides-reverse ds w u ∙ t)) (da.all u w c);
-}
-
-bound-reverse : (shape : List (List ℕ)) (sizes : ℕ → Size) (comp inst : ℕ) (ds : List (ℕ × ℕ)) (list : List Expression) → IsShape shape → DecidesAll shape ds → IsSorted shape ds list → decided_bound_of shape sizes comp inst ds ≡ decided_bound_of shape sizes comp inst (reverse ds)
-bound-reverse shape sizes comp inst ds list sh da so =
-    sym (sorted_costs_decided shape sizes comp inst ds list sh so da)
-    ∙ sorted_costs_decided shape sizes comp inst (reverse ds) list sh (sorted-reverse shape ds list so) (all-reverse shape ds da)
+-- what is sorted where the couples that are not decided stand in the desired order
+pub held_completed : (shape : List (List ℕ)) (sizes : ℕ → Size) (comp inst work : ℕ) (ordered ds : List (ℕ × ℕ)) (list : List Expression) → IsShape shape → IsOrdered shape sizes ordered → AreDecisions ds → DecidesCouples shape ds → IsSorted shape (completed ordered ds) list → work ≡ decided_bound_of shape sizes comp inst ds → IsHeld shape sizes comp inst work list
+held_completed shape sizes comp inst work ordered ds list sh o once couples so e =
+    held_sorted shape sizes comp inst work (completed ordered ds) list sh (completed_all shape ordered ds o.0 couples) so
+    (e ∙ sym (bound-completed shape sizes comp inst ordered ds o.1 (decisions_one_way ds once)))
 
 -- the last node of a search
 leaf : (shape : List (List ℕ)) (sizes : ℕ → Size) (comp inst best : ℕ) (ds : List (ℕ × ℕ)) (before after : List TreeNode) (tree : CaseTree) (x : TreeNode) → preorder tree ≡ x ∷ [] → depth tree ≡ 1 → nodes_below (reverse ds) tree ≡ record { above = reverse ds; node = x } ∷ [] → after ≡ before ++ x ∷ [] → IsGood shape sizes comp inst best (reverse ds) x → IsExplored shape sizes comp inst best 1 ds before after
@@ -71,9 +61,9 @@ leaf shape sizes comp inst best ds before after tree x one deep below e good = r
   good = rw below (All-cons (IsGoodNode shape sizes comp inst best) (record { above = reverse ds; node = x }) [] good (All-nil (IsGoodNode shape sizes comp inst best)));
 }
 
-pub bound_leaf : (shape : List (List ℕ)) (sizes : ℕ → Size) (comp inst best : ℕ) (ds : List (ℕ × ℕ)) (list : List Expression) (before after : List TreeNode) → IsShape shape → DecidesAll shape ds → IsSorted shape ds list → best ≤ decided_bound_of shape sizes comp inst ds → after ≡ before ++ node.Bound ∷ [] → IsExplored shape sizes comp inst best 1 ds before after
-bound_leaf shape sizes comp inst best ds list before after sh da so l e =
-    leaf shape sizes comp inst best ds before after Bound node.Bound refl refl refl e (let k = bound-reverse shape sizes comp inst ds list sh da so in omega arith)
+pub bound_leaf : (shape : List (List ℕ)) (sizes : ℕ → Size) (comp inst best : ℕ) (ds : List (ℕ × ℕ)) (before after : List TreeNode) → best ≤ decided_bound_of shape sizes comp inst ds → after ≡ before ++ node.Bound ∷ [] → IsExplored shape sizes comp inst best 1 ds before after
+bound_leaf shape sizes comp inst best ds before after l e =
+    leaf shape sizes comp inst best ds before after Bound node.Bound refl refl refl e (let k = bound-reverse shape sizes comp inst ds in omega arith)
 
 pub cycle_leaf : (shape : List (List ℕ)) (sizes : ℕ → Size) (comp inst best : ℕ) (ds : List (ℕ × ℕ)) (cycle : List Expression) (before after : List TreeNode) → IsCycle shape ds cycle → after ≡ before ++ node.Cycle cycle ∷ [] → IsExplored shape sizes comp inst best 1 ds before after
 cycle_leaf shape sizes comp inst best ds cycle before after c e =

@@ -1,3 +1,5 @@
+pub mod Bounding
+pub mod Counted
 pub mod CoupleLists
 pub mod Deciding
 pub mod Exploring

@@ -1,29 +1,35 @@
-//! The full tree of decisions on the couples, explored in preorder.
+//! A tree of decisions on the couples, explored in preorder only where it must be.
 
-ghost use Rattle.std.specs.Prelude.{◌≡◌, ◌+◌, ◌^◌, ◌≤◌, ℕ, List, [], length, IfOk, IfErr, OnOk};
+ghost use Rattle.std.specs.Prelude.{◌≡◌, ◌+◌, ◌++◌, ◌∷◌, ◌^◌, ◌≤◌, ℕ, List, [], length, IfOk, IfErr, OnOk, MatchOption};
 ghost use Rattle.wh_dag.specs.Shape.{IsShape};
 ghost use Rattle.wh_dag.specs.Siblings.{couples_of};
 ghost use Rattle.wh_strategy.specs.Sizes.{Size, sizes_of};
+ghost use Rattle.wh_cert.specs.Bound.{decided_bound_of};
+ghost use Rattle.wh_cert.specs.Graph.{IsOrdered};
+ghost use Rattle.wh_cert.specs.Search.{IsOpen};
+ghost use Rattle.wh_cert.specs.declared.tree.TreeNode.{TreeNode};
+ghost use Rattle.wh_minwork.specs.Decided.{AreDecisions};
+ghost use Rattle.wh_minwork.specs.Draft.{DecidesCouples};
 ghost use Rattle.wh_prune.specs.Searching.{AreLeft, DecidesLowerFirst, IsExplored, IsHeld, IsStopped};
 ghost use Rattle.wh_prune.specs.Spent.{IsWithinLowest};
 
 use crate::fault::PruneFault;
 use std::alloc::{AllocError, Global};
-use wh_cert::{TreeNode, decided_bound};
+use wh_cert::{TreeNode, decided_bound, decided_bound_with};
 use wh_dag::{Couple, Shape};
-use wh_minwork::{Decided, Graph, SortFault};
+use wh_minwork::{Decided, Draft, Found, Graph, SortFault};
 use wh_strategy::{Costs, Sizes, Strategy};
 
 /// Where a search stands.
 #[derive(Drop)]
-pub(crate) struct Search {
+pub(crate) struct Search<'a> {
     /// The least work of the one-way strategies that were found.
     pub(crate) best: u128,
     /// One of this work.
     pub(crate) list: Strategy,
     /// The nodes that were opened, in preorder.
     pub(crate) nodes: Vec<TreeNode>,
-    decided: Decided,
+    draft: Draft<'a>,
 }
 
 /// The decisions that install the lower number of each of the shape's couples first.
@@ -39,21 +45,47 @@ fn lowest(alloc: Global, shape: &Shape, couples: &[Couple]) -> Result<Decided, A
     Ok(decided)
 }
 
-impl Search {
+/// The bounds under these decisions and one more on this couple: the lower number first, and the higher number first.
+fn bounds_below(
+    shape: &Shape,
+    sizes: &Sizes,
+    costs: Costs,
+    decided: &[(usize, usize)],
+    bound: u128,
+    couple: Couple,
+) -> (u128, u128)
+    requires same { length sizes.now ≡ length shape.now.children }
+    requires bound { bound ≡ decided_bound_of shape.now.children (sizes_of sizes.now) costs.comp costs.inst decided.now }
+    requires open { IsOpen shape.now.children decided.now couple }
+    ensures lower { result.0 ≡ decided_bound_of shape.now.children (sizes_of sizes.now) costs.comp costs.inst (decided.now ++ (couple.lower, couple.higher) ∷ []) }
+    ensures higher { result.1 ≡ decided_bound_of shape.now.children (sizes_of sizes.now) costs.comp costs.inst (decided.now ++ (couple.higher, couple.lower) ∷ []) }
+{
+    // The proof needs what the lists of a shape keep to.
+    let _lists = shape.child_lists();
+    let Couple { lower, higher } = couple;
+    (
+        decided_bound_with(shape, sizes, costs, decided, bound, lower, higher),
+        decided_bound_with(shape, sizes, costs, decided, bound, higher, lower),
+    )
+}
+
+impl<'a> Search<'a> {
     /// Begins with the strategy in which the lower number of each couple is installed first. No node is open yet.
     pub(crate) fn begin(
         alloc: Global,
-        shape: &Shape,
+        shape: &'a Shape,
         sizes: &Sizes,
         costs: Costs,
         couples: &[Couple],
-    ) -> Result<Search, PruneFault>
+    ) -> Result<Search<'a>, PruneFault>
         requires same { length sizes.now ≡ length shape.now.children }
         requires couples { couples.now ≡ couples_of shape.now.children }
         ensures held { IfOk result (λ s. IsHeld shape.now.children (sizes_of sizes.now) costs.comp costs.inst s.best s.list) }
         ensures lowest { IfOk result (λ s. IsWithinLowest shape.now.children (sizes_of sizes.now) costs.comp costs.inst s.best) }
         ensures shape { OnOk result (IsShape shape.now.children) }
-        ensures decided { IfOk result (λ s. s.decided ≡ []) }
+        ensures children { IfOk result (λ s. s.draft.children ≡ shape.now.children) }
+        ensures ordered { IfOk result (λ s. IsOrdered shape.now.children (sizes_of sizes.now) s.draft.ordered) }
+        ensures decided { IfOk result (λ s. s.draft.decided ≡ []) }
         ensures nodes { IfOk result (λ s. s.nodes.items ≡ []) }
         ensures err { IfErr result (λ fault. fault ≡ PruneFault.Memory) }
     {
@@ -63,61 +95,60 @@ impl Search {
                 best: decided_bound(shape, sizes, costs, lowest.as_slice()),
                 list,
                 nodes: Vec::new(alloc),
-                decided: Decided::new(alloc),
+                draft: Draft::new(alloc, shape, sizes)?,
             }),
             Err(SortFault::Cycle(_)) => unreachable!(),
             Err(SortFault::Memory) => Err(PruneFault::Memory),
         }
     }
 
-    /// Keeps a strategy of this work where it costs less than the one that was kept.
-    fn keep_less(&mut self, list: Strategy, work: u128)
-        ensures held { (shape : List (List ℕ)) (sizes : ℕ → Size) (comp inst : ℕ) → IsHeld shape sizes comp inst self.old.best self.old.list → IsHeld shape sizes comp inst work list → IsHeld shape sizes comp inst self.new.best self.new.list }
-        ensures down { self.new.best ≤ self.old.best }
-        ensures least { self.new.best ≤ work }
-        ensures kept { self.new.decided ≡ self.old.decided }
-        ensures nodes { self.new.nodes.items ≡ self.old.nodes.items }
-    {
-        if work < self.best {
-            self.best = work;
-            self.list = list;
-        }
-    }
-
-    /// Opens a node below which no couple is left: a cycle, or a strategy, which is kept where it costs less.
-    fn settle(
+    /// Opens a node. Where its bound is no less than the best work, nothing below it is worth a look. Otherwise its graph, in
+    /// which the couples that it leaves open stand in the desired order, gives a better strategy, or a cycle of decided
+    /// couples, or else the couple to decide next, with a branch for it.
+    fn open(
         &mut self,
         alloc: Global,
         shape: &Shape,
         sizes: &Sizes,
         costs: Costs,
-    ) -> Result<(), PruneFault>
-        requires same { length sizes.now ≡ length shape.now.children }
-        requires all { AreLeft shape.now.children self.old.decided [] }
+        bound: u128,
+    ) -> Result<Option<Couple>, AllocError>
+        requires bound { bound ≡ decided_bound_of shape.now.children (sizes_of sizes.now) costs.comp costs.inst self.old.draft.decided }
+        requires children { self.old.draft.children ≡ shape.now.children }
+        requires ordered { IsOrdered shape.now.children (sizes_of sizes.now) self.old.draft.ordered }
         requires held { IsHeld shape.now.children (sizes_of sizes.now) costs.comp costs.inst self.old.best self.old.list }
         ensures held { IsHeld shape.now.children (sizes_of sizes.now) costs.comp costs.inst self.new.best self.new.list }
         ensures down { self.new.best ≤ self.old.best }
-        ensures kept { self.new.decided ≡ self.old.decided }
+        ensures draft { self.new.draft ≡ self.old.draft }
         ensures nodes { IfOk result (λ _. length self.new.nodes.items ≡ length self.old.nodes.items + 1) }
-        ensures explored { IfOk result (λ _. IsExplored shape.now.children (sizes_of sizes.now) costs.comp costs.inst self.new.best 1 self.old.decided self.old.nodes.items self.new.nodes.items) }
-        ensures err { IfErr result (λ fault. fault ≡ PruneFault.Memory) }
+        ensures explored { IfOk result (λ found. MatchOption found (IsExplored shape.now.children (sizes_of sizes.now) costs.comp costs.inst self.new.best 1 self.old.draft.decided self.old.nodes.items self.new.nodes.items) (λ couple. IsOpen shape.now.children self.old.draft.decided couple × (self.new.nodes.items ≡ self.old.nodes.items ++ TreeNode.Branch couple ∷ []) × (length self.old.draft.decided + 1 ≤ length (couples_of shape.now.children)))) }
     {
-        match Graph::of(shape, &self.decided).sorted(alloc) {
-            Ok(list) => {
-                self.nodes.push(TreeNode::Bound)?;
-                let work = decided_bound(shape, sizes, costs, self.decided.as_slice());
-                self.keep_less(list, work);
-            }
-            Err(SortFault::Cycle(cycle)) => {
-                self.nodes.push(TreeNode::Cycle(Strategy::new(cycle)))?;
-            }
-            Err(SortFault::Memory) => return Err(PruneFault::Memory),
+        // The proof needs what the lists of a shape and the decisions of a draft keep to.
+        let (_lists, _decided) = (shape.child_lists(), self.draft.decided());
+        if self.best <= bound {
+            self.nodes.push(TreeNode::Bound)?;
+            return Ok(None);
         }
-        Ok(())
+        match self.draft.look(alloc)? {
+            Found::Sorted(list) => {
+                self.nodes.push(TreeNode::Bound)?;
+                self.best = bound;
+                self.list = list;
+                Ok(None)
+            }
+            Found::Cycle(cycle) => {
+                self.nodes.push(TreeNode::Cycle(cycle))?;
+                Ok(None)
+            }
+            Found::Open(couple) => {
+                self.nodes.push(TreeNode::Branch(couple))?;
+                Ok(Some(couple))
+            }
+        }
     }
 
-    /// Opens the nodes below these decisions: a branch for each couple that is left, and below both of its decisions the
-    /// same for the couples after it. Stops where as many nodes as the budget says are open.
+    /// Opens the nodes below these decisions, which leave so many couples open. Stops where as many nodes as the budget says
+    /// are open.
     pub(crate) fn explore(
         &mut self,
         alloc: Global,
@@ -125,19 +156,25 @@ impl Search {
         sizes: &Sizes,
         costs: Costs,
         budget: u64,
-        rest: &[Couple],
+        bound: u128,
+        left: usize,
     ) -> Result<(), PruneFault>
         requires same { length sizes.now ≡ length shape.now.children }
-        requires left { AreLeft shape.now.children self.old.decided rest.now }
+        requires children { self.old.draft.children ≡ shape.now.children }
+        requires ordered { IsOrdered shape.now.children (sizes_of sizes.now) self.old.draft.ordered }
+        requires bound { bound ≡ decided_bound_of shape.now.children (sizes_of sizes.now) costs.comp costs.inst self.old.draft.decided }
+        requires left { length self.old.draft.decided + left ≡ length (couples_of shape.now.children) }
         requires held { IsHeld shape.now.children (sizes_of sizes.now) costs.comp costs.inst self.old.best self.old.list }
         requires budget { length self.old.nodes.items ≤ budget }
         ensures held { IsHeld shape.now.children (sizes_of sizes.now) costs.comp costs.inst self.new.best self.new.list }
         ensures down { self.new.best ≤ self.old.best }
-        ensures kept { IfOk result (λ _. self.new.decided ≡ self.old.decided) }
+        ensures children { self.new.draft.children ≡ self.old.draft.children }
+        ensures ordered { self.new.draft.ordered ≡ self.old.draft.ordered }
+        ensures kept { IfOk result (λ _. self.new.draft.decided ≡ self.old.draft.decided) }
         ensures within { IfOk result (λ _. length self.new.nodes.items ≤ budget) }
-        ensures nodes { IfOk result (λ _. length self.new.nodes.items + 1 ≡ length self.old.nodes.items + 2 ^ (length rest.now + 1)) }
-        ensures explored { IfOk result (λ _. IsExplored shape.now.children (sizes_of sizes.now) costs.comp costs.inst self.new.best (length rest.now + 1) self.old.decided self.old.nodes.items self.new.nodes.items) }
-        ensures err { IfErr result (IsStopped budget (length self.old.nodes.items + 2 ^ (length rest.now + 1)) self.new.best) }
+        ensures nodes { IfOk result (λ _. length self.new.nodes.items + 1 ≤ length self.old.nodes.items + 2 ^ (left + 1)) }
+        ensures explored { IfOk result (λ _. IsExplored shape.now.children (sizes_of sizes.now) costs.comp costs.inst self.new.best (left + 1) self.old.draft.decided self.old.nodes.items self.new.nodes.items) }
+        ensures err { IfErr result (IsStopped budget (length self.old.nodes.items + 2 ^ (left + 1)) self.new.best) }
     {
         let opened = self.nodes.len() as u64;
         if budget <= opened {
@@ -146,19 +183,25 @@ impl Search {
                 best: self.best,
             });
         }
-        let [couple, later @ ..] = rest else {
-            return self.settle(alloc, shape, sizes, costs);
+        let Some(couple) = self.open(alloc, shape, sizes, costs, bound)? else {
+            return Ok(());
         };
-        self.nodes.push(TreeNode::Branch(*couple))?;
-        let above = self.decided.as_slice().len();
-        self.decided.push(couple.lower, couple.higher)?;
-        match self.explore(alloc, shape, sizes, costs, budget, later) {
-            Ok(()) => self.decided.truncate(above),
+        let (lower, higher) = bounds_below(
+            shape,
+            sizes,
+            costs,
+            self.draft.decided(),
+            bound,
+            couple,
+        );
+        self.draft.push(couple.lower, couple.higher)?;
+        match self.explore(alloc, shape, sizes, costs, budget, lower, left - 1) {
+            Ok(()) => self.draft.pop(),
             Err(fault) => return Err(fault),
         }
-        self.decided.push(couple.higher, couple.lower)?;
-        match self.explore(alloc, shape, sizes, costs, budget, later) {
-            Ok(()) => self.decided.truncate(above),
+        self.draft.push(couple.higher, couple.lower)?;
+        match self.explore(alloc, shape, sizes, costs, budget, higher, left - 1) {
+            Ok(()) => self.draft.pop(),
             Err(fault) => return Err(fault),
         }
         Ok(())

@@ -16,7 +16,7 @@ ghost use Rattle.wh_prune.specs.Searching.{IsExplored};
 use crate::explore::Search;
 use crate::fault::PruneFault;
 use std::alloc::{AllocError, Global};
-use wh_cert::{Certificate, Planned, Scope, Tree, TreeNode, pair_bound};
+use wh_cert::{Certificate, Planned, Scope, Tree, TreeNode, decided_bound, pair_bound};
 use wh_dag::Shape;
 use wh_minwork::pair_mins;
 use wh_strategy::{CheckFault, Costs, Sizes, check};
@@ -75,7 +75,8 @@ pub fn prune(
         Ok(search) => search,
         Err(fault) => return Err(fault),
     };
-    match search.explore(alloc, shape, sizes, costs, budget, &couples) {
+    let bound = decided_bound(shape, sizes, costs, &[]);
+    match search.explore(alloc, shape, sizes, costs, budget, bound, couples.len()) {
         Ok(()) => {}
         Err(fault) => return Err(fault),
     }

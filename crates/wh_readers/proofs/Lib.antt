@@ -1,1 +1,4 @@
 pub mod Answered
+pub mod Readings
+pub mod Seats
+pub mod Serves

@@ -1,6 +1,10 @@
-//! Readers of a running warehouse beside those of the machine over events.
+//! Readers of a running warehouse: what their desks answer beside those of the machine over events, and a night that runs while
+//! they read.
 #![tactic(auto)]
 
 mod laws;
+mod reading;
+mod serving;
 
 pub use laws::desks_answer_as_the_machine;
+pub use serving::{Served, serve_night};

@@ -6,3 +6,4 @@ pub mod Comes
 pub mod Stages
 pub mod Soundness
 pub mod OneRefusal
+pub mod Ready

@@ -193,18 +193,35 @@ module _ (catalog : CatalogOf) (list : List Expression) (l m : Ledger) (changes 
 
 -- ---- the new contents
 
-pub done_tables : (catalog : CatalogOf) (list : List Expression) (l m : Ledger) (changes : List Bag) (keys : ℕ) → IsCorrect catalog.views.children list → AreBags catalog (newest_in l) → 1 ≤ keys
-    → IsDone (tonight catalog list l changes keys) l m → HaveTables (newest_in m) (length catalog.views.children) (made_by (tonight catalog list l changes keys))
-done_tables catalog list l m changes keys ok bags some o =
+-- what stands after a night that is done: one version more, whose tables are those that carrying out makes
+record Ends (catalog : CatalogOf) (list : List Expression) (l m : Ledger) (changes : List Bag) (keys : ℕ) : Type 0 where
+  newest : Contents
+  now : versions_in m.of m.list ≡ record { newest = newest; older = newest_in l ∷ (versions_in l.of l.list).older; draft = None }
+  have : HaveTables newest (length catalog.views.children) (made_by (tonight catalog list l changes keys))
+
+done_ends : (catalog : CatalogOf) (list : List Expression) (l m : Ledger) (changes : List Bag) (keys : ℕ) → IsCorrect catalog.views.children list → AreBags catalog (newest_in l) → 1 ≤ keys
+    → IsDone (tonight catalog list l changes keys) l m → Ends catalog list l m changes keys
+done_ends catalog list l m changes keys ok bags some o =
     let n : Night = tonight catalog list l changes keys in
     let v0 : Versions = versions_in l.of l.list in
     let night : List Operation = night_below (graph_of catalog) (bag_at changes) keys list (bag_at v0.newest) (length list) in
     let w = whole_is n o.ops o.whole.puts o.whole.night_list o.whole.commits in
     let written = night_lists_write_tables catalog list (bag_at v0.newest) (bag_at changes) keys v0 ok some (record { each = bags.each; are = λ v r. refl }) (length list) in
-    let now : versions_in m.of m.list ≡ after (record { newest = v0.newest; older = v0.older; draft = Some written.0 }) Commits =
-    ap (λ (x : Ledger). versions_in x.of x.list) o.now ∙ versions_append (versions_of l.of.opening []) l.list o.ops ∙ ap (versions_from v0) w.is ∙ versions_append v0 night (Commits ∷ []) ∙ ap (λ v. after v Commits) written.1 in
-    subst (λ c. HaveTables c (length catalog.views.children) (made_by n)) (sym (ap (λ (v : Versions). v.newest) now))
-    (subst (λ es. HaveTables written.0 (length catalog.views.children) (carried (graph_of catalog) (bag_at changes) es (at_first (bag_at v0.newest))).tables) (take_whole list) written.2)
+    record {
+      newest = written.0;
+      now = ap (λ (x : Ledger). versions_in x.of x.list) o.now ∙ versions_append (versions_of l.of.opening []) l.list o.ops ∙ ap (versions_from v0) w.is ∙ versions_append v0 night (Commits ∷ []) ∙ ap (λ v. after v Commits) written.1;
+      have = subst (λ es. HaveTables written.0 (length catalog.views.children) (carried (graph_of catalog) (bag_at changes) es (at_first (bag_at v0.newest))).tables) (take_whole list) written.2;
+    }
+
+pub done_tables : (catalog : CatalogOf) (list : List Expression) (l m : Ledger) (changes : List Bag) (keys : ℕ) → IsCorrect catalog.views.children list → AreBags catalog (newest_in l) → 1 ≤ keys
+    → IsDone (tonight catalog list l changes keys) l m → HaveTables (newest_in m) (length catalog.views.children) (made_by (tonight catalog list l changes keys))
+done_tables catalog list l m changes keys ok bags some o =
+    let e = done_ends catalog list l m changes keys ok bags some o in
+    subst (λ c. HaveTables c (length catalog.views.children) (made_by (tonight catalog list l changes keys))) (sym (ap (λ (v : Versions). v.newest) e.now)) e.have
+
+pub done_number : (catalog : CatalogOf) (list : List Expression) (l m : Ledger) (changes : List Bag) (keys : ℕ) → IsCorrect catalog.views.children list → AreBags catalog (newest_in l) → 1 ≤ keys
+    → IsDone (tonight catalog list l changes keys) l m → number (versions_in m.of m.list) ≡ suc (number (versions_in l.of l.list))
+done_number catalog list l m changes keys ok bags some o = let e = done_ends catalog list l m changes keys ok bags some o in ap number e.now
 
 pub done_bags : (catalog : CatalogOf) (tables : ℕ → Bag) (new : List Bag) → HaveTables new (length catalog.views.children) tables → AreWide catalog tables → AreBags catalog new
 done_bags catalog tables new have wide = record { each = have.each; widths = λ u l. subst (λ t. HasWidth t (width_of catalog u)) (sym (have.are u l)) (wide u l) }

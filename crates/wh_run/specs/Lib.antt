@@ -2,4 +2,5 @@ pub mod Causes
 pub mod Tonight
 pub mod Refusals
 pub mod Underway
+pub mod RefusedWaves
 pub mod Laws

@@ -4,6 +4,7 @@
 //! on meanwhile. A night that is refused once it has begun is given up.
 #![tactic(auto)]
 
+mod asked;
 mod cause;
 mod gate;
 mod insts;
@@ -13,8 +14,11 @@ mod opening;
 mod running;
 mod waves;
 
+pub use asked::can_run_wave;
 pub use cause::NightCause;
 pub use gate::{Gate, NoGate};
 pub use laws::nights_have_one_refusal;
 pub use left::{Left, NightFault};
+pub use opening::current_tables;
 pub use running::{Options, night};
+pub use waves::{WaveFault, run_wave};

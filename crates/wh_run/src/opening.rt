@@ -28,7 +28,7 @@ pub(crate) fn not_ready<P: Publish>(writer: &P) -> Option<NightCause>
 }
 
 /// The tables of the current version, which has so many views.
-pub(crate) fn tables_of<P: Publish>(
+pub fn current_tables<P: Publish>(
     alloc: Global,
     writer: &P,
     views: usize,

@@ -29,11 +29,12 @@ ghost use Rattle.wh_run.specs.Underway.{AreWide, Given, HasCome, IsAt, IsPut, Is
 
 use crate::gate::Gate;
 use crate::insts::inst;
-use crate::opening::{not_ready, tables_of};
+use crate::opening::{current_tables, not_ready};
 use crate::waves::wave;
 use crate::{Left, NightCause, NightFault};
 use std::alloc::Global;
 use std::sync::Wait;
+use std::thread::Threads;
 use wh_dag::Catalog;
 use wh_formula::{RowTest, RowValue};
 use wh_maint::MaintFault;
@@ -46,7 +47,7 @@ use wh_strategy::{Correct, Expression};
 /// How a night is run.
 #[derive(Clone, Copy, Debug)]
 pub struct Options {
-    /// How many workers draw jobs.
+    /// How many workers draw jobs, each in a thread, 1 to 16.
     pub workers: usize,
     /// How many rows of a view one operation writes at most, 1 to 256.
     pub page_keys: usize,
@@ -144,13 +145,14 @@ fn commit<P: Publish, R: Wait>(
 }
 
 /// Carries a stage out.
-fn stage_of<P: Publish, F: RowTest, G: RowValue, T: Gate, R: Wait>(
+fn stage_of<P: Publish, F: RowTest, G: RowValue, T: Gate + Sync, R: Threads + Wait + Sync>(
     rt: &R,
     alloc: Global,
     writer: &mut P,
     catalog: &Catalog<F, G>,
     stage: &Stage,
     keys: usize,
+    workers: usize,
     state: &mut NightState,
     steps: &mut Vec<(Expression, u128)>,
     gate: &T,
@@ -160,6 +162,8 @@ fn stage_of<P: Publish, F: RowTest, G: RowValue, T: Gate, R: Wait>(
     requires fit { CanFinish catalog.now (kept state.old) }
     requires stage { IsStageIn catalog.now stage.now }
     requires some { 1 ≤ keys }
+    requires least { 1 ≤ workers }
+    requires most { workers ≤ 16 }
     ensures held { OnOk result ((P.kept writer.new).held ≡ None) }
     ensures parts { OnOk result (AreParts catalog.now state.new) }
     ensures fit { OnOk result (CanFinish catalog.now (kept state.new)) }
@@ -171,19 +175,29 @@ fn stage_of<P: Publish, F: RowTest, G: RowValue, T: Gate, R: Wait>(
         → IsStopped (night_of catalog.now keys t) t.before fault (P.kept writer.new)) }
 {
     match stage {
-        Stage::Wave(jobs) => wave(alloc, catalog, jobs.as_slice(), state, steps, gate),
+        Stage::Wave(jobs) => wave(
+            rt,
+            alloc,
+            catalog,
+            jobs.as_slice(),
+            state,
+            steps,
+            workers,
+            gate,
+        ),
         Stage::Inst(view) => inst(rt, alloc, writer, catalog, *view, keys, state, steps),
     }
 }
 
 /// Carries the stages out, one after another, and reports their expressions.
-fn through<P: Publish, F: RowTest, G: RowValue, T: Gate, R: Wait>(
+fn through<P: Publish, F: RowTest, G: RowValue, T: Gate + Sync, R: Threads + Wait + Sync>(
     rt: &R,
     alloc: Global,
     writer: &mut P,
     catalog: &Catalog<F, G>,
     stages: &[Stage],
     keys: usize,
+    workers: usize,
     state: &mut NightState,
     gate: &T,
 ) -> Result<Vec<(Expression, u128)>, MaintFault>
@@ -192,6 +206,8 @@ fn through<P: Publish, F: RowTest, G: RowValue, T: Gate, R: Wait>(
     requires fit { CanFinish catalog.now (kept state.old) }
     requires stages { (i : ℕ) (stage : StageOf) → slice_get stages.now i ≡ Some stage → IsStageIn catalog.now stage }
     requires some { 1 ≤ keys }
+    requires least { 1 ≤ workers }
+    requires most { workers ≤ 16 }
     ensures parts { OnOk result (AreParts catalog.now state.new) }
     ensures goes { IfOk result (λ steps. (t : Given) → stages.now ≡ stages_of t.list
         → IsAt (night_of catalog.now keys t) t.before 0 (kept state.old) [] (P.kept writer.old)
@@ -203,7 +219,7 @@ fn through<P: Publish, F: RowTest, G: RowValue, T: Gate, R: Wait>(
     let mut steps = Vec::new(alloc);
     for stage in stages {
         if let Err(fault) = stage_of(
-            rt, alloc, writer, catalog, stage, keys, state, &mut steps, gate,
+            rt, alloc, writer, catalog, stage, keys, workers, state, &mut steps, gate,
         ) {
             return Err(fault);
         }
@@ -212,13 +228,14 @@ fn through<P: Publish, F: RowTest, G: RowValue, T: Gate, R: Wait>(
 }
 
 /// Publishes a night whose stages these are.
-fn run<P: Publish, F: RowTest, G: RowValue, T: Gate, R: Wait>(
+fn run<P: Publish, F: RowTest, G: RowValue, T: Gate + Sync, R: Threads + Wait + Sync>(
     rt: &R,
     alloc: Global,
     writer: &mut P,
     catalog: &Catalog<F, G>,
     stages: &[Stage],
     keys: usize,
+    workers: usize,
     state: &mut NightState,
     gate: &T,
 ) -> Result<Report, NightFault>
@@ -227,6 +244,8 @@ fn run<P: Publish, F: RowTest, G: RowValue, T: Gate, R: Wait>(
     requires fit { CanFinish catalog.now (kept state.old) }
     requires stages { (i : ℕ) (stage : StageOf) → slice_get stages.now i ≡ Some stage → IsStageIn catalog.now stage }
     requires some { 1 ≤ keys }
+    requires least { 1 ≤ workers }
+    requires most { workers ≤ 16 }
     ensures version { IfOk result (λ r. r.version ≡ number (versions_in (P.kept writer.new).of (P.kept writer.new).list)) }
     ensures done { IfOk result (λ r. (t : Given) → t.before ≡ P.kept writer.old → stages.now ≡ stages_of t.list → HasCome (night_of catalog.now keys t) 0 (kept state.old) []
         → IsDone (night_of catalog.now keys t) t.before (P.kept writer.new)
@@ -239,7 +258,9 @@ fn run<P: Publish, F: RowTest, G: RowValue, T: Gate, R: Wait>(
     if let Err(fault) = begin(rt, writer) {
         return Err(fault);
     }
-    match through(rt, alloc, writer, catalog, stages, keys, state, gate) {
+    match through(
+        rt, alloc, writer, catalog, stages, keys, workers, state, gate,
+    ) {
         Ok(steps) => commit(rt, writer, steps),
         Err(fault) => Err(given_up(rt, writer, fault)),
     }
@@ -254,7 +275,7 @@ fn run<P: Publish, F: RowTest, G: RowValue, T: Gate, R: Wait>(
 /// computed, and then added to what is pending, in the order of the strategy. At the Inst of a derived view that is not
 /// finished, it is; then its new counts go out, `page_keys` rows at a time. The first refusal gives the night up. Memory
 /// may be refused at any point.
-pub fn night<P: Publish, F: RowTest, G: RowValue, T: Gate, R: Wait>(
+pub fn night<P: Publish, F: RowTest, G: RowValue, T: Gate + Sync, R: Threads + Wait + Sync>(
     rt: &R,
     alloc: Global,
     writer: &mut P,
@@ -268,7 +289,8 @@ pub fn night<P: Publish, F: RowTest, G: RowValue, T: Gate, R: Wait>(
     requires tables { AreBags catalog.now (newest_in (P.kept writer.old)) }
     requires changes { AreBags catalog.now changes.now }
     requires fit { AreFitTables catalog.now (newest_in (P.kept writer.old)) }
-    requires workers { options.workers ≡ 1 }
+    requires one { 1 ≤ options.workers }
+    requires sixteen { options.workers ≤ 16 }
     requires least { 1 ≤ options.page_keys }
     requires most { options.page_keys ≤ 256 }
     ensures done { OnOk result (IsDone (tonight catalog.now correct.now.list (P.kept writer.old) changes.now options.page_keys) (P.kept writer.old) (P.kept writer.new)) }
@@ -291,7 +313,7 @@ pub fn night<P: Publish, F: RowTest, G: RowValue, T: Gate, R: Wait>(
     if let Some(cause) = not_ready(writer) {
         return Err(untouched(cause));
     }
-    let Ok(tables) = tables_of(alloc, writer, catalog.shape().len()) else {
+    let Ok(tables) = current_tables(alloc, writer, catalog.shape().len()) else {
         return Err(untouched(NightCause::Memory));
     };
     if let Err(fault) = base_changes(alloc, catalog, &tables, changes) {
@@ -312,6 +334,7 @@ pub fn night<P: Publish, F: RowTest, G: RowValue, T: Gate, R: Wait>(
         catalog,
         stages.as_slice(),
         options.page_keys,
+        options.workers,
         &mut state,
         gate,
     );

@@ -1,6 +1,6 @@
 //! Waves: the changes of their sources first, then what each job computes, and then all of it is added.
 
-ghost use Rattle.std.specs.Prelude.{◌≡◌, ◌⊎◌, ◌+◌, ◌<◌, ◌++◌, ◌∷◌, [], ◌^◌, ℕ, List, true, length, map, OnOk, IfOk, IfErr, Err};
+ghost use Rattle.std.specs.Prelude.{◌≡◌, ◌≢◌, ◌⊎◌, ◌+◌, ◌<◌, ◌≤◌, ◌++◌, ◌∷◌, [], ◌^◌, ℕ, List, true, length, map, OnOk, IfOk, IfErr, Err};
 ghost use Rattle.wh_dag.specs.Shape.{has, children_of};
 ghost use Rattle.wh_dag.specs.Catalog.{definition_of, is_base};
 ghost use Rattle.wh_strategy.specs.declared.expression.Expression.{Expression as Step};
@@ -16,15 +16,19 @@ ghost use Rattle.wh_night.proofs.Reasons.{CanBeFinished};
 ghost use Rattle.wh_course.specs.Night.{state_at};
 ghost use Rattle.wh_course.specs.Standing.{IsStageIn, IsWaveAt, StandsAt, is_source};
 ghost use Rattle.wh_run.specs.Refusals.{IsWaveFault};
-ghost use Rattle.wh_run.specs.Underway.{Given, night_of, HasCome, Reports, IsAdded, AreAdded, IsFirstUncomputed, SourcesAreKnown, SourcesFinish};
+ghost use Rattle.wh_run.specs.declared.waves.WaveFault.TheVariants.{Maint, WorkerLost};
+ghost use Rattle.wh_run.specs.RefusedWaves.{IsAddedAt, IsRefusedAt, IsRefusedWave};
+ghost use Rattle.wh_run.specs.Underway.{Given, night_of, HasCome, Reports, IsAdded, AreAdded, SourcesAreKnown, SourcesFinish};
 
 use crate::gate::Gate;
 use std::alloc::{AllocError, Global};
+use std::thread::Threads;
 use wh_dag::Catalog;
 use wh_formula::{RowTest, RowValue};
 use wh_maint::{MaintFault, Pending};
 use wh_night::{Job, NightState};
 use wh_strategy::Expression;
+use wh_workers::{JobsFault, do_jobs};
 
 /// The views that these jobs are from.
 fn sources_of(alloc: Global, jobs: &[Job]) -> Result<Vec<usize>, AllocError>
@@ -82,31 +86,76 @@ fn added_by<F: RowTest, G: RowValue, T: Gate>(
     added
 }
 
-/// Computes what each job adds, in the order of the jobs. The first that is refused ends it.
-fn compute_all<F: RowTest, G: RowValue, T: Gate>(
+/// Computes what the job of this number adds.
+fn added_at<F: RowTest, G: RowValue, T: Gate>(
+    alloc: Global,
+    catalog: &Catalog<F, G>,
+    jobs: &[Job],
+    number: usize,
+    state: &NightState,
+    gate: &T,
+) -> Result<Pending, MaintFault>
+    requires parts { AreParts catalog.now state.now }
+    requires jobs { IsStageIn catalog.now (stage.Wave jobs.now) }
+    requires known { SourcesAreKnown (kept state.now) jobs.now }
+    requires there { number < length jobs.now }
+    ensures added { IfOk result (IsAddedAt catalog.now (kept state.now) jobs.now number) }
+    ensures refused { IfErr result (IsRefusedAt catalog.now (kept state.now) jobs.now number) }
+{
+    added_by(alloc, catalog, number, &jobs[number], state, gate)
+}
+
+/// Why a wave is refused.
+#[derive(Drop)]
+pub enum WaveFault {
+    /// A job was refused for this, and none of a lower number was refused; or memory was refused.
+    Maint(MaintFault),
+    /// A worker's thread gave no result. It is never answered: a worker whose thread cannot be started draws in the caller's.
+    WorkerLost,
+}
+
+/// Why the jobs of a wave are refused, where no worker is lost.
+fn of_jobs(fault: WaveFault) -> MaintFault
+    requires { fault ≢ WorkerLost }
+    ensures { fault ≡ Maint result }
+{
+    match fault {
+        WaveFault::Maint(fault) => fault,
+        WaveFault::WorkerLost => unreachable!(),
+    }
+}
+
+/// Computes what each job of a wave adds, over the tables and the changes of a night, where those of the jobs' sources are known. The
+/// jobs are drawn by 1 to 16 workers, each in a thread, of which the caller's is one; what they add comes in the order of the jobs.
+/// The gate is told of each job in the worker's thread. All jobs are done, so that the refusal of the lowest number is answered,
+/// whichever came first.
+pub fn run_wave<F: RowTest, G: RowValue, T: Gate + Sync, R: Threads + Sync>(
+    rt: &R,
     alloc: Global,
     catalog: &Catalog<F, G>,
     jobs: &[Job],
     state: &NightState,
+    workers: usize,
     gate: &T,
-) -> Result<Vec<Pending>, MaintFault>
+) -> Result<Vec<Pending>, WaveFault>
     requires parts { AreParts catalog.now state.now }
     requires jobs { IsStageIn catalog.now (stage.Wave jobs.now) }
     requires known { SourcesAreKnown (kept state.now) jobs.now }
+    requires least { 1 ≤ workers }
+    requires most { workers ≤ 16 }
     ensures added { IfOk result (λ added. AreAdded catalog.now (kept state.now) jobs.now added.items) }
-    ensures refused { IfErr result (λ fault. (fault ≡ Memory) ⊎ IsFirstUncomputed catalog.now (kept state.now) jobs.now fault) }
+    ensures refused { IfErr result (IsRefusedWave catalog.now (kept state.now) jobs.now) }
 {
-    let mut all = Vec::new(alloc);
-    for number in 0..jobs.len() {
-        let added = match added_by(alloc, catalog, number, &jobs[number], state, gate) {
-            Ok(added) => added,
-            Err(fault) => return Err(fault),
-        };
-        let Ok(()) = all.push(added) else {
-            return Err(MaintFault::Memory);
-        };
+    let compute = move |number: usize| -> Result<Pending, MaintFault>
+        requires { (number < length jobs.now) × IsStageIn catalog.now (stage.Wave jobs.now) × SourcesAreKnown (kept state.now) jobs.now × AreParts catalog.now state.now }
+        ensures added { IfOk result (IsAddedAt catalog.entry.now (kept state.entry.now) jobs.entry.now number) }
+        ensures refused { IfErr result (IsRefusedAt catalog.entry.now (kept state.entry.now) jobs.entry.now number) }
+    { added_at(alloc, catalog, jobs, number, state, gate) };
+    match do_jobs(rt, alloc, jobs.len(), workers, &compute) {
+        Ok(added) => Ok(added),
+        Err(JobsFault::Memory) => Err(WaveFault::Maint(MaintFault::Memory)),
+        Err(JobsFault::Refused(_, fault)) => Err(WaveFault::Maint(fault)),
     }
-    Ok(all)
 }
 
 /// Reports a job with the rows that it read.
@@ -187,17 +236,21 @@ fn add_all<F: RowTest, G: RowValue>(
 
 /// Carries a wave out: finishes the views that its jobs are from, computes what the jobs add, and then adds it. The first
 /// refusal ends it.
-pub(crate) fn wave<F: RowTest, G: RowValue, T: Gate>(
+pub(crate) fn wave<F: RowTest, G: RowValue, T: Gate + Sync, R: Threads + Sync>(
+    rt: &R,
     alloc: Global,
     catalog: &Catalog<F, G>,
     jobs: &[Job],
     state: &mut NightState,
     steps: &mut Vec<(Expression, u128)>,
+    workers: usize,
     gate: &T,
 ) -> Result<(), MaintFault>
     requires parts { AreParts catalog.now state.old }
     requires fit { CanFinish catalog.now (kept state.old) }
     requires jobs { IsStageIn catalog.now (stage.Wave jobs.now) }
+    requires least { 1 ≤ workers }
+    requires most { workers ≤ 16 }
     ensures parts { OnOk result (AreParts catalog.now state.new) }
     ensures fit { OnOk result (CanFinish catalog.now (kept state.new)) }
     ensures goes { OnOk result ((keys place : ℕ) (t : Given) → IsWaveAt catalog.now jobs.now (night_of catalog.now keys t) place → HasCome (night_of catalog.now keys t) place (kept state.old) steps.old.items
@@ -208,9 +261,9 @@ pub(crate) fn wave<F: RowTest, G: RowValue, T: Gate>(
     if let Err(fault) = finish_sources(alloc, catalog, jobs, state) {
         return Err(fault);
     }
-    let added = match compute_all(alloc, catalog, jobs, state, gate) {
+    let added = match run_wave(rt, alloc, catalog, jobs, state, workers, gate) {
         Ok(added) => added,
-        Err(fault) => return Err(fault),
+        Err(fault) => return Err(of_jobs(fault)),
     };
     add_all(alloc, catalog, jobs, added.as_slice(), state, steps)
 }

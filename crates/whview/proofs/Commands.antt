@@ -12,8 +12,9 @@ use Rattle.clap.specs.ValueTests.{accepts}
 use Rattle.clap.specs.Walk.{action_of, answers_to, arg_by_id, nothing_held, rows_after}
 use Rattle.clap.specs.declared.builder.action.ArgAction.TheVariants as action
 use Rattle.clap.specs.declared.builder.value_parser.ValueParser.{ValueParser}
+use Rattle.clap.specs.declared.builder.value_parser.ValueParser.TheVariants as parser
 use Rattle.clap.proofs.ValueTestLemmas.{accepts-Accepts}
-use Rattle.whview.specs.CommandLine.{IsCommand, NamesCommand, TakesBudget, TakesCosts, budget_parser, check, certify, command_app, cost_parser, night, plan, plan_app, replay, whview_app, with_commands}
+use Rattle.whview.specs.CommandLine.{IsCommand, NamesCommand, TakesBudget, TakesCosts, TakesNightOptions, budget_parser, check, certify, command_app, cost_parser, night, night_app, plan, plan_app, replay, whview_app, with_commands}
 use Rattle.whview.proofs.Entered.{EachCommand, IsNotHelp, entered_command}
 use Rattle.whview.proofs.LeafRows.{AreOptionsOf, IsOptionOf, PassesIn, first_of_good}
 
@@ -66,6 +67,22 @@ plan_options = (
   ),
 )
 
+-- its workers, its readers, its rows of a page, its file and its help
+night_shape : AreOptionsOf (command_shape night_app).rules (command_shape night_app).rules
+night_shape = (
+  option_known _ _ refl (λ e. cc) refl refl,
+  (
+    option_known _ _ refl (λ e. cc) refl refl,
+    (
+      option_known _ _ refl (λ e. cc) refl refl,
+      (
+        option_known _ _ refl (λ e. cc) refl refl,
+        (option_known _ _ refl (λ e. cc) refl refl, tt),
+      ),
+    ),
+  ),
+)
+
 -- an option that has a parser has a value that it takes
 option_value : (s : Shape) → AreOptionsOf s.rules s.rules → (name : Text) (p : ValueParser) (a : Rule) → arg_by_id s.rules name ≡ Some a → a.ignore_case ≡ false → a.parser ≡ Some p
     → (words : List Text) → level_fault s [] nothing_held words false [] ≡ [] → IfSome (first_of name (rows_after s.rules [] words)) (Accepts false p)
@@ -95,6 +112,13 @@ plan_costs words e = (
 plan_budget : (words : List Text) → level_fault (command_shape plan_app) [] nothing_held words false [] ≡ [] → TakesBudget (rows_after (command_shape plan_app).rules [] words)
 plan_budget words e = option_value (command_shape plan_app) plan_options (codes "budget") budget_parser _ refl refl refl words e
 
+night_options : (words : List Text) → level_fault (command_shape night_app) [] nothing_held words false [] ≡ [] → TakesNightOptions (rows_after (command_shape night_app).rules [] words)
+night_options words e = (
+  option_value (command_shape night_app) night_shape (codes "workers") (parser.Unsigned 1 16) _ refl refl refl words e,
+  option_value (command_shape night_app) night_shape (codes "readers") (parser.Unsigned 0 16) _ refl refl refl words e,
+  option_value (command_shape night_app) night_shape (codes "page-keys") (parser.Unsigned 1 256) _ refl refl refl words e,
+)
+
 each_command : EachCommand IsCommand (built whview_app).subs
 each_command = (
   λ word words answers named e. check refl (command_costs (codes "check") words e),
@@ -103,7 +127,7 @@ each_command = (
     (
       λ word words answers named e. certify refl (command_costs (codes "certify") words e),
       (
-        λ word words answers named e. night refl,
+        λ word words answers named e. night refl (night_options words e),
         (λ word words answers named e. replay refl, (λ word words answers named e. absurd (not_help word answers named), tt)),
       ),
     ),

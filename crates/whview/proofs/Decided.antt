@@ -58,17 +58,18 @@ certify_answered costs bytes claim o text s read is printed ended =
     subst (λ r. MatchResult r (λ k. certify.IsJudgement costs k text (status_number s)) (λ fault. check.IsFaultShown fault text (status_number s))) (sym read)
     (certify_told costs claim o text s is printed ended)
 
-pub night_told : (N : Night) (o : NightOutcome) (text : List ℕ) (s : Status) → night.IsDecided N o → text ≡ night.text_of N.shape.names o → s ≡ night.status_of o
-    → night.IsNightTold N text (status_number s)
-night_told N (carried.Broken rule place) text s is printed ended = night.broken rule place is printed (ap status_number ended)
-night_told N (carried.NoContents fault) text s is printed ended = night.no_contents fault is.0 is.1 printed (ap status_number ended)
-night_told N (carried.Refused fault) text s is printed ended =
+pub night_told : (N : Night) (readers : ℕ) (o : NightOutcome) (text : List ℕ) (s : Status) → night.IsDecided N readers o → text ≡ night.text_of N.shape.names o → s ≡ night.status_of o
+    → night.IsNightTold N readers text (status_number s)
+night_told N readers (carried.Broken rule place) text s is printed ended = night.broken rule place is printed (ap status_number ended)
+night_told N readers (carried.NoContents fault) text s is printed ended = night.no_contents fault is.0 is.1 printed (ap status_number ended)
+night_told N readers (carried.Refused fault) text s is printed ended =
     let from = is.1 in
     night.refused from.old fault is.0 from.opened from.told from.why printed (ap status_number ended)
-night_told N (carried.Carried views texts c) text s is printed ended =
+night_told N readers (carried.Carried views texts c) text s is printed ended =
     let from = is.1 in
     night.carried from.old c.tables.items c.report.steps.items is.0 from.carried
     (printed
-    ∙ ap (λ vs. night.report_text N.shape.names c.report.steps.items ++ night.views_text texts N.shape.names 0 vs (bag_at c.tables.items)) from.views_read
-    ∙ ap (λ ts. night.report_text N.shape.names c.report.steps.items ++ night.views_text ts N.shape.names 0 N.opening.views (bag_at c.tables.items)) from.texts_read)
+    ∙ ap (λ vs. (night.report_text N.shape.names c.report.steps.items ++ night.views_text texts N.shape.names 0 vs (bag_at c.tables.items)) ++ night.readers_text 0 c.rows.items) from.views_read
+    ∙ ap (λ ts. (night.report_text N.shape.names c.report.steps.items ++ night.views_text ts N.shape.names 0 N.opening.views (bag_at c.tables.items)) ++ night.readers_text 0 c.rows.items) from.texts_read
+    ∙ ap (λ rows. night.carried_text N c.report.steps.items (bag_at c.tables.items) ++ night.readers_text 0 rows) from.given)
     (ap status_number ended)

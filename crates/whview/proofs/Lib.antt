@@ -1,3 +1,4 @@
+pub mod AnyKeys
 pub mod Commands
 pub mod Entered
 pub mod Faults

@@ -1,5 +1,6 @@
 -- What is decided of a night, from what its parts answer.
 use Rattle.std.proofs.Common.{◌≡◌, ◌≢◌, ℕ, ◌<◌, ◌≤◌, ◌∷◌, true, List, [], length, refl, sym, ap, subst, ◌∙◌, arith, ⊎_elim, ◌⊎◌}
+use Rattle.std.specs.Prelude.{replicate}
 use Rattle.std.proofs.lemmas.Bool.{cases_lt}
 use Rattle.wh_dag.specs.Catalog.{CatalogOf, IsCatalog, is_empty}
 use Rattle.wh_dag.specs.Shape.{Views, children_of}
@@ -20,7 +21,7 @@ use Rattle.wh_maint.proofs.FromScratch.{catalogs_are_graphs, contents_are_fit, c
 use Rattle.wh_maint.proofs.Differences.{same_tables}
 use Rattle.wh_maint.specs.Value.{view_value}
 use Rattle.wh_night.specs.Carry.{before, tables_after}
-use Rattle.wh_night.specs.Refused.{AreAllowedBelow, ArePassedBelow, IsNightFault}
+use Rattle.wh_night.specs.Refused.{AreAllowedBelow, ArePassedBelow}
 use Rattle.wh_night.specs.Steps.{AreSteps}
 use Rattle.wh_night.specs.declared.report.CarryFault.{CarryFault}
 use Rattle.wh_night.proofs.Agreeing.{past}
@@ -29,13 +30,16 @@ use Rattle.wh_night.specs.Laws.{AreFew}
 use Rattle.wh_strategy.specs.Rules.{IsCorrect}
 use Rattle.wh_strategy.specs.declared.expression.Expression.{Expression}
 use Rattle.whview.specs.FitNight.{AreReadTables}
-use Rattle.whview.specs.NightOutput.{AreOpened, IsDecided, IsRefusedFrom, IsShownFrom}
+use Rattle.wh_run.specs.Refusals.{IsRefusedSo}
+use Rattle.wh_readers.specs.Serving.{left_of, night_over, rows_of}
+use Rattle.whview.specs.NightOutput.{AreOpened, IsDecided, IsRefusedFrom, IsShownFrom, night_from}
 use Rattle.whview.specs.declared.night.Outcome.TheVariants.{NoContents}
+use Rattle.whview.proofs.AnyKeys.{refused_any}
 use Rattle.whview.proofs.ReadRows.{none_negative}
 
-pub decided_no_contents : (N : Night) (cat : CatalogOf) → cat ≡ catalog_in N → (fault : MaintFault) → IsCorrect N.shape.children N.given.list
-    → (fault ≡ Memory) ⊎ HasNoContents (graph_of cat) (bag_at N.opening.tables) fault → fault ≢ Memory → IsDecided N (NoContents fault)
-decided_no_contents N cat e fault ok why not =
+pub decided_no_contents : (N : Night) (readers : ℕ) (cat : CatalogOf) → cat ≡ catalog_in N → (fault : MaintFault) → IsCorrect N.shape.children N.given.list
+    → (fault ≡ Memory) ⊎ HasNoContents (graph_of cat) (bag_at N.opening.tables) fault → fault ≢ Memory → IsDecided N readers (NoContents fault)
+decided_no_contents N readers cat e fault ok why not =
     (ok, ⊎_elim (λ m. absurd (not m)) (λ h. subst (λ k. HasNoContents (graph_of k) (bag_at N.opening.tables) fault) e h) why)
 
 -- ---- the contents of the base that was read
@@ -129,9 +133,9 @@ pub record CarryFacts (N : Night) (old new : List Bag) (steps : List (Expression
   pub contents_after : AreContents (graph_of cat) (bag_at ts) → AreContentsOf (graph_of cat) (changed (bag_at ts) (bag_at ch)) (bag_at new)
   pub reported : AreSteps cat.views.children list (bag_at ts) (tables_after (graph_of cat) (bag_at ch) list (bag_at ts)) steps
 
-shown_from : (N : Night) (old new : List Bag) (steps : List (Expression × ℕ)) → CarryFacts N old new steps (catalog_in N) old N.given.changes N.given.list
-    → IsShownFrom N N.opening.views N.opening.texts new steps
-shown_from N old new steps f = record {
+shown_from : (N : Night) (readers : ℕ) (old new : List Bag) (steps : List (Expression × ℕ)) (rows : List ℕ) → CarryFacts N old new steps (catalog_in N) old N.given.changes N.given.list
+    → rows ≡ replicate readers (rows_of old) → IsShownFrom N readers N.opening.views N.opening.texts new steps rows
+shown_from N readers old new steps rows f given = record {
   views_read = refl;
   texts_read = refl;
   old = old;
@@ -145,17 +149,18 @@ shown_from N old new steps f = record {
     valued = new_valued (catalog_in N) f.is N.opening.tables old f.opened N.given.list (bag_at N.given.changes) f.correct f.read f.valued f.passed;
     reported = f.reported;
   };
+  given = given;
 }
 
-pub shown_carried : (N : Night) (old new : List Bag) (steps : List (Expression × ℕ)) (cat : CatalogOf) (ts ch : List Bag) (list : List Expression)
-    → cat ≡ catalog_in N → ts ≡ old → ch ≡ N.given.changes → list ≡ N.given.list
-    → CarryFacts N old new steps cat ts ch list → IsShownFrom N N.opening.views N.opening.texts new steps
-shown_carried N old new steps cat ts ch list e same same_changes same_list f =
-    shown_from N old new steps
+pub shown_carried : (N : Night) (readers : ℕ) (old new : List Bag) (steps : List (Expression × ℕ)) (rows : List ℕ) (cat : CatalogOf) (ch : List Bag) (list : List Expression)
+    → cat ≡ catalog_in N → ch ≡ N.given.changes → list ≡ N.given.list
+    → CarryFacts N old new steps cat old ch list → rows ≡ replicate readers (rows_of old) → IsShownFrom N readers N.opening.views N.opening.texts new steps rows
+shown_carried N readers old new steps rows cat ch list e same_changes same_list f given =
+    shown_from N readers old new steps rows
     (subst (λ k. CarryFacts N old new steps k old N.given.changes N.given.list) e
-    (subst (λ xs. CarryFacts N old new steps cat xs N.given.changes N.given.list) same
-    (subst (λ xs. CarryFacts N old new steps cat ts xs N.given.list) same_changes
-    (subst (λ xs. CarryFacts N old new steps cat ts ch xs) same_list f))))
+    (subst (λ xs. CarryFacts N old new steps cat old xs N.given.list) same_changes
+    (subst (λ xs. CarryFacts N old new steps cat old ch xs) same_list f)))
+    given
 
 -- these lists are the contents of the base that was read, over this catalogue
 pub record AreOpenedBy (opening : Opening) (old : List Bag) (cat : CatalogOf) : Type 0 where
@@ -166,17 +171,17 @@ pub record AreOpenedBy (opening : Opening) (old : List Bag) (cat : CatalogOf) : 
 pub opened_by : (shape : Views) (opening : Opening) (old : List Bag) → AreOpenedBy opening old (catalog_of shape opening.views) → AreOpened shape opening old
 opened_by shape opening old o = record { each = o.each; opened = λ v l. o.opened v; valued = o.valued }
 
-pub refused_from : (N : Night) (old : List Bag) (fault : CarryFault) (cat : CatalogOf) (ts ch : List Bag) (list : List Expression)
-    → cat ≡ catalog_in N → ts ≡ old → ch ≡ N.given.changes → list ≡ N.given.list
+pub refused_from : (N : Night) (old : List Bag) (fault : CarryFault) (cat : CatalogOf) (ch : List Bag) (list : List Expression) (keys : ℕ)
+    → cat ≡ catalog_in N → ch ≡ N.given.changes → list ≡ N.given.list
     → length old ≡ length cat.views.children → ((v : ℕ) → bag_at old v ≡ contents (graph_of cat) (bag_at N.opening.tables) v)
     → HaveContentsBelow (graph_of cat) (bag_at N.opening.tables) (length cat.views.children)
-    → IsNightFault cat list (bag_at ts) (bag_at ch) fault → fault.fault ≢ Memory → IsRefusedFrom N fault
-refused_from N old fault cat ts ch list e same same_changes same_list each opened valued why not = record {
+    → IsRefusedSo (night_over cat list old ch keys) (left_of fault.started) fault.fault → fault.fault ≢ Memory → IsRefusedFrom N fault
+refused_from N old fault cat ch list keys e same_changes same_list each opened valued why not = record {
   old = old;
   opened = opened_by N.shape N.opening old (subst (AreOpenedBy N.opening old) e (record { each = each; opened = opened; valued = valued }));
   told = not;
-  why = subst (λ k. IsNightFault k N.given.list (bag_at old) (bag_at N.given.changes) fault) e
-      (subst (λ xs. IsNightFault cat N.given.list (bag_at xs) (bag_at N.given.changes) fault) same
-      (subst (λ xs. IsNightFault cat N.given.list (bag_at ts) (bag_at xs) fault) same_changes
-      (subst (λ xs. IsNightFault cat xs (bag_at ts) (bag_at ch) fault) same_list why)));
+  why = λ other. refused_any (night_from N old keys) other (left_of fault.started) fault.fault
+      (subst (λ k. IsRefusedSo (night_over k N.given.list old N.given.changes keys) (left_of fault.started) fault.fault) e
+      (subst (λ xs. IsRefusedSo (night_over cat N.given.list old xs keys) (left_of fault.started) fault.fault) same_changes
+      (subst (λ xs. IsRefusedSo (night_over cat xs old ch keys) (left_of fault.started) fault.fault) same_list why)));
 }

@@ -38,3 +38,9 @@ pub found_number : (limit : ℕ) (found : Found) (name text : Text) → IfSome (
     → Some text ≡ first_value found name → IsNumberText limit text
 found_number limit found name text takes is =
     number_text limit text (subst (λ (o : Option Text). IfSome o (Accepts false (up_to limit))) (sym (is ∙ first_value-rows found name)) takes)
+
+-- the text that was found of an option that takes numbers within these bounds
+pub found_within : (low high : ℕ) (found : Found) (name text : Text) → IfSome (first_of name (rows_of found)) (Accepts false (parser.Unsigned low high))
+    → Some text ≡ first_value found name → Accepts false (parser.Unsigned low high) text
+found_within low high found name text takes is =
+    subst (λ (o : Option Text). IfSome o (Accepts false (parser.Unsigned low high))) (sym (is ∙ first_value-rows found name)) takes

@@ -26,6 +26,7 @@ use Rattle.whview.specs.Status.{status_number}
 use Rattle.whview.specs.CheckOutput.{IsCheckOutput, IsFaultShown, IsVerdict, broken, correct, correct_text}
 use Rattle.whview.specs.CommandLine.{AsksBy, IsAsked, whview_app}
 use Rattle.whview.specs.FirstLine.{after_first_line, first_line_of, words_in}
+use Rattle.whview.specs.NightOutput.{IsNightOutput}
 use Rattle.whview.proofs.SingleFaults.{one_broken, one_shown}
 use Rattle.whview.proofs.SingleNights.{one_night}
 use Rattle.whview.proofs.SingleReplays.{one_replay}
@@ -214,13 +215,14 @@ one_asked (Some found) (asked.Certify costs input) (asked.Check costs' input') f
     let bad : codes "certify" ≡ codes "check" = sym f.0 ∙ g.0 in cc
 one_asked (Some found) (asked.Certify costs input) (asked.Plan costs' budget' input') f g bytes text status is =
     let bad : codes "certify" ≡ codes "plan" = sym f.0 ∙ g.0 in cc
-one_asked (Some found) (asked.Night input) (asked.Night input') f g bytes text status is = is
-one_asked (Some found) (asked.Check costs input) (asked.Night input') f g bytes text status is = absurd (check_is_not_night (sym f.0 ∙ g.0))
-one_asked (Some found) (asked.Night input) (asked.Check costs' input') f g bytes text status is = absurd (check_is_not_night (sym g.0 ∙ f.0))
-one_asked (Some found) (asked.Plan costs budget input) (asked.Night input') f g bytes text status is = absurd (plan_is_not_night (sym f.0 ∙ g.0))
-one_asked (Some found) (asked.Night input) (asked.Plan costs' budget' input') f g bytes text status is = absurd (plan_is_not_night (sym g.0 ∙ f.0))
-one_asked (Some found) (asked.Certify costs input) (asked.Night input') f g bytes text status is = absurd (certify_is_not_night (sym f.0 ∙ g.0))
-one_asked (Some found) (asked.Night input) (asked.Certify costs' input') f g bytes text status is = absurd (certify_is_not_night (sym g.0 ∙ f.0))
+one_asked (Some found) (asked.Night how input) (asked.Night how' input') f g bytes text status is =
+    subst (λ readers. IsNightOutput readers bytes text status) (g.1.readers ∙ sym f.1.readers) is
+one_asked (Some found) (asked.Check costs input) (asked.Night how' input') f g bytes text status is = absurd (check_is_not_night (sym f.0 ∙ g.0))
+one_asked (Some found) (asked.Night how input) (asked.Check costs' input') f g bytes text status is = absurd (check_is_not_night (sym g.0 ∙ f.0))
+one_asked (Some found) (asked.Plan costs budget input) (asked.Night how' input') f g bytes text status is = absurd (plan_is_not_night (sym f.0 ∙ g.0))
+one_asked (Some found) (asked.Night how input) (asked.Plan costs' budget' input') f g bytes text status is = absurd (plan_is_not_night (sym g.0 ∙ f.0))
+one_asked (Some found) (asked.Certify costs input) (asked.Night how' input') f g bytes text status is = absurd (certify_is_not_night (sym f.0 ∙ g.0))
+one_asked (Some found) (asked.Night how input) (asked.Certify costs' input') f g bytes text status is = absurd (certify_is_not_night (sym g.0 ∙ f.0))
 one_asked (Some found) (asked.Replay input) (asked.Replay input') f g bytes text status is = is
 one_asked (Some found) (asked.Check costs input) (asked.Replay input') f g bytes text status is = absurd (check_is_not_replay (sym f.0 ∙ g.0))
 one_asked (Some found) (asked.Replay input) (asked.Check costs' input') f g bytes text status is = absurd (check_is_not_replay (sym g.0 ∙ f.0))
@@ -228,22 +230,22 @@ one_asked (Some found) (asked.Plan costs budget input) (asked.Replay input') f g
 one_asked (Some found) (asked.Replay input) (asked.Plan costs' budget' input') f g bytes text status is = absurd (plan_is_not_replay (sym g.0 ∙ f.0))
 one_asked (Some found) (asked.Certify costs input) (asked.Replay input') f g bytes text status is = absurd (certify_is_not_replay (sym f.0 ∙ g.0))
 one_asked (Some found) (asked.Replay input) (asked.Certify costs' input') f g bytes text status is = absurd (certify_is_not_replay (sym g.0 ∙ f.0))
-one_asked (Some found) (asked.Night input) (asked.Replay input') f g bytes text status is = absurd (night_is_not_replay (sym f.0 ∙ g.0))
-one_asked (Some found) (asked.Replay input) (asked.Night input') f g bytes text status is = absurd (night_is_not_replay (sym g.0 ∙ f.0))
+one_asked (Some found) (asked.Night how input) (asked.Replay input') f g bytes text status is = absurd (night_is_not_replay (sym f.0 ∙ g.0))
+one_asked (Some found) (asked.Replay input) (asked.Night how' input') f g bytes text status is = absurd (night_is_not_replay (sym g.0 ∙ f.0))
 
 -- what has one text and one status is one answer
 as_one : (command : Asked) (bytes text other : List ℕ) (status ended : ℕ) → AreSame text status other ended → AreOneAnswer command bytes text status other ended
 as_one (asked.Check costs input) bytes text other status ended same = same
 as_one (asked.Plan costs budget input) bytes text other status ended same = one_text same
 as_one (asked.Certify costs input) bytes text other status ended same = same
-as_one (asked.Night input) bytes text other status ended same = same
+as_one (asked.Night how input) bytes text other status ended same = same
 as_one (asked.Replay input) bytes text other status ended same = same
 
 one_output : (command : Asked) (bytes text other : List ℕ) (status ended : ℕ) → IsCommandOutput command bytes text status → IsCommandOutput command bytes other ended → AreOneAnswer command bytes text status other ended
 one_output (asked.Check costs input) bytes text other status ended f g = one_check costs bytes text other status ended f g
 one_output (asked.Plan costs budget input) bytes text other status ended f g = one_plan costs budget.nodes bytes text other status ended f g
 one_output (asked.Certify costs input) bytes text other status ended f g = one_certification costs bytes text other status ended f g
-one_output (asked.Night input) bytes text other status ended f g = one_night bytes text other status ended f g
+one_output (asked.Night how input) bytes text other status ended f g = one_night how.readers bytes text other status ended f g
 one_output (asked.Replay input) bytes text other status ended f g = one_replay bytes text other status ended f g
 
 -- two commands that the same words ask for read the same
@@ -251,7 +253,7 @@ file_asked : (name : Text) (options : List Row) (command : Asked) → AsksBy nam
 file_asked name options (asked.Check costs input) is = is.1.file
 file_asked name options (asked.Plan costs budget input) is = is.1.file
 file_asked name options (asked.Certify costs input) is = is.1.file
-file_asked name options (asked.Night input) is = is.1
+file_asked name options (asked.Night how input) is = is.2
 file_asked name options (asked.Replay input) is = is.1
 
 one_file : (found : Option (Text × List Row)) (command other : Asked) → IsAsked found command → IsAsked found other → file_of other ≡ file_of command

@@ -1,9 +1,10 @@
 -- The same bytes have one answer of `night`.
 use Rattle.std.proofs.Common.{◌≡◌, ◌≢◌, ◌∙◌, ◌+◌, ◌++◌, ◌<◌, ◌≤◌, ℕ, List, [], ◌∷◌, Result, Ok, Err, ap, arith, length, refl, subst, sym, ⊎_elim}
-use Rattle.std.specs.Prelude.{MatchResult}
+use Rattle.std.specs.Prelude.{◌↔◌, Bool, true, false, MatchResult, replicate}
 use Rattle.std.proofs.lemmas.Bool.{cases_lt}
 use Rattle.std.proofs.lemmas.List.{ext_get_or, length-map, same_lists}
 use Rattle.std.proofs.lemmas.Option.{get_or_from_slice_get}
+use Rattle.wh_dag.specs.Catalog.{IsCatalog}
 use Rattle.wh_dag.specs.Shape.{IsShape, Views}
 use Rattle.wh_dag.specs.Written.{name_of}
 use Rattle.wh_text.specs.declared.fault.LoadFault.{LoadFault}
@@ -15,6 +16,7 @@ use Rattle.wh_catalogue_text.proofs.ShapesRead.{from_step, same_Ok}
 use Rattle.wh_catalogue_text.specs.Catalogue.{shape_of}
 use Rattle.wh_catalogue_text.specs.Definitions.{ViewOf, definitions_of}
 use Rattle.wh_catalogue_text.specs.FormulaKinds.{Texts}
+use Rattle.wh_catalogue_text.specs.ReadCatalog.{catalog_of}
 use Rattle.wh_load.specs.ReadingNight.{Night, Opening, catalog_in, given_of, night_in, night_of, night_over, tables_of}
 use Rattle.wh_load.specs.ReadingParts.{parts_in, text_in}
 use Rattle.wh_maint.specs.Comp.{bag_at}
@@ -23,19 +25,22 @@ use Rattle.wh_maint.specs.Opening.{CanBeEvaluated, HasNoContents, IsEvaluateFaul
 use Rattle.wh_maint.specs.View.{ViewGraph}
 use Rattle.wh_maint.specs.declared.fault.MaintFault.{MaintFault}
 use Rattle.wh_maint.specs.declared.fault.MaintFault.TheVariants.{Absent, Large, Memory, Range}
-use Rattle.wh_night.proofs.FirstRefusals.{refusals_are_one}
 use Rattle.wh_night.proofs.NewValues.{within}
 use Rattle.wh_night.proofs.Prefixes.{there}
 use Rattle.wh_night.specs.Carry.{tables_after}
-use Rattle.wh_night.specs.Refused.{IsNightFault}
 use Rattle.wh_night.specs.Steps.{AreSteps}
 use Rattle.wh_night.specs.declared.report.CarryFault.{CarryFault}
 use Rattle.wh_row.specs.Bag.{Bag, empty}
+use Rattle.wh_run.proofs.OneRefusal.{one_refusal as nights_have_one_refusal}
+use Rattle.wh_run.specs.Refusals.{IsRefusedSo}
+use Rattle.wh_run.specs.declared.left.Left.TheVariants.{Untouched}
+use Rattle.wh_readers.specs.Serving.{left_of, rows_of}
 use Rattle.wh_strategy.proofs.Agreeing.{refused as not_correct}
+use Rattle.wh_strategy.specs.Rules.{IsCorrect}
 use Rattle.wh_strategy.specs.declared.expression.Expression.{Expression}
 use Rattle.whview.proofs.SingleFaults.{one_broken, one_shown}
 use Rattle.whview.specs.CheckOutput.{IsFaultShown}
-use Rattle.whview.specs.NightOutput.{AreOpened, IsCarriedOut, IsNightTold, broken, carried, carried_text, graph_in, graph_over, left_text, no_contents, refused, refused_text, report_text, view_text, views_text}
+use Rattle.whview.specs.NightOutput.{AreOpened, IsCarriedOut, IsNightTold, IsRefusedAs, broken, carried, carried_text, graph_in, graph_over, left_text, night_from, no_contents, readers_text, refused, refused_text, report_text, view_text, views_text}
 use Rattle.whview.specs.OneAnswer.{AreSame, OneNightOutput}
 
 -- ---- one reason why there are no contents
@@ -116,49 +121,64 @@ one_carried night old new other_old other_new steps others each a b =
 
 -- ---- one refusal
 
-one_refusal : (night : Night) (old other_old : List Bag) (fault other : CarryFault) → AreOpened night.shape night.opening old → AreOpened night.shape night.opening other_old → fault.fault ≢ Memory → other.fault ≢ Memory
-    → IsNightFault (catalog_in night) night.given.list (bag_at old) (bag_at night.given.changes) fault
-    → IsNightFault (catalog_in night) night.given.list (bag_at other_old) (bag_at night.given.changes) other → fault ≡ other
-one_refusal night old other_old fault other a b m n f g =
+-- a night had begun or not
+same_started : (a b : Bool) → ((left_of a ≡ Untouched) ↔ (left_of b ≡ Untouched)) → a ≡ b
+same_started true true h = refl
+same_started true false h = let e : left_of true ≡ Untouched = h.1 refl in cc
+same_started false true h = let e : left_of true ≡ Untouched = h.0 refl in cc
+same_started false false h = refl
+
+one_refusal : (night : Night) (old other_old : List Bag) (fault other : CarryFault) → IsCatalog (catalog_in night) → IsCorrect night.shape.children night.given.list
+    → AreOpened night.shape night.opening old → AreOpened night.shape night.opening other_old → fault.fault ≢ Memory → other.fault ≢ Memory
+    → IsRefusedAs night old fault → IsRefusedAs night other_old other → fault ≡ other
+one_refusal night old other_old fault other is ok a b m n f g =
     let opened : other_old ≡ old = one_opening night other_old old b a in
-    (refusals_are_one (catalog_in night) night.given.list (bag_at old) (bag_at night.given.changes)).one fault other f
-    (subst (λ bags. IsNightFault (catalog_in night) night.given.list (bag_at bags) (bag_at night.given.changes) other) opened g) m n
+    let same = (nights_have_one_refusal (night_from night old 1) is ok).one (left_of fault.started) (left_of other.started) fault.fault other.fault (f 1)
+    (subst (λ bags. IsRefusedSo (night_from night bags 1) (left_of other.started) other.fault) opened (g 1)) m n in
+    let started : fault.started ≡ other.started = same_started fault.started other.started same.1 in
+    λ i. record { fault = same.0 i; started = started i }
 
 -- what is carried out is not refused
-not_refused : (night : Night) (old new other_old : List Bag) (steps : List (Expression × ℕ)) (fault : CarryFault) → IsCarriedOut night old new steps → AreOpened night.shape night.opening other_old → fault.fault ≢ Memory
-    → IsNightFault (catalog_in night) night.given.list (bag_at other_old) (bag_at night.given.changes) fault → ⊥
-not_refused night old new other_old steps fault a b m f =
+not_refused : (night : Night) (old new other_old : List Bag) (steps : List (Expression × ℕ)) (fault : CarryFault) → IsCatalog (catalog_in night) → IsCorrect night.shape.children night.given.list
+    → IsCarriedOut night old new steps → AreOpened night.shape night.opening other_old → fault.fault ≢ Memory → IsRefusedAs night other_old fault → ⊥
+not_refused night old new other_old steps fault is ok a b m f =
     let opened : other_old ≡ old = one_opening night other_old old b a.opened in
-    m ((refusals_are_one (catalog_in night) night.given.list (bag_at old) (bag_at night.given.changes)).none a.allowed a.passed fault
-    (subst (λ bags. IsNightFault (catalog_in night) night.given.list (bag_at bags) (bag_at night.given.changes) fault) opened f))
+    m ((nights_have_one_refusal (night_from night old 1) is ok).none a.allowed a.passed (left_of fault.started) fault.fault
+    (subst (λ bags. IsRefusedSo (night_from night bags 1) (left_of fault.started) fault.fault) opened (f 1)))
 
 -- ---- one answer
 
 -- a night that was read has a shape, and as many views
 record IsReadNight (night : Night) : Type 0 where
+  catalog : IsCatalog (catalog_in night)
   shape : IsShape night.shape.children
   each : length night.opening.views ≡ length night.shape.children
 
-one_told : (night : Night) (text other : List ℕ) (status ended : ℕ) → IsReadNight night → IsNightTold night text status → IsNightTold night other ended → AreSame text status other ended
-one_told night text other status ended is (broken rule place f t s) (broken rule' place' f' t' s') = record { texts = t ∙ one_broken _ _ rule rule' place place' f f' ∙ sym t'; statuses = s ∙ sym s' }
-one_told night text other status ended is (broken rule place f t s) (no_contents fault' ok' h' t' s') = absurd (not_correct rule _ _ place is.shape f ok')
-one_told night text other status ended is (broken rule place f t s) (refused old' fault' ok' o' m' h' t' s') = absurd (not_correct rule _ _ place is.shape f ok')
-one_told night text other status ended is (broken rule place f t s) (carried old' new' steps' ok' c' t' s') = absurd (not_correct rule _ _ place is.shape f ok')
-one_told night text other status ended is (no_contents fault ok h t s) (broken rule' place' f' t' s') = absurd (not_correct rule' _ _ place' is.shape f' ok)
-one_told night text other status ended is (no_contents fault ok h t s) (no_contents fault' ok' h' t' s') =
+one_told : (night : Night) (readers : ℕ) (text other : List ℕ) (status ended : ℕ) → IsReadNight night → IsNightTold night readers text status → IsNightTold night readers other ended → AreSame text status other ended
+one_told night readers text other status ended is (broken rule place f t s) (broken rule' place' f' t' s') = record { texts = t ∙ one_broken _ _ rule rule' place place' f f' ∙ sym t'; statuses = s ∙ sym s' }
+one_told night readers text other status ended is (broken rule place f t s) (no_contents fault' ok' h' t' s') = absurd (not_correct rule _ _ place is.shape f ok')
+one_told night readers text other status ended is (broken rule place f t s) (refused old' fault' ok' o' m' h' t' s') = absurd (not_correct rule _ _ place is.shape f ok')
+one_told night readers text other status ended is (broken rule place f t s) (carried old' new' steps' ok' c' t' s') = absurd (not_correct rule _ _ place is.shape f ok')
+one_told night readers text other status ended is (no_contents fault ok h t s) (broken rule' place' f' t' s') = absurd (not_correct rule' _ _ place' is.shape f' ok)
+one_told night readers text other status ended is (no_contents fault ok h t s) (no_contents fault' ok' h' t' s') =
     record { texts = t ∙ ap (refused_text night.shape.names) (one_lack (graph_in night) (bag_at night.opening.tables) fault fault' h h') ∙ sym t'; statuses = s ∙ sym s' }
-one_told night text other status ended is (no_contents fault ok h t s) (refused old' fault' ok' o' m' h' t' s') = absurd (not_opened night fault old' h o')
-one_told night text other status ended is (no_contents fault ok h t s) (carried old' new' steps' ok' c' t' s') = absurd (not_opened night fault old' h c'.opened)
-one_told night text other status ended is (refused old fault ok o m h t s) (broken rule' place' f' t' s') = absurd (not_correct rule' _ _ place' is.shape f' ok)
-one_told night text other status ended is (refused old fault ok o m h t s) (no_contents fault' ok' h' t' s') = absurd (not_opened night fault' old h' o)
-one_told night text other status ended is (refused old fault ok o m h t s) (refused old' fault' ok' o' m' h' t' s') =
-    record { texts = t ∙ ap (left_text night.shape.names) (one_refusal night old old' fault fault' o o' m m' h h') ∙ sym t'; statuses = s ∙ sym s' }
-one_told night text other status ended is (refused old fault ok o m h t s) (carried old' new' steps' ok' c' t' s') = absurd (not_refused night old' new' old steps' fault c' o m h)
-one_told night text other status ended is (carried old new steps ok c t s) (broken rule' place' f' t' s') = absurd (not_correct rule' _ _ place' is.shape f' ok)
-one_told night text other status ended is (carried old new steps ok c t s) (no_contents fault' ok' h' t' s') = absurd (not_opened night fault' old h' c.opened)
-one_told night text other status ended is (carried old new steps ok c t s) (refused old' fault' ok' o' m' h' t' s') = absurd (not_refused night old new old' steps fault' c o' m' h')
-one_told night text other status ended is (carried old new steps ok c t s) (carried old' new' steps' ok' c' t' s') =
-    record { texts = t ∙ one_carried night old new old' new' steps steps' is.each c c' ∙ sym t'; statuses = s ∙ sym s' }
+one_told night readers text other status ended is (no_contents fault ok h t s) (refused old' fault' ok' o' m' h' t' s') = absurd (not_opened night fault old' h o')
+one_told night readers text other status ended is (no_contents fault ok h t s) (carried old' new' steps' ok' c' t' s') = absurd (not_opened night fault old' h c'.opened)
+one_told night readers text other status ended is (refused old fault ok o m h t s) (broken rule' place' f' t' s') = absurd (not_correct rule' _ _ place' is.shape f' ok)
+one_told night readers text other status ended is (refused old fault ok o m h t s) (no_contents fault' ok' h' t' s') = absurd (not_opened night fault' old h' o)
+one_told night readers text other status ended is (refused old fault ok o m h t s) (refused old' fault' ok' o' m' h' t' s') =
+    record { texts = t ∙ ap (left_text night.shape.names) (one_refusal night old old' fault fault' is.catalog ok o o' m m' h h') ∙ sym t'; statuses = s ∙ sym s' }
+one_told night readers text other status ended is (refused old fault ok o m h t s) (carried old' new' steps' ok' c' t' s') = absurd (not_refused night old' new' old steps' fault is.catalog ok c' o m h)
+one_told night readers text other status ended is (carried old new steps ok c t s) (broken rule' place' f' t' s') = absurd (not_correct rule' _ _ place' is.shape f' ok)
+one_told night readers text other status ended is (carried old new steps ok c t s) (no_contents fault' ok' h' t' s') = absurd (not_opened night fault' old h' c.opened)
+one_told night readers text other status ended is (carried old new steps ok c t s) (refused old' fault' ok' o' m' h' t' s') = absurd (not_refused night old new old' steps fault' is.catalog ok c o' m' h')
+one_told night readers text other status ended is (carried old new steps ok c t s) (carried old' new' steps' ok' c' t' s') =
+    let opened : old ≡ old' = one_opening night old old' c.opened c'.opened in
+    record {
+      texts = t ∙ ap (λ text. text ++ readers_text 0 (replicate readers (rows_of old))) (one_carried night old new old' new' steps steps' is.each c c')
+          ∙ ap (λ bags. carried_text night steps' (bag_at new') ++ readers_text 0 (replicate readers (rows_of bags))) opened ∙ sym t';
+      statuses = s ∙ sym s';
+    }
 
 -- its shape and its views are those that were read
 record IsOver (shape : Views) (views : List ViewOf) (night : Night) : Type 0 where
@@ -183,16 +203,17 @@ read_night bytes night e =
     let over = over_views parts.0 shape.0 written.0.0 written.0.1 strategy.0 night written.2 in
     let each = sym (length-map written.0.0 (λ view. length view.columns)) ∙ definitions.catalog.each_width in
     record {
+      catalog = subst (λ s. IsCatalog (catalog_of s night.opening.views)) (sym over.shapes) (subst (λ vs. IsCatalog (catalog_of shape.0 vs)) (sym over.viewed) definitions.catalog);
       shape = subst (λ s. IsShape s.children) (sym over.shapes) definitions.catalog.shape;
       each = ap (λ vs. length vs) over.viewed ∙ each ∙ ap (λ s. length s.children) (sym over.shapes);
     }
 
 pub one_night : OneNightOutput
-one_night bytes text other status ended = go (night_of bytes) (read_night bytes)
+one_night readers bytes text other status ended = go (night_of bytes) (read_night bytes)
   where
     go : (r : Result Night LoadFault) → ((night : Night) → r ≡ Ok night → IsReadNight night)
-        → MatchResult r (λ night. IsNightTold night text status) (λ fault. IsFaultShown fault text status)
-        → MatchResult r (λ night. IsNightTold night other ended) (λ fault. IsFaultShown fault other ended)
+        → MatchResult r (λ night. IsNightTold night readers text status) (λ fault. IsFaultShown fault text status)
+        → MatchResult r (λ night. IsNightTold night readers other ended) (λ fault. IsFaultShown fault other ended)
         → AreSame text status other ended
-    go (Ok night) read f g = one_told night text other status ended (read night refl) f g
+    go (Ok night) read f g = one_told night readers text other status ended (read night refl) f g
     go (Err fault) read f g = one_shown fault text other status ended f g

@@ -8,6 +8,7 @@ use Rattle.clap.specs.declared.builder.value_parser.ValueParser.{ValueParser}
 use Rattle.clap.specs.declared.builder.value_parser.ValueParser.TheVariants as parser
 use Rattle.wh_strategy.specs.declared.costs.Costs.{Costs}
 use Rattle.whview.specs.declared.command_line.Asked.{Asked}
+use Rattle.whview.specs.declared.night_options.NightOptions.{NightOptions}
 use Rattle.whview.specs.declared.command_line.Asked.TheVariants as asked
 
 -- ---- the words
@@ -45,6 +46,18 @@ plan_app = with_rule (command_app (codes "plan")) budget_rule
 abbrev pub input_app : Text → App
 input_app name = with_rule (new_app name) input_rule
 
+-- `--NAME N`, a whole number within these bounds, with or without a plus
+abbrev pub number_rule : Text → ℕ → ℕ → Rule
+number_rule name low high = record (new_rule name) { long = Some name; value_names = 1; parser = Some (parser.Unsigned low high) }
+
+-- `night --workers N --readers N`
+abbrev pub seats_app : App
+seats_app = with_rule (with_rule (new_app (codes "night")) (number_rule (codes "workers") 1 16)) (number_rule (codes "readers") 0 16)
+
+-- the same with `--page-keys N --input FILE`, each once at most and in any order
+abbrev pub night_app : App
+night_app = with_rule (with_rule seats_app (number_rule (codes "page-keys") 1 256)) input_rule
+
 -- the words begin with a command, and not with the program's name
 abbrev pub with_commands : App → App
 with_commands a = record a { top = record a.top { no_binary_name = true; subcommand_required = true } }
@@ -56,7 +69,7 @@ planning_app = with_subcommand (with_subcommand (with_subcommand (with_commands 
 
 -- the program, with all its commands
 abbrev pub whview_app : App
-whview_app = with_subcommand (with_subcommand planning_app (input_app (codes "night")).top) (input_app (codes "replay")).top
+whview_app = with_subcommand (with_subcommand planning_app night_app.top) (input_app (codes "replay")).top
 
 -- ---- what they ask for
 
@@ -71,6 +84,16 @@ cost_of name options = option_map_or number_of (first_of name options) 1
 -- the number of nodes that a search may open by the options: 1,000,000 where it is not given
 abbrev pub budget_of : List Row → ℕ
 budget_of options = option_map_or number_of (first_of (codes "budget") options) 1000000
+
+-- the number of an option, or this one where it is not given
+abbrev pub number_in : Text → ℕ → List Row → ℕ
+number_in name default options = option_map_or number_of (first_of name options) default
+
+-- a night is run as the options say: by 1 worker, beside no reader and by at most 256 rows an operation where they do not
+pub record HasNightOptions (options : List Row) (how : NightOptions) : Type 0 where
+  pub workers : how.workers ≡ number_in (codes "workers") 1 options
+  pub readers : how.readers ≡ number_in (codes "readers") 0 options
+  pub page_keys : how.page_keys ≡ number_in (codes "page-keys") 256 options
 
 -- a command at the costs of the options, on the file of the options
 pub record HasOptions (options : List Row) (costs : Costs) (input : Option (Bor Text)) : Type 0 where
@@ -87,7 +110,7 @@ abbrev pub AsksBy : Text → List Row → Asked → Type 0
 AsksBy name options (asked.Check costs input) = (name ≡ codes "check") × HasOptions options costs input
 AsksBy name options (asked.Plan costs budget input) = (name ≡ codes "plan") × HasOptions options costs input × (budget.nodes ≡ budget_of options)
 AsksBy name options (asked.Certify costs input) = (name ≡ codes "certify") × HasOptions options costs input
-AsksBy name options (asked.Night input) = (name ≡ codes "night") × IsFile options input
+AsksBy name options (asked.Night how input) = (name ≡ codes "night") × HasNightOptions options how × IsFile options input
 AsksBy name options (asked.Replay input) = (name ≡ codes "replay") × IsFile options input
 
 -- the command that was found in the words, with its options, is asked for
@@ -104,6 +127,14 @@ TakesCost name options = IfSome (first_of name options) (Accepts false cost_pars
 abbrev pub TakesBudget : List Row → Type 0
 TakesBudget options = IfSome (first_of (codes "budget") options) (Accepts false budget_parser)
 
+-- the option, where it is given, is a number within these bounds
+abbrev pub TakesNumber : Text → ℕ → ℕ → List Row → Type 0
+TakesNumber name low high options = IfSome (first_of name options) (Accepts false (parser.Unsigned low high))
+
+-- the options for how a night is run, where they are given, are within their bounds
+abbrev pub TakesNightOptions : List Row → Type 0
+TakesNightOptions options = TakesNumber (codes "workers") 1 16 options × TakesNumber (codes "readers") 0 16 options × TakesNumber (codes "page-keys") 1 256 options
+
 -- the options for costs, where they are given, are costs
 abbrev pub TakesCosts : List Row → Type 0
 TakesCosts options = TakesCost (codes "comp-cost") options × TakesCost (codes "inst-cost") options
@@ -113,7 +144,7 @@ pub data IsCommand (found : Text × List Row) : Type 0 where
   check : found.0 ≡ codes "check" → TakesCosts found.1 → IsCommand found
   plan : found.0 ≡ codes "plan" → TakesCosts found.1 → TakesBudget found.1 → IsCommand found
   certify : found.0 ≡ codes "certify" → TakesCosts found.1 → IsCommand found
-  night : found.0 ≡ codes "night" → IsCommand found
+  night : found.0 ≡ codes "night" → TakesNightOptions found.1 → IsCommand found
   replay : found.0 ≡ codes "replay" → IsCommand found
 
 -- there is a command, and it is one of the program's

@@ -1,5 +1,5 @@
 -- What `night` prints for the bytes of a bundle, and the status that it ends with.
-use Rattle.std.specs.Prelude.{◌≡◌, ◌≢◌, ◌<◌, ◌+◌, ◌++◌, ℕ, List, [], ◌∷◌, length, map, Option, Some, None, codes, decimal, cond, flat_map, sum_by, MatchResult}
+use Rattle.std.specs.Prelude.{◌≡◌, ◌≢◌, ◌<◌, ◌+◌, ◌++◌, ℕ, List, [], ◌∷◌, length, map, Option, Some, None, codes, decimal, cond, flat_map, replicate, sum_by, MatchResult}
 use Rattle.wh_dag.specs.Catalog.{DefinitionOf}
 use Rattle.wh_dag.specs.Shape.{Views}
 use Rattle.wh_dag.specs.Written.{name_of}
@@ -20,9 +20,12 @@ use Rattle.wh_maint.specs.View.{ViewGraph}
 use Rattle.wh_maint.specs.declared.fault.MaintFault.{MaintFault}
 use Rattle.wh_maint.specs.declared.fault.MaintFault.TheVariants.{Absent, Large, Memory, Range}
 use Rattle.wh_night.specs.Carry.{tables_after}
-use Rattle.wh_night.specs.Refused.{AreAllowedBelow, ArePassedBelow, IsNightFault}
+use Rattle.wh_night.specs.Refused.{AreAllowedBelow, ArePassedBelow}
 use Rattle.wh_night.specs.Steps.{AreSteps}
 use Rattle.wh_night.specs.declared.report.CarryFault.{CarryFault}
+use Rattle.wh_course.specs.Night.{Night as NightFrom}
+use Rattle.wh_run.specs.Refusals.{IsRefusedSo}
+use Rattle.wh_readers.specs.Serving.{left_of, rows_of}
 use Rattle.wh_strategy.specs.Rules.{IsCorrect, IsFirstBroken}
 use Rattle.wh_strategy.specs.declared.expression.Expression.{Expression}
 use Rattle.wh_strategy.specs.declared.rule.Rule.{Rule}
@@ -70,9 +73,18 @@ refused_text names (Range view) = line (codes "refused range " ++ name_of names 
 refused_text names (Absent view row) = line (codes "refused absent " ++ name_of names view)
 refused_text names Memory = line (codes "memory")
 
--- a night that was refused: whether its first expression had begun
+-- a night that was refused: whether it had begun
 abbrev pub left_text : List (List ℕ) → CarryFault → List ℕ
 left_text names refused = refused_text names refused.fault ++ cond refused.started (line (codes "left given-up")) (line (codes "left untouched"))
+
+-- how many rows a reader was given of the contents of before, which are version 0
+abbrev pub reader_text : ℕ → ℕ → List ℕ
+reader_text reader rows = line (codes "reader " ++ decimal reader ++ codes " version 0 rows " ++ decimal rows)
+
+-- how many rows each reader was given, the first having this number
+abbrev pub readers_text : ℕ → List ℕ → List ℕ
+readers_text reader [] = []
+readers_text reader (rows ∷ others) = reader_text reader rows ++ readers_text (reader + 1) others
 
 -- ---- contents
 
@@ -106,28 +118,39 @@ pub record IsCarriedOut (night : Night) (old new : List Bag) (steps : List (Expr
 
 -- ---- what is decided
 
--- what is carried out is shown with these views and texts, which are those that were read, from these contents
-pub record IsShownFrom (night : Night) (views : List ViewOf) (texts : Texts) (new : List Bag) (steps : List (Expression × ℕ)) : Type 0 where
+-- what is carried out is shown with these views and texts, which are those that were read, from these contents, of which so many readers
+-- were given all rows
+pub record IsShownFrom (night : Night) (readers : ℕ) (views : List ViewOf) (texts : Texts) (new : List Bag) (steps : List (Expression × ℕ)) (rows : List ℕ) : Type 0 where
   pub views_read : views ≡ night.opening.views
   pub texts_read : texts ≡ night.opening.texts
   pub old : List Bag
   pub carried : IsCarriedOut night old new steps
+  pub given : rows ≡ replicate readers (rows_of old)
+
+-- the night from these contents, with so many rows an operation
+abbrev pub night_from : Night → List Bag → ℕ → NightFrom
+night_from night old keys = record { catalog = catalog_in night; list = night.given.list; tables = bag_at old; changes = bag_at night.given.changes; keys = keys }
+
+-- a night from these contents is refused for this, whatever the number of rows an operation: by its base changes before it begins, or, wave
+-- by wave, once it has begun
+abbrev pub IsRefusedAs : Night → List Bag → CarryFault → Type 0
+IsRefusedAs night old fault = (keys : ℕ) → IsRefusedSo (night_from night old keys) (left_of fault.started) fault.fault
 
 -- a night is refused from these contents for this reason, which is not want of memory
 pub record IsRefusedFrom (night : Night) (fault : CarryFault) : Type 0 where
   pub old : List Bag
   pub opened : AreOpened night.shape night.opening old
   pub told : fault.fault ≢ Memory
-  pub why : IsNightFault (catalog_in night) night.given.list (bag_at old) (bag_at night.given.changes) fault
+  pub why : IsRefusedAs night old fault
 
--- this is decided of a night
-abbrev pub IsDecided : Night → Outcome → Type 0
-IsDecided night (Broken rule place) = IsFirstBroken night.shape.children night.given.list rule place
-IsDecided night (NoContents fault) = IsCorrect night.shape.children night.given.list × HasNoContents (graph_in night) (bag_at night.opening.tables) fault
-IsDecided night (Refused fault) = IsCorrect night.shape.children night.given.list × IsRefusedFrom night fault
-IsDecided night (Carried views texts carried) =
+-- this is decided of a night beside so many readers
+abbrev pub IsDecided : Night → ℕ → Outcome → Type 0
+IsDecided night readers (Broken rule place) = IsFirstBroken night.shape.children night.given.list rule place
+IsDecided night readers (NoContents fault) = IsCorrect night.shape.children night.given.list × HasNoContents (graph_in night) (bag_at night.opening.tables) fault
+IsDecided night readers (Refused fault) = IsCorrect night.shape.children night.given.list × IsRefusedFrom night fault
+IsDecided night readers (Carried views texts carried) =
     IsCorrect night.shape.children night.given.list
-    × IsShownFrom night (map shown_view views.items) texts carried.tables.items carried.report.steps.items
+    × IsShownFrom night readers (map shown_view views.items) texts carried.tables.items carried.report.steps.items carried.rows.items
 
 -- what is to be shown over this shape has its views and a table of each, and is the first that comes after what was read
 abbrev pub IsWhole : Views → Outcome → Type 0
@@ -141,7 +164,7 @@ text_of names (Broken rule place) = broken_text rule place
 text_of names (NoContents fault) = refused_text names fault
 text_of names (Refused fault) = left_text names fault
 text_of names (Carried views texts carried) =
-    report_text names carried.report.steps.items ++ views_text texts names 0 (map shown_view views.items) (bag_at carried.tables.items)
+    (report_text names carried.report.steps.items ++ views_text texts names 0 (map shown_view views.items) (bag_at carried.tables.items)) ++ readers_text 0 carried.rows.items
 
 -- and the status
 abbrev pub status_of : Outcome → Status
@@ -152,19 +175,19 @@ status_of (Carried views texts carried) = Done
 
 -- ---- what is printed
 
--- What is printed of a night, and the status. A night is refused for the first reason that its base changes, and then its
--- expressions, meet; want of memory is told as such and is none of these.
-pub data IsNightTold (night : Night) (text : List ℕ) (status : ℕ) : Type 0 where
-  broken : (rule : Rule) (place : ℕ) → IsFirstBroken night.shape.children night.given.list rule place → text ≡ broken_text rule place → status ≡ 1 → IsNightTold night text status
+-- What is printed of a night beside so many readers, and the status. A night is refused for the first reason that its base changes, and
+-- then its waves and Insts, meet; want of memory is told as such and is none of these.
+pub data IsNightTold (night : Night) (readers : ℕ) (text : List ℕ) (status : ℕ) : Type 0 where
+  broken : (rule : Rule) (place : ℕ) → IsFirstBroken night.shape.children night.given.list rule place → text ≡ broken_text rule place → status ≡ 1 → IsNightTold night readers text status
   no_contents : (fault : MaintFault) → IsCorrect night.shape.children night.given.list → HasNoContents (graph_in night) (bag_at night.opening.tables) fault
-      → text ≡ refused_text night.shape.names fault → status ≡ 1 → IsNightTold night text status
+      → text ≡ refused_text night.shape.names fault → status ≡ 1 → IsNightTold night readers text status
   refused : (old : List Bag) (fault : CarryFault) → IsCorrect night.shape.children night.given.list → AreOpened night.shape night.opening old → fault.fault ≢ Memory
-      → IsNightFault (catalog_in night) night.given.list (bag_at old) (bag_at night.given.changes) fault
-      → text ≡ left_text night.shape.names fault → status ≡ 1 → IsNightTold night text status
+      → IsRefusedAs night old fault
+      → text ≡ left_text night.shape.names fault → status ≡ 1 → IsNightTold night readers text status
   carried : (old new : List Bag) (steps : List (Expression × ℕ)) → IsCorrect night.shape.children night.given.list → IsCarriedOut night old new steps
-      → text ≡ carried_text night steps (bag_at new) → status ≡ 0 → IsNightTold night text status
+      → text ≡ carried_text night steps (bag_at new) ++ readers_text 0 (replicate readers (rows_of old)) → status ≡ 0 → IsNightTold night readers text status
 
--- what `night` prints for a bundle's bytes, and the status
-abbrev pub IsNightOutput : List ℕ → List ℕ → ℕ → Type 0
-IsNightOutput bytes text status =
-    MatchResult (night_of bytes) (λ night. IsNightTold night text status) (λ fault. IsFaultShown fault text status)
+-- what `night` beside so many readers prints for a bundle's bytes, and the status
+abbrev pub IsNightOutput : ℕ → List ℕ → List ℕ → ℕ → Type 0
+IsNightOutput readers bytes text status =
+    MatchResult (night_of bytes) (λ night. IsNightTold night readers text status) (λ fault. IsFaultShown fault text status)

@@ -90,7 +90,7 @@ abbrev pub AreOneAnswer : Asked → List ℕ → List ℕ → ℕ → List ℕ �
 AreOneAnswer (asked.Check costs input) bytes text status other ended = AreSame text status other ended
 AreOneAnswer (asked.Plan costs budget input) bytes text status other ended = AreOnePlan budget.nodes bytes text status other ended
 AreOneAnswer (asked.Certify costs input) bytes text status other ended = AreSame text status other ended
-AreOneAnswer (asked.Night input) bytes text status other ended = AreSame text status other ended
+AreOneAnswer (asked.Night how input) bytes text status other ended = AreSame text status other ended
 AreOneAnswer (asked.Replay input) bytes text status other ended = AreSame text status other ended
 
 -- What two answers for the same reading have in common, where this is what two answers for the same bytes have. Of a reader that
@@ -126,11 +126,11 @@ OnePlanOutput =
     (costs : Costs) (budget : ℕ) (bytes text other : List ℕ) (status ended : ℕ) →
     IsPlanOutput costs budget bytes text status → IsPlanOutput costs budget bytes other ended → AreOnePlan budget bytes text status other ended
 
--- all nights of the same bytes have one text and one status
+-- all nights of the same bytes beside so many readers have one text and one status
 abbrev pub OneNightOutput : Type 0
 OneNightOutput =
-    (bytes text other : List ℕ) (status ended : ℕ) →
-    IsNightOutput bytes text status → IsNightOutput bytes other ended → AreSame text status other ended
+    (readers : ℕ) (bytes text other : List ℕ) (status ended : ℕ) →
+    IsNightOutput readers bytes text status → IsNightOutput readers bytes other ended → AreSame text status other ended
 
 -- all replays of the same bytes have one text and one status
 abbrev pub OneReplayOutput : Type 0

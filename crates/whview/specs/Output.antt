@@ -27,7 +27,7 @@ abbrev pub IsCommandOutput : Asked → List ℕ → List ℕ → ℕ → Type 0
 IsCommandOutput (asked.Check costs input) bytes text status = IsCheckOutput costs bytes text status
 IsCommandOutput (asked.Plan costs budget input) bytes text status = IsPlanOutput costs budget.nodes bytes text status
 IsCommandOutput (asked.Certify costs input) bytes text status = IsCertifyOutput costs bytes text status
-IsCommandOutput (asked.Night input) bytes text status = IsNightOutput bytes text status
+IsCommandOutput (asked.Night how input) bytes text status = IsNightOutput how.readers bytes text status
 IsCommandOutput (asked.Replay input) bytes text status = IsReplayOutput bytes text status
 
 -- the file that the command reads in place of the program's reader
@@ -35,7 +35,7 @@ abbrev pub file_of : Asked → Option (List ℕ)
 file_of (asked.Check costs input) = option_map (λ path. path.now) input
 file_of (asked.Plan costs budget input) = option_map (λ path. path.now) input
 file_of (asked.Certify costs input) = option_map (λ path. path.now) input
-file_of (asked.Night input) = option_map (λ path. path.now) input
+file_of (asked.Night how input) = option_map (λ path. path.now) input
 file_of (asked.Replay input) = option_map (λ path. path.now) input
 
 -- the command reads the program's reader

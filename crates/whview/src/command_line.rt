@@ -4,13 +4,14 @@ ghost use Rattle.std.specs.Prelude.{◌≡◌, ◌≤◌, [], true, codes, IfErr
 ghost use Rattle.clap.specs.Walk.{texts};
 ghost use Rattle.clap.specs.Words.{fault_of, found_of, rows_of, subcommand_of, subcommand_rows_of, takes};
 ghost use Rattle.whview.specs.CommandFault.{FailsAs};
-ghost use Rattle.whview.specs.CommandLine.{IsAsked, NamesCommand, TakesBudget, TakesCost, budget_of, cost_of, whview_app};
+ghost use Rattle.whview.specs.CommandLine.{HasNightOptions, IsAsked, NamesCommand, TakesBudget, TakesCost, TakesNightOptions, TakesNumber, budget_of, cost_of, number_in, whview_app};
 
 mod builder;
 mod fault;
 mod notes;
 
 use crate::budget::Budget;
+use crate::night_options::NightOptions;
 use builder::whview_command;
 use clap::ArgMatches;
 pub use fault::CommandFault;
@@ -22,6 +23,15 @@ const DEFAULT_COST: u64 = 1;
 
 /// How many nodes a search may open where the option is not given.
 const DEFAULT_BUDGET: u64 = 1_000_000;
+
+/// How many workers draw jobs where the option is not given.
+const DEFAULT_WORKERS: usize = 1;
+
+/// How many readers there are where the option is not given.
+const DEFAULT_READERS: usize = 0;
+
+/// How many rows an operation writes at most where the option is not given.
+const DEFAULT_PAGE_KEYS: usize = 256;
 
 /// A command with its options, as the words of a command line ask for it.
 #[derive(Clone, Copy)]
@@ -51,6 +61,8 @@ pub enum Asked<'a> {
     },
     /// Carry a night out.
     Night {
+        /// How it is run.
+        how: NightOptions,
         /// The file of the input; None for standard input.
         input: Option<&'a str>,
     },
@@ -102,6 +114,7 @@ fn asked_of<'a>(matches: &ArgMatches<'a>) -> Asked<'a>
             input: options.get_str("input"),
         },
         Some(("night", options)) => Asked::Night {
+            how: night_options_of(options),
             input: options.get_str("input"),
         },
         Some(("replay", options)) => Asked::Replay {
@@ -153,5 +166,35 @@ fn budget_of(options: &ArgMatches<'_>) -> Budget
         None => Budget {
             nodes: DEFAULT_BUDGET,
         },
+    }
+}
+
+/// The number of an option that `clap` has taken within these bounds, or the default.
+fn number(options: &ArgMatches<'_>, name: &str, low: usize, high: usize, default: usize) -> usize
+    requires taken { TakesNumber name.now low high (rows_of (found_of options.now)) }
+    requires least { low ≤ default }
+    requires most { default ≤ high }
+    ensures value { result ≡ number_in name.now default (rows_of (found_of options.now)) }
+    ensures least { low ≤ result }
+    ensures most { result ≤ high }
+{
+    match options.get_str(name) {
+        Some(text) => match text.parse() {
+            Ok(number) => number,
+            Err(_) => unreachable!(),
+        },
+        None => default,
+    }
+}
+
+/// How a night is run by the options that `clap` has taken.
+fn night_options_of(options: &ArgMatches<'_>) -> NightOptions
+    requires { TakesNightOptions (rows_of (found_of options.now)) }
+    ensures { HasNightOptions (rows_of (found_of options.now)) result }
+{
+    NightOptions {
+        workers: number(options, "workers", 1, 16, DEFAULT_WORKERS),
+        readers: number(options, "readers", 0, 16, DEFAULT_READERS),
+        page_keys: number(options, "page-keys", 1, 256, DEFAULT_PAGE_KEYS),
     }
 }

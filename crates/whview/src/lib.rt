@@ -14,6 +14,7 @@ mod check;
 mod command_line;
 mod laws;
 mod night;
+mod night_options;
 mod plan;
 mod program;
 mod replay;

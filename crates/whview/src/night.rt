@@ -1,4 +1,4 @@
-//! The command `night`: from the bytes of a bundle to what its strategy makes of the tables.
+//! The command `night`: from the bytes of a bundle to what its strategy makes of the tables, while readers go through those of before.
 
 ghost use Rattle.std.specs.Prelude.{◌≡◌, ◌≢◌, map, length, IsTrue, IfOk};
 ghost use Rattle.wh_formula.specs.Expr.{fits as fits_expr};
@@ -16,14 +16,19 @@ mod report;
 
 use crate::answer::{Answer, broken_text, cause_text};
 use crate::catalogue::catalog_with;
+use crate::night_options::NightOptions;
 use crate::status::Status;
 use report::{carried_text, refused_text};
 use std::alloc::{AllocError, Global};
+use std::sync::Wait;
+use std::thread::Threads;
 use wh_dag::{Catalog, Shape};
 use wh_formula::{Expr, Native, Pred, RowTest, RowValue};
 use wh_load::{Dict, GivenNight, LoadFault, NightInput, Opening, WrittenView, read_night};
 use wh_maint::{MaintFault, opening_contents};
-use wh_night::{Carried, CarryFault, carry};
+use wh_night::CarryFault;
+use wh_readers::{Served, serve_night};
+use wh_run::Options;
 use wh_strategy::{CheckFault, Rule, check};
 
 /// What is decided of a night.
@@ -46,8 +51,8 @@ pub enum Outcome {
         views: Vec<WrittenView>,
         /// The texts that cells stand for.
         texts: Dict,
-        /// The new tables, and what each expression did.
-        carried: Carried,
+        /// The new tables, what each expression did, and what readers were given.
+        carried: Served,
     },
 }
 
@@ -82,17 +87,19 @@ impl Outcome {
     }
 }
 
-/// What is decided of a night from what it is given, over a catalogue of its views.
-fn decide<F: RowTest, G: RowValue>(
+/// What is decided of a night from what it is given, over a catalogue of its views, where it is run so.
+fn decide<F: RowTest, G: RowValue, R: Threads + Wait + Sync>(
+    rt: &R,
     alloc: Global,
     catalog: &Catalog<F, G>,
+    how: NightOptions,
     opening: Opening,
     given: GivenNight,
 ) -> Result<Outcome, AllocError>
     requires shown { catalog.now ≡ catalog_of catalog.now.views (map shown_view opening.views.items) }
     requires tables { AreReadTables catalog.now opening.tables.items }
     requires changes { AreBags catalog.now given.changes.items }
-    ensures decided { IfOk result (IsDecided (record { shape = catalog.now.views; opening = shown_opening opening; given = shown_given given })) }
+    ensures decided { IfOk result (IsDecided (record { shape = catalog.now.views; opening = shown_opening opening; given = shown_given given }) how.readers) }
     ensures whole { IfOk result (IsWhole catalog.now.views) }
 {
     let Opening {
@@ -110,7 +117,21 @@ fn decide<F: RowTest, G: RowValue>(
         Ok(tables) => tables,
         Err(fault) => return no_contents(fault),
     };
-    match carry(alloc, catalog, &tables, &changes, &correct) {
+    let options = Options {
+        workers: how.workers,
+        page_keys: how.page_keys,
+    };
+    let served = serve_night(
+        rt,
+        alloc,
+        catalog,
+        tables,
+        &changes,
+        &correct,
+        options,
+        how.readers,
+    );
+    match served {
         Ok(carried) => Ok(Outcome::Carried {
             views,
             texts,
@@ -142,8 +163,16 @@ fn refusal(refused: CarryFault) -> Result<Outcome, AllocError>
 }
 
 /// What a night makes of what it is given, where each formula is stored with what these make of it.
-fn answer_with<F: RowTest + Drop, G: RowValue + Drop, T: Fn(Pred) -> F, V: Fn(Expr) -> G>(
+fn answer_with<
+    F: RowTest + Drop,
+    G: RowValue + Drop,
+    T: Fn(Pred) -> F,
+    V: Fn(Expr) -> G,
+    R: Threads + Wait + Sync,
+>(
+    rt: &R,
     alloc: Global,
+    how: NightOptions,
     input: NightInput,
     test: T,
     value: V,
@@ -153,7 +182,7 @@ fn answer_with<F: RowTest + Drop, G: RowValue + Drop, T: Fn(Pred) -> F, V: Fn(Ex
     requires callable_value { V.IsAlwaysCallable value }
     requires tests { AnswersTests (T.post test) F.can_test F.tests }
     requires values { AnswersValues (V.post value) G.can_combine G.combines }
-    ensures { IfOk result (λ a. IsNightTold (shown_night input) a.text.items (status_number a.status)) }
+    ensures { IfOk result (λ a. IsNightTold (shown_night input) how.readers a.text.items (status_number a.status)) }
 {
     let NightInput {
         shape,
@@ -161,19 +190,26 @@ fn answer_with<F: RowTest + Drop, G: RowValue + Drop, T: Fn(Pred) -> F, V: Fn(Ex
         given,
     } = input;
     let catalog = catalog_with(alloc, shape, &opening.views, test, value)?;
-    let outcome = decide(alloc, &catalog, opening, given)?;
+    let outcome = decide(rt, alloc, &catalog, how, opening, given)?;
     let text = outcome.text(alloc, catalog.shape())?;
     let status = outcome.status();
     Ok(Answer { text, status })
 }
 
 /// What a night makes of what it is given. Each formula of the catalogue is stored with a closure.
-fn answer_of(alloc: Global, input: NightInput) -> Result<Answer, AllocError>
-    requires { IsFitNight input }
-    ensures { IfOk result (λ a. IsNightTold (shown_night input) a.text.items (status_number a.status)) }
+fn answer_of<R: Threads + Wait + Sync>(
+    rt: &R,
+    alloc: Global,
+    how: NightOptions,
+    input: NightInput,
+) -> Result<Answer, AllocError>
+    requires fit { IsFitNight input }
+    ensures { IfOk result (λ a. IsNightTold (shown_night input) how.readers a.text.items (status_number a.status)) }
 {
     answer_with(
+        rt,
         alloc,
+        how,
         input,
         |pred: Pred| {
             Native(
@@ -192,12 +228,17 @@ fn answer_of(alloc: Global, input: NightInput) -> Result<Answer, AllocError>
     )
 }
 
-/// What `night` answers for the bytes of a bundle.
-pub fn answer(alloc: Global, bytes: &[u8]) -> Result<Answer, AllocError>
-    ensures { IfOk result (λ a. IsNightOutput bytes.now a.text.items (status_number a.status)) }
+/// What `night` answers for the bytes of a bundle, where it is run so.
+pub fn answer<R: Threads + Wait + Sync>(
+    rt: &R,
+    alloc: Global,
+    how: NightOptions,
+    bytes: &[u8],
+) -> Result<Answer, AllocError>
+    ensures { IfOk result (λ a. IsNightOutput how.readers bytes.now a.text.items (status_number a.status)) }
 {
     match read_night(alloc, bytes) {
-        Ok(input) => answer_of(alloc, input),
+        Ok(input) => answer_of(rt, alloc, how, input),
         Err(LoadFault::Memory) => Err(AllocError),
         Err(fault) => Answer::fault(alloc, &fault),
     }

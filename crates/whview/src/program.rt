@@ -17,20 +17,27 @@ use std::alloc::{AllocError, Global};
 use std::fs::{self, Files};
 use std::io::{Read, Write};
 use std::str;
+use std::sync::Wait;
+use std::thread::Threads;
 use wh_load::{LoadFault, ReadFault, read_all};
 
 /// The most bytes that an input may have.
 const LIMIT: usize = 67_108_864;
 
 /// What a command answers for the bytes of a bundle.
-fn command_answer(alloc: Global, asked: &Asked<'_>, bytes: &[u8]) -> Result<Answer, AllocError>
+fn command_answer<E: Threads + Wait + Sync>(
+    rt: &E,
+    alloc: Global,
+    asked: &Asked<'_>,
+    bytes: &[u8],
+) -> Result<Answer, AllocError>
     ensures { IfOk result (λ a. IsCommandOutput asked.now bytes.now a.text.items (status_number a.status)) }
 {
     match asked {
         Asked::Check { costs, .. } => check::answer(alloc, *costs, bytes),
         Asked::Plan { costs, budget, .. } => plan::answer(alloc, *costs, *budget, bytes),
         Asked::Certify { costs, .. } => certify::answer(alloc, *costs, bytes),
-        Asked::Night { .. } => night::answer(alloc, bytes),
+        Asked::Night { how, .. } => night::answer(rt, alloc, *how, bytes),
         Asked::Replay { .. } => replay::answer(alloc, bytes),
     }
 }
@@ -43,7 +50,7 @@ fn file_of<'a>(asked: &Asked<'a>) -> Option<&'a str>
         Asked::Check { input, .. }
         | Asked::Plan { input, .. }
         | Asked::Certify { input, .. }
-        | Asked::Night { input }
+        | Asked::Night { input, .. }
         | Asked::Replay { input } => *input,
     }
 }
@@ -60,7 +67,8 @@ fn unread_answer(alloc: Global, fault: &ReadFault) -> Result<Answer, AllocError>
 }
 
 /// What a command answers for what was read.
-fn answer_to(
+fn answer_to<E: Threads + Wait + Sync>(
+    rt: &E,
     alloc: Global,
     asked: &Asked<'_>,
     read: Result<Vec<u8>, ReadFault>,
@@ -69,13 +77,14 @@ fn answer_to(
         (λ fault. IsUnreadShown fault a.text.items (status_number a.status))) }
 {
     match read {
-        Ok(bytes) => command_answer(alloc, asked, &bytes),
+        Ok(bytes) => command_answer(rt, alloc, asked, &bytes),
         Err(fault) => unread_answer(alloc, &fault),
     }
 }
 
 /// What a command answers for all that a reader has.
-fn read_answer<R: Read>(
+fn read_answer<E: Threads + Wait + Sync, R: Read>(
+    rt: &E,
     alloc: Global,
     asked: &Asked<'_>,
     input: &mut R,
@@ -83,20 +92,20 @@ fn read_answer<R: Read>(
     ensures { IfOk result (λ a. HoldsOfReading (R.remaining input.old) (λ reading. IsReadAnswer reading (IsCommandOutput asked.now) a.text.items (status_number a.status))) }
 {
     let read = read_all(input, alloc, LIMIT);
-    answer_to(alloc, asked, read)
+    answer_to(rt, alloc, asked, read)
 }
 
 /// What a command answers for a file. What it holds no contract can say, so the answer is the one to some bytes.
-fn file_answer<F: Files>(
-    files: &F,
+fn file_answer<E: Files + Threads + Wait + Sync>(
+    rt: &E,
     alloc: Global,
     asked: &Asked<'_>,
     path: &str,
 ) -> Result<Answer, AllocError>
     ensures { IfOk result (λ a. HoldsOfReading None (λ reading. IsReadAnswer reading (IsCommandOutput asked.now) a.text.items (status_number a.status))) }
 {
-    match fs::open(files, path) {
-        Ok(mut file) => read_answer(alloc, asked, &mut file),
+    match fs::open(rt, path) {
+        Ok(mut file) => read_answer(rt, alloc, asked, &mut file),
         Err(_) => Answer::fault(alloc, &LoadFault::Read),
     }
 }
@@ -114,8 +123,8 @@ fn refusal(alloc: Global, fault: &CommandFault) -> Result<Answer, AllocError>
 }
 
 /// What the program answers for words that were handed in.
-fn words_answer<'a, F: Files, R: Read>(
-    files: &F,
+fn words_answer<'a, E: Files + Threads + Wait + Sync, R: Read>(
+    rt: &E,
     alloc: Global,
     words: &'a [&'a str],
     input: &mut R,
@@ -125,15 +134,19 @@ fn words_answer<'a, F: Files, R: Read>(
 {
     match parse(alloc, words) {
         Ok(asked) => match file_of(&asked) {
-            Some(path) => file_answer(files, alloc, &asked, path),
-            None => read_answer(alloc, &asked, input),
+            Some(path) => file_answer(rt, alloc, &asked, path),
+            None => read_answer(rt, alloc, &asked, input),
         },
         Err(fault) => refusal(alloc, &fault),
     }
 }
 
 /// What the program answers for bytes whose first line gives the words.
-fn line_answer(alloc: Global, input: &[u8]) -> Result<Answer, AllocError>
+fn line_answer<E: Threads + Wait + Sync>(
+    rt: &E,
+    alloc: Global,
+    input: &[u8],
+) -> Result<Answer, AllocError>
     ensures { IfOk result (λ a. IsLineAnswer input.now a.text.items (status_number a.status)) }
 {
     let (line, bundle) = first_line(input);
@@ -149,28 +162,36 @@ fn line_answer(alloc: Global, input: &[u8]) -> Result<Answer, AllocError>
         );
     }
     match parse(alloc, &words) {
-        Ok(asked) => command_answer(alloc, &asked, bundle),
+        Ok(asked) => command_answer(rt, alloc, &asked, bundle),
         Err(fault) => refusal(alloc, &fault),
     }
 }
 
 /// What the program answers for what was read, where its first line gives the words.
-fn line_answer_to(alloc: Global, read: Result<Vec<u8>, ReadFault>) -> Result<Answer, AllocError>
+fn line_answer_to<E: Threads + Wait + Sync>(
+    rt: &E,
+    alloc: Global,
+    read: Result<Vec<u8>, ReadFault>,
+) -> Result<Answer, AllocError>
     ensures { IfOk result (λ a. MatchResult read (λ bytes. IsLineAnswer bytes.items a.text.items (status_number a.status))
         (λ fault. IsUnreadShown fault a.text.items (status_number a.status))) }
 {
     match read {
-        Ok(bytes) => line_answer(alloc, &bytes),
+        Ok(bytes) => line_answer(rt, alloc, &bytes),
         Err(fault) => unread_answer(alloc, &fault),
     }
 }
 
 /// What the program answers where it is handed no words.
-fn input_answer<R: Read>(alloc: Global, input: &mut R) -> Result<Answer, AllocError>
+fn input_answer<E: Threads + Wait + Sync, R: Read>(
+    rt: &E,
+    alloc: Global,
+    input: &mut R,
+) -> Result<Answer, AllocError>
     ensures { IfOk result (λ a. HoldsOfReading (R.remaining input.old) (λ reading. IsInputOutput reading a.text.items (status_number a.status))) }
 {
     let read = read_all(input, alloc, LIMIT);
-    line_answer_to(alloc, read)
+    line_answer_to(rt, alloc, read)
 }
 
 /// Writes a text whole: the number of the status, or that of Output where the writer fails. Then nothing is said of how much
@@ -217,8 +238,8 @@ fn tell<W: Write>(out: &mut W, answer: Result<Answer, AllocError>) -> u8
 ///
 /// Answers the status: 0 done, 1 a negative verdict or a night that is refused, 2 the command line, 3 a fault of the input,
 /// 4 memory or a budget that is spent, 5 the output.
-pub fn run<'a, F: Files, R: Read, W: Write>(
-    files: &F,
+pub fn run<'a, E: Files + Threads + Wait + Sync, R: Read, W: Write>(
+    rt: &E,
     alloc: Global,
     words: &'a [&'a str],
     input: &mut R,
@@ -235,10 +256,10 @@ pub fn run<'a, F: Files, R: Read, W: Write>(
     ensures unread { words.now ≢ [] → ¬ (AskToRead (texts words.now)) → input.new ≡ input.old }
 {
     if words.is_empty() {
-        let answer = input_answer(alloc, input);
+        let answer = input_answer(rt, alloc, input);
         tell(out, answer)
     } else {
-        let answer = words_answer(files, alloc, words, input);
+        let answer = words_answer(rt, alloc, words, input);
         tell(out, answer)
     }
 }

@@ -1,5 +1,7 @@
 //! Nights that are published: two tables and the view that joins them, over a writer.
 
+ghost use Rattle.std.specs.Prelude.{◌≤◌};
+
 use crate::nights::carried::one_way;
 use crate::nights::catalogs::{Cell, Every, joined};
 use crate::nights::tables::{bag, two_bags};
@@ -7,6 +9,7 @@ use std::alloc::Global;
 use std::process::Abort;
 use std::sync::Wait;
 use std::test::Fail;
+use std::thread::Threads;
 use wh_dag::Catalog;
 use wh_desk::{Writer, open_warehouse};
 use wh_maint::are_bags;
@@ -18,28 +21,31 @@ use wh_strategy::{Correct, check};
 
 /// What a night answered, and the view's table after it, if it has one that nothing waits behind.
 #[derive(Drop)]
-struct Answer {
-    night: Result<Report, NightFault>,
-    table: Option<Bag>,
+pub(crate) struct Answer {
+    pub(crate) night: Result<Report, NightFault>,
+    pub(crate) table: Option<Bag>,
 }
 
 /// The table of view 2, where there is one and nothing is held.
-fn table_of(writer: &Writer) -> Option<Bag> {
+pub(crate) fn table_of(writer: &Writer) -> Option<Bag> {
     if writer.held() || writer.views() <= 2 {
         return None;
     }
     writer.table(2).ok()
 }
 
-/// Carries the strategy out over a writer of these tables, and ends the writer. None where they are not what a night asks for.
-fn over_writer<R: Wait + Abort>(
+/// Carries the strategy out over a writer of these tables with so many workers, and ends the writer. None where they are not what a night asks for.
+fn over_writer<R: Threads + Wait + Sync + Abort>(
     rt: &R,
     alloc: Global,
     catalog: &Catalog<Every, Cell>,
     tables: Vec<Bag>,
     changes: &[Bag],
     correct: &Correct,
-) -> Result<Option<Answer>, Fail> {
+    workers: usize,
+) -> Result<Option<Answer>, Fail>
+    requires { (1 ≤ workers) × (workers ≤ 16) }
+{
     if !correct.is_of(catalog.shape())
         || !are_bags(catalog, &tables)
         || !are_bags(catalog, changes)
@@ -54,7 +60,7 @@ fn over_writer<R: Wait + Abort>(
         return Ok(None);
     };
     let options = Options {
-        workers: 1,
+        workers,
         page_keys: 256,
     };
     let night = night(
@@ -72,13 +78,26 @@ fn over_writer<R: Wait + Abort>(
     Ok(Some(Answer { night, table }))
 }
 
-/// Carries the one-way strategy out from these opening rows of v, with this change of a, and b -(10,5) +(10,6).
-fn published<R: Wait + Abort>(
+/// Carries the one-way strategy out from these opening rows of v, with this change of a, and b -(10,5) +(10,6), with one worker.
+fn published<R: Threads + Wait + Sync + Abort>(
     rt: &R,
     alloc: Global,
     opening: &[(&[i64], i64)],
     change: &[(&[i64], i64)],
 ) -> Result<Option<Answer>, Fail> {
+    published_by(rt, alloc, opening, change, 1)
+}
+
+/// The same with so many workers.
+fn published_by<R: Threads + Wait + Sync + Abort>(
+    rt: &R,
+    alloc: Global,
+    opening: &[(&[i64], i64)],
+    change: &[(&[i64], i64)],
+    workers: usize,
+) -> Result<Option<Answer>, Fail>
+    requires { (1 ≤ workers) × (workers ≤ 16) }
+{
     let mut tables = two_bags(alloc, &[(&[1, 10], 1), (&[2, 10], 1)], &[(&[10, 5], 1)])?;
     tables.push(bag(alloc, opening)?)?;
     let mut changes = two_bags(alloc, change, &[(&[10, 5], -1), (&[10, 6], 1)])?;
@@ -87,11 +106,11 @@ fn published<R: Wait + Abort>(
     let Ok(correct) = check(alloc, catalog.shape(), one_way(alloc)?) else {
         return Ok(None);
     };
-    over_writer(rt, alloc, &catalog, tables, &changes, &correct)
+    over_writer(rt, alloc, &catalog, tables, &changes, &correct, workers)
 }
 
 /// Whether the night has made version 1 with these rows of its steps, and v then has exactly these rows, once each.
-fn ends_with(answer: &Option<Answer>, steps: &[u128], rows: &[&[i64]]) -> bool {
+pub(crate) fn ends_with(answer: &Option<Answer>, steps: &[u128], rows: &[&[i64]]) -> bool {
     match answer {
         Some(
             Answer {
@@ -116,7 +135,7 @@ fn has_steps(report: &Report, rows: &[u128]) -> bool {
     true
 }
 
-fn has_rows(table: &Bag, rows: &[&[i64]]) -> bool {
+pub(crate) fn has_rows(table: &Bag, rows: &[&[i64]]) -> bool {
     for row in rows {
         if table.count(row) != 1 {
             return false;
@@ -130,6 +149,19 @@ fn two_table_night(rt: HostRuntime) -> Result<(), Fail> {
     let opening: [(&[i64], i64); 2] = [(&[1, 5], 1), (&[2, 5], 1)];
     let answer = published(&rt, rt.alloc(), &opening, &[(&[2, 10], -1), (&[3, 10], 1)])?;
     assert!(rt; ends_with(&answer, &[3, 2, 4, 2, 4], &[&[1, 6], &[3, 6]]));
+    Ok(())
+}
+
+#[test]
+fn workers_agree(rt: HostRuntime) -> Result<(), Fail> {
+    let opening: [(&[i64], i64); 2] = [(&[1, 5], 1), (&[2, 5], 1)];
+    let change: [(&[i64], i64); 2] = [(&[2, 10], -1), (&[3, 10], 1)];
+    let one = published_by(&rt, rt.alloc(), &opening, &change, 1)?;
+    let two = published_by(&rt, rt.alloc(), &opening, &change, 2)?;
+    let sixteen = published_by(&rt, rt.alloc(), &opening, &change, 16)?;
+    assert!(&rt; ends_with(&one, &[3, 2, 4, 2, 4], &[&[1, 6], &[3, 6]]));
+    assert!(&rt; ends_with(&two, &[3, 2, 4, 2, 4], &[&[1, 6], &[3, 6]]));
+    assert!(&rt; ends_with(&sixteen, &[3, 2, 4, 2, 4], &[&[1, 6], &[3, 6]]));
     Ok(())
 }
 

@@ -135,12 +135,12 @@ static ONE_WAY: (&str, Scope, u128, usize) = (
 
 static TIED: (&str, Scope, u128, usize) = ("V1<C C V1<B V2<V1 V1 V2<B B V2", Scope::All, 490, 2);
 
-// The pair bound is 480. Two couples, so a full tree has 7 nodes.
+// The pair bound is 480. The search opens five nodes: B and V1 first, which bounds the first side, then B and C.
 #[test]
 fn a_cyclic_order_is_searched(rt: HostRuntime) -> Result<(), Fail> {
     let alloc = rt.alloc();
-    finds(&rt, alloc, By::Plan, &CYCLIC, &CYCLIC_SIZES, 7, ONE_WAY)?;
-    finds(&rt, alloc, By::Prune, &CYCLIC, &CYCLIC_SIZES, 7, ONE_WAY)?;
+    finds(&rt, alloc, By::Plan, &CYCLIC, &CYCLIC_SIZES, 5, ONE_WAY)?;
+    finds(&rt, alloc, By::Prune, &CYCLIC, &CYCLIC_SIZES, 5, ONE_WAY)?;
     Ok(())
 }
 
@@ -148,7 +148,7 @@ fn a_cyclic_order_is_searched(rt: HostRuntime) -> Result<(), Fail> {
 #[test]
 fn a_search_may_reach_the_pair_bound(rt: HostRuntime) -> Result<(), Fail> {
     let alloc = rt.alloc();
-    let lines = finds(&rt, alloc, By::Plan, &CYCLIC, &TIED_SIZES, 7, TIED)?;
+    let lines = finds(&rt, alloc, By::Plan, &CYCLIC, &TIED_SIZES, 5, TIED)?;
     let right = [
         PairMin {
             parent: 2,
@@ -164,15 +164,15 @@ fn a_search_may_reach_the_pair_bound(rt: HostRuntime) -> Result<(), Fail> {
         },
     ];
     assert_eq!(rt; lines.as_slice(), right.as_slice());
-    finds(&rt, alloc, By::Prune, &CYCLIC, &TIED_SIZES, 7, TIED)?;
+    finds(&rt, alloc, By::Prune, &CYCLIC, &TIED_SIZES, 5, TIED)?;
     Ok(())
 }
 
-// The first leaf has the lower number of each couple first: works of 490, and of 500 where C shrinks as much as B.
+// The lower number of each couple first costs 490, and 500 where C shrinks as much as B. A budget of four is a node too few.
 #[test]
 fn a_spent_budget_tells_the_best_work(rt: HostRuntime) -> Result<(), Fail> {
     let alloc = rt.alloc();
-    for (by, budget) in [(By::Plan, 1), (By::Plan, 6), (By::Prune, 6)] {
+    for (by, budget) in [(By::Plan, 1), (By::Plan, 4), (By::Prune, 4)] {
         let spent = found(&rt, alloc, by, &CYCLIC, &CYCLIC_SIZES, budget)?.err();
         assert_eq!(rt; spent, Some((budget, 490)));
         let spent = found(&rt, alloc, by, &CYCLIC, &TIED_SIZES, budget)?.err();
@@ -181,13 +181,20 @@ fn a_spent_budget_tells_the_best_work(rt: HostRuntime) -> Result<(), Fail> {
     Ok(())
 }
 
-// C goes before B at less: the first leaf costs 450, the third, which is the sixth node, 445.
+// The lower number of each couple first costs 90; the second node gives a strategy of 83, and the fifth is the last one.
 #[test]
 fn a_spent_budget_tells_a_work_that_was_found_later(rt: HostRuntime) -> Result<(), Fail> {
     let alloc = rt.alloc();
-    let sizes = [(100, 90, 20), (50, 35, 15), (80, 85, 10), (200, 190, 30)];
-    for (budget, best) in [(5, 450), (6, 445)] {
-        let spent = found(&rt, alloc, By::Prune, &CYCLIC, &sizes, budget)?.err();
+    let views = [
+        ("A", "-"),
+        ("B", "-"),
+        ("U", "B A"),
+        ("V", "B A U"),
+        ("W", "B U V"),
+    ];
+    let sizes = [(1, 0, 6), (2, 4, 3), (0, 6, 7), (5, 4, 1), (6, 2, 5)];
+    for (budget, best) in [(1, 90), (2, 83), (4, 83)] {
+        let spent = found(&rt, alloc, By::Prune, &views, &sizes, budget)?.err();
         assert_eq!(rt; spent, Some((budget, best)));
     }
     Ok(())
@@ -232,5 +239,8 @@ fn a_plan_without_a_search_needs_no_budget(rt: HostRuntime) -> Result<(), Fail> 
         (list, Scope::All, 313, 15),
     )?;
     assert!(rt; lines.iter().all(|line| line.least == 20));
+    // A search that gave up at once would spend this budget.
+    let wanted = (list, Scope::All, 313, 15);
+    finds(&rt, alloc, By::Prune, &SIX, &SIX_SIZES, 1, wanted)?;
     Ok(())
 }

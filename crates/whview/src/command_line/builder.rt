@@ -3,7 +3,7 @@
 ghost use Rattle.std.specs.Prelude.{◌≡◌, codes, false, IfOk};
 ghost use Rattle.clap.specs.Words.{app_of, new_app, rule_of, with_subcommand};
 ghost use Rattle.clap.specs.declared.builder.command.Command.TheViews.{out-Command};
-ghost use Rattle.whview.specs.CommandLine.{budget_rule, command_app, cost_rule, input_app, input_rule, plan_app, planning_app, whview_app, with_commands};
+ghost use Rattle.whview.specs.CommandLine.{budget_rule, command_app, cost_rule, input_app, input_rule, night_app, number_rule, plan_app, planning_app, seats_app, whview_app, with_commands};
 
 use super::notes;
 use clap::builder::ValueParser;
@@ -15,13 +15,7 @@ pub fn whview_command<'a>(alloc: Global) -> Result<Command<'a>, AllocError>
     ensures { IfOk result (λ c. app_of c ≡ whview_app) }
 {
     let planning = planning_command(alloc)?;
-    let night = input_command(
-        alloc,
-        "night",
-        "Carries a strategy out and shows the new tables. Reads the catalogue, the data, the changes and the strategy.",
-        notes::NIGHT,
-    )?;
-    let with_night = planning.subcommand(night)?;
+    let with_night = planning.subcommand(night_command(alloc)?)?;
     let replay = input_command(
         alloc,
         "replay",
@@ -127,6 +121,53 @@ fn plan_command<'a>(alloc: Global) -> Result<Command<'a>, AllocError>
     Ok(with_budget)
 }
 
+/// The command that carries a night out, with options for its workers and readers.
+fn seats_command<'a>(alloc: Global) -> Result<Command<'a>, AllocError>
+    ensures shape { IfOk result (λ c. app_of c ≡ seats_app) }
+    ensures local { IfOk result (λ c. (out-Command c).has_globals ≡ false) }
+{
+    let workers = number_option(
+        alloc,
+        "workers",
+        1,
+        16,
+        "How many workers compute at once, 1 to 16 [default: 1]",
+    );
+    let readers = number_option(
+        alloc,
+        "readers",
+        0,
+        16,
+        "How many readers go through the old tables meanwhile, 0 to 16 [default: 0]",
+    );
+    let named = Command::new(alloc, "night")
+        .about(
+            "Carries a strategy out and shows the new tables. Reads the catalogue, the data, the changes and the strategy.",
+        )
+        .after_help(notes::NIGHT);
+    let with_workers = named.arg(workers)?;
+    let with_readers = with_workers.arg(readers)?;
+    Ok(with_readers)
+}
+
+/// The same, with options for the rows of a page and for the file of the input besides.
+fn night_command<'a>(alloc: Global) -> Result<Command<'a>, AllocError>
+    ensures shape { IfOk result (λ c. app_of c ≡ night_app) }
+    ensures local { IfOk result (λ c. (out-Command c).has_globals ≡ false) }
+{
+    let page_keys = number_option(
+        alloc,
+        "page-keys",
+        1,
+        256,
+        "How many rows are written at a time, 1 to 256 [default: 256]",
+    );
+    let seats = seats_command(alloc)?;
+    let with_page_keys = seats.arg(page_keys)?;
+    let with_input = with_page_keys.arg(input_option(alloc))?;
+    Ok(with_input)
+}
+
 /// A command of this name, with an option for the file of the input alone.
 fn input_command<'a>(
     alloc: Global,
@@ -151,6 +192,17 @@ fn cost_option<'a>(alloc: Global, name: &'a str, help: &'a str) -> Arg<'a>
         .value_name("N")
         .help(help)
         .value_parser(ValueParser::Signed(1, 1_000_000))
+}
+
+fn number_option<'a>(alloc: Global, name: &'a str, low: u64, high: u64, help: &'a str) -> Arg<'a>
+    ensures rule { rule_of result ≡ number_rule name.entry.now low high }
+    ensures local { result.global ≡ false }
+{
+    Arg::new(alloc, name)
+        .long(name)
+        .value_name("N")
+        .help(help)
+        .value_parser(ValueParser::Unsigned(low, high))
 }
 
 fn budget_option<'a>(alloc: Global) -> Arg<'a>

@@ -55,7 +55,7 @@ pub const NIGHT: &str = "Ends with:
   5  the output failed
 
 Example:
-  whview night --input examples/night_shop.bundle";
+  whview night --workers 4 --readers 2 --input examples/night_shop.bundle";
 
 /// Of `replay`.
 pub const REPLAY: &str = "Ends with:

@@ -4,13 +4,14 @@ ghost use Rattle.std.specs.Prelude.{◌≡◌, ◌++◌, ℕ, codes, decimal, dr
 ghost use Rattle.wh_catalogue_text.specs.Definitions.{shown_view};
 ghost use Rattle.wh_maint.specs.Comp.{bag_at};
 ghost use Rattle.whview.specs.CheckOutput.{line};
-ghost use Rattle.whview.specs.NightOutput.{left_text, report_text, step_text, view_text, views_text, work_in};
+ghost use Rattle.whview.specs.NightOutput.{left_text, reader_text, readers_text, report_text, step_text, view_text, views_text, work_in};
 
 use crate::answer::cause_text;
 use std::alloc::{AllocError, Global};
 use wh_dag::Shape;
 use wh_load::{Dict, Names, WrittenView, write_expression, write_table};
-use wh_night::{Carried, CarryFault, Report};
+use wh_night::{CarryFault, Report};
+use wh_readers::Served;
 use wh_row::Bag;
 use wh_strategy::Expression;
 
@@ -117,24 +118,47 @@ fn append_views(
     Ok(())
 }
 
+/// Appends how many rows a reader was given.
+fn append_reader(
+    alloc: Global,
+    out: &mut Vec<u8>,
+    reader: usize,
+    rows: usize,
+) -> Result<(), AllocError>
+    ensures { OnOk result (out.new.items ≡ out.old.items ++ reader_text reader rows) }
+{
+    let text = format!(in alloc; "reader {reader} version 0 rows {rows}\n")?;
+    out.extend_from_slice(text.as_bytes())
+}
+
+fn append_readers(alloc: Global, out: &mut Vec<u8>, rows: &[usize]) -> Result<(), AllocError>
+    ensures { OnOk result (out.new.items ≡ out.old.items ++ readers_text 0 rows.now) }
+{
+    for reader in 0..rows.len() {
+        append_reader(alloc, out, reader, rows[reader])?;
+    }
+    Ok(())
+}
+
 /// What is printed of a night that was carried out.
 pub(crate) fn carried_text(
     alloc: Global,
     shape: &Shape,
     views: &[WrittenView],
     texts: &Dict,
-    carried: &Carried,
+    carried: &Served,
 ) -> Result<Vec<u8>, AllocError>
     requires version { carried.now.report.version ≡ 1 }
     requires views { length views.now ≡ length shape.now.children }
     requires tables { length carried.now.tables.items ≡ length shape.now.children }
-    ensures { IfOk result (λ text. text.items ≡ report_text shape.now.names carried.now.report.steps.items
-        ++ views_text texts.now shape.now.names 0 (map shown_view views.now) (bag_at carried.now.tables.items)) }
+    ensures { IfOk result (λ text. text.items ≡ (report_text shape.now.names carried.now.report.steps.items
+        ++ views_text texts.now shape.now.names 0 (map shown_view views.now) (bag_at carried.now.tables.items)) ++ readers_text 0 carried.now.rows.items) }
 {
     let names = Names::of(alloc, shape)?;
     let mut text = Vec::new(alloc);
     append_report(alloc, &mut text, &names, &carried.report)?;
     append_views(&mut text, shape, views, texts, &carried.tables)?;
+    append_readers(alloc, &mut text, &carried.rows)?;
     Ok(text)
 }
 

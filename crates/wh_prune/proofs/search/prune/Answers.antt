@@ -1,4 +1,4 @@
-use Rattle.std.proofs.Common.{◌≡◌, length, ap, ◌∙◌, subst, arith}
+use Rattle.std.proofs.Common.{◌≡◌, length, ap, ◌∙◌, subst, arith, rules}
 use Rattle.wh_dag.specs.Siblings.{couples_of}
 use Rattle.wh_strategy.specs.Rules.{IsReason}
 use Rattle.wh_strategy.specs.Sizes.{sizes_of}
@@ -16,8 +16,8 @@ pub returns-in-Err-explore-clause-err : goal.returns-in-Err-explore-clause-err
 returns-in-Err-explore-clause-err c =
     let shape = c.args.shape.now.children in
     let sizes = sizes_of c.args.sizes.now in
-    let couples : c.deref-2.result.now ≡ couples_of shape = c.deref-2.ensures.value ∙ c.in_ok-couples.ensures.couples in
     let none = ap length c.in-Ok.ensures.nodes in
-    let many = ap length couples in
+    let size : c.len.result ≡ length c.in_ok-couples.couples.items = search rules in
+    let many : c.len.result ≡ length (couples_of shape) = size ∙ ap length c.in_ok-couples.ensures.couples in
     why_stopped shape sizes c.args.costs.comp c.args.costs.inst c.args.budget _ c.explore.new.self.best c.in-Ok.search.best c.explore.new.self.list c.in-Err-explore.fault c.in-Err-explore.ensures.err
     (rw (none, many) (omega arith)) c.explore.ensures.held c.explore.ensures.down c.in-Ok.ensures.lowest

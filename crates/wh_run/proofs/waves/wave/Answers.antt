@@ -1,17 +1,21 @@
-use Rattle.std.proofs.Common.{inl, ⊎_elim}
+use Rattle.std.proofs.Common.{inl, subst, ⊎_elim}
 use Rattle.wh_night.specs.Kept.{kept}
+use Rattle.wh_run.specs.RefusedWaves.{IsRefusedWave}
 use Rattle.wh_run.specs.Underway.{night_of}
 use Rattle.wh_run.proofs.Comes.{first_uncomputed}
 use Rattle.wh_run.proofs.Outs.{if_err, on_ok}
 use Rattle.wh_run.proofs.waves.wave.Goals as goal
 
-pub returns-in-Err-compute_all-clause-refused : goal.returns-in-Err-compute_all-clause-refused
-returns-in-Err-compute_all-clause-refused g c = λ keys place t wave come.
+pub of_jobs-requires : goal.of_jobs-requires
+of_jobs-requires g c = λ lost. subst (IsRefusedWave c.args.catalog.now (kept c.finish_sources.new.state) c.args.jobs.now) lost c.in-Err-run_wave.ensures.refused
+
+pub returns-in-Err-run_wave-clause-refused : goal.returns-in-Err-run_wave-clause-refused
+returns-in-Err-run_wave-clause-refused g c = λ keys place t wave come.
     let n = night_of c.args.catalog.now keys t in
     let x = c.in_default.ensures.stands keys place t wave come.stands in
     ⊎_elim (λ m. inl m)
-    (λ f. first_uncomputed n place c.args.jobs.now wave (kept c.finish_sources.new.state) x.0 c.in_default.ensures.known x.1 c.in-Err-compute_all.fault f)
-    c.in-Err-compute_all.ensures.refused
+    (λ f. first_uncomputed n place c.args.jobs.now wave (kept c.finish_sources.new.state) x.0 c.in_default.ensures.known x.1 c.of_jobs.result f)
+    (subst (IsRefusedWave c.args.catalog.now (kept c.finish_sources.new.state) c.args.jobs.now) c.of_jobs.ensures c.in-Err-run_wave.ensures.refused)
 
 pub returns-clause-goes : goal.returns-clause-goes
 returns-clause-goes g c =

@@ -73,9 +73,9 @@ pub returns-in-Some-night-default : goal.returns-in-Some-night-default
 returns-in-Some-night-default c =
     let options = c.in-Some-night-default.options.now in
     let file = c.get_str-in-Some-night-default in
-    asked_by (subcommand_rows_of c.args.matches.now) (codes "night") (rows_of (found_of options)) (Night file.result)
+    asked_by (subcommand_rows_of c.args.matches.now) (codes "night") (rows_of (found_of options)) (Night c.night_options_of.result file.result)
     (ap Some (sym c.in-Some-night-default.is-night) ∙ c.in-Some-night-default.ensures.name ∙ named c.args.matches.now) c.in-Some-night-default.ensures.rows
-    (refl, file.ensures ∙ first_value-rows (found_of options) (codes "input"))
+    (refl, c.night_options_of.ensures, file.ensures ∙ first_value-rows (found_of options) (codes "input"))
 
 pub returns-in-Some-replay-default : goal.returns-in-Some-replay-default
 returns-in-Some-replay-default c =

@@ -1,4 +1,4 @@
-use Rattle.std.proofs.Common.{subst, sym}
+use Rattle.std.proofs.Common.{refl, subst, sym, ⊎_elim}
 use Rattle.wh_dag.specs.Shape.{Views}
 use Rattle.wh_load.specs.ReadingShown.{shown_given, shown_opening}
 use Rattle.wh_strategy.specs.Rules.{IsCorrect}
@@ -10,23 +10,23 @@ use Rattle.whview.proofs.night.decide.Goals as goal
 pub returns-in-Err-clause-decided : goal.returns-in-Err-clause-decided
 returns-in-Err-clause-decided g c =
     if_ok c.no_contents.result _ _ c.no_contents.ensures
-    (λ o h. subst (IsDecided (record { shape = c.args.catalog.now.views; opening = shown_opening c.args.opening; given = shown_given c.args.given })) (sym h.0)
-    (decided_no_contents (record { shape = c.args.catalog.now.views; opening = shown_opening c.args.opening; given = shown_given c.args.given }) c.args.catalog.now c.requires.shown
+    (λ o h. subst (λ o. IsDecided (record { shape = c.args.catalog.now.views; opening = shown_opening c.args.opening; given = shown_given c.args.given }) c.args.how.readers o) (sym h.0)
+    (decided_no_contents (record { shape = c.args.catalog.now.views; opening = shown_opening c.args.opening; given = shown_given c.args.given }) c.args.how.readers c.args.catalog.now c.requires.shown
     c.in-Err.fault (subst (λ (v : Views). IsCorrect v.children c.args.given.strategy) c.shape.ensures.views c.in-Ok.ensures.ok.2) c.in-Err.ensures.refused h.1))
 
 pub returns-in-Err-clause-whole : goal.returns-in-Err-clause-whole
 returns-in-Err-clause-whole g c = if_ok c.no_contents.result _ _ c.no_contents.ensures (λ o h. subst (IsWhole c.args.catalog.now.views) (sym h.0) tt)
 
-pub carry-requires-clause-fit : goal.carry-requires-clause-fit
-carry-requires-clause-fit g c κs within =
-    opened_fit c.args.catalog.now c.shape.ensures.catalog c.args.opening.tables.items c.in-Ok-opening_contents.tables.items c.requires.tables c.deref.result.now c.deref.ensures.value c.in-Ok-opening_contents.ensures.contents
+pub serve_night-served-requires-clause-fit : goal.serve_night-served-requires-clause-fit
+serve_night-served-requires-clause-fit g c κs within =
+    opened_fit c.args.catalog.now c.shape.ensures.catalog c.args.opening.tables.items c.in-Ok-opening_contents.tables.items c.requires.tables c.in-Ok-opening_contents.tables.items refl c.in-Ok-opening_contents.ensures.contents
 
-pub returns-in-Ok-carry-clause-decided : goal.returns-in-Ok-carry-clause-decided
-returns-in-Ok-carry-clause-decided g c = (
+pub returns-in-Ok-served-clause-decided : goal.returns-in-Ok-served-clause-decided
+returns-in-Ok-served-clause-decided g c = (
   subst (λ (v : Views). IsCorrect v.children c.args.given.strategy) c.shape.ensures.views c.in-Ok.ensures.ok.2,
-  shown_carried (record { shape = c.args.catalog.now.views; opening = shown_opening c.args.opening; given = shown_given c.args.given })
-      c.in-Ok-opening_contents.tables.items c.in-Ok-carry.carried.tables.items c.in-Ok-carry.carried.report.steps.items
-      c.args.catalog.now c.deref.result.now c.deref-2.result.now c.in-Ok.correct.list c.requires.shown c.deref.ensures.value c.deref-2.ensures.value c.in-Ok.ensures.ok.1
+  shown_carried (record { shape = c.args.catalog.now.views; opening = shown_opening c.args.opening; given = shown_given c.args.given }) c.args.how.readers
+      c.in-Ok-opening_contents.tables.items c.in-Ok-served.carried.tables.items c.in-Ok-served.carried.report.steps.items c.in-Ok-served.carried.rows.items
+      c.args.catalog.now c.deref.result.now c.in-Ok.correct.list c.requires.shown c.deref.ensures.value c.in-Ok.ensures.ok.1
       (record {
         is = c.shape.ensures.catalog;
         correct = subst (λ (v : Views). IsCorrect v.children c.args.given.strategy) c.shape.ensures.views c.in-Ok.ensures.ok.2;
@@ -34,25 +34,26 @@ returns-in-Ok-carry-clause-decided g c = (
         length_old = c.in-Ok-opening_contents.ensures.bags.each;
         opened = c.in-Ok-opening_contents.ensures.contents;
         valued = c.in-Ok-opening_contents.ensures.valued;
-        allowed = c.in-Ok-carry.ensures.allowed;
-        passed = c.in-Ok-carry.ensures.passed;
-        carried = c.in-Ok-carry.ensures.tables;
-        contents_after = c.in-Ok-carry.ensures.contents;
-        reported = c.in-Ok-carry.ensures.steps;
-      }),
+        allowed = c.in-Ok-served.ensures.allowed;
+        passed = c.in-Ok-served.ensures.passed;
+        carried = c.in-Ok-served.ensures.tables;
+        contents_after = c.in-Ok-served.ensures.contents;
+        reported = c.in-Ok-served.ensures.steps;
+      })
+      c.in-Ok-served.ensures.rows,
 )
 
-pub returns-in-Err-carry-clause-decided : goal.returns-in-Err-carry-clause-decided
-returns-in-Err-carry-clause-decided g c =
+pub returns-in-Err-served-clause-decided : goal.returns-in-Err-served-clause-decided
+returns-in-Err-served-clause-decided g c =
     if_ok c.refusal.result _ _ c.refusal.ensures
-    (λ o h. subst (IsDecided (record { shape = c.args.catalog.now.views; opening = shown_opening c.args.opening; given = shown_given c.args.given })) (sym h.0) (
+    (λ o h. subst (λ o. IsDecided (record { shape = c.args.catalog.now.views; opening = shown_opening c.args.opening; given = shown_given c.args.given }) c.args.how.readers o) (sym h.0) (
       subst (λ (v : Views). IsCorrect v.children c.args.given.strategy) c.shape.ensures.views c.in-Ok.ensures.ok.2,
       refused_from (record { shape = c.args.catalog.now.views; opening = shown_opening c.args.opening; given = shown_given c.args.given })
-          c.in-Ok-opening_contents.tables.items c.in-Err-carry.refused
-          c.args.catalog.now c.deref.result.now c.deref-2.result.now c.in-Ok.correct.list c.requires.shown c.deref.ensures.value c.deref-2.ensures.value c.in-Ok.ensures.ok.1
+          c.in-Ok-opening_contents.tables.items c.in-Err-served.refused
+          c.args.catalog.now c.deref.result.now c.in-Ok.correct.list c.args.how.page_keys c.requires.shown c.deref.ensures.value c.in-Ok.ensures.ok.1
           c.in-Ok-opening_contents.ensures.bags.each c.in-Ok-opening_contents.ensures.contents c.in-Ok-opening_contents.ensures.valued
-          c.in-Err-carry.ensures.refused h.1,
+          (⊎_elim (λ m. absurd (h.1 m)) (λ so. so) c.in-Err-served.ensures.refused) h.1,
     ))
 
-pub returns-in-Err-carry-clause-whole : goal.returns-in-Err-carry-clause-whole
-returns-in-Err-carry-clause-whole g c = if_ok c.refusal.result _ _ c.refusal.ensures (λ o h. subst (IsWhole c.args.catalog.now.views) (sym h.0) tt)
+pub returns-in-Err-served-clause-whole : goal.returns-in-Err-served-clause-whole
+returns-in-Err-served-clause-whole g c = if_ok c.refusal.result _ _ c.refusal.ensures (λ o h. subst (IsWhole c.args.catalog.now.views) (sym h.0) tt)

@@ -14,12 +14,12 @@ use Rattle.whview.proofs.Outputs.{refused_as, names_file}
 use Rattle.whview.proofs.program.line_answer.Goals as goal
 
 pub returns-in_default : goal.returns-in_default
-returns-in_default c =
+returns-in_default g c =
     let bad : is_utf8 (first_line_of c.args.input.now) ≡ false = false_from_ne_true _ (λ y. c.in_default.ensures.cases.0 (subst IsUtf8 (sym c.first_line.ensures.line) (IsUtf8-from_is_utf8 _ y))) in
     if_ok_both c.of.result _ _ _ c.of.ensures.text c.of.ensures.status (λ a text status. not_text bad text (ap status_number status))
 
 pub returns-then-refuses_input : goal.returns-then-refuses_input
-returns-then-refuses_input c =
+returns-then-refuses_input g c =
     let at = c.in-Ok.ensures.cases.0 ∙ c.first_line.ensures.line in
     let utf8 = is_utf8-from_IsUtf8 _ (subst IsUtf8 c.first_line.ensures.line c.in-Ok.ensures.cases.1) in
     let same = ap (map (λ w. w.now)) c.deref.ensures.value ∙ c.in_ok-words.ensures ∙ ap words_in at in
@@ -28,7 +28,7 @@ returns-then-refuses_input c =
     (λ a printed ended. names_a_file utf8 (names_file (first_line_of c.args.input.now) c.deref.result.now _ same named) printed (ap status_number ended))
 
 pub returns-in-Ok-parse : goal.returns-in-Ok-parse
-returns-in-Ok-parse c =
+returns-in-Ok-parse g c =
     let at = c.in-Ok.ensures.cases.0 ∙ c.first_line.ensures.line in
     let utf8 = is_utf8-from_IsUtf8 _ (subst IsUtf8 c.first_line.ensures.line c.in-Ok.ensures.cases.1) in
     let same = ap (map (λ w. w.now)) c.deref.ensures.value ∙ c.in_ok-words.ensures ∙ ap words_in at in
@@ -42,7 +42,7 @@ returns-in-Ok-parse c =
     (subst (λ bytes. IsCommandOutput c.in-Ok-parse.asked bytes a.text.items (status_number a.status)) c.first_line.ensures.rest output)))
 
 pub returns : goal.returns
-returns c =
+returns g c =
     let at = c.in-Ok.ensures.cases.0 ∙ c.first_line.ensures.line in
     let utf8 = is_utf8-from_IsUtf8 _ (subst IsUtf8 c.first_line.ensures.line c.in-Ok.ensures.cases.1) in
     let same = ap (map (λ w. w.now)) c.deref.ensures.value ∙ c.in_ok-words.ensures ∙ ap words_in at in

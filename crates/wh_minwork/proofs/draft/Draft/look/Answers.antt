@@ -1,0 +1,45 @@
+use Rattle.std.proofs.Common.{◌≡◌, map, ap, ◌∙◌}
+use Rattle.wh_minwork.specs.Draft.{completed}
+use Rattle.wh_minwork.specs.Nodes.{expression_of}
+use Rattle.wh_minwork.proofs.Looking.{over_within, placed_sorted, placed_left, round_of}
+use Rattle.wh_minwork.proofs.Rounds.{round_is_cycle}
+use Rattle.wh_minwork.proofs.draft.Draft.look.Goals as goal
+
+pub place_all-requires-clause-views : goal.place_all-requires-clause-views
+place_all-requires-clause-views c =
+    let d = c.self.inside in
+    over_within d.edges.views d.edges.over d.edges.under d.edges.before d.children.now (completed d.ordered d.decided) c.self.invariant.edges
+
+pub returns-in_default : goal.returns-in_default
+returns-in_default c =
+    let d = c.self.inside in
+    let r = c.in_ok-placed.rest in
+    let sorted = placed_sorted d.edges.views d.edges.over d.edges.under d.edges.before r.comps r.insts d.children.now (completed d.ordered d.decided) c.in_ok-placed.placed.items c.self.invariant.edges c.in_ok-placed.ensures.placed c.in_default.ensures in
+    let list : c.new.result ≡ map expression_of c.in_ok-placed.placed.items = c.new.ensures ∙ c.in_ok-list.ensures.list ∙ ap (map expression_of) c.deref.ensures.value in
+    rw (list, ← c.self.view_is) sorted
+
+pub cycle-requires-clause-nodes : goal.cycle-requires-clause-nodes
+cycle-requires-clause-nodes c =
+    let d = c.self.inside in
+    let r = c.in_ok-placed.rest in
+    placed_left d.edges.views d.edges.over d.edges.before r.comps r.insts c.in_ok-placed.placed.items c.in_ok-placed.ensures.placed
+
+pub first_open-requires : goal.first_open-requires
+first_open-requires c =
+    let d = c.self.inside in
+    let round = round_of d.edges.views d.edges.over d.edges.under d.edges.before d.children.now (completed d.ordered d.decided) c.in_ok-cycle.cycle.items c.self.invariant.edges c.in_ok-cycle.ensures in
+    rw (c.deref-2.ensures.value, ← c.self.view_is) round
+
+pub returns-in-Some-first_open : goal.returns-in-Some-first_open
+returns-in-Some-first_open c =
+    let d = c.self.inside in
+    let round = round_of d.edges.views d.edges.over d.edges.under d.edges.before d.children.now (completed d.ordered d.decided) c.in_ok-cycle.cycle.items c.self.invariant.edges c.in_ok-cycle.ensures in
+    let cycle = round_is_cycle d.children.now (completed d.ordered d.decided) c.in_ok-cycle.cycle.items round in
+    (c.in-Some-first_open.ensures, (map expression_of c.in_ok-cycle.cycle.items, rw (← c.self.view_is) cycle))
+
+pub returns : goal.returns
+returns c =
+    let a = c.args.self.now in
+    let round = rw c.deref-2.ensures.value at c.in-None.ensures in
+    let list : c.new-in-None.result ≡ map expression_of c.in_ok-cycle.cycle.items = c.new-in-None.ensures ∙ c.in_ok-list-in-None.ensures.list ∙ ap (map expression_of) c.deref-in-None.ensures.value in
+    rw list (round_is_cycle a.children a.decided c.in_ok-cycle.cycle.items round)

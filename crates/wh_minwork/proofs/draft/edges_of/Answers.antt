@@ -1,0 +1,89 @@
+use Rattle.std.proofs.Common.{◌≡◌, ◌<◌, ◌≤◌, ◌&&◌, ◌||◌, [], Bool, true, false, eqb, ltb, length, get_or, refl, sym, ap, ◌∙◌, arith}
+use Rattle.std.proofs.lemmas.Bool.{le-ltb}
+use Rattle.wh_dag.specs.Shape.{has, children_of}
+use Rattle.wh_minwork.specs.Sets.{in_rows}
+use Rattle.wh_minwork.proofs.Bits.{in_none}
+use Rattle.wh_minwork.proofs.Drafting.{below_more, child_small, fill_more, fill_none, filled_all, listed_small, ordered_more, ordered_none}
+use Rattle.wh_minwork.proofs.draft.edges_of.Goals as goal
+
+pub loop-v-init : goal.loop-v-init
+loop-v-init c = record {
+  views = λ a. in_none a ∙ sym (le-ltb a 0 (omega arith));
+  over = λ a b. c.none.ensures a b ∙ sym (ap (λ z. z && has (children_of c.args.children.now a) b) (le-ltb a 0 (omega arith)));
+  under = λ a b. c.none-2.ensures b a ∙ sym (ap (λ z. z && has (children_of c.args.children.now a) b) (le-ltb a 0 (omega arith)));
+  before = c.none-3.ensures;
+}
+
+pub loop-u-init : goal.loop-u-init
+loop-u-init c =
+    let shape = c.args.children.now in
+    let v = c.loop-v.v in
+    let i = c.loop-v.invariant in
+    record {
+      views = λ a. c.with.ensures a ∙ ap (λ z. eqb v a || z) (i.views a) ∙ below_more v a;
+      over = λ a b. i.over a b ∙ fill_none (λ x y. ltb x v && has (children_of shape x) y) v a b [];
+      under = λ a b. i.under a b ∙ fill_none (λ x y. ltb x v && has (children_of shape x) y) v a b [];
+      before = i.before;
+    }
+
+pub add-requires-clause-view : goal.add-requires-clause-view
+add-requires-clause-view c =
+    let l : c.loop-v.v < length c.args.children.now = omega arith in
+    child_small c.args.children.now c.loop-v.v c.loop-u.u-index c.of-u-items.result.now c.of-u-items.ensures.shape l c.of-u-items.ensures.children c.loop-u-test.true
+
+pub add-requires-in-loop-u-clause-row : goal.add-requires-in-loop-u-clause-row
+add-requires-in-loop-u-clause-row c =
+    let l : c.loop-v.v < length c.args.children.now = omega arith in
+    child_small c.args.children.now c.loop-v.v c.loop-u.u-index c.of-u-items.result.now c.of-u-items.ensures.shape l c.of-u-items.ensures.children c.loop-u-test.true
+
+pub loop-u-preserved : goal.loop-u-preserved
+loop-u-preserved c =
+    let shape = c.args.children.now in
+    let v = c.loop-v.v in
+    let i = c.loop-u.invariant in
+    record {
+      views = i.views;
+      over =
+          fill_more (λ a b. in_rows c.loop-u.edges.over a b) (λ a b. in_rows c.add.new.rows a b) (λ x y. ltb x v && has (children_of shape x) y) v c.of-u-items.result.now c.loop-u.u-index c.loop-u-test.true i.over c.add.ensures;
+      under =
+          fill_more (λ a b. in_rows c.loop-u.edges.under b a) (λ a b. in_rows c.add-in-loop-u.new.rows b a) (λ x y. ltb x v && has (children_of shape x) y) v c.of-u-items.result.now c.loop-u.u-index c.loop-u-test.true i.under
+          (λ a b. c.add-in-loop-u.ensures b a ∙ swapped (eqb (get_or c.of-u-items.result.now c.loop-u.u-index 0) b) (eqb v a) (in_rows c.loop-u.edges.under b a));
+      before = i.before;
+    }
+  where
+    swapped : (x y r : Bool) → ((x && y) || r) ≡ ((y && x) || r)
+    swapped true true r = refl
+    swapped true false r = refl
+    swapped false true r = refl
+    swapped false false r = refl
+
+pub loop-u-2-init : goal.loop-u-2-init
+loop-u-2-init c =
+    let shape = c.args.children.now in
+    let i = c.loop-v.invariant in
+    let n : c.loop-v.v ≡ length shape = omega arith in
+    let low : length shape ≤ c.loop-v.v = omega arith in
+    record {
+      views = λ a. i.views a ∙ ap (ltb a) n;
+      over = filled_all shape (λ a b. in_rows c.loop-v.edges.over a b) c.loop-v.v low i.over;
+      under = filled_all shape (λ a b. in_rows c.loop-v.edges.under b a) c.loop-v.v low i.under;
+      before = ordered_none (λ a b. in_rows c.loop-v.edges.before a b) [] i.before;
+    }
+
+pub add-requires-in-loop-u-2-clause-row : goal.add-requires-in-loop-u-2-clause-row
+add-requires-in-loop-u-2-clause-row c =
+    (listed_small c.args.children.now c.args.ordered.now c.loop-u-2.u-index (0, 0) c.len-v-end.ensures.shape c.requires c.loop-u-2-test.true).1
+
+pub add-requires-in-loop-u-2-clause-view : goal.add-requires-in-loop-u-2-clause-view
+add-requires-in-loop-u-2-clause-view c =
+    (listed_small c.args.children.now c.args.ordered.now c.loop-u-2.u-index (0, 0) c.len-v-end.ensures.shape c.requires c.loop-u-2-test.true).0
+
+pub loop-u-2-preserved : goal.loop-u-2-preserved
+loop-u-2-preserved c =
+    let i = c.loop-u-2.invariant in
+    record {
+      views = i.views;
+      over = i.over;
+      under = i.under;
+      before = ordered_more (λ a b. in_rows c.loop-u-2.edges.before a b) (λ a b. in_rows c.add-in-loop-u-2.new.rows a b) c.args.ordered.now c.loop-u-2.u-index (0, 0) c.loop-u-2-test.true i.before c.add-in-loop-u-2.ensures;
+    }

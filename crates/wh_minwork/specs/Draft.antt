@@ -1,0 +1,51 @@
+-- Graphs of which couples are decided one after another.
+use Rattle.std.specs.Prelude.{◌≡◌, ℕ, List, ◌++◌, Bool, true, false, not, ◌||◌, filter}
+use Rattle.wh_dag.specs.Shape.{IsShape}
+use Rattle.wh_strategy.specs.declared.expression.Expression.{Expression}
+use Rattle.wh_dag.specs.Siblings.{IsCouple}
+use Rattle.wh_cert.specs.Graph.{decides, DecidesAll, IsCycle}
+use Rattle.wh_cert.specs.Search.{IsOpen}
+use Rattle.wh_minwork.specs.Left.{AreEdges}
+use Rattle.wh_minwork.specs.Sets.{in_rows}
+use Rattle.wh_minwork.specs.Sorted.{IsSorted}
+use Rattle.wh_minwork.specs.declared.draft.Found.{Found}
+use Rattle.wh_minwork.specs.declared.draft.Found.TheVariants.{Sorted, Cycle, Open}
+
+-- the child lists of a shape, all its couples in an order that they stand in as long as nothing else is decided, and the decisions
+pub record Drafted : Type 0 where
+  pub children : List (List ℕ)
+  pub ordered : List (ℕ × ℕ)
+  pub decided : List (ℕ × ℕ)
+
+-- neither of the two is decided to be installed before the other
+abbrev pub leaves_open : List (ℕ × ℕ) → ℕ × ℕ → Bool
+leaves_open decided couple = not (decides decided couple.0 couple.1 || decides decided couple.1 couple.0)
+
+-- the decisions, and of the ordered couples those that they leave open
+abbrev pub completed : List (ℕ × ℕ) → List (ℕ × ℕ) → List (ℕ × ℕ)
+completed ordered decided = decided ++ filter (leaves_open decided) ordered
+
+-- each decision is on a couple of the shape
+abbrev pub DecidesCouples : List (List ℕ) → List (ℕ × ℕ) → Type 0
+DecidesCouples shape decided = (u w : ℕ) → decides decided u w ≡ true → IsCouple shape u w
+
+-- what is found of a graph where each couple that is not decided stands in this order: its nodes sorted, a cycle by decisions
+-- alone, or, only where it has a cycle, a couple that is not decided
+abbrev pub IsFound : List (List ℕ) → List (ℕ × ℕ) → List (ℕ × ℕ) → Found → Type 0
+IsFound shape ordered decided (Sorted list) = IsSorted shape (completed ordered decided) list
+IsFound shape ordered decided (Cycle cycle) = IsCycle shape decided cycle
+IsFound shape ordered decided (Open couple) = IsOpen shape decided couple × ((cycle : List Expression) × IsCycle shape (completed ordered decided) cycle)
+
+-- of no couple both orders are in the list
+abbrev pub DecidesOneWay : List (ℕ × ℕ) → Type 0
+DecidesOneWay decided = (u w : ℕ) → decides decided u w ≡ true → decides decided w u ≡ false
+
+-- the sets of a draft tell of its graph, of the order of all couples, and of what is decided
+pub record AreDraftSets (views : ℕ) (over under before desired settled : List ℕ) (shape : List (List ℕ)) (ordered decided : List (ℕ × ℕ)) : Type 0 where
+  pub shape_is : IsShape shape
+  pub edges : AreEdges views over under before shape (completed ordered decided)
+  pub desired_are : (u w : ℕ) → in_rows desired w u ≡ decides ordered u w
+  pub settled_are : (u w : ℕ) → in_rows settled u w ≡ (decides decided u w || decides decided w u)
+  pub ordered_all : DecidesAll shape ordered
+  pub ordered_once : DecidesOneWay ordered
+  pub decided_couples : DecidesCouples shape decided

@@ -1,0 +1,117 @@
+//! The edges of a graph as sets of views.
+
+ghost use Rattle.std.specs.Prelude.{◌≡◌, ◌+◌, ◌<◌, ◌==◌, ◌&&◌, ℕ, true, false, not, MatchOption, sum};
+ghost use Rattle.wh_minwork.specs.Left.{AreTurned, IsWithin, is_left, is_node_by, leads_by};
+ghost use Rattle.wh_minwork.specs.Nodes.{same_node};
+ghost use Rattle.wh_minwork.specs.Sets.{in_set, in_rows};
+ghost use Rattle.wh_minwork.specs.declared.node.Node.{Node};
+
+use crate::node::Node;
+use crate::sets::{Rows, first, holds, meet, remove, without};
+use wh_dag::MAX_VIEWS;
+
+/// What the edges of a graph are told by.
+#[derive(Drop)]
+pub(crate) struct Edges {
+    /// The views.
+    pub(crate) views: u64,
+    /// The views that each view is over.
+    pub(crate) over: Rows,
+    /// The views that are over each view.
+    pub(crate) under: Rows,
+    /// The views that are to be installed before each view.
+    pub(crate) before: Rows,
+}
+
+/// The nodes that a sort has not placed yet.
+#[derive(Clone, Copy)]
+pub(crate) struct Rest {
+    /// Of each view, those that its Comps that are left are from.
+    pub(crate) comps: Rows,
+    /// Of each view, those whose Comps from it are left.
+    pub(crate) reads: Rows,
+    /// The views whose Insts are left.
+    pub(crate) insts: u64,
+}
+
+impl Rest {
+    /// All nodes are left.
+    pub(crate) fn all(edges: &Edges) -> Rest
+        ensures comps { result.comps ≡ edges.now.over }
+        ensures reads { result.reads ≡ edges.now.under }
+        ensures insts { result.insts ≡ edges.now.views }
+    {
+        Rest {
+            comps: edges.over,
+            reads: edges.under,
+            insts: edges.views,
+        }
+    }
+
+    /// Whether the node is left.
+    pub(crate) fn has(&self, node: Node) -> bool
+        requires { IsWithin node }
+        ensures { result ≡ is_left self.now.comps self.now.insts node }
+    {
+        match node {
+            Node::Comp(v, u) => holds(self.comps[v], u),
+            Node::Inst(w) => holds(self.insts, w),
+        }
+    }
+
+    /// The node is left no more.
+    pub(crate) fn take(&mut self, node: Node)
+        requires { IsWithin node }
+        ensures left { (e : Node) → is_left self.new.comps self.new.insts e ≡ (not (same_node node e) && is_left self.old.comps self.old.insts e) }
+        ensures turned { AreTurned self.old.comps self.old.reads → AreTurned self.new.comps self.new.reads }
+        ensures less { is_left self.old.comps self.old.insts node ≡ true → sum self.new.comps + self.new.insts < sum self.old.comps + self.old.insts }
+    {
+        match node {
+            Node::Comp(v, u) => {
+                remove(&mut self.comps, v, u);
+                remove(&mut self.reads, u, v);
+            }
+            Node::Inst(w) => self.insts = without(self.insts, w),
+        }
+    }
+
+    /// A node that is left and leads to this one: the smallest.
+    pub(crate) fn leader(&self, edges: &Edges, node: Node) -> Option<Node>
+        requires within { IsWithin node }
+        requires node { is_node_by edges.now.over edges.now.views node ≡ true }
+        requires turned { AreTurned self.now.comps self.now.reads }
+        ensures { MatchOption result ((x : Node) → is_left self.now.comps self.now.insts x ≡ true → leads_by edges.now.over edges.now.before x node ≡ false) (λ x. IsWithin x × (is_left self.now.comps self.now.insts x ≡ true) × (leads_by edges.now.over edges.now.before x node ≡ true)) }
+    {
+        match node {
+            Node::Comp(v, u) => match first(self.comps[u]) {
+                Some(x) => Some(Node::Comp(u, x)),
+                None => match first(meet(meet(edges.over[v], edges.before[u]), self.insts)) {
+                    Some(w) => Some(Node::Inst(w)),
+                    None => None,
+                },
+            },
+            Node::Inst(w) => match first(self.comps[w]) {
+                Some(x) => Some(Node::Comp(w, x)),
+                None => match first(self.reads[w]) {
+                    Some(v) => Some(Node::Comp(v, w)),
+                    None => None,
+                },
+            },
+        }
+    }
+
+    /// The smallest node that is left.
+    pub(crate) fn smallest(&self) -> Option<Node>
+        ensures { MatchOption result ((x : Node) → is_left self.now.comps self.now.insts x ≡ false) (λ x. IsWithin x × (is_left self.now.comps self.now.insts x ≡ true)) }
+    {
+        for v in 0..MAX_VIEWS {
+            if let Some(u) = first(self.comps[v]) {
+                return Some(Node::Comp(v, u));
+            }
+        }
+        match first(self.insts) {
+            Some(w) => Some(Node::Inst(w)),
+            None => None,
+        }
+    }
+}

@@ -1,0 +1,59 @@
+//! The cycle of a graph that cannot be sorted, from the nodes that are left.
+
+ghost use Rattle.std.specs.Prelude.{◌≡◌, true, IfOk};
+ghost use Rattle.wh_minwork.specs.Left.{AreNodesLeft, AreTurned, IsLed, IsRound, IsWithin, is_left, is_node_by, leads_by};
+ghost use Rattle.wh_minwork.specs.declared.node.Node.{Node};
+
+use crate::cycle::place_of;
+use crate::edge_sets::{Edges, Rest};
+use crate::node::Node;
+use std::alloc::{AllocError, Global};
+
+/// The node that is left and leads to this one.
+fn back(edges: &Edges, stuck: &Rest, node: Node) -> Node
+    requires within { IsWithin node }
+    requires left { is_left stuck.now.comps stuck.now.insts node ≡ true }
+    requires nodes { AreNodesLeft edges.now.views edges.now.over stuck.now.comps stuck.now.insts }
+    requires turned { AreTurned stuck.now.comps stuck.now.reads }
+    requires stuck { (y : Node) → is_left stuck.now.comps stuck.now.insts y ≡ true → IsLed edges.now.over edges.now.before stuck.now.comps stuck.now.insts y }
+    ensures within { IsWithin result }
+    ensures left { is_left stuck.now.comps stuck.now.insts result ≡ true }
+    ensures leads { leads_by edges.now.over edges.now.before result node ≡ true }
+{
+    match stuck.leader(edges, node) {
+        Some(before) => before,
+        None => unreachable!(),
+    }
+}
+
+/// A cycle among the nodes that are left, each of which another one leads to: from this one back, each time to the smallest
+/// that leads there, until one is met again. The walk from there on, turned round, is the cycle.
+pub(crate) fn cycle(
+    alloc: Global,
+    edges: &Edges,
+    stuck: &Rest,
+    start: Node,
+) -> Result<Vec<Node>, AllocError>
+    requires within { IsWithin start }
+    requires left { is_left stuck.now.comps stuck.now.insts start ≡ true }
+    requires nodes { AreNodesLeft edges.now.views edges.now.over stuck.now.comps stuck.now.insts }
+    requires turned { AreTurned stuck.now.comps stuck.now.reads }
+    requires stuck { (y : Node) → is_left stuck.now.comps stuck.now.insts y ≡ true → IsLed edges.now.over edges.now.before stuck.now.comps stuck.now.insts y }
+    ensures { IfOk result (λ walk. IsRound (leads_by edges.now.over edges.now.before) (is_node_by edges.now.over edges.now.views) walk.items) }
+{
+    let mut fresh = *stuck;
+    let mut walk = Vec::new(alloc);
+    fresh.take(start);
+    walk.push(start)?;
+    let mut next = back(edges, stuck, start);
+    while fresh.has(next) {
+        fresh.take(next);
+        walk.insert(0, next)?;
+        next = back(edges, stuck, next);
+    }
+    match place_of(&walk, next) {
+        Some(j) => walk.truncate(j + 1),
+        None => unreachable!(),
+    }
+    Ok(walk)
+}

@@ -1,0 +1,73 @@
+-- What a night made while readers were served, from what the night answered.
+use Rattle.std.proofs.Common.{◌≡◌, ◌∙◌, ◌<◌, ◌≤◌, ℕ, zero, suc, List, [], ◌∷◌, length, Option, Some, None, Result, Ok, Err, ap, arith, refl, subst, sym}
+use Rattle.std.specs.Prelude.{IfOk, OnOk, slice_index_or}
+use Rattle.std.specs.Global.{Vec}
+use Rattle.std.specs.List.{All, AllByRecursion}
+use Rattle.wh_row.specs.Bag.{Bag, IsTable}
+use Rattle.wh_dag.specs.Catalog.{CatalogOf}
+use Rattle.wh_strategy.specs.declared.expression.Expression.{Expression}
+use Rattle.wh_strategy.specs.Rules.{IsCorrect}
+use Rattle.wh_maint.specs.Asked.{AreBags}
+use Rattle.wh_maint.specs.Comp.{bag_at}
+use Rattle.wh_maint.specs.Finishing.{kind_in}
+use Rattle.wh_maint.specs.Fit.{IsFitTable}
+use Rattle.wh_maint.specs.View.{Joined, Kind, Summed}
+use Rattle.wh_store.specs.Pages.{Contents}
+use Rattle.wh_store.specs.Kept.{AreTables}
+use Rattle.wh_store.specs.Versions.{number}
+use Rattle.wh_publish.specs.Ledgers.{Ledger, Warehouse, versions_in}
+use Rattle.wh_night.specs.Fit.{AreFitTables}
+use Rattle.wh_night.specs.declared.report.CarryFault.{CarryFault}
+use Rattle.wh_night.specs.declared.report.Report.{Report}
+use Rattle.wh_desk.specs.Desks.{Sitting}
+use Rattle.wh_run.specs.declared.left.NightFault.{NightFault}
+use Rattle.wh_run.proofs.Soundness.{done_number}
+use Rattle.wh_readers.specs.Serving.{IsReady, IsRun, IsSeated, newly}
+use Rattle.wh_readers.specs.declared.serving.Served.{Served}
+
+-- ---- tables that are fit are tables
+
+fit_is_table : (kind : Kind) (table : Bag) → IsFitTable kind table → IsTable table
+fit_is_table Joined table h = h
+fit_is_table (Summed sums) table h = h.0
+
+tables_of : (tables : List Bag) → ((v : ℕ) → v < length tables → IsTable (bag_at tables v)) → AreTables tables
+tables_of [] each = tt
+tables_of (t ∷ tables) each = (each 0 (omega arith), tables_of tables (λ v l. each (suc v) (omega (arith, l))))
+
+pub fit_are_tables : (catalog : CatalogOf) (tables : List Bag) → length tables ≡ length catalog.views.children → AreFitTables catalog tables → AreTables tables
+fit_are_tables catalog tables each fit = tables_of tables (λ v l. fit_is_table (kind_in catalog v) (bag_at tables v) (fit v (omega (arith, each, l))))
+
+-- ---- desks
+
+pub seated_ready : (of : Warehouse) (views : ℕ) (desks : List Sitting) → views ≡ length of.opening → All (IsSeated of) desks → All (IsReady views) desks
+seated_ready of views desks e all = λ k d l. (let h = all k d l in (h.1, e ∙ ap (λ (o : Warehouse). length o.opening) (sym h.0)))
+
+pub seated_same : (of : Warehouse) (desks : List Sitting) → All (IsSeated of) desks → All (λ d. d.of ≡ of) desks
+seated_same of desks all = λ k d l. (all k d l).0
+
+-- ---- what is answered
+
+-- what holds of a night that was done holds of what is answered
+pub of_run : (P : Served → Type 0) (Q : Report → Type 0) (r : Result Served CarryFault) (night : Result Report NightFault) (tables : Contents) (rows : Option (Vec ℕ))
+    → IfOk r (λ s. (s.tables.items ≡ tables) × (night ≡ Ok s.report) × (rows ≡ Some s.rows)) → IfOk night Q
+    → ((s : Served) → s.tables.items ≡ tables → Q s.report → P s) → IfOk r P
+of_run P Q (Err f) night tables rows ok q more = tt
+of_run P Q (Ok s) night tables rows ok q more = more s ok.0 (subst (λ n. IfOk n Q) ok.1 q)
+
+pub of_run_on : (P : Served → Type 0) (Q : Type 0) (r : Result Served CarryFault) (night : Result Report NightFault) (tables : Contents) (rows : Option (Vec ℕ))
+    → IfOk r (λ s. (s.tables.items ≡ tables) × (night ≡ Ok s.report) × (rows ≡ Some s.rows)) → OnOk night Q
+    → ((s : Served) → s.tables.items ≡ tables → Q → P s) → IfOk r P
+of_run_on P Q (Err f) night tables rows ok q more = tt
+of_run_on P Q (Ok s) night tables rows ok q more = more s ok.0 (subst (λ n. OnOk n Q) ok.1 q)
+
+pub on_run : (Q : Type 0) (r : Result Served CarryFault) (night : Result Report NightFault) (tables : Contents) (rows : Option (Vec ℕ))
+    → IfOk r (λ s. (s.tables.items ≡ tables) × (night ≡ Ok s.report) × (rows ≡ Some s.rows)) → OnOk night Q → OnOk r Q
+on_run Q (Err f) night tables rows ok q = tt
+on_run Q (Ok s) night tables rows ok q = subst (λ n. OnOk n Q) ok.1 q
+
+-- the first night of a warehouse makes version 1
+pub first_number : (catalog : CatalogOf) (list : List Expression) (tables changes : List Bag) (keys : ℕ) (r : Result Report NightFault) (m : Ledger) → IsCorrect catalog.views.children list
+    → AreBags catalog tables → 1 ≤ keys → IsRun catalog list (newly tables) changes keys r m → IfOk r (λ report. report.version ≡ 1)
+first_number catalog list tables changes keys (Err f) m ok bags some run = tt
+first_number catalog list tables changes keys (Ok report) m ok bags some run = run.version ∙ done_number catalog list (newly tables) m changes keys ok bags some run.done

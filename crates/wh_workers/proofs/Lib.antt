@@ -1,0 +1,3 @@
+pub mod Fairness
+pub mod Placing
+pub mod Lowest

@@ -1,0 +1,8 @@
+use Rattle.std.proofs.Common.{◌-◌}
+use Rattle.wh_workers.proofs.work.+workers.Given as goal
+
+abbrev pub decreases-work : goal.decreases-work
+decreases-work g l = l.workers
+
+abbrev pub decreases-rest : goal.decreases-rest
+decreases-rest g l = l.workers - 1

@@ -1,0 +1,57 @@
+-- What workers bring, and what comes of it.
+use Rattle.std.specs.Prelude.{◌≡◌, ℕ, ◌<◌, List, ◌∷◌, ◌++◌, map, length, slice_get, Some, Ok, Err, All, Result, ⊤}
+use denote.Param.Members.{Shared}
+use Rattle.std.specs.Fn.{FnReturns}
+use Rattle.wh_workers.specs.Claims.{times, once_below}
+use Rattle.wh_workers.specs.declared.jobs.JobsFault.{JobsFault}
+use Rattle.wh_workers.specs.declared.jobs.JobsFault.TheVariants.{Memory, Refused}
+use Rattle.wh_workers.specs.declared.work.Brought.{Brought}
+
+-- the numbers of the jobs whose results these are
+abbrev pub numbers : {X : Type 0} → List (Brought X) → List ℕ
+numbers bs = map (λ b. b.number) bs
+
+-- there is one for each number below count, and no other
+abbrev pub OneEach : {X : Type 0} → ℕ → List (Brought X) → Type 0
+OneEach count bs = (x : ℕ) → times x (numbers bs) ≡ once_below x count
+
+-- one of these says that the job of this number gave x
+abbrev pub IsBrought : {X : Type 0} → List (Brought X) → ℕ → X → Type 0
+IsBrought {X} bs number x = (place : ℕ) × (slice_get bs place ≡ Some (record { number = number; value = x }))
+
+module _ {F X : Type 0} (g : Shared F (ℕ × Unit {0}) X) (f : F) where
+  -- each is what a call of f with its number, which is below count, may give
+  abbrev pub AreGiven : ℕ → List (Brought X) → Type 0
+  AreGiven count bs = All (λ b. (b.number < count) × FnReturns g f (b.number, tt) b.value) bs
+
+  -- there are count of them, and each is what a call of f with its place may give
+  pub record AreResults (count : ℕ) (xs : List X) : Type 0 where
+    pub len : length xs ≡ count
+    pub each : (i : ℕ) (x : X) → slice_get xs i ≡ Some x → FnReturns g f (i, tt) x
+
+-- the first of these that is a refusal
+pub record IsFirst {T E : Type 0} (os : List (Result T E)) (number : ℕ) (refusal : E) : Type 0 where
+  pub before : List T
+  pub rest : List (Result T E)
+  pub all : os ≡ map Ok before ++ Err refusal ∷ rest
+  pub at : number ≡ length before
+
+abbrev pub IsLowest : {T E : Type 0} → List (Result T E) → JobsFault E → Type 0
+IsLowest os Memory = ⊤
+IsLowest os (Refused number refusal) = IsFirst os number refusal
+
+module _ {F T E : Type 0} (g : Shared F (ℕ × Unit {0}) (Result T E)) (f : F) where
+  -- there are count of them, and each is what a call of f with its place, which is not refused, may give
+  pub record AreDone (count : ℕ) (values : List T) : Type 0 where
+    pub len : length values ≡ count
+    pub each : (i : ℕ) (x : T) → slice_get values i ≡ Some x → FnReturns g f (i, tt) (Ok x)
+
+  -- a call of f with this number is refused, and one with any lower number may give a value
+  pub record IsRefusedFirst (count number : ℕ) (refusal : E) : Type 0 where
+    pub below : number < count
+    pub refused : FnReturns g f (number, tt) (Err refusal)
+    pub earlier : (j : ℕ) → j < number → (x : T) × FnReturns g f (j, tt) (Ok x)
+
+  abbrev pub IsLowestRefused : ℕ → JobsFault E → Type 0
+  IsLowestRefused count Memory = ⊤
+  IsLowestRefused count (Refused number refusal) = IsRefusedFirst count number refusal

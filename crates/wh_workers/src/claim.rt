@@ -1,0 +1,104 @@
+//! The claim word: workers draw the numbers of jobs from it, each number once.
+
+ghost use Rattle.std.specs.Prelude.{◌≡◌, ℕ, [], ◌∷◌, ◌++◌, ◌+◌, ◌-◌, ◌<◌};
+ghost use Rattle.wh_workers.specs.Claims.{Holds, hand, Draws, Knows, Whole};
+
+use atomic_table::{Join, Play, Seat, Shared, Split, TableRule};
+use std::collections::LinkedList;
+
+/// What a seat knows. No value of it is made.
+pub struct Hand {
+    /// How many jobs there are.
+    pub jobs: u64,
+    /// How many workers the seat stands for.
+    pub parts: u64,
+    /// How many of these have not found yet that no job is left.
+    pub left: u64,
+    /// The numbers that were drawn with the seat.
+    pub drawn: LinkedList<u64>,
+}
+
+/// The rule of the word.
+pub struct Fair;
+
+impl TableRule<(), Hand, u64> for Fair {
+    ghost holds = { Holds };
+
+    ghost first = { λ n. hand n 16 16 [] };
+}
+
+/// A draw.
+pub struct Claims;
+
+impl Play<(), Hand> for Claims {
+    ghost then = { λ st me found after. Draws me.0 found after.0 × (after.1 ≡ me.1) };
+}
+
+/// A look at the word by a seat that stands for all workers.
+pub struct Looks;
+
+impl Play<(), Hand> for Looks {
+    ghost then = { λ st me found after. (after ≡ me) × Whole me.0 };
+}
+
+/// One worker keeps the seat, and the others have a seat of their own.
+pub struct One;
+
+impl Split<Hand> for One {
+    ghost left = { λ v. hand v.jobs 1 1 [] };
+
+    ghost right = { λ v. hand v.jobs (v.parts - 1) (v.parts - 1) [] };
+}
+
+/// Two seats become one.
+pub struct Both;
+
+impl Join<Hand> for Both {
+    ghost both = { λ v w. hand v.jobs (v.parts + w.parts) (v.left + w.left) (v.drawn ++ w.drawn) };
+
+    ghost spent = { hand 0 0 0 [] };
+}
+
+/// The word.
+pub type Word = Shared<(), Hand, u64, Fair>;
+
+/// A seat at the word.
+pub type Claimer = Seat<(), Hand>;
+
+/// Draws the next number. It is at or past the jobs where none is left.
+pub fn draw(word: &Word, seat: &mut Claimer) -> u64
+    requires seat { Knows word.now.table_id word.now.key seat.old }
+    requires left { (0 < seat.old.me.0.parts) × (0 < seat.old.me.0.left) }
+    ensures seat { Knows word.now.table_id word.now.key seat.new }
+    ensures draws { Draws seat.old.me.0 result seat.new.me.0 }
+{
+    word.fetch_add::<Claims>(seat, 0, 1)
+}
+
+/// Splits a seat that drew nothing: it keeps one worker, and the new seat has the others.
+pub fn another(word: &Word, seat: &mut Claimer) -> Claimer
+    requires seat { Knows word.now.table_id word.now.key seat.old }
+    requires fresh { (1 < seat.old.me.0.parts) × (seat.old.me.0 ≡ hand word.now.key seat.old.me.0.parts seat.old.me.0.parts []) }
+    ensures seat { Knows word.now.table_id word.now.key seat.new × (seat.new.me.0 ≡ hand word.now.key 1 1 []) }
+    ensures other { Knows word.now.table_id word.now.key result × (result.me.0 ≡ hand word.now.key (seat.old.me.0.parts - 1) (seat.old.me.0.parts - 1) []) }
+{
+    word.split_seat::<One>(seat)
+}
+
+/// A seat takes over what another drew, and its workers.
+pub fn absorb(word: &Word, seat: &mut Claimer, other: Claimer)
+    requires seat { Knows word.now.table_id word.now.key seat.old × (0 < seat.old.me.0.parts) }
+    requires other { Knows word.now.table_id word.now.key other × (0 < other.me.0.parts) }
+    ensures seat { Knows word.now.table_id word.now.key seat.new }
+    ensures both { seat.new.me.0 ≡ hand seat.old.me.0.jobs (seat.old.me.0.parts + other.me.0.parts) (seat.old.me.0.left + other.me.0.left) (seat.old.me.0.drawn ++ other.me.0.drawn) }
+{
+    word.join_seat::<Both>(seat, other);
+}
+
+/// A seat that stands for all workers, one of which found that no job is left, learns that each number was drawn, and once.
+pub fn settle(word: &Word, seat: &mut Claimer)
+    requires seat { Knows word.now.table_id word.now.key seat.old × (seat.old.me.0.parts ≡ 16) × (seat.old.me.0.left < 16) }
+    ensures { Whole seat.old.me.0 }
+{
+    word.load::<Looks>(seat, 0);
+}
