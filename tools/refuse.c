@@ -8,6 +8,7 @@
    An x goes to standard error for each call that is refused. */
 #define _GNU_SOURCE
 #include <errno.h>
+#include <stdatomic.h>
 #include <stdlib.h>
 #include <string.h>
 #include <sys/syscall.h>
@@ -28,17 +29,17 @@ static long at(void) {
   return number ? atol(number) : 0;
 }
 
-/* Whether this call, the next of its kind, is refused. */
-static int is_refused(const char *kind, long *count) {
-  ++*count;
-  int refused = (asked(kind) && *count == at()) || (kind[0] == 'm' && asked("memory") && *count >= at());
+/* Whether this call, the next of its kind, is refused. Threads that call at once are given numbers of their own. */
+static int is_refused(const char *kind, atomic_long *count) {
+  long number = atomic_fetch_add(count, 1) + 1;
+  int refused = (asked(kind) && number == at()) || (kind[0] == 'm' && asked("memory") && number >= at());
   if (refused || asked("count")) syscall(SYS_write, 2, refused ? "x" : kind, 1);
   return refused;
 }
 
 static size_t shortened(size_t size) { return asked("short") && size > (size_t)at() ? (size_t)at() : size; }
 
-static long allocations, reads, writes;
+static atomic_long allocations, reads, writes;
 
 void *malloc(size_t size) {
   if (is_refused("malloc", &allocations)) return errno = ENOMEM, NULL;
