@@ -46,18 +46,26 @@ fn first_absent<'a>(table: &'a Bag, delta: &'a Bag) -> Option<&'a [i64]>
     }
 }
 
-/// The first row of `bag` that counts below zero in both bags together.
+/// The first row of `bag` that counts below zero in it, and in both bags together. The other bag is asked for such rows alone, so
+/// that a table costs one look at each of its counts.
 fn absent_in<'a>(bag: &'a Bag, other: &Bag) -> Option<&'a [i64]>
     ensures { MatchOption result
-        ((row : List ℤ) → count_of bag.now row ≢ pos 0 → ¬ (IsAbsent bag.now other.now row))
+        ((row : List ℤ) → count_of bag.now row ≤ℤ negsuc 0 → ¬ (IsAbsent bag.now other.now row))
         (λ first. IsFirstAbsentIn bag.now other.now first.now) }
 {
     for (row, count) in bag.rows() {
-        if is_absent(count, other.count(row)) {
+        if is_short(count, other, row) {
             return Some(row);
         }
     }
     None
+}
+
+/// Whether a row's count is below zero, and stays so with the other bag's.
+fn is_short(count: i64, other: &Bag, row: &[i64]) -> bool
+    ensures { IsTrue result ↔ ((count ≤ℤ negsuc 0) × ((count +ℤ count_of other.now row.now) ≤ℤ negsuc 0)) }
+{
+    count < 0 && is_absent(count, other.count(row))
 }
 
 /// Whether counts are below zero together.
