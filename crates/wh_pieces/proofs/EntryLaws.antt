@@ -1,6 +1,6 @@
 -- Entries from a place on, and those above a row.
-use Rattle.std.proofs.Common.{◌≡◌, refl, sym, ap, subst, ◌∙◌, ℕ, zero, suc, ◌+◌, ◌<◌, ◌≤◌, List, [], ◌∷◌, ◌++◌, length, take, drop, Some, None, cond, slice_get, arith, length-append, add-one, true, false, is_lt}
-use Rattle.std.proofs.lemmas.List.{take-append-drop, take-append-le, drop-append-le}
+use Rattle.std.proofs.Common.{◌≡◌, refl, sym, ap, subst, ◌∙◌, ℕ, zero, suc, ◌+◌, ◌<◌, ◌≤◌, List, [], ◌∷◌, ◌++◌, length, take, drop, Some, None, cond, slice_get, arith, length-append, length-drop, add-one, true, false, is_lt}
+use Rattle.std.proofs.lemmas.List.{drop-drop, take-append-drop, take-append-le, drop-append-le}
 use Rattle.std.specs.List.{AllByRecursion}
 use Rattle.std.specs.List.Sorted.{IsStrictlySortedBy}
 use Rattle.std.specs.Map.{keys_of}
@@ -41,6 +41,14 @@ passed_whole x ls place n = sym (drop_whole x (all_of ls)) ∙ ap (λ k. drop k 
 
 pub whole_passed : {T : Type 0} (x : List (Row × T)) (ls : List (List (Row × T))) (place : ℕ) → place ≡ length x → all_of ls ≡ drop place (x ++ all_of ls)
 whole_passed x ls place n = sym (drop_whole x (all_of ls)) ∙ ap (λ k. drop k (x ++ all_of ls)) (sym n)
+
+-- ---- entries that stand side by side
+
+pub run_within : {T : Type 0} (x s : List (Row × T)) (place k : ℕ) → place + k ≤ length x → drop place (x ++ s) ≡ take k (drop place x) ++ drop (place + k) (x ++ s)
+run_within x s place k l =
+    let first : take k (drop place (x ++ s)) ≡ take k (drop place x) =
+    ap (take k) (drop-append-le place x s (omega arith)) ∙ take-append-le k (drop place x) s (omega (arith, length-drop place x)) in
+    sym (take-append-drop k (drop place (x ++ s))) ∙ (λ i. first i ++ drop-drop k place (x ++ s) i)
 
 -- ---- the entries above a row
 

@@ -128,7 +128,8 @@ remove-cells w cells vs i e l =
     let same : w * length (remove vs i) + w ≡ w * length vs = (let z : w * length (remove vs i) + w ≡ w * (length (remove vs i) + 1) = omega arith in z) ∙ ap (λ n. w * n) n in
     omega arith
 
-mul_add : (w a b : ℕ) → w * (a + b) ≡ w * a + w * b
+-- cells of rows, and of more rows
+pub mul_add : (w a b : ℕ) → w * (a + b) ≡ w * a + w * b
 mul_add w a zero = let z : a + 0 ≡ a = omega arith in ap (λ n. w * n) z ∙ (let y : w * a ≡ w * a + w * 0 = omega arith in y)
 mul_add w a (suc b) =
     let z : a + suc b ≡ suc (a + b) = omega arith in
@@ -143,3 +144,20 @@ drop-cells w cells vs i e l =
     let n : length (drop i vs) + i ≡ length vs = omega (arith, length-drop i vs) in
     let same : w * length (drop i vs) + w * i ≡ w * length vs = (let z : w * length (drop i vs) + w * i ≡ w * (length (drop i vs) + i) = sym (mul_add w (length (drop i vs)) i) in z) ∙ ap (λ n. w * n) n in
     omega arith
+
+-- ---- rows on the way
+
+pub run-flat : {T : Type 0} (w : ℕ) (cells : List ℤ) (vs : List T) (i k n : ℕ) → n ≡ w * k → flat w (take n (drop (w * i) cells)) (take k (drop i vs)) ≡ take k (drop i (flat w cells vs))
+run-flat w cells vs i k n e =
+    ap (λ m. flat w (take m (drop (w * i) cells)) (take k (drop i vs))) e
+    ∙ sym (take-flat w (drop (w * i) cells) (drop i vs) k)
+    ∙ ap (take k) (sym (drop-flat w cells vs i))
+
+pub run-count : {T : Type 0} (vs : List T) (i k : ℕ) → i + k ≤ length vs → length (take k (drop i vs)) ≡ k
+run-count vs i k l = length-take-le k (drop i vs) (omega (arith, length-drop i vs))
+
+pub run-cells : {T : Type 0} (w : ℕ) (cells : List ℤ) (vs : List T) (i k n : ℕ) → length cells ≡ w * length vs → i + k ≤ length vs → n ≡ w * k → length (take n (drop (w * i) cells)) ≡ w * length (take k (drop i vs))
+run-cells w cells vs i k n e l same =
+    let all = place_within w (i + k) (length vs) l in
+    let split = mul_add w i k in
+    length-take-le n (drop (w * i) cells) (omega (arith, length-drop (w * i) cells)) ∙ same ∙ ap (λ m. w * m) (sym (run-count vs i k l))

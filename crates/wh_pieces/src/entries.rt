@@ -1,7 +1,8 @@
 //! The entries of a map, lent one after another.
 
-ghost use Rattle.std.specs.Prelude.{◌≡◌, ◌≤◌, [], ◌∷◌, length, drop, MatchOption};
+ghost use Rattle.std.specs.Prelude.{◌≡◌, ◌<◌, ◌≤◌, [], ◌∷◌, length, drop, MatchOption};
 ghost use Rattle.std.specs.Iterator.{YieldsFirstBy, item_count};
+ghost use Rattle.wh_pieces.specs.Flat.{IsRun};
 ghost use Rattle.wh_pieces.specs.Lent.{lent};
 ghost use Rattle.wh_pieces.specs.Pieces.{all_of, AreNotEmpty, piece_at, BeginsAt};
 
@@ -56,6 +57,27 @@ impl<'a, T: Copy + Drop> Entries<'a, T> {
     {
         let piece = self.pieces.first()?;
         Some(piece.get(self.place))
+    }
+
+    /// The next of these entries that stand side by side, at most this many, which are left behind: their width, their cells, and
+    /// their values. None where there are none.
+    pub fn run(&mut self, most: usize) -> Option<(usize, &'a [i64], &'a [T])>
+        requires { 0 < most }
+        ensures { MatchOption result ((self.old ≡ []) × (self.new ≡ [])) (λ r. IsRun most self.old self.new r.0 r.1.now r.2.now) }
+    {
+        let Some((piece, rest)) = self.pieces.split_first() else {
+            return None;
+        };
+        let left = piece.len() - self.place;
+        if most < left {
+            let run = piece.run(self.place, most);
+            self.place += most;
+            return Some(run);
+        }
+        let run = piece.run(self.place, left);
+        self.pieces = rest;
+        self.place = 0;
+        Some(run)
     }
 
     /// Leaves the first of these entries behind.

@@ -1,8 +1,9 @@
 //! A piece of a map: rows of one width, side by side.
 
-ghost use Rattle.std.specs.Prelude.{◌≡◌, ◌<◌, ◌≤◌, ◌+◌, [], ◌∷◌, ◌++◌, length, take, drop, slice_get, Some, IfOk, OnOk, OnErr, MatchResult, cond};
+ghost use Rattle.std.specs.Prelude.{◌≡◌, ◌<◌, ◌≤◌, ◌+◌, ◌*◌, [], ◌∷◌, ◌++◌, length, take, drop, slice_get, Some, IfOk, OnOk, OnErr, MatchResult, cond};
 ghost use Rattle.std.specs.List.{insert, remove};
 ghost use Rattle.std.specs.Map.{keys_of};
+ghost use Rattle.wh_pieces.specs.Flat.{flat};
 ghost use Rattle.wh_pieces.specs.Place.{AreRisingRows, IsAt, IsGapFor, set_at};
 
 use std::alloc::{AllocError, Global};
@@ -69,6 +70,19 @@ impl<T: Copy + Drop> Piece<T> {
         ensures { slice_get self.now place ≡ Some (result.0.now, result.1) }
     {
         (self.row(place), self.values[place])
+    }
+
+    /// So many rows from a place on: their width, their cells side by side, and their values.
+    pub(crate) fn run(&self, place: usize, count: usize) -> (usize, &[i64], &[T])
+        requires { place + count ≤ length self.now }
+        ensures rows { flat result.0 result.1.now result.2.now ≡ take count (drop place self.now) }
+        ensures cells { length result.1.now ≡ result.0 * length result.2.now }
+        ensures count { length result.2.now ≡ count }
+    {
+        let start = self.width * place;
+        let end = place + count;
+        let cells = &self.cells[start..self.width * end];
+        (self.width, cells, &self.values[place..end])
     }
 
     /// Where the row stands, or would go.

@@ -5,47 +5,34 @@ ghost use Rattle.wh_store.specs.Pages.{page_of};
 
 use std::alloc::{AllocError, Global};
 use std::marker::Model;
-use wh_row::{Bag, Row, Rows};
+use wh_row::{Bag, Records, Row, Rows};
 
 /// Some rows of a table in rising order, each with its count, and whether none follows.
 #[derive(Drop)]
 pub struct Page {
     /// The rows.
-    pub rows: Vec<(Row, i64)>,
+    pub rows: Records,
     /// Whether the table has no row after these.
     pub last: bool,
 }
 
 impl Model for Page {
-    ghost use Rattle.wh_row.specs.Stored.{plain};
     ghost use Rattle.wh_store.specs.Pages.{Shown, coded_shown};
 
     ghost Value = { Shown };
 
     ghost coded = { coded_shown };
 
-    ghost view = { λ p. record { rows = plain p.rows.items; last = p.last } };
+    ghost view = { λ p. record { rows = p.rows; last = p.last } };
 }
 
 /// The first rows that are still to come, at most this many.
 fn first_of(alloc: Global, rows: Rows<'_>, limit: usize) -> Result<Page, AllocError>
     ensures { IfOk result (λ page. page ≡ record { rows = take limit rows.entry; last = nat_le (length rows.entry) limit }) }
 {
-    let mut taken = Vec::new(alloc);
-    for (row, count) in rows {
-        if taken.len() == limit {
-            return Ok(Page {
-                rows: taken,
-                last: false,
-            });
-        }
-        let row = Row::from_slice(alloc, row)?;
-        taken.push((row, count))?;
-    }
-    Ok(Page {
-        rows: taken,
-        last: true,
-    })
+    let (rows, mut rest) = rows.cut(alloc, limit)?;
+    let last = rest.next().is_none();
+    Ok(Page { rows, last })
 }
 
 /// The first rows of a table after this one, at most this many.
