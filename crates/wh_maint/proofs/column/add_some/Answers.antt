@@ -2,7 +2,7 @@ use Rattle.std.proofs.Common.{rules, ◌≡◌, ◌≢◌, ap, sym, subst, ◌�
 use Rattle.std.specs.Int.{w128}
 use Rattle.wh_row.specs.Row.{Row, AreRising}
 use Rattle.wh_row.specs.Weigh.{Counted}
-use Rattle.wh_row.specs.Bag.{count, plus, empty}
+use Rattle.wh_row.specs.Bag.{plus, empty}
 use Rattle.wh_row.proofs.BagLaws.{rising-written}
 use Rattle.wh_maint.proofs.FirstAbsent.{rows_of, tail_rises}
 use Rattle.wh_maint.proofs.NewSums.{AreTold, AreBeingAdded, all_told, adding_first, adding_none, adding_next, has_one}

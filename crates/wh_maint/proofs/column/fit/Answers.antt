@@ -1,4 +1,4 @@
-use Rattle.std.proofs.Common.{rules, ◌≡◌, ap, sym, subst, ◌∙◌, ℤ, ◌+ℤ◌, ◌∷◌, FitsSigned, to_z-of_z}
+use Rattle.std.proofs.Common.{rules, ◌≡◌, sym, subst, ◌∙◌, ℤ, ◌+ℤ◌, ◌∷◌, FitsSigned, to_z-of_z}
 use Rattle.std.specs.Int.{w128}
 use Rattle.wh_row.specs.Row.{Row}
 use Rattle.wh_row.specs.Bag.{count}

@@ -1,6 +1,5 @@
-use Rattle.std.proofs.Common.{rules, ◌≡◌, ap, sym, subst, ◌∙◌, ℤ, pos, ◌∷◌, cond}
-use Rattle.wh_row.specs.Row.{Row, is_row}
-use Rattle.wh_row.specs.Bag.{count}
+use Rattle.std.proofs.Common.{rules, ◌≡◌, sym, subst, ◌∙◌, ℤ, ◌∷◌}
+use Rattle.wh_row.specs.Row.{Row}
 use Rattle.wh_maint.proofs.NewSums.{AreTold, AreBeingTaken, all_told, taking_first, taking_next}
 use Rattle.wh_maint.proofs.column.take_back.Goals as goal
 
