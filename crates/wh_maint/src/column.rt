@@ -16,7 +16,7 @@ pub(crate) fn fit(sums: &Sums, others: &Sums) -> bool
 {
     sums.sums_fit();
     for (row, more) in others.rows() {
-        if !can_add(sums, row.as_slice(), *more) {
+        if !can_add(sums, row, more) {
             return false;
         }
     }
@@ -37,8 +37,8 @@ pub(crate) fn new_rows(alloc: Global, sums: &Sums, others: &Sums) -> Result<Sums
 {
     let mut new = Sums::new(alloc);
     for (row, more) in others.rows() {
-        if sums.sum(row.as_slice()) == 0 {
-            add_row(&mut new, row.as_slice(), *more)?;
+        if sums.sum(row) == 0 {
+            add_row(&mut new, row, more)?;
         }
     }
     Ok(new)
@@ -79,7 +79,7 @@ fn add_some(sums: &mut Sums, new: &Sums) -> Result<(), AllocError>
     ensures err { OnErr result ((row : List ℤ) → count_of new.now row ≡ pos 0 → count_of sums.new row ≡ count_of sums.old row) }
 {
     for (row, sum) in new.rows() {
-        add_row(sums, row.as_slice(), *sum)?;
+        add_row(sums, row, sum)?;
     }
     Ok(())
 }
@@ -90,7 +90,7 @@ pub(crate) fn take_back(sums: &mut Sums, new: &Sums)
     ensures kept { (row : List ℤ) → count_of new.now row ≡ pos 0 → count_of sums.new row ≡ count_of sums.old row }
 {
     for (row, _) in new.rows() {
-        take_row(sums, row.as_slice());
+        take_row(sums, row);
     }
 }
 
@@ -115,8 +115,8 @@ pub(crate) fn add_others(sums: &mut Sums, others: &Sums, new: &Sums)
     ensures { (row : List ℤ) → count_of sums.new row +ℤ count_of new.now row ≡ count_of sums.old row +ℤ count_of others.now row }
 {
     for (row, more) in others.rows() {
-        if new.sum(row.as_slice()) == 0 {
-            add_freely(sums, row.as_slice(), *more);
+        if new.sum(row) == 0 {
+            add_freely(sums, row, more);
         }
     }
 }

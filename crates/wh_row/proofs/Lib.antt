@@ -7,8 +7,8 @@ pub mod WrittenLaws
 pub mod OneRow
 pub mod BagLaws
 mod Machine
-mod StoredLaws
 mod MapLaws
+mod AddLaws
 mod OrderLaws
 mod FlatLaws
 mod RunningSums

@@ -1,5 +1,5 @@
 -- What the entries of a map from rows count.
-use Rattle.std.proofs.Common.{◌≡◌, ◌≢◌, refl, sym, ap, subst, ◌∙◌, zero, suc, ℤ, pos, negsuc, ◌+ℤ◌, true, false, cond, Bool, List, [], ◌∷◌, Option, Some, None, T, ◌&&◌, map, FitsSigned, unwrap_or, Result, Ok, Err, OnOk, OnErr}
+use Rattle.std.proofs.Common.{◌≡◌, ◌≢◌, refl, sym, ap, subst, ◌∙◌, zero, suc, ℤ, pos, negsuc, ◌+ℤ◌, true, false, cond, Bool, List, [], ◌∷◌, Option, Some, None, T, ◌&&◌, map, FitsSigned, unwrap_or, Result, Ok, Err, OnOk, OnErr, to_z, of_z, to_z-of_z}
 use lib.IntN.{+ℤ_idl, +ℤ_idr}
 use mir.Syntax.{w64}
 use Rattle.std.specs.Int.{Width}
@@ -33,7 +33,7 @@ none-cond true o = refl
 none-cond false o = refl
 
 -- the bag counts a row as the map's look-up does
-pub count-from_counts : (es : Counted) (q : Row) → count (from_counts es) q ≡ unwrap_or (found q es) (pos 0)
+count-from_counts : (es : Counted) (q : Row) → count (from_counts es) q ≡ unwrap_or (found q es) (pos 0)
 count-from_counts [] q = ap number (fin.get-empty row_cmp q)
 count-from_counts (e ∷ es) q =
     count-set_count (from_counts es) e.0 e.1 q
@@ -42,7 +42,7 @@ count-from_counts (e ∷ es) q =
 
 -- ---- an entry put in, or taken out
 
-pub from_counts-with : (es : Counted) (r : Row) (v : ℤ) → from_counts (with_entry es r v) ≡ set_count (from_counts es) r v
+from_counts-with : (es : Counted) (r : Row) (v : ℤ) → from_counts (with_entry es r v) ≡ set_count (from_counts es) r v
 from_counts-with es r v = same_bag _ _ (λ q.
     count-from_counts (with_entry es r v) q
     ∙ ap (λ o. unwrap_or o (pos 0)) (found-with es r v q)
@@ -58,7 +58,7 @@ from_counts-without es fs r is none = same_bag _ _ (λ q.
     ∙ ap (cond (is_row q r) (pos 0)) (sym (count-from_counts es q))
     ∙ sym (count-set_count (from_counts es) r (pos 0) q))
 
-pub counts-with : (w : Width) (es : Counted) (r : Row) (v : ℤ) → AreCountsIn w es → (v ≢ pos 0) × FitsSigned w v → AreCountsIn w (with_entry es r v)
+counts-with : (w : Width) (es : Counted) (r : Row) (v : ℤ) → AreCountsIn w es → (v ≢ pos 0) × FitsSigned w v → AreCountsIn w (with_entry es r v)
 counts-with w [] r v h fact = (fact, tt)
 counts-with w (e ∷ es) r v h fact =
     elim (row_cmp r e.0) as (λ o. AreCountsIn w (Rattle.std.specs.Ordering.match_ordering o ((r, v) ∷ e ∷ es) ((e.0, v) ∷ es) (e ∷ with_entry es r v))) [
@@ -74,6 +74,21 @@ counts-without w (e ∷ es) r h =
       | true ↦ h.1
       | false ↦ (h.0, counts-without w es r h.1)
     ]
+
+-- a row counts in a bag what the map has there
+pub seen_count : (es : Counted) (b : Bag) (row : Row) → from_counts es ≡ b → unwrap_or (found row es) (pos 0) ≡ count b row
+seen_count es b row seen = sym (count-from_counts es row) ∙ ap (λ x. count x row) seen
+
+-- a number is put in as the machine keeps it
+pub put_bag : (w : Width) (es fs : Counted) (b : Bag) (row : Row) (v : ℤ) → from_counts es ≡ b → FitsSigned w v → fs ≡ with_entry es row (to_z w (of_z w v)) → from_counts fs ≡ set_count b row v
+put_bag w es fs b row v seen fits is =
+    ap from_counts (is ∙ ap (with_entry es row) (to_z-of_z fits))
+    ∙ from_counts-with es row v
+    ∙ (λ i. set_count (seen i) row v)
+
+pub put_counts : (w : Width) (es fs : Counted) (row : Row) (v : ℤ) → AreCountsIn w es → (v ≢ pos 0) → FitsSigned w v → fs ≡ with_entry es row (to_z w (of_z w v)) → AreCountsIn w fs
+put_counts w es fs row v counts some fits is =
+    subst (λ (x : Counted). AreCountsIn w x) (sym (is ∙ ap (with_entry es row) (to_z-of_z fits))) (counts-with w es row v counts (some, fits))
 
 -- ---- a map in order, written out
 

@@ -1,5 +1,4 @@
 use Rattle.wh_row.specs.Row.{AreRising}
-use Rattle.wh_row.specs.Stored.{plain}
 use Rattle.wh_maint.proofs.FirstAbsent.{rows_of}
 use Rattle.wh_maint.proofs.NewSums.{AreTold, AreBeingAdded}
 use Rattle.wh_maint.proofs.column.add_some.Given as goal
@@ -8,7 +7,7 @@ abbrev pub invariant-loop-row : goal.invariant-loop-row
 invariant-loop-row l =
     record {
       next : (goal.iterator-loop-row).can_next l.row-iterator × (goal.iterator-loop-row).is_finite l.row-iterator;
-      told : AreTold l.new (plain l.row-iterator);
-      rising : AreRising (rows_of (plain l.row-iterator));
-      adding : AreBeingAdded l.fn.sums l.new l.sums (plain l.row-iterator);
+      told : AreTold l.new l.row-iterator;
+      rising : AreRising (rows_of l.row-iterator);
+      adding : AreBeingAdded l.fn.sums l.new l.sums l.row-iterator;
     }

@@ -1,5 +1,4 @@
 use Rattle.wh_row.specs.Row.{AreRising}
-use Rattle.wh_row.specs.Stored.{plain}
 use Rattle.wh_maint.proofs.FirstAbsent.{rows_of}
 use Rattle.wh_maint.proofs.NewSums.{AreTold, AreFound}
 use Rattle.wh_maint.proofs.column.new_rows.Given as goal
@@ -8,7 +7,7 @@ abbrev pub invariant-loop-row : goal.invariant-loop-row
 invariant-loop-row l =
     record {
       next : (goal.iterator-loop-row).can_next l.row-iterator × (goal.iterator-loop-row).is_finite l.row-iterator;
-      told : AreTold l.others (plain l.row-iterator);
-      rising : AreRising (rows_of (plain l.row-iterator));
-      found : AreFound l.sums l.others l.new (plain l.row-iterator);
+      told : AreTold l.others l.row-iterator;
+      rising : AreRising (rows_of l.row-iterator);
+      found : AreFound l.sums l.others l.new l.row-iterator;
     }
