@@ -1,3 +1,4 @@
 pub mod Ledgers
 pub mod Codes
 pub mod Faults
+pub mod Diaries
