@@ -2,6 +2,7 @@ pub mod RowLaws
 pub mod FlatLaws
 pub mod OrderLaws
 pub mod PieceLaws
+pub mod LastLaws
 pub mod EntryLaws
 pub mod MergeLaws
 pub mod BringLaws

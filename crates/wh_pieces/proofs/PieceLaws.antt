@@ -336,7 +336,7 @@ all-before_after ls nth place l =
     ∙ ap (λ es. all_of (take nth ls) ++ es) (append_assoc (take place x) (drop place x) s)
     ∙ sym (append_assoc (all_of (take nth ls)) (take place x) (drop place x ++ s))
 
-above-append : {T : Type 0} (row : Row) (a b : List (Row × T)) → IsAbove row a → IsAbove row b → IsAbove row (a ++ b)
+pub above-append : {T : Type 0} (row : Row) (a b : List (Row × T)) → IsAbove row a → IsAbove row b → IsAbove row (a ++ b)
 above-append row [] b h k = k
 above-append row (e ∷ a) b h k = (h.0, above-append row a b h.1 k)
 

@@ -1,6 +1,6 @@
 //! A map's pieces, one after another.
 
-ghost use Rattle.std.specs.Prelude.{◌≡◌, ◌≢◌, ◌<◌, ◌≤◌, ◌+◌, ◌^◌, ◌↔◌, [], ◌∷◌, ◌++◌, length, take, drop, set, Some, None, IsSome, IfOk, OnOk, OnErr, IsTrue, suc};
+ghost use Rattle.std.specs.Prelude.{◌≡◌, ◌≢◌, ◌<◌, ◌≤◌, ◌+◌, ◌^◌, ◌↔◌, [], ◌∷◌, ◌++◌, length, take, drop, set, Some, None, IsSome, IfOk, OnOk, OnErr, IsTrue, suc, false};
 ghost use Rattle.std.specs.List.{insert, remove};
 ghost use Rattle.wh_pieces.specs.Place.{AreRisingRows, IsAbove};
 ghost use Rattle.wh_pieces.specs.Pieces.{found, with_entry, without_entry, above, all_of, AreNotEmpty, ArePieces, AreCounted, IsPieceFor, piece_at, before, after};
@@ -125,9 +125,9 @@ impl<T: Copy + Drop> Pieces<T> {
         ensures err { OnErr result (self.new ≡ self.old) }
         ensures memory { OnErr result (found row.now self.old ≡ None) }
     {
-        if self.pieces.is_empty() {
-            put_piece(self.alloc, &mut self.pieces, 0, row, value)?;
-            self.len = 1;
+        // Rows that come in order are looked for nowhere.
+        if is_above_all(&self.pieces, row) {
+            self.push(row, value)?;
             return Ok(None);
         }
         let nth = find_piece(&self.pieces, row);
@@ -230,6 +230,23 @@ fn take_from<T: Copy + Drop>(pieces: &mut Vec<Piece<T>>, nth: usize, place: usiz
     pieces[nth].remove(place);
     if pieces[nth].len() == 0 {
         let _ = pieces.remove(nth);
+    }
+}
+
+/// Whether the row is above all rows, by one look at the last of them.
+fn is_above_all<T: Copy + Drop>(pieces: &Vec<Piece<T>>, row: &[i64]) -> bool
+    requires pieces { ArePieces pieces.now.items }
+    ensures above { IsTrue result → IsAbove row.now (all_of pieces.now.items) }
+    ensures some { result ≡ false → 0 < length pieces.now.items }
+{
+    let count = pieces.len();
+    if count == 0 {
+        return true;
+    }
+    let last = &pieces[count - 1];
+    match row.cmp(last.row(last.len() - 1)) {
+        Ordering::Greater => true,
+        _ => false,
     }
 }
 

@@ -1,16 +1,28 @@
 use Rattle.std.proofs.Common.{◌≡◌, ◌<◌, ◌+◌, ◌^◌, List, length, set, ap, subst, sym, ◌∙◌, arith, rules, slice_get, None}
 use Rattle.wh_pieces.specs.Row.{Row}
-use Rattle.wh_pieces.specs.Place.{AreRisingRows, IsAt, IsGapFor, set_at}
+use Rattle.wh_pieces.specs.Place.{AreRisingRows, IsAbove, IsAt, IsGapFor, set_at}
 use Rattle.wh_pieces.specs.Pieces.{found, with_entry, all_of, AreCounted, piece_at}
-use Rattle.wh_pieces.proofs.PieceLaws.{piece_read, rising-nth, found_there, found_nowhere, with_there, with_new, counted_first, counted_there, counted_new}
+use Rattle.wh_pieces.proofs.PieceLaws.{piece_read, rising-nth, found_there, found_nowhere, with_there, with_new, counted_there, counted_new}
 use Rattle.wh_pieces.proofs.MergeLaws.{on_err}
+use Rattle.wh_pieces.proofs.LastLaws.{found_above, with_above}
 use Rattle.wh_pieces.proofs.pieces.Pieces.insert.Goals as goal
 
-pub invariant_of-self-then-is_empty : goal.invariant_of-self-then-is_empty
-invariant_of-self-then-is_empty g c =
-    let ls = c.self.inside.pieces.items in
-    let none : length ls ≡ 0 = search rules in
-    counted_first (c.args.row.now, c.args.value) ls c.put_piece.new.pieces.items none c.in_ok-put_piece.ensures.ok c.in_ok-put_piece.ensures.some
+above_all : {T : Type 0} (row : Row) (es fs : List (Row × T)) → es ≡ fs → IsAbove row es → IsAbove row fs
+above_all {T} row es fs is h = subst (λ (xs : List (Row × T)). IsAbove row xs) is h
+
+pub returns-then-is_above_all-clause-gives : goal.returns-then-is_above_all-clause-gives
+returns-then-is_above_all-clause-gives g c =
+    sym (found_above c.args.row.now c.args.self.now (above_all c.args.row.now (all_of c.self.inside.pieces.items) c.args.self.now c.self.view_is (c.is_above_all.ensures.above c.if-is_above_all.true)))
+
+pub returns-then-is_above_all-clause-ok : goal.returns-then-is_above_all-clause-ok
+returns-then-is_above_all-clause-ok g c =
+    c.in_ok-push.ensures.ok
+    ∙ sym (with_above c.args.row.now c.args.value c.args.self.now (above_all c.args.row.now (all_of c.self.inside.pieces.items) c.args.self.now c.self.view_is (c.is_above_all.ensures.above c.if-is_above_all.true)))
+
+pub returns-in_err-push-clause-memory : goal.returns-in_err-push-clause-memory
+returns-in_err-push-clause-memory g c =
+    on_err c.from_residual.result (found c.args.row.now c.args.self.now ≡ None)
+    (found_above c.args.row.now c.args.self.now (above_all c.args.row.now (all_of c.self.inside.pieces.items) c.args.self.now c.self.view_is (c.is_above_all.ensures.above c.if-is_above_all.true)))
 
 pub find-requires : goal.find-requires
 find-requires g c =
@@ -19,8 +31,8 @@ find-requires g c =
     let at = c.find_piece-nth.ensures in
     subst (λ (x : List (Row × g.row.T.Denot)). AreRisingRows x) (sym (piece_read ls nth c.index.result.now at.within c.index.ensures)) (rising-nth ls nth at.within c.self.invariant.pieces.rising)
 
-pub invariant_of-self-in-Ok : goal.invariant_of-self-in-Ok
-invariant_of-self-in-Ok g c =
+pub invariant_of-self : goal.invariant_of-self
+invariant_of-self g c =
     let ls = c.self.inside.pieces.items in
     let nth = c.find_piece-nth.result in
     let at = c.find_piece-nth.ensures in
