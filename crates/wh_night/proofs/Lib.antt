@@ -8,6 +8,7 @@ pub mod Storing
 pub mod Reasons
 pub mod Refusals
 pub mod Nights
+pub mod FirstTables
 pub mod FirstRefusals
 pub mod NewValues
 pub mod StageLists

@@ -1,8 +1,10 @@
-use Rattle.std.proofs.Common.{suc, sym, ap, subst, ◌∙◌, map, cond, [], ◌∷◌, ◌++◌}
+use Rattle.std.proofs.Common.{◌+◌, suc, sym, ap, subst, ◌∙◌, map, take, cond, [], ◌∷◌, ◌++◌}
 use Rattle.std.specs.List.{range_with_len}
 use Rattle.wh_dag.specs.Catalog.{width_of, is_base}
 use Rattle.wh_row.specs.Bag.{HasWidth, empty}
+use Rattle.wh_maint.specs.Comp.{bag_at}
 use Rattle.wh_night.specs.Kept.{KeptLists}
+use Rattle.wh_night.proofs.FirstTables.{one_more}
 use Rattle.wh_night.proofs.Nights.{first_parts_more, first_wide}
 use Rattle.wh_night.proofs.state.NightState.add_view.Goals as goal
 
@@ -10,13 +12,15 @@ pub returns-clause-parts : goal.returns-clause-parts
 returns-clause-parts g c =
     let cat = c.args.catalog.now in
     let v = c.args.view in
-    let next : KeptLists = record { tables = c.push.new.self.items; pendings = c.push-3.new.self.items; changes = c.push-2.new.self.items; known = c.push-4.new.self.items } in
-    first_parts_more cat c.args.self.now next v c.in_ok-copy_of.field-0 c.in_ok-first_change.field-0 c.in_ok-new.field-0 c.is_base-is_base.result c.requires.parts
-    (subst (λ b. HasWidth b (width_of cat v)) (sym c.in_ok-copy_of.ensures) c.requires.table)
+    let old : KeptLists = c.args.self.now in
+    let next : KeptLists =
+    record { tables = take (v + 1) c.self.inside.tables.items; pendings = c.push-2.new.self.items; changes = c.push.new.self.items; known = c.push-3.new.self.items } in
+    first_parts_more cat (record old { tables = take v old.tables }) next v (bag_at old.tables v) c.in_ok-first_change.field-0 c.in_ok-new.field-0 c.is_base-is_base.result c.requires.parts
+    c.requires.table
     (subst (λ b. HasWidth b (width_of cat v)) (sym (c.in_ok-first_change.ensures ∙ (λ i. cond (c.is_base-is_base.ensures i) c.args.change.now empty))) (first_wide (is_base cat v) c.args.change.now (width_of cat v) c.requires.change))
     (λ i. record { view = c.in_ok-new.ensures.view i; columns = (c.in_ok-new.ensures.columns ∙ ap (λ n. map (λ _. empty) (range_with_len 0 (suc n))) c.sums_of.ensures) i })
     c.is_base-is_base.ensures
-    (c.in_ok-push.ensures.items ∙ ap (λ (z : KeptLists). z.tables ++ c.in_ok-copy_of.field-0 ∷ []) c.self.view_is)
-    (c.in_ok-push-2.ensures.items ∙ ap (λ (z : KeptLists). z.changes ++ c.in_ok-first_change.field-0 ∷ []) c.self.view_is)
-    (c.in_ok-push-3.ensures.items ∙ ap (λ (z : KeptLists). z.pendings ++ c.in_ok-new.field-0 ∷ []) c.self.view_is)
-    (c.in_ok-push-4.ensures.items ∙ ap (λ (z : KeptLists). z.known ++ c.is_base-is_base.result ∷ []) c.self.view_is)
+    (ap (λ (z : KeptLists). take (v + 1) z.tables) c.self.view_is ∙ one_more old.tables v c.requires.there)
+    (c.in_ok-push.ensures.items ∙ ap (λ (z : KeptLists). z.changes ++ c.in_ok-first_change.field-0 ∷ []) c.self.view_is)
+    (c.in_ok-push-2.ensures.items ∙ ap (λ (z : KeptLists). z.pendings ++ c.in_ok-new.field-0 ∷ []) c.self.view_is)
+    (c.in_ok-push-3.ensures.items ∙ ap (λ (z : KeptLists). z.known ++ c.is_base-is_base.result ∷ []) c.self.view_is)
