@@ -125,6 +125,31 @@ impl<T: Copy + Drop> Pieces<T> {
         ensures err { OnErr result (self.new ≡ self.old) }
         ensures memory { OnErr result (found row.now self.old ≡ None) }
     {
+        self.insert_or(
+            row,
+            value,
+            &move |_old: T| -> T
+                ensures { result ≡ value }
+            { value },
+        )
+    }
+
+    /// Puts a value at a row that is new, or makes of the one that stands at the row what `change` does, and gives what
+    /// stood there. It takes memory only for a row that is new.
+    pub fn insert_or<F: Fn(T) -> T>(
+        &mut self,
+        row: &[i64],
+        value: T,
+        change: &F,
+    ) -> Result<Option<T>, AllocError>
+        requires { F.IsAlwaysCallable change.now }
+        ensures gives { IfOk result (λ r. r ≡ found row.now self.old) }
+        ensures new { found row.now self.old ≡ None → OnOk result (self.new ≡ with_entry self.old row.now value) }
+        ensures there { (old : T) → found row.now self.old ≡ Some old
+            → (v : T) × (F.post change.now old v) × (self.new ≡ with_entry self.old row.now v) }
+        ensures err { OnErr result (self.new ≡ self.old) }
+        ensures memory { OnErr result (found row.now self.old ≡ None) }
+    {
         // Rows that come in order are looked for nowhere.
         if is_above_all(&self.pieces, row) {
             self.push(row, value)?;
@@ -134,7 +159,7 @@ impl<T: Copy + Drop> Pieces<T> {
         match self.pieces[nth].find(row) {
             Ok(place) => {
                 let old = self.pieces[nth].get(place).1;
-                self.pieces[nth].set(place, value);
+                self.pieces[nth].set(place, change(old));
                 Ok(Some(old))
             }
             Err(place) => {

@@ -9,6 +9,7 @@ pub mod BagLaws
 mod Machine
 mod MapLaws
 mod AddLaws
+mod RaiseLaws
 mod OrderLaws
 mod FlatLaws
 mod RunningSums

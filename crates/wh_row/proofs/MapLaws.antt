@@ -42,7 +42,7 @@ count-from_counts (e ∷ es) q =
 
 -- ---- an entry put in, or taken out
 
-from_counts-with : (es : Counted) (r : Row) (v : ℤ) → from_counts (with_entry es r v) ≡ set_count (from_counts es) r v
+pub from_counts-with : (es : Counted) (r : Row) (v : ℤ) → from_counts (with_entry es r v) ≡ set_count (from_counts es) r v
 from_counts-with es r v = same_bag _ _ (λ q.
     count-from_counts (with_entry es r v) q
     ∙ ap (λ o. unwrap_or o (pos 0)) (found-with es r v q)
@@ -58,7 +58,7 @@ from_counts-without es fs r is none = same_bag _ _ (λ q.
     ∙ ap (cond (is_row q r) (pos 0)) (sym (count-from_counts es q))
     ∙ sym (count-set_count (from_counts es) r (pos 0) q))
 
-counts-with : (w : Width) (es : Counted) (r : Row) (v : ℤ) → AreCountsIn w es → (v ≢ pos 0) × FitsSigned w v → AreCountsIn w (with_entry es r v)
+pub counts-with : (w : Width) (es : Counted) (r : Row) (v : ℤ) → AreCountsIn w es → (v ≢ pos 0) × FitsSigned w v → AreCountsIn w (with_entry es r v)
 counts-with w [] r v h fact = (fact, tt)
 counts-with w (e ∷ es) r v h fact =
     elim (row_cmp r e.0) as (λ o. AreCountsIn w (Rattle.std.specs.Ordering.match_ordering o ((r, v) ∷ e ∷ es) ((e.0, v) ∷ es) (e ∷ with_entry es r v))) [
