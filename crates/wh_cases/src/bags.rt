@@ -95,3 +95,47 @@ fn records_are_refused_where_a_running_sum_leaves_i64(rt: HostRuntime) -> Result
     }
     Ok(())
 }
+
+/// Asserts that these are the records, in this order.
+fn assert_records(rt: &impl Abort, records: &Records, wanted: &[(&[i64], i64)]) {
+    assert_eq!(rt; records.len(), wanted.len());
+    for (place, record) in wanted.iter().enumerate() {
+        assert_eq!(rt; records.get(place), *record);
+    }
+    assert_eq!(rt; records.last(), wanted.last().copied());
+}
+
+#[test]
+fn records_of_several_widths_stand_as_they_came(rt: HostRuntime) -> Result<(), Fail> {
+    let wanted: [(&[i64], i64); 6] = [
+        (&[], 4),
+        (&[], -4),
+        (&[1, 5], 1),
+        (&[2, 6], 3),
+        (&[7], 2),
+        (&[], 9),
+    ];
+    let mut records = Records::new(rt.alloc());
+    for place in 0..wanted.len() {
+        let (row, count) = wanted[place];
+        records.push(row, count)?;
+        assert_records(&rt, &records, &wanted[..place + 1]);
+    }
+    Ok(())
+}
+
+#[test]
+fn rows_are_cut_where_it_is_asked(rt: HostRuntime) -> Result<(), Fail> {
+    let rows: [(&[i64], i64); 5] = [(&[], 4), (&[-3, 9], 2), (&[1], 7), (&[1, 5], -1), (&[2], 1)];
+    let bag = bag_of(rt.alloc(), &rows)?;
+    for limit in 0..7 {
+        let (taken, mut rest) = bag.rows().cut(rt.alloc(), limit)?;
+        let count = limit.min(5);
+        assert_records(&rt, &taken, &rows[..count]);
+        for (row, count) in &rows[count..] {
+            assert_eq!(&rt; rest.next(), Some((*row, *count)));
+        }
+        assert!(&rt; rest.next().is_none());
+    }
+    Ok(())
+}

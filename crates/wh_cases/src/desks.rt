@@ -40,9 +40,9 @@ fn assert_one_row(rt: &impl Abort, desk: &mut Desk, cell: i64)
 {
     let page = desk.page(0, None, 10).ok().expect(rt, "a page");
     assert!(rt; page.last && page.rows.len() == 1);
-    let (row, count) = &page.rows[0];
-    assert_eq!(rt; row.as_slice(), [cell].as_slice());
-    assert_eq!(rt; *count, 1);
+    let (row, count) = page.rows.get(0);
+    assert_eq!(rt; row, [cell].as_slice());
+    assert_eq!(rt; count, 1);
 }
 
 /// One night, in which the row (2) comes for (1).

@@ -40,9 +40,9 @@ fn assert_page(
     let page = store.visible(version, 0, after, limit)?;
     assert_eq!(rt; page.rows.len(), wanted.len());
     for (at, cell) in wanted.iter().enumerate() {
-        let (row, count) = &page.rows[at];
-        assert_eq!(rt; row.as_slice(), [*cell].as_slice());
-        assert_eq!(rt; *count, 1);
+        let (row, count) = page.rows.get(at);
+        assert_eq!(rt; row, [*cell].as_slice());
+        assert_eq!(rt; count, 1);
     }
     assert_eq!(rt; page.last, last);
     Ok(())

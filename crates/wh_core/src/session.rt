@@ -46,7 +46,7 @@ pub(crate) fn mark_after(
     }
     match page.rows.last() {
         Some((row, _)) => {
-            let row = Row::from_slice(alloc, row.as_slice())?;
+            let row = Row::from_slice(alloc, row)?;
             Ok(Some(Mark { view, row }))
         }
         None => Ok(None),

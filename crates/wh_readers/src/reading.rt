@@ -58,18 +58,18 @@ fn is_last(page: &Page) -> bool
 }
 
 /// The last row of a page.
-fn last_row(page: Page) -> Option<Row>
-    ensures { IfSome result (λ row. (before : Counted) × (count : ℤ) × (page.rows ≡ before ++ (row.items, count) ∷ [])) }
+fn last_row(alloc: Global, page: &Page) -> Option<Row>
+    ensures { IfSome result (λ row. (before : Counted) × (count : ℤ) × (page.now.rows ≡ before ++ (row.items, count) ∷ [])) }
 {
-    let Page { mut rows, last: _ } = page;
-    match rows.pop() {
-        Some((row, _)) => Some(row),
-        None => None,
+    let (row, _) = page.rows.last()?;
+    match Row::from_slice(alloc, row) {
+        Ok(cells) => Some(cells),
+        Err(_) => None,
     }
 }
 
 /// How many distinct rows a view has in version 0, which is read page by page.
-fn rows_in(desk: &mut Desk, view: usize) -> Option<usize>
+fn rows_in(alloc: Global, desk: &mut Desk, view: usize) -> Option<usize>
     requires session { desk.old.session ≡ Some 0 }
     ensures of { desk.new.of ≡ desk.old.of }
     ensures session { OnSome result (desk.new.session ≡ Some 0) }
@@ -84,21 +84,21 @@ fn rows_in(desk: &mut Desk, view: usize) -> Option<usize>
         if is_last(&page) {
             return Some(rows);
         }
-        let row = last_row(page)?;
+        let row = last_row(alloc, &page)?;
         after = Some(row);
     }
     None
 }
 
 /// How many distinct rows all views have together in version 0. None where a page was not answered, as for want of memory.
-fn rows_in_all(desk: Desk, views: usize) -> Option<usize>
+fn rows_in_all(alloc: Global, desk: Desk, views: usize) -> Option<usize>
     requires { IsReady views desk }
     ensures { IfSome result (λ n. n ≡ rows_of desk.of.opening) }
 {
     let mut desk = desk;
     let mut rows: usize = 0;
     for view in 0..views {
-        rows = rows.checked_add(rows_in(&mut desk, view)?)?;
+        rows = rows.checked_add(rows_in(alloc, &mut desk, view)?)?;
     }
     Some(rows)
 }
@@ -134,7 +134,7 @@ pub(crate) fn read_each<R: Threads + Sync>(
         move || -> Option<usize>
             requires { IsReady views desk }
             ensures { IfSome result (λ n. n ≡ rows_of desk.of.opening) }
-        { rows_in_all(desk, views) },
+        { rows_in_all(alloc, desk, views) },
         move || -> Option<Vec<usize>>
             requires { IsSync R.row × All (IsReady views) desks.items }
             ensures { (of : Warehouse) → All (λ d. d.of ≡ of) desks.items → IfSome result (λ rows. rows.items ≡ replicate (length desks.items) (rows_of of.opening)) }

@@ -76,12 +76,13 @@ pub fn is_whole(page: &Page, block: u32) -> bool {
     let mut sum = 0i64;
     let mut last = 0i64;
     let mut place = 0i64;
-    for (row, count) in &page.rows {
-        if row.as_slice() != [i64::from(block), place].as_slice() {
+    for at in 0..page.rows.len() {
+        let (row, count) = page.rows.get(at);
+        if row != [i64::from(block), place].as_slice() {
             return false;
         }
         sum = sum.wrapping_add(last);
-        last = *count;
+        last = count;
         place = place.wrapping_add(1);
     }
     place == BLOCK && last == sum

@@ -30,8 +30,8 @@ fn has_rows(page: &Page, cells: &[i64]) -> bool {
         return false;
     }
     for place in 0..cells.len() {
-        let (row, count) = &page.rows[place];
-        if row.as_slice() != [cells[place]].as_slice() || *count != 1 {
+        let (row, count) = page.rows.get(place);
+        if row != [cells[place]].as_slice() || count != 1 {
             return false;
         }
     }

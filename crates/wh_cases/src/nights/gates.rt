@@ -176,14 +176,10 @@ fn read_while_kept(desk: &mut Desk, gate: &Keeping) -> Option<Page> {
 
 /// Whether these are the rows (1,5) and (2,5), once each, and no other.
 fn is_before_the_night(page: &Page) -> bool {
-    match page.rows.as_slice() {
-        [(first, 1), (second, 1)] => {
-            page.last
-                && first.as_slice() == [1, 5].as_slice()
-                && second.as_slice() == [2, 5].as_slice()
-        }
-        _ => false,
-    }
+    page.last
+        && page.rows.len() == 2
+        && page.rows.get(0) == (&[1, 5], 1)
+        && page.rows.get(1) == (&[2, 5], 1)
 }
 
 /// Carries the night out on this thread, while the desk reads in another.

@@ -1,12 +1,11 @@
 //! What is printed of a machine's replies.
 
 ghost use Rattle.std.specs.Prelude.{◌≡◌, ◌++◌, decimal, flat_map, IfOk, OnOk};
-ghost use Rattle.wh_row.specs.Stored.{plain};
 ghost use Rattle.whview.specs.ReplyText.{cause_name, cell_text, entry_text, expired_text, page_text, refusal_text, replies_text, reply_line, reply_text};
 
 use std::alloc::{AllocError, Global};
 use wh_core::{Cause, Reply};
-use wh_row::Row;
+use wh_row::Records;
 use wh_store::Page;
 
 /// Appends a cell.
@@ -28,8 +27,8 @@ fn append_cells(alloc: Global, out: &mut Vec<u8>, row: &[i64]) -> Result<(), All
 }
 
 /// Appends a row with its count.
-fn append_entry(alloc: Global, out: &mut Vec<u8>, row: &Row, count: i64) -> Result<(), AllocError>
-    ensures { OnOk result (out.new.items ≡ out.old.items ++ entry_text (row.now.items, count)) }
+fn append_entry(alloc: Global, out: &mut Vec<u8>, row: &[i64], count: i64) -> Result<(), AllocError>
+    ensures { OnOk result (out.new.items ≡ out.old.items ++ entry_text (row.now, count)) }
 {
     let text = format!(in alloc; " [{count}")?;
     out.extend_from_slice(text.as_bytes())?;
@@ -39,11 +38,12 @@ fn append_entry(alloc: Global, out: &mut Vec<u8>, row: &Row, count: i64) -> Resu
 }
 
 /// Appends the rows of a page.
-fn append_entries(alloc: Global, out: &mut Vec<u8>, rows: &[(Row, i64)]) -> Result<(), AllocError>
-    ensures { OnOk result (out.new.items ≡ out.old.items ++ flat_map entry_text (plain rows.now)) }
+fn append_entries(alloc: Global, out: &mut Vec<u8>, rows: &Records) -> Result<(), AllocError>
+    ensures { OnOk result (out.new.items ≡ out.old.items ++ flat_map entry_text rows.now) }
 {
-    for (row, count) in rows {
-        append_entry(alloc, out, row, *count)?;
+    for place in 0..rows.len() {
+        let (row, count) = rows.get(place);
+        append_entry(alloc, out, row, count)?;
     }
     Ok(())
 }
