@@ -2,9 +2,9 @@
 use Rattle.std.proofs.Common.{◌≡◌, refl, sym, ap, subst, ◌∙◌, ℕ, suc, ◌-◌, ◌<◌, List, [], ◌∷◌, ◌++◌, length, take, Some, None, slice_get, arith}
 use Rattle.std.proofs.lemmas.List.{take_all, append-nil}
 use Rattle.std.specs.Map.{keys_of}
-use Rattle.std.specs.declared.cmp.Ordering.TheVariants.{Less, Equal, Greater}
+use Rattle.std.specs.declared.cmp.Ordering.TheVariants.{Less, Greater}
 use Rattle.wh_pieces.specs.Row.{Row, row_cmp}
-use Rattle.wh_pieces.specs.Place.{AreRisingRows, IsAbove}
+use Rattle.wh_pieces.specs.Place.{IsAbove}
 use Rattle.wh_pieces.specs.Pieces.{found, with_entry, all_of, ArePieces, piece_at}
 use Rattle.wh_pieces.proofs.OrderLaws.{above_to}
 use Rattle.wh_pieces.proofs.PieceLaws.{above-append, above_piece, found-above, rising-nth, some-at, take-suc_piece, with-above}

@@ -473,19 +473,6 @@ all-gone (x ∷ ls) zero [] l n = refl
 all-gone (x ∷ ls) zero (e ∷ y) l n = absurd (omega (arith, n))
 all-gone (x ∷ ls) (suc nth) y l n = ap (λ es. x ++ es) (all-gone ls nth y (omega arith) n)
 
-one_rising : {T : Type 0} (e : Row × T) → AreRisingRows (e ∷ [])
-unfolding IsStrictlySortedBy
-one_rising e = (tt, tt)
-
-pub counted_first : {T : Type 0} (e : Row × T) (ls ms : List (List (Row × T))) → length ls ≡ 0 → all_of ms ≡ e ∷ all_of ls → AreNotEmpty ms → AreCounted ms 1
-counted_first {T} e [] ms z h n =
-    record {
-      pieces = record { rising = subst (λ (es : List (Row × T)). AreRisingRows es) (sym h) (one_rising e); some = n };
-      exact = sym (ap length h);
-      small = omega arith;
-    }
-counted_first e (x ∷ ls) ms z h n = absurd (omega (arith, z))
-
 -- ---- a piece that was cut in halves
 
 split_at : {T : Type 0} (a b es : List (Row × T)) (n : ℕ) → es ≡ a ++ b → length a ≡ n → (a ≡ take n es) × (b ≡ drop n es)

@@ -1,4 +1,4 @@
-use Rattle.std.proofs.Common.{◌≡◌, ◌<◌, ◌≤◌, ◌+◌, ◌-◌, ◌++◌, List, length, take, drop, ap, subst, sym, ◌∙◌, arith}
+use Rattle.std.proofs.Common.{◌≡◌, ◌<◌, ◌≤◌, ◌+◌, ◌-◌, ◌++◌, List, length, drop, ap, subst, sym, ◌∙◌, arith}
 use Rattle.wh_pieces.specs.Row.{Row}
 use Rattle.wh_pieces.specs.Pieces.{all_of, AreNotEmpty, BeginsAt}
 use Rattle.wh_pieces.proofs.EntryLaws.{run_within, whole_passed}

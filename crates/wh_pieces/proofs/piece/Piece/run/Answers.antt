@@ -1,6 +1,6 @@
-use Rattle.std.proofs.Common.{rules, List, ◌≡◌, ◌≤◌, ◌+◌, ◌-◌, length, take, drop, ◌*◌, ap, sym, ◌∙◌, arith}
+use Rattle.std.proofs.Common.{rules, ◌≡◌, ◌≤◌, ◌+◌, ◌-◌, length, take, drop, ◌*◌, ap, ◌∙◌, arith}
 use Rattle.wh_pieces.specs.Flat.{flat}
-use Rattle.wh_pieces.proofs.FlatLaws.{length-flat, place_within, mul_add, run-flat, run-count, run-cells}
+use Rattle.wh_pieces.proofs.FlatLaws.{length-flat, place_within, mul_add, run-flat}
 use Rattle.wh_pieces.proofs.piece.Piece.run.Goals as goal
 
 pub overflow_mul-start : goal.overflow_mul-start

@@ -1,4 +1,4 @@
-use Rattle.std.proofs.Common.{◌≡◌, ◌<◌, ◌+◌, ◌^◌, List, length, set, ap, subst, sym, ◌∙◌, arith, rules, slice_get, Option, Some, None}
+use Rattle.std.proofs.Common.{◌≡◌, ◌<◌, ◌+◌, ◌^◌, List, set, ap, subst, sym, ◌∙◌, arith, slice_get, Option, Some, None}
 use Rattle.wh_pieces.specs.Row.{Row}
 use Rattle.wh_pieces.specs.Place.{AreRisingRows, IsAbove, IsAt, IsGapFor, set_at}
 use Rattle.wh_pieces.specs.Pieces.{found, with_entry, all_of, AreCounted, piece_at}
