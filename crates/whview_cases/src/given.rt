@@ -67,6 +67,61 @@ view v
 1,2
 ";
 
+/// Events for the machine that goes through the night of [`NIGHT`].
+pub const SCHEDULE: &str = "@schedule
+desks 1
+workers 1
+keys 2
+begin
+take 0
+done 0
+page
+page
+commit
+open 0
+read 0 v 2
+close 0
+";
+
+/// What `replay` says to them: one row of each view goes and one comes, a page each.
+pub const REPLIES: &str = "begun
+job 0
+done
+paged 2
+paged 2
+version 1
+session 1
+page [1 2] end
+closed
+";
+
+/// A bundle for `plan`: the views and the sizes of [`BUNDLE`].
+pub const MEASURED: &str = "@catalogue
+[[view]]
+name = \"A\"
+[[view]]
+name = \"B\"
+[[view]]
+name = \"V\"
+over = [\"A\", \"B\"]
+@sizes
+view,pre,post,change
+A,10,12,4
+B,100,70,30
+V,50,44,6
+";
+
+/// What `plan` says of it: with B first the Comps read 10 and 70 rows beside the changes, with A first 100 and 12.
+pub const PLANNED: &str = "scope all
+work 154
+comp V from B
+inst B
+comp V from A
+inst A
+inst V
+pair V B A 80
+";
+
 /// A reader that gives these bytes, so many at a read, and an error at one of the reads, counted from 1; at 0 none fails.
 #[derive(Drop)]
 pub struct Source<'a> {

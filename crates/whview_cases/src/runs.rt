@@ -1,6 +1,9 @@
 // The program over readers and writers of every kind.
 
-use crate::given::{ANSWER, BUNDLE, CARRIED, ENDLESS, Endless, NIGHT, Sink, Source};
+use crate::given::{
+    ANSWER, BUNDLE, CARRIED, ENDLESS, Endless, MEASURED, NIGHT, PLANNED, REPLIES, SCHEDULE, Sink,
+    Source,
+};
 use std::test::Fail;
 use whview::{run, want_of_memory, words_without_text};
 
@@ -8,6 +11,24 @@ use whview::{run, want_of_memory, words_without_text};
 fn a_reader_that_gives_a_byte_at_a_time_is_answered(rt: HostRuntime) -> Result<(), Fail> {
     for (command, bundle, answer) in [("check", BUNDLE, ANSWER), ("night", NIGHT, CARRIED)] {
         let mut input = Source::new(bundle.as_bytes(), 1);
+        let mut out = Sink::new(rt.alloc(), ENDLESS, true);
+        let status = run(&rt, rt.alloc(), &[command], &mut input, &mut out);
+        assert_eq!(&rt; status, 0, "of {command}");
+        assert!(&rt; out.text.as_slice() == answer.as_bytes(), "of {command}");
+    }
+    Ok(())
+}
+
+#[test]
+fn plans_certificates_and_replays_are_answered(rt: HostRuntime) -> Result<(), Fail> {
+    let certified = format!(in rt.alloc(); "{MEASURED}@plan\n{PLANNED}")?;
+    let replayed = format!(in rt.alloc(); "{NIGHT}{SCHEDULE}")?;
+    for (command, bundle, answer) in [
+        ("plan", MEASURED, PLANNED),
+        ("certify", certified.as_str(), "certified all work 154\n"),
+        ("replay", replayed.as_str(), REPLIES),
+    ] {
+        let mut input = Source::new(bundle.as_bytes(), 4096);
         let mut out = Sink::new(rt.alloc(), ENDLESS, true);
         let status = run(&rt, rt.alloc(), &[command], &mut input, &mut out);
         assert_eq!(&rt; status, 0, "of {command}");
