@@ -101,3 +101,29 @@ fn the_first_reason_refuses_an_operation(rt: HostRuntime) -> Result<(), Fail> {
     assert_eq!(rt; StoreFault::LastVersion.number(), 5);
     Ok(())
 }
+
+#[test]
+fn rows_that_are_no_page_are_refused(rt: HostRuntime) -> Result<(), Fail> {
+    let mut store = store_of(&rt, rt.alloc(), &[(&[1], 1)])?;
+    store.apply(&Op::Begin)?;
+    let none: &[(&[i64], i64)] = &[];
+    for counts in [
+        none,
+        &[(&[2], 1), (&[2], 1)],
+        &[(&[3], 1), (&[2], 1)],
+        &[(&[2], -1)],
+    ] {
+        let bad = put(rt.alloc(), counts)?;
+        assert_eq!(rt; store.refuses(&bad), Some(StoreFault::BadPage));
+        assert_eq!(rt; store.apply(&bad), Err(StoreFault::BadPage));
+    }
+    store.apply(&put(rt.alloc(), &[(&[1], 0), (&[2], 3)])?)?;
+    store.apply(&Op::Commit)?;
+    assert!(rt; store.current_tables().len() == 1);
+    let table = store.table(0)?;
+    assert_eq!(rt;
+        (table.count(&[1]), table.count(&[2]), table.total()),
+        (0, 3, 3)
+    );
+    Ok(())
+}
