@@ -321,7 +321,7 @@ pub fn night<P: Publish, F: RowTest, G: RowValue, T: Gate + Sync, R: Threads + W
     }
     // Makes known that the list is correct.
     let _ = correct.strategy();
-    let Ok(mut state) = NightState::new(alloc, catalog, &tables, changes) else {
+    let Ok(mut state) = NightState::over(alloc, catalog, tables, changes) else {
         return Err(untouched(NightCause::Memory));
     };
     let Ok(stages) = waves(alloc, correct) else {

@@ -76,13 +76,13 @@ returns-clause-done g c =
     let l : Ledger = g.P.Publish.kept c.args.writer.now in
     let newest : List Bag = newest_in l in
     let ok : IsCorrect cat.views.children list = subst (λ shape. IsCorrect shape list) c.requires.judged c.strategy.ensures.rules in
-    let same : c.deref-2.result.now ≡ newest = c.deref-2.ensures.value ∙ c.in-Ok.ensures in
-    let k : Kept = kept c.in-Ok-new.state in
-    let first : IsFirst cat (bag_at newest) (bag_at c.args.changes.now) k = subst (λ ts. IsFirst cat (bag_at ts) (bag_at c.args.changes.now) k) same c.in-Ok-new.ensures.first in
+    let same : c.in-Ok.tables.items ≡ newest = c.in-Ok.ensures in
+    let k : Kept = kept c.in-Ok-over.state in
+    let first : IsFirst cat (bag_at newest) (bag_at c.args.changes.now) k = subst (λ ts. IsFirst cat (bag_at ts) (bag_at c.args.changes.now) k) same c.in-Ok-over.ensures.first in
     let t : Given = record { list = list; tables = bag_at newest; changes = bag_at c.args.changes.now; before = l } in
     let are : c.as_slice.result.now ≡ stages_of list = c.as_slice.ensures.value ∙ c.in-Ok-waves.ensures.stages in
     let come = comes_first cat list (bag_at newest) (bag_at c.args.changes.now) c.args.options.page_keys k
-    (stands_first cat list (bag_at newest) (bag_at c.args.changes.now) c.args.options.page_keys k c.in-Ok-new.ensures.parts.catalogue ok first) in
+    (stands_first cat list (bag_at newest) (bag_at c.args.changes.now) c.args.options.page_keys k c.in-Ok-over.ensures.parts.catalogue ok first) in
     if_ok_on _ _ c.run-answer.result (λ r h. (h t refl are come).0) c.run-answer.ensures.done
 
 pub returns-clause-steps : goal.returns-clause-steps
@@ -92,13 +92,13 @@ returns-clause-steps g c =
     let l : Ledger = g.P.Publish.kept c.args.writer.now in
     let newest : List Bag = newest_in l in
     let ok : IsCorrect cat.views.children list = subst (λ shape. IsCorrect shape list) c.requires.judged c.strategy.ensures.rules in
-    let same : c.deref-2.result.now ≡ newest = c.deref-2.ensures.value ∙ c.in-Ok.ensures in
-    let k : Kept = kept c.in-Ok-new.state in
-    let first : IsFirst cat (bag_at newest) (bag_at c.args.changes.now) k = subst (λ ts. IsFirst cat (bag_at ts) (bag_at c.args.changes.now) k) same c.in-Ok-new.ensures.first in
+    let same : c.in-Ok.tables.items ≡ newest = c.in-Ok.ensures in
+    let k : Kept = kept c.in-Ok-over.state in
+    let first : IsFirst cat (bag_at newest) (bag_at c.args.changes.now) k = subst (λ ts. IsFirst cat (bag_at ts) (bag_at c.args.changes.now) k) same c.in-Ok-over.ensures.first in
     let t : Given = record { list = list; tables = bag_at newest; changes = bag_at c.args.changes.now; before = l } in
     let are : c.as_slice.result.now ≡ stages_of list = c.as_slice.ensures.value ∙ c.in-Ok-waves.ensures.stages in
     let come = comes_first cat list (bag_at newest) (bag_at c.args.changes.now) c.args.options.page_keys k
-    (stands_first cat list (bag_at newest) (bag_at c.args.changes.now) c.args.options.page_keys k c.in-Ok-new.ensures.parts.catalogue ok first) in
+    (stands_first cat list (bag_at newest) (bag_at c.args.changes.now) c.args.options.page_keys k c.in-Ok-over.ensures.parts.catalogue ok first) in
     if_ok _ _ c.run-answer.result (λ r h. (h t refl are come).2) c.run-answer.ensures.done
 
 pub returns-clause-passed : goal.returns-clause-passed
@@ -108,13 +108,13 @@ returns-clause-passed g c =
     let l : Ledger = g.P.Publish.kept c.args.writer.now in
     let newest : List Bag = newest_in l in
     let ok : IsCorrect cat.views.children list = subst (λ shape. IsCorrect shape list) c.requires.judged c.strategy.ensures.rules in
-    let same : c.deref-2.result.now ≡ newest = c.deref-2.ensures.value ∙ c.in-Ok.ensures in
-    let k : Kept = kept c.in-Ok-new.state in
-    let first : IsFirst cat (bag_at newest) (bag_at c.args.changes.now) k = subst (λ ts. IsFirst cat (bag_at ts) (bag_at c.args.changes.now) k) same c.in-Ok-new.ensures.first in
+    let same : c.in-Ok.tables.items ≡ newest = c.in-Ok.ensures in
+    let k : Kept = kept c.in-Ok-over.state in
+    let first : IsFirst cat (bag_at newest) (bag_at c.args.changes.now) k = subst (λ ts. IsFirst cat (bag_at ts) (bag_at c.args.changes.now) k) same c.in-Ok-over.ensures.first in
     let t : Given = record { list = list; tables = bag_at newest; changes = bag_at c.args.changes.now; before = l } in
     let are : c.as_slice.result.now ≡ stages_of list = c.as_slice.ensures.value ∙ c.in-Ok-waves.ensures.stages in
     let come = comes_first cat list (bag_at newest) (bag_at c.args.changes.now) c.args.options.page_keys k
-    (stands_first cat list (bag_at newest) (bag_at c.args.changes.now) c.args.options.page_keys k c.in-Ok-new.ensures.parts.catalogue ok first) in
+    (stands_first cat list (bag_at newest) (bag_at c.args.changes.now) c.args.options.page_keys k c.in-Ok-over.ensures.parts.catalogue ok first) in
     if_ok_on _ _ c.run-answer.result (λ r h. (h t refl are come).1) c.run-answer.ensures.done
 
 pub returns-clause-leaves : goal.returns-clause-leaves
@@ -124,13 +124,13 @@ returns-clause-leaves g c =
     let l : Ledger = g.P.Publish.kept c.args.writer.now in
     let newest : List Bag = newest_in l in
     let ok : IsCorrect cat.views.children list = subst (λ shape. IsCorrect shape list) c.requires.judged c.strategy.ensures.rules in
-    let same : c.deref-2.result.now ≡ newest = c.deref-2.ensures.value ∙ c.in-Ok.ensures in
-    let k : Kept = kept c.in-Ok-new.state in
-    let first : IsFirst cat (bag_at newest) (bag_at c.args.changes.now) k = subst (λ ts. IsFirst cat (bag_at ts) (bag_at c.args.changes.now) k) same c.in-Ok-new.ensures.first in
+    let same : c.in-Ok.tables.items ≡ newest = c.in-Ok.ensures in
+    let k : Kept = kept c.in-Ok-over.state in
+    let first : IsFirst cat (bag_at newest) (bag_at c.args.changes.now) k = subst (λ ts. IsFirst cat (bag_at ts) (bag_at c.args.changes.now) k) same c.in-Ok-over.ensures.first in
     let t : Given = record { list = list; tables = bag_at newest; changes = bag_at c.args.changes.now; before = l } in
     let are : c.as_slice.result.now ≡ stages_of list = c.as_slice.ensures.value ∙ c.in-Ok-waves.ensures.stages in
     let come = comes_first cat list (bag_at newest) (bag_at c.args.changes.now) c.args.options.page_keys k
-    (stands_first cat list (bag_at newest) (bag_at c.args.changes.now) c.args.options.page_keys k c.in-Ok-new.ensures.parts.catalogue ok first) in
+    (stands_first cat list (bag_at newest) (bag_at c.args.changes.now) c.args.options.page_keys k c.in-Ok-over.ensures.parts.catalogue ok first) in
     if_err _ _ c.run-answer.result (λ f h. (h t refl are come).0) c.run-answer.ensures.refused
 
 pub returns-clause-refused : goal.returns-clause-refused
@@ -140,13 +140,13 @@ returns-clause-refused g c =
     let l : Ledger = g.P.Publish.kept c.args.writer.now in
     let newest : List Bag = newest_in l in
     let ok : IsCorrect cat.views.children list = subst (λ shape. IsCorrect shape list) c.requires.judged c.strategy.ensures.rules in
-    let same : c.deref-2.result.now ≡ newest = c.deref-2.ensures.value ∙ c.in-Ok.ensures in
-    let k : Kept = kept c.in-Ok-new.state in
-    let first : IsFirst cat (bag_at newest) (bag_at c.args.changes.now) k = subst (λ ts. IsFirst cat (bag_at ts) (bag_at c.args.changes.now) k) same c.in-Ok-new.ensures.first in
+    let same : c.in-Ok.tables.items ≡ newest = c.in-Ok.ensures in
+    let k : Kept = kept c.in-Ok-over.state in
+    let first : IsFirst cat (bag_at newest) (bag_at c.args.changes.now) k = subst (λ ts. IsFirst cat (bag_at ts) (bag_at c.args.changes.now) k) same c.in-Ok-over.ensures.first in
     let t : Given = record { list = list; tables = bag_at newest; changes = bag_at c.args.changes.now; before = l } in
     let are : c.as_slice.result.now ≡ stages_of list = c.as_slice.ensures.value ∙ c.in-Ok-waves.ensures.stages in
     let come = comes_first cat list (bag_at newest) (bag_at c.args.changes.now) c.args.options.page_keys k
-    (stands_first cat list (bag_at newest) (bag_at c.args.changes.now) c.args.options.page_keys k c.in-Ok-new.ensures.parts.catalogue ok first) in
+    (stands_first cat list (bag_at newest) (bag_at c.args.changes.now) c.args.options.page_keys k c.in-Ok-over.ensures.parts.catalogue ok first) in
     let old : c.deref.result.now ≡ newest = c.deref.ensures.value ∙ c.in-Ok.ensures in
     let allowed : AreAllowed (night_of cat c.args.options.page_keys t) = subst (λ ts. AreAllowedBelow cat (bag_at ts) (bag_at c.args.changes.now) (length cat.views.children)) old c.in_default-base_changes.ensures.allowed in
     none_refuses (publish_refusal l Opens) _ _ c.in_default.ensures
@@ -159,16 +159,16 @@ returns-clause-sound g c = λ sound.
     let l : Ledger = g.P.Publish.kept c.args.writer.now in
     let newest : List Bag = newest_in l in
     let ok : IsCorrect cat.views.children list = subst (λ shape. IsCorrect shape list) c.requires.judged c.strategy.ensures.rules in
-    let same : c.deref-2.result.now ≡ newest = c.deref-2.ensures.value ∙ c.in-Ok.ensures in
-    let k : Kept = kept c.in-Ok-new.state in
-    let first : IsFirst cat (bag_at newest) (bag_at c.args.changes.now) k = subst (λ ts. IsFirst cat (bag_at ts) (bag_at c.args.changes.now) k) same c.in-Ok-new.ensures.first in
+    let same : c.in-Ok.tables.items ≡ newest = c.in-Ok.ensures in
+    let k : Kept = kept c.in-Ok-over.state in
+    let first : IsFirst cat (bag_at newest) (bag_at c.args.changes.now) k = subst (λ ts. IsFirst cat (bag_at ts) (bag_at c.args.changes.now) k) same c.in-Ok-over.ensures.first in
     let t : Given = record { list = list; tables = bag_at newest; changes = bag_at c.args.changes.now; before = l } in
     let are : c.as_slice.result.now ≡ stages_of list = c.as_slice.ensures.value ∙ c.in-Ok-waves.ensures.stages in
     let come = comes_first cat list (bag_at newest) (bag_at c.args.changes.now) c.args.options.page_keys k
-    (stands_first cat list (bag_at newest) (bag_at c.args.changes.now) c.args.options.page_keys k c.in-Ok-new.ensures.parts.catalogue ok first) in
+    (stands_first cat list (bag_at newest) (bag_at c.args.changes.now) c.args.options.page_keys k c.in-Ok-over.ensures.parts.catalogue ok first) in
     let old : c.deref.result.now ≡ newest = c.deref.ensures.value ∙ c.in-Ok.ensures in
     let allowed : AreAllowed (night_of cat c.args.options.page_keys t) = subst (λ ts. AreAllowedBelow cat (bag_at ts) (bag_at c.args.changes.now) (length cat.views.children)) old c.in_default-base_changes.ensures.allowed in
-    stays_sound cat list l (g.P.Publish.kept c.run-answer.new.writer) c.args.changes.now c.args.options.page_keys c.in-Ok-new.ensures.parts.catalogue ok c.requires.tables c.requires.changes c.requires.least c.requires.most allowed sound
+    stays_sound cat list l (g.P.Publish.kept c.run-answer.new.writer) c.args.changes.now c.args.options.page_keys c.in-Ok-over.ensures.parts.catalogue ok c.requires.tables c.requires.changes c.requires.least c.requires.most allowed sound
     c.current.ensures.well_formed c.run-answer.result
     (if_ok_on _ _ c.run-answer.result (λ r h. (h t refl are come).0) c.run-answer.ensures.done)
     (if_err _ _ c.run-answer.result (λ f h. (h t refl are come).0) c.run-answer.ensures.refused)
@@ -180,13 +180,13 @@ returns-clause-tables g c =
     let l : Ledger = g.P.Publish.kept c.args.writer.now in
     let newest : List Bag = newest_in l in
     let ok : IsCorrect cat.views.children list = subst (λ shape. IsCorrect shape list) c.requires.judged c.strategy.ensures.rules in
-    let same : c.deref-2.result.now ≡ newest = c.deref-2.ensures.value ∙ c.in-Ok.ensures in
-    let k : Kept = kept c.in-Ok-new.state in
-    let first : IsFirst cat (bag_at newest) (bag_at c.args.changes.now) k = subst (λ ts. IsFirst cat (bag_at ts) (bag_at c.args.changes.now) k) same c.in-Ok-new.ensures.first in
+    let same : c.in-Ok.tables.items ≡ newest = c.in-Ok.ensures in
+    let k : Kept = kept c.in-Ok-over.state in
+    let first : IsFirst cat (bag_at newest) (bag_at c.args.changes.now) k = subst (λ ts. IsFirst cat (bag_at ts) (bag_at c.args.changes.now) k) same c.in-Ok-over.ensures.first in
     let t : Given = record { list = list; tables = bag_at newest; changes = bag_at c.args.changes.now; before = l } in
     let are : c.as_slice.result.now ≡ stages_of list = c.as_slice.ensures.value ∙ c.in-Ok-waves.ensures.stages in
     let come = comes_first cat list (bag_at newest) (bag_at c.args.changes.now) c.args.options.page_keys k
-    (stands_first cat list (bag_at newest) (bag_at c.args.changes.now) c.args.options.page_keys k c.in-Ok-new.ensures.parts.catalogue ok first) in
+    (stands_first cat list (bag_at newest) (bag_at c.args.changes.now) c.args.options.page_keys k c.in-Ok-over.ensures.parts.catalogue ok first) in
     let n : Night = tonight cat list l c.args.changes.now c.args.options.page_keys in
     let made = λ (h : IsDone n l (g.P.Publish.kept c.run-answer.new.writer)). done_tables cat list l (g.P.Publish.kept c.run-answer.new.writer) c.args.changes.now c.args.options.page_keys ok c.requires.tables c.requires.least h in
     if_ok_on _ _ c.run-answer.result (λ r h. made (h t refl are come).0) c.run-answer.ensures.done
@@ -198,13 +198,13 @@ returns-clause-bags g c =
     let l : Ledger = g.P.Publish.kept c.args.writer.now in
     let newest : List Bag = newest_in l in
     let ok : IsCorrect cat.views.children list = subst (λ shape. IsCorrect shape list) c.requires.judged c.strategy.ensures.rules in
-    let same : c.deref-2.result.now ≡ newest = c.deref-2.ensures.value ∙ c.in-Ok.ensures in
-    let k : Kept = kept c.in-Ok-new.state in
-    let first : IsFirst cat (bag_at newest) (bag_at c.args.changes.now) k = subst (λ ts. IsFirst cat (bag_at ts) (bag_at c.args.changes.now) k) same c.in-Ok-new.ensures.first in
+    let same : c.in-Ok.tables.items ≡ newest = c.in-Ok.ensures in
+    let k : Kept = kept c.in-Ok-over.state in
+    let first : IsFirst cat (bag_at newest) (bag_at c.args.changes.now) k = subst (λ ts. IsFirst cat (bag_at ts) (bag_at c.args.changes.now) k) same c.in-Ok-over.ensures.first in
     let t : Given = record { list = list; tables = bag_at newest; changes = bag_at c.args.changes.now; before = l } in
     let are : c.as_slice.result.now ≡ stages_of list = c.as_slice.ensures.value ∙ c.in-Ok-waves.ensures.stages in
     let come = comes_first cat list (bag_at newest) (bag_at c.args.changes.now) c.args.options.page_keys k
-    (stands_first cat list (bag_at newest) (bag_at c.args.changes.now) c.args.options.page_keys k c.in-Ok-new.ensures.parts.catalogue ok first) in
+    (stands_first cat list (bag_at newest) (bag_at c.args.changes.now) c.args.options.page_keys k c.in-Ok-over.ensures.parts.catalogue ok first) in
     let n : Night = tonight cat list l c.args.changes.now c.args.options.page_keys in
     let made = λ (h : IsDone n l (g.P.Publish.kept c.run-answer.new.writer)). done_tables cat list l (g.P.Publish.kept c.run-answer.new.writer) c.args.changes.now c.args.options.page_keys ok c.requires.tables c.requires.least h in
     if_ok_on _ _ c.run-answer.result (λ r h. let x = h t refl are come in done_bags cat (made_by n) (newest_in (g.P.Publish.kept c.run-answer.new.writer)) (made x.0) x.3) c.run-answer.ensures.done
@@ -216,13 +216,13 @@ returns-clause-contents g c =
     let l : Ledger = g.P.Publish.kept c.args.writer.now in
     let newest : List Bag = newest_in l in
     let ok : IsCorrect cat.views.children list = subst (λ shape. IsCorrect shape list) c.requires.judged c.strategy.ensures.rules in
-    let same : c.deref-2.result.now ≡ newest = c.deref-2.ensures.value ∙ c.in-Ok.ensures in
-    let k : Kept = kept c.in-Ok-new.state in
-    let first : IsFirst cat (bag_at newest) (bag_at c.args.changes.now) k = subst (λ ts. IsFirst cat (bag_at ts) (bag_at c.args.changes.now) k) same c.in-Ok-new.ensures.first in
+    let same : c.in-Ok.tables.items ≡ newest = c.in-Ok.ensures in
+    let k : Kept = kept c.in-Ok-over.state in
+    let first : IsFirst cat (bag_at newest) (bag_at c.args.changes.now) k = subst (λ ts. IsFirst cat (bag_at ts) (bag_at c.args.changes.now) k) same c.in-Ok-over.ensures.first in
     let t : Given = record { list = list; tables = bag_at newest; changes = bag_at c.args.changes.now; before = l } in
     let are : c.as_slice.result.now ≡ stages_of list = c.as_slice.ensures.value ∙ c.in-Ok-waves.ensures.stages in
     let come = comes_first cat list (bag_at newest) (bag_at c.args.changes.now) c.args.options.page_keys k
-    (stands_first cat list (bag_at newest) (bag_at c.args.changes.now) c.args.options.page_keys k c.in-Ok-new.ensures.parts.catalogue ok first) in
+    (stands_first cat list (bag_at newest) (bag_at c.args.changes.now) c.args.options.page_keys k c.in-Ok-over.ensures.parts.catalogue ok first) in
     let n : Night = tonight cat list l c.args.changes.now c.args.options.page_keys in
     let made = λ (h : IsDone n l (g.P.Publish.kept c.run-answer.new.writer)). done_tables cat list l (g.P.Publish.kept c.run-answer.new.writer) c.args.changes.now c.args.options.page_keys ok c.requires.tables c.requires.least h in
     let old : c.deref.result.now ≡ newest = c.deref.ensures.value ∙ c.in-Ok.ensures in
@@ -232,5 +232,5 @@ returns-clause-contents g c =
     let x = h t refl are come in
     let new : List Bag = newest_in (g.P.Publish.kept c.run-answer.new.writer) in
     let have = made x.0 in
-    ends_in_contents cat list newest c.args.changes.now new c.in-Ok-new.ensures.parts.catalogue ok c.requires.tables c.requires.changes (done_bags cat (made_by n) new have x.3) allowed x.1 (λ v m. have.are v m) are_old)
+    ends_in_contents cat list newest c.args.changes.now new c.in-Ok-over.ensures.parts.catalogue ok c.requires.tables c.requires.changes (done_bags cat (made_by n) new have x.3) allowed x.1 (λ v m. have.are v m) are_old)
     c.run-answer.ensures.done
