@@ -1,5 +1,6 @@
 //! Nights by public calls: what each Comp reads, what is installed, the tables in the end, and what is refused.
 
+mod alone;
 mod calls;
 mod carried;
 pub(crate) mod catalogs;

@@ -1,13 +1,11 @@
 -- Several readers, each at a desk of one warehouse.
-use Rattle.std.proofs.Common.{◌≡◌, ◌∙◌, ◌+◌, ◌++◌, ◌<◌, ℕ, zero, suc, List, [], ◌∷◌, length, Option, Some, None, ap, arith, refl, replicate, sym}
+use Rattle.std.proofs.Common.{◌≡◌, ◌∙◌, ◌+◌, ◌++◌, ◌<◌, ℕ, zero, suc, List, [], ◌∷◌, length, Option, Some, None, ap, arith, replicate, sym}
 use Rattle.std.specs.Prelude.{IfSome, option_map, slice_index_or}
 use Rattle.std.specs.Global.{Vec}
 use Rattle.std.specs.List.{All}
 use Rattle.std.proofs.lemmas.List.{length-append, replicate_more}
 use Rattle.std.proofs.lemmas.Option.{same_Some}
-use Rattle.wh_publish.specs.Ledgers.{Warehouse}
 use Rattle.wh_desk.specs.Desks.{Sitting}
-use Rattle.wh_readers.specs.Serving.{IsReady, IsSeated, rows_of}
 
 -- what one reader more was given, behind what the others were
 pub each_more : (n rest : ℕ) (rows : Option ℕ) (all both : Option (Vec ℕ)) → IfSome rows (λ m. m ≡ n) → IfSome all (λ v. v.items ≡ replicate rest n)

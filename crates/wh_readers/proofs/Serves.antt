@@ -1,8 +1,8 @@
 -- What a night made while readers were served, from what the night answered.
-use Rattle.std.proofs.Common.{◌≡◌, ◌∙◌, ◌<◌, ◌≤◌, ℕ, zero, suc, List, [], ◌∷◌, length, Option, Some, None, Result, Ok, Err, ap, arith, refl, subst, sym}
-use Rattle.std.specs.Prelude.{IfOk, OnOk, slice_index_or}
+use Rattle.std.proofs.Common.{◌≡◌, ◌∙◌, ◌<◌, ◌≤◌, ℕ, suc, List, [], ◌∷◌, length, Option, Some, Result, Ok, Err, ap, arith, subst, sym}
+use Rattle.std.specs.Prelude.{IfOk, OnOk}
 use Rattle.std.specs.Global.{Vec}
-use Rattle.std.specs.List.{All, AllByRecursion}
+use Rattle.std.specs.List.{All}
 use Rattle.wh_row.specs.Bag.{Bag, IsTable}
 use Rattle.wh_dag.specs.Catalog.{CatalogOf}
 use Rattle.wh_strategy.specs.declared.expression.Expression.{Expression}
@@ -12,17 +12,16 @@ use Rattle.wh_maint.specs.Comp.{bag_at}
 use Rattle.wh_maint.specs.Finishing.{kind_in}
 use Rattle.wh_maint.specs.Fit.{IsFitTable}
 use Rattle.wh_maint.specs.View.{Joined, Kind, Summed}
-use Rattle.wh_store.specs.Pages.{Contents}
 use Rattle.wh_store.specs.Kept.{AreTables}
-use Rattle.wh_store.specs.Versions.{number}
-use Rattle.wh_publish.specs.Ledgers.{Ledger, Warehouse, versions_in}
+use Rattle.wh_publish.specs.Ledgers.{Ledger, Warehouse}
 use Rattle.wh_night.specs.Fit.{AreFitTables}
 use Rattle.wh_night.specs.declared.report.CarryFault.{CarryFault}
 use Rattle.wh_night.specs.declared.report.Report.{Report}
 use Rattle.wh_desk.specs.Desks.{Sitting}
 use Rattle.wh_run.specs.declared.left.NightFault.{NightFault}
 use Rattle.wh_run.proofs.Soundness.{done_number}
-use Rattle.wh_readers.specs.Serving.{IsReady, IsRun, IsSeated, newly}
+use Rattle.wh_run.specs.Tonight.{newest_in}
+use Rattle.wh_readers.specs.Serving.{IsReady, IsRun, IsSeated, IsServed, newly}
 use Rattle.wh_readers.specs.declared.serving.Served.{Served}
 
 -- ---- tables that are fit are tables
@@ -48,23 +47,22 @@ seated_same of desks all = λ k d l. (all k d l).0
 
 -- ---- what is answered
 
--- what holds of a night that was done holds of what is answered
-pub of_run : (P : Served → Type 0) (Q : Report → Type 0) (r : Result Served CarryFault) (night : Result Report NightFault) (tables : Contents) (rows : Option (Vec ℕ))
-    → IfOk r (λ s. (s.tables.items ≡ tables) × (night ≡ Ok s.report) × (rows ≡ Some s.rows)) → IfOk night Q
-    → ((s : Served) → s.tables.items ≡ tables → Q s.report → P s) → IfOk r P
-of_run P Q (Err f) night tables rows ok q more = tt
-of_run P Q (Ok s) night tables rows ok q more = more s ok.0 (subst (λ n. IfOk n Q) ok.1 q)
+-- what is answered beside readers is what the night made
+pub served_of : (catalog : CatalogOf) (list : List Expression) (l m : Ledger) (changes : List Bag) (keys : ℕ) (r : Result Served CarryFault) (night : Result Report NightFault) (rows : Option (Vec ℕ))
+    → IfOk r (λ s. (s.tables.items ≡ newest_in m) × (night ≡ Ok s.report) × (rows ≡ Some s.rows)) → IsRun catalog list l changes keys night m → IfOk r (IsServed catalog list l changes keys)
+served_of catalog list l m changes keys (Err f) night rows ok run = tt
+served_of catalog list l m changes keys (Ok s) night rows ok run = record { after = m; run = subst (λ n. IsRun catalog list l changes keys n m) ok.1 run; tables = ok.0 }
 
-pub of_run_on : (P : Served → Type 0) (Q : Type 0) (r : Result Served CarryFault) (night : Result Report NightFault) (tables : Contents) (rows : Option (Vec ℕ))
-    → IfOk r (λ s. (s.tables.items ≡ tables) × (night ≡ Ok s.report) × (rows ≡ Some s.rows)) → OnOk night Q
-    → ((s : Served) → s.tables.items ≡ tables → Q → P s) → IfOk r P
-of_run_on P Q (Err f) night tables rows ok q more = tt
-of_run_on P Q (Ok s) night tables rows ok q more = more s ok.0 (subst (λ n. OnOk n Q) ok.1 q)
+-- what follows from what was made holds of what is answered
+pub if_served : (P : Served → Type 0) (catalog : CatalogOf) (list : List Expression) (l : Ledger) (changes : List Bag) (keys : ℕ) (r : Result Served CarryFault)
+    → IfOk r (IsServed catalog list l changes keys) → ((s : Served) → IsServed catalog list l changes keys s → P s) → IfOk r P
+if_served P catalog list l changes keys (Err f) served more = tt
+if_served P catalog list l changes keys (Ok s) served more = more s served
 
-pub on_run : (Q : Type 0) (r : Result Served CarryFault) (night : Result Report NightFault) (tables : Contents) (rows : Option (Vec ℕ))
-    → IfOk r (λ s. (s.tables.items ≡ tables) × (night ≡ Ok s.report) × (rows ≡ Some s.rows)) → OnOk night Q → OnOk r Q
-on_run Q (Err f) night tables rows ok q = tt
-on_run Q (Ok s) night tables rows ok q = subst (λ n. OnOk n Q) ok.1 q
+pub on_served : (Q : Type 0) (catalog : CatalogOf) (list : List Expression) (l : Ledger) (changes : List Bag) (keys : ℕ) (r : Result Served CarryFault)
+    → IfOk r (IsServed catalog list l changes keys) → ((s : Served) → IsServed catalog list l changes keys s → Q) → OnOk r Q
+on_served Q catalog list l changes keys (Err f) served more = tt
+on_served Q catalog list l changes keys (Ok s) served more = more s served
 
 -- the first night of a warehouse makes version 1
 pub first_number : (catalog : CatalogOf) (list : List Expression) (tables changes : List Bag) (keys : ℕ) (r : Result Report NightFault) (m : Ledger) → IsCorrect catalog.views.children list

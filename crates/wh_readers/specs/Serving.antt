@@ -1,5 +1,5 @@
 -- A night that runs while readers go through the tables of before.
-use Rattle.std.specs.Prelude.{◌≡◌, ◌≤◌, ℕ, List, [], None, Some, Bool, if◌then◌else◌, length, sum_by, IfErr, IfOk, OnOk, Result}
+use Rattle.std.specs.Prelude.{◌≡◌, ◌≤◌, ℕ, List, [], None, Some, Bool, if◌then◌else◌, length, sum_by, IfErr, IfOk, OnOk, Ok, Result}
 use Rattle.wh_row.specs.Bag.{Bag, written}
 use Rattle.wh_dag.specs.Catalog.{CatalogOf}
 use Rattle.wh_strategy.specs.Rules.{Judged}
@@ -27,6 +27,7 @@ use Rattle.wh_run.specs.declared.left.NightFault.{NightFault}
 use Rattle.wh_run.specs.declared.running.Options.{Options}
 use Rattle.wh_run.specs.Refusals.{AreAllowed, IsRefused}
 use Rattle.wh_run.specs.Tonight.{IsDone, made_by, newest_in, tonight}
+use Rattle.wh_readers.specs.declared.serving.Served.{Served}
 
 -- how many distinct rows the tables of all views have together
 abbrev pub rows_of : Contents → ℕ
@@ -75,3 +76,9 @@ pub record IsRun (catalog : CatalogOf) (list : List Expression) (l : Ledger) (ch
   pub allowed : OnOk r (AreAllowed (tonight catalog list l changes keys))
   pub passed : OnOk r (ArePassedBelow catalog list (bag_at (newest_in l)) (bag_at changes) (length list))
   pub refused : IfErr r (IsRefused (tonight catalog list l changes keys))
+
+-- what is answered of a night that was done over this published list, without what readers were given
+pub record IsServed (catalog : CatalogOf) (list : List Expression) (l : Ledger) (changes : List Bag) (keys : ℕ) (s : Served) : Type 0 where
+  pub after : Ledger
+  pub run : IsRun catalog list l changes keys (Ok s.report) after
+  pub tables : s.tables.items ≡ newest_in after

@@ -1,6 +1,6 @@
 //! A night that runs while readers go through the tables of before.
 
-ghost use Rattle.std.specs.Prelude.{◌≡◌, ◌⊎◌, ◌≤◌, ◌<◌, ℕ, Ok, None, Some, length, replicate, IfErr, IfOk, IfSome, IsTrue, MatchResult, OnOk};
+ghost use Rattle.std.specs.Prelude.{◌≡◌, ◌⊎◌, ◌≤◌, ◌<◌, ℕ, [], Ok, None, Some, length, replicate, IfErr, IfOk, IfSome, IsTrue, MatchResult, OnOk};
 ghost use Rattle.std.specs.List.{All};
 ghost use Rattle.std.specs.Thread.{IsSync};
 ghost use Rattle.wh_maint.specs.Asked.{AreBags};
@@ -17,7 +17,8 @@ ghost use Rattle.wh_course.specs.Night.{Night};
 ghost use Rattle.wh_publish.specs.Ledgers.{Warehouse};
 ghost use Rattle.wh_run.specs.Refusals.{IsRefused, IsRefusedSo};
 ghost use Rattle.wh_run.specs.Tonight.{newest_in};
-ghost use Rattle.wh_readers.specs.Serving.{CanRun, IsReady, IsRun, IsSeated, left_of, night_over, rows_of};
+ghost use Rattle.wh_store.specs.Windows.{Shows, current};
+ghost use Rattle.wh_readers.specs.Serving.{CanRun, IsReady, IsRun, IsSeated, IsServed, left_of, newly, night_over, rows_of};
 
 use crate::reading::read_each;
 use std::alloc::Global;
@@ -28,6 +29,7 @@ use wh_desk::{Desk, Writer, open_warehouse};
 use wh_formula::{RowTest, RowValue};
 use wh_maint::MaintFault;
 use wh_night::{CarryFault, Report};
+use wh_publish::Alone;
 use wh_row::Bag;
 use wh_run::{Left, NightCause, NightFault, NoGate, Options, current_tables, night};
 use wh_store::Store;
@@ -160,12 +162,133 @@ fn answer_of(
     }
 }
 
+/// Runs a night over a store that nobody reads beside it.
+fn by_itself<F: RowTest, G: RowValue, R: Threads + Wait + Sync>(
+    rt: &R,
+    alloc: Global,
+    writer: &mut Alone,
+    catalog: &Catalog<F, G>,
+    changes: &[Bag],
+    correct: &Correct,
+    options: Options,
+) -> Result<Report, NightFault>
+    requires ready { CanRun catalog.now correct.now writer.old changes.now options }
+    ensures { IsRun catalog.now correct.now.list writer.old changes.now options.page_keys result writer.new }
+{
+    night(
+        rt, alloc, writer, catalog, changes, correct, options, &NoGate,
+    )
+}
+
+/// A night without readers. No second copy of the tables is made, and the new ones are handed out as they lie.
+fn serve_none<F: RowTest, G: RowValue, R: Threads + Wait + Sync>(
+    rt: &R,
+    alloc: Global,
+    catalog: &Catalog<F, G>,
+    store: Store,
+    changes: &[Bag],
+    correct: &Correct,
+    options: Options,
+) -> Result<Served, CarryFault>
+    requires new { Shows store (current store) [] }
+    requires limit { store.limit ≡ 2 }
+    requires ready { CanRun catalog.now correct.now (newly (current store)) changes.now options }
+    ensures run { IfOk result (IsServed catalog.now correct.now.list (newly (current store)) changes.now options.page_keys) }
+    ensures rows { IfOk result (λ s. s.rows.items ≡ []) }
+    ensures refused { IfErr result (λ f. (f.fault ≡ Memory)
+        ⊎ IsRefusedSo (night_over catalog.now correct.now.list (current store) changes.now options.page_keys) (left_of f.started) f.fault) }
+{
+    let mut writer = Alone::new(store);
+    match by_itself(rt, alloc, &mut writer, catalog, changes, correct, options) {
+        Ok(report) => Ok(Served {
+            tables: writer.into_tables(),
+            report,
+            rows: Vec::new(alloc),
+        }),
+        Err(refused) => Err(refusal(refused)),
+    }
+}
+
+/// A night beside one reader at least.
+fn serve_some<F: RowTest, G: RowValue, R: Threads + Wait + Sync>(
+    rt: &R,
+    alloc: Global,
+    catalog: &Catalog<F, G>,
+    store: Store,
+    changes: &[Bag],
+    correct: &Correct,
+    options: Options,
+    readers: usize,
+) -> Result<Served, CarryFault>
+    requires new { Shows store (current store) [] }
+    requires limit { store.limit ≡ 2 }
+    requires ready { CanRun catalog.now correct.now (newly (current store)) changes.now options }
+    requires least { 1 ≤ readers }
+    requires most { readers ≤ 16 }
+    ensures run { IfOk result (IsServed catalog.now correct.now.list (newly (current store)) changes.now options.page_keys) }
+    ensures rows { IfOk result (λ s. s.rows.items ≡ replicate readers (rows_of (current store))) }
+    ensures refused { IfErr result (λ f. (f.fault ≡ Memory)
+        ⊎ IsRefusedSo (night_over catalog.now correct.now.list (current store) changes.now options.page_keys) (left_of f.started) f.fault) }
+{
+    let views = catalog.shape().len();
+    let Ok((mut writer, mut desks)) = open_warehouse(rt, alloc, store, readers) else {
+        return Err(want_of_memory());
+    };
+    if !sit_down(&mut desks) {
+        writer.end(rt);
+        return Err(want_of_memory());
+    }
+    let (rows, night) = beside_readers(
+        rt,
+        alloc,
+        &mut writer,
+        &mut desks,
+        views,
+        catalog,
+        changes,
+        correct,
+        options,
+    );
+    let answer = answer_of(alloc, &writer, views, night, rows);
+    writer.end(rt);
+    answer
+}
+
+/// A night over this store beside so many readers.
+fn serve_over<F: RowTest, G: RowValue, R: Threads + Wait + Sync>(
+    rt: &R,
+    alloc: Global,
+    catalog: &Catalog<F, G>,
+    store: Store,
+    changes: &[Bag],
+    correct: &Correct,
+    options: Options,
+    readers: usize,
+) -> Result<Served, CarryFault>
+    requires new { Shows store (current store) [] }
+    requires limit { store.limit ≡ 2 }
+    requires ready { CanRun catalog.now correct.now (newly (current store)) changes.now options }
+    requires readers { readers ≤ 16 }
+    ensures run { IfOk result (IsServed catalog.now correct.now.list (newly (current store)) changes.now options.page_keys) }
+    ensures rows { IfOk result (λ s. s.rows.items ≡ replicate readers (rows_of (current store))) }
+    ensures refused { IfErr result (λ f. (f.fault ≡ Memory)
+        ⊎ IsRefusedSo (night_over catalog.now correct.now.list (current store) changes.now options.page_keys) (left_of f.started) f.fault) }
+{
+    if readers == 0 {
+        return serve_none(rt, alloc, catalog, store, changes, correct, options);
+    }
+    serve_some(
+        rt, alloc, catalog, store, changes, correct, options, readers,
+    )
+}
+
 /// Runs a night over a new warehouse of these tables while readers go through them: one bag for each view, each fit, as the
 /// contents of a base are (`are_fit` tests it). There is a change for each view; those of derived views are not read. The
 /// strategy was judged over this catalogue's shape (`is_of` tests it).
 ///
 /// Each reader opens its session before the night begins, and reads each view once, in pages of 256 rows. The night goes wave by
-/// wave and is refused as [`wh_run::night`] refuses it; want of memory is also told where a reader was not answered.
+/// wave and is refused as [`wh_run::night`] refuses it; want of memory is also told where a reader was not answered. Where there are
+/// no readers there is no second copy of the tables for them.
 pub fn serve_night<F: RowTest, G: RowValue, R: Threads + Wait + Sync>(
     rt: &R,
     alloc: Global,
@@ -201,30 +324,10 @@ pub fn serve_night<F: RowTest, G: RowValue, R: Threads + Wait + Sync>(
 {
     // Makes known that the strategy keeps the rules.
     let _ = correct.strategy();
-    let views = catalog.shape().len();
     let Ok(store) = Store::new(alloc, tables) else {
         return Err(want_of_memory());
     };
-    let Ok((mut writer, mut desks)) = open_warehouse(rt, alloc, store, readers.max(1)) else {
-        return Err(want_of_memory());
-    };
-    desks.truncate(readers);
-    if !sit_down(&mut desks) {
-        writer.end(rt);
-        return Err(want_of_memory());
-    }
-    let (rows, night) = beside_readers(
-        rt,
-        alloc,
-        &mut writer,
-        &mut desks,
-        views,
-        catalog,
-        changes,
-        correct,
-        options,
-    );
-    let answer = answer_of(alloc, &writer, views, night, rows);
-    writer.end(rt);
-    answer
+    serve_over(
+        rt, alloc, catalog, store, changes, correct, options, readers,
+    )
 }

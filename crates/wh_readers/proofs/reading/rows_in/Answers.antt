@@ -1,4 +1,4 @@
-use Rattle.std.proofs.Common.{◌≡◌, ◌+◌, ◌∙◌, ap, length, subst, sym}
+use Rattle.std.proofs.Common.{◌≡◌, ◌+◌, ◌∙◌, ap, subst, sym}
 use Rattle.std.specs.Prelude.{Some, option_map}
 use Rattle.wh_row.specs.Bag.{Bag}
 use Rattle.wh_store.specs.Pages.{Shown, page_of}

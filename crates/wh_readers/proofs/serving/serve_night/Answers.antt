@@ -1,76 +1,120 @@
-use Rattle.std.proofs.Common.{◌≡◌, ◌∙◌, ℕ, List, [], None, ap, length, subst, sym}
-use Rattle.std.specs.List.{All}
-use Rattle.std.specs.Prelude.{IfOk, OnOk}
-use Rattle.std.proofs.lemmas.List.Elements.{All-take}
+use Rattle.std.proofs.Common.{◌≡◌, ◌∙◌, ◌<◌, ℕ, List, [], Ok, ap, length, refl, subst, sym}
+use Rattle.std.specs.Prelude.{IfErr, IfOk, ◌⊎◌, replicate}
 use Rattle.wh_row.specs.Bag.{Bag}
 use Rattle.wh_dag.specs.Catalog.{CatalogOf}
-use Rattle.wh_dag.specs.Shape.{Views}
 use Rattle.wh_strategy.specs.Rules.{IsCorrect}
+use Rattle.wh_maint.specs.Asked.{AreBags}
 use Rattle.wh_maint.specs.Comp.{bag_at}
 use Rattle.wh_maint.specs.Contents.{AreContents, AreContentsOf}
 use Rattle.wh_maint.specs.Definition.{graph_of}
 use Rattle.wh_maint.specs.Laws.{changed}
-use Rattle.wh_store.specs.Pages.{Contents}
-use Rattle.wh_publish.specs.Ledgers.{Ledger, Warehouse, ledger}
-use Rattle.wh_night.specs.Refused.{ArePassedBelow}
-use Rattle.wh_desk.specs.Desks.{Sitting}
-use Rattle.wh_run.specs.Tonight.{newest_in}
-use Rattle.wh_readers.specs.Serving.{IsReady, IsRun, IsSeated, newly}
-use Rattle.wh_readers.proofs.Serves.{first_number, fit_are_tables, of_run, of_run_on, on_run, seated_ready, seated_same}
+use Rattle.wh_maint.specs.declared.fault.MaintFault.TheVariants.{Memory}
+use Rattle.wh_store.specs.Windows.{Shows, current}
+use Rattle.wh_night.specs.Carry.{tables_after}
+use Rattle.wh_night.specs.Fit.{AreFitTables}
+use Rattle.wh_night.specs.Refused.{AreAllowedBelow, ArePassedBelow}
+use Rattle.wh_night.specs.Steps.{AreSteps}
+use Rattle.wh_run.specs.Refusals.{IsRefusedSo}
+use Rattle.wh_readers.specs.Serving.{IsServed, left_of, newly, night_over, rows_of}
+use Rattle.wh_readers.proofs.Serves.{first_number, fit_are_tables, if_served, on_served}
 use Rattle.wh_readers.proofs.serving.serve_night.Goals as goal
 
 pub new-requires : goal.new-requires
 new-requires g c = fit_are_tables c.args.catalog.now c.args.tables.items c.requires.tables.each c.requires.fit
 
--- the writer of a new store has published nothing, and each desk that is kept is at its warehouse
-pub beside_readers-rows-requires-clause-seated : goal.beside_readers-rows-requires-clause-seated
-beside_readers-rows-requires-clause-seated g c κs within =
-    let w : Ledger = c.in-Ok-open_warehouse.writer.ledger in
-    let same : w ≡ newly c.args.tables.items = c.in-Ok-open_warehouse.ensures.writer ∙ (λ i. ledger (record { limit = c.in-Ok.ensures.limit i; opening = c.in-Ok.ensures.current i }) [] None) in
-    let alike : All (λ (d : Sitting). d.of ≡ w.of) c.in-Ok-open_warehouse.desks.items = λ k d l. ap (λ (s : Sitting). s.of) (c.in-Ok-open_warehouse.ensures.alike k d l) in
-    let few = subst (All (λ (d : Sitting). d.of ≡ w.of)) (sym c.truncate.ensures.items) (All-take (λ (d : Sitting). d.of ≡ w.of) c.args.readers c.in-Ok-open_warehouse.desks.items alike) in
-    let views : c.len-views.result ≡ length w.of.opening =
-    c.len-views.ensures.len ∙ ap (λ (v : Views). length v.children) c.shape.ensures.views ∙ sym c.requires.tables.each ∙ ap (λ (l : Ledger). length l.of.opening) (sym same) in
-    seated_ready w.of c.len-views.result c.sit_down.new.desks.items views (c.sit_down.ensures.seated c.if-not-sit_down.false w.of few)
+pub serve_over-requires-clause-new : goal.serve_over-requires-clause-new
+serve_over-requires-clause-new g c κs within = subst (λ ts. Shows c.in-Ok.store ts []) (sym c.in-Ok.ensures.current) c.in-Ok.ensures.shows
 
-pub beside_readers-rows-requires-clause-same : goal.beside_readers-rows-requires-clause-same
-beside_readers-rows-requires-clause-same g c κs within =
-    let w : Ledger = c.in-Ok-open_warehouse.writer.ledger in
-    let alike : All (λ (d : Sitting). d.of ≡ w.of) c.in-Ok-open_warehouse.desks.items = λ k d l. ap (λ (s : Sitting). s.of) (c.in-Ok-open_warehouse.ensures.alike k d l) in
-    let few = subst (All (λ (d : Sitting). d.of ≡ w.of)) (sym c.truncate.ensures.items) (All-take (λ (d : Sitting). d.of ≡ w.of) c.args.readers c.in-Ok-open_warehouse.desks.items alike) in
-    seated_same w.of c.sit_down.new.desks.items (c.sit_down.ensures.seated c.if-not-sit_down.false w.of few)
+pub serve_over-requires-clause-ready : goal.serve_over-requires-clause-ready
+serve_over-requires-clause-ready g c κs within =
+    let cat : CatalogOf = c.args.catalog.now in
+    let same : current c.in-Ok.store ≡ c.args.tables.items = c.in-Ok.ensures.current in
+    record {
+      judged = c.requires.judged;
+      free = refl;
+      wide = subst (AreBags cat) (sym same) c.requires.tables;
+      wide_changes = c.requires.changes;
+      fit = subst (AreFitTables cat) (sym same) c.requires.fit;
+      some = c.requires.some;
+      few = c.requires.few;
+      least = c.requires.least;
+      most = c.requires.most;
+    }
+
+pub returns-clause-bags : goal.returns-clause-bags
+returns-clause-bags g c =
+    let cat : CatalogOf = c.args.catalog.now in
+    if_served (λ s. AreBags cat s.tables.items) cat c.args.correct.now.list (newly (current c.in-Ok.store)) c.args.changes.now c.args.options.page_keys c.serve_over.result c.serve_over.ensures.run
+    (λ s h. subst (AreBags cat) (sym h.tables) h.run.bags)
+
+pub returns-clause-tables : goal.returns-clause-tables
+returns-clause-tables g c =
+    let cat : CatalogOf = c.args.catalog.now in
+    let list = c.args.correct.now.list in
+    let ts : List Bag = c.args.tables.items in
+    let served = subst (λ us. IfOk c.serve_over.result (IsServed cat list (newly us) c.args.changes.now c.args.options.page_keys)) c.in-Ok.ensures.current c.serve_over.ensures.run in
+    if_served (λ s. (v : ℕ) → v < length cat.views.children → bag_at s.tables.items v ≡ tables_after (graph_of cat) (bag_at c.args.changes.now) list (bag_at ts) v)
+    cat list (newly ts) c.args.changes.now c.args.options.page_keys c.serve_over.result served
+    (λ s h v m. ap (λ us. bag_at us v) h.tables ∙ h.run.tables.are v m)
 
 pub returns-clause-contents : goal.returns-clause-contents
 returns-clause-contents g c =
     let cat : CatalogOf = c.args.catalog.now in
+    let list = c.args.correct.now.list in
+    let ts : List Bag = c.args.tables.items in
     let gr = graph_of cat in
-    let w : Ledger = c.in-Ok-open_warehouse.writer.ledger in
-    let same : w ≡ newly c.args.tables.items = c.in-Ok-open_warehouse.ensures.writer ∙ (λ i. ledger (record { limit = c.in-Ok.ensures.limit i; opening = c.in-Ok.ensures.current i }) [] None) in
-    let m : Ledger = c.beside_readers-rows.new.writer.ledger in
-    let run = subst (λ (l : Ledger). IsRun cat c.args.correct.now.list l c.args.changes.now c.args.options.page_keys c.beside_readers-rows.result.1 m) same c.beside_readers-rows.ensures.night in
-    let base = changed (bag_at c.args.tables.items) (bag_at c.args.changes.now) in
-    of_run_on (λ s. AreContents gr (bag_at c.args.tables.items) → AreContentsOf gr base (bag_at s.tables.items)) (AreContents gr (bag_at c.args.tables.items) → AreContentsOf gr base (bag_at (newest_in m)))
-    c.answer_of-answer.result c.beside_readers-rows.result.1 (newest_in m) c.beside_readers-rows.result.0 c.answer_of-answer.ensures.ok run.contents
-    (λ s e h are. subst (λ ts. AreContentsOf gr base (bag_at ts)) (sym e) (h are))
+    let base = changed (bag_at ts) (bag_at c.args.changes.now) in
+    let served = subst (λ us. IfOk c.serve_over.result (IsServed cat list (newly us) c.args.changes.now c.args.options.page_keys)) c.in-Ok.ensures.current c.serve_over.ensures.run in
+    if_served (λ s. AreContents gr (bag_at ts) → AreContentsOf gr base (bag_at s.tables.items))
+    cat list (newly ts) c.args.changes.now c.args.options.page_keys c.serve_over.result served
+    (λ s h are. subst (λ us. AreContentsOf gr base (bag_at us)) (sym h.tables) (h.run.contents are))
 
 pub returns-clause-version : goal.returns-clause-version
 returns-clause-version g c =
     let cat : CatalogOf = c.args.catalog.now in
-    let w : Ledger = c.in-Ok-open_warehouse.writer.ledger in
-    let same : w ≡ newly c.args.tables.items = c.in-Ok-open_warehouse.ensures.writer ∙ (λ i. ledger (record { limit = c.in-Ok.ensures.limit i; opening = c.in-Ok.ensures.current i }) [] None) in
-    let m : Ledger = c.beside_readers-rows.new.writer.ledger in
-    let run = subst (λ (l : Ledger). IsRun cat c.args.correct.now.list l c.args.changes.now c.args.options.page_keys c.beside_readers-rows.result.1 m) same c.beside_readers-rows.ensures.night in
-    let ok : IsCorrect cat.views.children c.args.correct.now.list = subst (λ shape. IsCorrect shape c.args.correct.now.list) c.requires.judged c.strategy.ensures.rules in
-    of_run (λ s. s.report.version ≡ 1) (λ report. report.version ≡ 1) c.answer_of-answer.result c.beside_readers-rows.result.1 (newest_in m) c.beside_readers-rows.result.0 c.answer_of-answer.ensures.ok
-    (first_number cat c.args.correct.now.list c.args.tables.items c.args.changes.now c.args.options.page_keys c.beside_readers-rows.result.1 m ok c.requires.tables c.requires.least run)
-    (λ s e h. h)
+    let list = c.args.correct.now.list in
+    let ts : List Bag = c.args.tables.items in
+    let ok : IsCorrect cat.views.children list = subst (λ shape. IsCorrect shape list) c.requires.judged c.strategy.ensures.rules in
+    let served = subst (λ us. IfOk c.serve_over.result (IsServed cat list (newly us) c.args.changes.now c.args.options.page_keys)) c.in-Ok.ensures.current c.serve_over.ensures.run in
+    if_served (λ s. s.report.version ≡ 1)
+    cat list (newly ts) c.args.changes.now c.args.options.page_keys c.serve_over.result served
+    (λ s h. first_number cat list ts c.args.changes.now c.args.options.page_keys (Ok s.report) h.after ok c.requires.tables c.requires.least h.run)
+
+pub returns-clause-steps : goal.returns-clause-steps
+returns-clause-steps g c =
+    let cat : CatalogOf = c.args.catalog.now in
+    let list = c.args.correct.now.list in
+    let ts : List Bag = c.args.tables.items in
+    let served = subst (λ us. IfOk c.serve_over.result (IsServed cat list (newly us) c.args.changes.now c.args.options.page_keys)) c.in-Ok.ensures.current c.serve_over.ensures.run in
+    if_served (λ s. AreSteps cat.views.children list (bag_at ts) (tables_after (graph_of cat) (bag_at c.args.changes.now) list (bag_at ts)) s.report.steps.items)
+    cat list (newly ts) c.args.changes.now c.args.options.page_keys c.serve_over.result served
+    (λ s h. h.run.steps)
+
+pub returns-clause-allowed : goal.returns-clause-allowed
+returns-clause-allowed g c =
+    let cat : CatalogOf = c.args.catalog.now in
+    let list = c.args.correct.now.list in
+    let ts : List Bag = c.args.tables.items in
+    let served = subst (λ us. IfOk c.serve_over.result (IsServed cat list (newly us) c.args.changes.now c.args.options.page_keys)) c.in-Ok.ensures.current c.serve_over.ensures.run in
+    on_served (AreAllowedBelow cat (bag_at ts) (bag_at c.args.changes.now) (length cat.views.children))
+    cat list (newly ts) c.args.changes.now c.args.options.page_keys c.serve_over.result served
+    (λ s h. h.run.allowed)
 
 pub returns-clause-passed : goal.returns-clause-passed
 returns-clause-passed g c =
     let cat : CatalogOf = c.args.catalog.now in
-    let w : Ledger = c.in-Ok-open_warehouse.writer.ledger in
-    let same : w ≡ newly c.args.tables.items = c.in-Ok-open_warehouse.ensures.writer ∙ (λ i. ledger (record { limit = c.in-Ok.ensures.limit i; opening = c.in-Ok.ensures.current i }) [] None) in
-    let m : Ledger = c.beside_readers-rows.new.writer.ledger in
-    let run = subst (λ (l : Ledger). IsRun cat c.args.correct.now.list l c.args.changes.now c.args.options.page_keys c.beside_readers-rows.result.1 m) same c.beside_readers-rows.ensures.night in
-    on_run (ArePassedBelow cat c.args.correct.now.list (bag_at c.args.tables.items) (bag_at c.args.changes.now) (length c.args.correct.now.list))
-    c.answer_of-answer.result c.beside_readers-rows.result.1 (newest_in m) c.beside_readers-rows.result.0 c.answer_of-answer.ensures.ok run.passed
+    let list = c.args.correct.now.list in
+    let ts : List Bag = c.args.tables.items in
+    let served = subst (λ us. IfOk c.serve_over.result (IsServed cat list (newly us) c.args.changes.now c.args.options.page_keys)) c.in-Ok.ensures.current c.serve_over.ensures.run in
+    on_served (ArePassedBelow cat list (bag_at ts) (bag_at c.args.changes.now) (length list))
+    cat list (newly ts) c.args.changes.now c.args.options.page_keys c.serve_over.result served
+    (λ s h. h.run.passed)
+
+pub returns-clause-rows : goal.returns-clause-rows
+returns-clause-rows g c =
+    subst (λ us. IfOk c.serve_over.result (λ s. s.rows.items ≡ replicate c.args.readers (rows_of us))) c.in-Ok.ensures.current c.serve_over.ensures.rows
+
+pub returns-clause-refused : goal.returns-clause-refused
+returns-clause-refused g c =
+    subst (λ us. IfErr c.serve_over.result (λ f. (f.fault ≡ Memory)
+    ⊎ IsRefusedSo (night_over c.args.catalog.now c.args.correct.now.list us c.args.changes.now c.args.options.page_keys) (left_of f.started) f.fault)) c.in-Ok.ensures.current c.serve_over.ensures.refused
