@@ -1,8 +1,8 @@
 // Bags: the worked examples, and that ample memory is enough.
 
-use crate::nights::tables::bag as bag_of;
 use std::process::Abort;
 use std::test::Fail;
+use wh_given::tables::bag as bag_of;
 use wh_row::{Bag, BagFault, Records, RecordsFault};
 
 /// Asserts that the bag lists these rows, with these counts, in this order.

@@ -1,9 +1,9 @@
 // Versions of tables: the worked examples of nights that are read while they run, by the calls of the store.
 
-use crate::nights::tables::bag as bag_of;
 use std::alloc::{AllocError, Global};
 use std::process::Abort;
 use std::test::Fail;
+use wh_given::tables::bag as bag_of;
 use wh_row::Row;
 use wh_store::{Op, Store, StoreFault};
 

@@ -134,7 +134,7 @@ pub(crate) fn inst_of<F: RowTest, G: RowValue>(
         let told = told(fault)?;
         return Ok(told);
     }
-    if let Err(fault) = state.install(alloc, view) {
+    if let Err(fault) = state.install(view) {
         let told = told(fault)?;
         return Ok(told);
     }

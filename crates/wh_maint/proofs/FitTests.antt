@@ -1,8 +1,11 @@
 -- A summary's table is tested row by row: what is left to be tested, where these groups were seen.
-use Rattle.std.proofs.Common.{◌≡◌, ◌≢◌, ◌↔◌, ℕ, sym, ap, ◌∙◌, subst, ℤ, pos, Bool, true, false, ◌||◌, [], ◌∷◌, ⊎_elim, arith}
+use Rattle.std.proofs.Common.{◌≡◌, ◌≢◌, ◌↔◌, ℕ, refl, sym, ap, ◌∙◌, subst, ℤ, pos, Bool, true, false, ◌||◌, [], ◌∷◌, ⊎_elim, arith}
 use Rattle.std.specs.List.{AllByRecursion, list_any}
 use Rattle.std.proofs.lemmas.Bool.{cases_Bool, or_cases, or_left, or_right, or_parts, both_ways, false≢true, false_from_ne_true}
-use Rattle.wh_row.specs.Row.{Row, is_row}
+use Rattle.std.specs.List.Sorted.{IsStrictlySortedBy}
+use Rattle.std.specs.declared.cmp.Ordering.TheVariants.{Less}
+use Rattle.std.specs.Ordering.{is_eq}
+use Rattle.wh_row.specs.Row.{Row, row_cmp, is_row, AreRising}
 use Rattle.wh_row.specs.Weigh.{Counted}
 use Rattle.std.specs.Prelude.{◌≤ℤ◌}
 use Rattle.std.proofs.lemmas.Int.{ints}
@@ -11,8 +14,34 @@ use Rattle.wh_maint.proofs.BagLemmas.{zero_or_not}
 use Rattle.wh_row.proofs.BagLaws.{same_row, itself, each_entry, from_entry, rising-written, count-bag_of}
 use Rattle.wh_maint.specs.Summary.{group_of, is_nonzero}
 use Rattle.wh_maint.specs.Fit.{IsSummaryTable, IsSummaryRow}
-use Rattle.wh_maint.specs.Finishing.{has_group}
-use Rattle.wh_maint.proofs.OldGroups.{Apart, apart_from}
+use Rattle.wh_maint.proofs.FirstAbsent.{rows_of}
+
+-- one of the rows is the group's
+abbrev has_group : ℕ → Row → Counted → Bool
+has_group sums group es = list_any (λ e. is_row group (group_of sums e.0)) es
+
+-- ---- each group has one row
+
+abbrev Apart : ℕ → Counted → Type 0
+Apart sums [] = Unit {0}
+Apart sums (e ∷ es) = (has_group sums (group_of sums e.0) es ≡ false) × Apart sums es
+
+abbrev AreIn : Bag → Counted → Type 0
+AreIn table es = AllByRecursion (λ (e : Row × ℤ). count table e.0 ≢ pos 0) es
+
+other_groups : (sums : ℕ) (table : Bag) → IsSummaryTable sums table → (r : Row) → count table r ≢ pos 0 → (es : Counted)
+    → AllByRecursion (λ y. row_cmp r y ≡ Less) (rows_of es) → AreIn table es → has_group sums (group_of sums r) es ≡ false
+other_groups sums table fit r n [] below all = refl
+other_groups sums table fit r n (e ∷ es) below all =
+    let other : is_row (group_of sums r) (group_of sums e.0) ≡ false =
+    false_from_ne_true (is_row (group_of sums r) (group_of sums e.0)) (λ t.
+    false≢true (sym (ap is_eq below.0) ∙ ap (λ x. is_row r x) (sym (fit.one_per_group r e.0 n all.0 (same_row (group_of sums r) (group_of sums e.0) t))) ∙ itself r)) in
+    λ i. other i || other_groups sums table fit r n es below.1 all.1 i
+
+apart_from : (sums : ℕ) (table : Bag) → IsSummaryTable sums table → (es : Counted) → AreRising (rows_of es) → AreIn table es → Apart sums es
+unfolding IsStrictlySortedBy
+apart_from sums table fit [] rising all = tt
+apart_from sums table fit (e ∷ es) rising all = (other_groups sums table fit e.0 all.0 es rising.0 all.1, apart_from sums table fit es rising.1 all.1)
 
 pub record RowsAreApart (sums : ℕ) (es : Counted) (seen : Bag) : Type 0 where
   pub rows : AllByRecursion (λ (e : Row × ℤ). IsSummaryRow sums e.0 e.1) es

@@ -5,27 +5,27 @@ mod Caps
 mod Children
 mod CountsChecked
 pub mod Differences
+mod DoneGroups
 mod Examples
 mod FirstAbsent
 pub mod FitTables
 mod FitTests
 pub mod Folds
-mod Found
+mod FoundRow
+mod FoundRows
 pub mod FromScratch
 pub mod GroupChanges
-mod GroupSteps
-mod Grouping
+mod KeyedRows
+mod KeyedSums
 mod Lacking
 mod Laying
 mod MadeRows
 mod Matched
 pub mod MetRows
-mod NewGroups
 mod NewRows
 mod NewSums
 pub mod NoNegative
 mod NoRows
-mod OldGroups
 pub mod OldRows
 mod OneRow
 mod OpenedContents

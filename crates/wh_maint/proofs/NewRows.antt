@@ -13,17 +13,12 @@ use Rattle.wh_maint.specs.Summary.{if_positive, group_row, summary, group_of, ce
 use Rattle.wh_maint.specs.SummaryLaws.{row_change}
 use Rattle.wh_maint.specs.Fit.{IsSummaryTable}
 use Rattle.wh_maint.specs.Comp.{bag_at}
-use Rattle.wh_maint.specs.Finishing.{cell_after, row_after, row_before, AfterFits, GroupHasValue}
+use Rattle.wh_maint.specs.Finishing.{cell_after, row_after, row_before, AfterFits, IsOldRow, GroupHasValue}
 use Rattle.wh_maint.proofs.BagLemmas.{zero_or_not}
 use Rattle.wh_maint.proofs.FitTables.{told_whole, positive_row}
 use Rattle.wh_maint.proofs.Summaries.{group_of-row, count-summary, count_in-negated, count-change}
-use Rattle.wh_maint.proofs.OldRows.{old_row, new_told, HasNoRow, no_old_row, new_alone}
+use Rattle.wh_maint.proofs.OldRows.{old_row, new_told, no_old_row, new_alone}
 use lib.IntN.{+ℤ_idl}
-
--- the old row is the table's row of the group, and there is none where the table has none
-abbrev pub IsOldRow : ℕ → Bag → Row → Option (Bor (List ℤ)) → Type 0
-IsOldRow sums table group None = HasNoRow sums table group
-IsOldRow sums table group (Some row) = (count table row.now ≢ pos 0) × (group_of sums row.now ≡ group)
 
 -- its cells, with what is pending, are the new accumulators
 pub after_told : (sums : ℕ) (table : Bag) (columns : List Bag) → IsSummaryTable sums table → (old : Option (Bor (List ℤ))) (g : Row) → IsOldRow sums table g old
@@ -89,12 +84,6 @@ own_change sums table p fit q t =
 pub no_change : (sums : ℕ) (table : Bag) (p : ℕ → Bag) (q : Row) → is_touched sums p (group_of sums q) ≡ false → count (summary_change sums table p) q ≡ pos 0
 no_change sums table p q f =
     count-change sums table p q ∙ ap (λ b. cond b (count (summary sums (new_accumulators sums table p)) q -ℤ count table q) (pos 0)) f
-
--- a group without old and new row changes nothing
-pub nothing_new : (sums : ℕ) (table : Bag) (p : ℕ → Bag) (g q : Row) → HasNoRow sums table g → count (p 0) g ≡ pos 0 → count_in (row_change sums table p g) q ≡ pos 0
-nothing_new sums table p g q none zero_here =
-    counted_change sums table p g q
-    ∙ (λ i. count_in (if_positive ((new_alone sums table p g none 0 ∙ zero_here) i) (g ++ map (λ j. count (new_accumulators sums table p j) g) (range_with_len 0 (suc sums)))) q -ℤ count_in (no_old_row sums table g none i) q)
 
 -- ---- whether a group is touched
 

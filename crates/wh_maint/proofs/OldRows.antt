@@ -7,6 +7,7 @@ use Rattle.wh_row.specs.Bag.{Bag, count}
 use Rattle.wh_row.proofs.BagLaws.{count-sum_of, each_entry}
 use Rattle.wh_maint.specs.Summary.{cells, if_positive, group_row, group_of, cell_of, read_back, new_accumulators}
 use Rattle.wh_maint.specs.Fit.{IsSummaryTable}
+use Rattle.wh_maint.specs.Finishing.{HasNoRow}
 use Rattle.wh_maint.proofs.FitTables.{told, row_told, told_none}
 use lib.IntN.{+ℤ_idl}
 
@@ -28,11 +29,7 @@ pub new_told : (sums : ℕ) (table : Bag) (pending : ℕ → Bag) → IsSummaryT
 new_told sums table pending fit row n j =
     count-sum_of (read_back sums table j) (pending j) (group_of sums row) ∙ ap (λ z. z +ℤ count (pending j) (group_of sums row)) (told sums table fit row n j)
 
--- no row of the table is of this group
-abbrev pub HasNoRow : ℕ → Bag → Row → Type 0
-HasNoRow sums table group = (row : Row) → count table row ≢ pos 0 → is_row group (group_of sums row) ≡ false
-
--- such a group has no old accumulators
+-- a group without a row has no old accumulators
 pub none_old : (sums : ℕ) (table : Bag) (group : Row) → HasNoRow sums table group → (j : ℕ) → count (read_back sums table j) group ≡ pos 0
 none_old sums table group none j = told_none sums table j group (each_entry (λ row _. is_row group (group_of sums row) ≡ false) table none)
 

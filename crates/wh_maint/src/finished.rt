@@ -1,18 +1,18 @@
 //! The change of a view, once its Comps are done.
 
-ghost use Rattle.std.specs.Prelude.{◌≡◌, ℕ, suc, ◌<◌, ℤ, pos, List, length, IsTrue, ◌↔◌, IfOk, OnOk, IfErr, cond, true, false};
-ghost use Rattle.wh_row.specs.Bag.{count as count_of, written, empty};
+ghost use Rattle.std.specs.Prelude.{◌≡◌, ℕ, suc, ◌<◌, length, IsTrue, ◌↔◌, IfOk, OnOk, IfErr, false};
+ghost use Rattle.wh_row.specs.Bag.{empty};
 ghost use Rattle.wh_dag.specs.Catalog.{is_base};
 ghost use Rattle.wh_maint.specs.View.{Summed};
 ghost use Rattle.wh_maint.specs.Comp.{bag_at, AreEmpty};
-ghost use Rattle.wh_maint.specs.Summary.{group_of, is_nonzero, is_touched, summary_change, change_of};
+ghost use Rattle.wh_maint.specs.Summary.{summary_change, change_of};
 ghost use Rattle.wh_maint.specs.Value.{NewCountsFit, ChangeHasValue};
 ghost use Rattle.wh_maint.specs.Fit.{IsFitTable, IsSummaryTable};
 ghost use Rattle.wh_maint.specs.Refused.{IsFinishFault};
-ghost use Rattle.wh_maint.specs.Finishing.{kind_in, IsPendingFor, has_group, GroupHasValue};
+ghost use Rattle.wh_maint.specs.Finishing.{kind_in, IsPendingFor, CountsFitIn, stands_within, AreMade};
 
 use crate::fault::{MaintFault, RowFault};
-use crate::group_change::{add_change, count_fits, group_in, is_touched, note};
+use crate::group_change::{add_group, count_fits};
 use crate::pending::Pending;
 use std::alloc::Global;
 use wh_dag::{Catalog, Output};
@@ -60,23 +60,56 @@ pub fn finish<F: RowTest, G: RowValue>(
     }
 }
 
-/// Whether each touched group's new count fits i64: a group without a row has its pending count,
-/// which does.
+/// Whether each touched group's new count fits i64.
 fn new_counts_fit(pending: &Pending, sums: usize, table: &Bag) -> bool
     requires columns { length pending.now.columns ≡ suc sums }
     requires fit { IsSummaryTable sums table.now }
     ensures { IsTrue result ↔ NewCountsFit (Summed sums) table.now (bag_at pending.now.columns) }
 {
-    for (row, _) in table.rows() {
-        if !count_fits(pending, sums, row) {
+    if !counted_fit(pending, sums, table) {
+        return false;
+    }
+    for number in 0..sums {
+        if !summed_fit(pending, sums, table, number) {
             return false;
         }
     }
-    pending.counts().counts_fit();
     true
 }
 
-/// The change of a summary whose touched groups' new counts fit i64.
+/// Whether the new count of each group of the pending counts fits i64.
+fn counted_fit(pending: &Pending, sums: usize, table: &Bag) -> bool
+    requires columns { length pending.now.columns ≡ suc sums }
+    requires fit { IsSummaryTable sums table.now }
+    ensures { IsTrue result ↔ CountsFitIn sums table.now (bag_at pending.now.columns) 0 }
+{
+    for (group, _) in pending.counts().rows() {
+        if !count_fits(pending, sums, table, group) {
+            return false;
+        }
+    }
+    true
+}
+
+/// Whether that of each group of a pending sum does. A group without a pending count keeps its count, which is read for the proof: of a
+/// cell that is not read nothing says that it is an i64.
+fn summed_fit(pending: &Pending, sums: usize, table: &Bag, number: usize) -> bool
+    requires columns { length pending.now.columns ≡ suc sums }
+    requires fit { IsSummaryTable sums table.now }
+    requires number { number < sums }
+    requires counted { CountsFitIn sums table.now (bag_at pending.now.columns) 0 }
+    ensures { IsTrue result ↔ CountsFitIn sums table.now (bag_at pending.now.columns) (suc number) }
+{
+    for (group, _) in pending.sum_rows(number) {
+        if pending.count(group) == 0 && !count_fits(pending, sums, table, group) {
+            return false;
+        }
+    }
+    true
+}
+
+/// The change of a summary whose touched groups' new counts fit i64. A group is dealt with at the first column of the pending accumulators
+/// that has it.
 pub(crate) fn summary_change(
     alloc: Global,
     pending: &Pending,
@@ -92,83 +125,64 @@ pub(crate) fn summary_change(
     ensures memory { result ≡ Err RowFault.Memory → ¬ (AreEmpty pending.now.columns) }
 {
     let mut change = Bag::new(alloc);
-    let mut seen = Bag::new(alloc);
-    match add_old_groups(alloc, pending, sums, table, &mut change, &mut seen) {
+    match add_counted(alloc, pending, sums, table, &mut change) {
         Ok(()) => {}
         Err(fault) => return Err(fault),
     }
-    match add_new_groups(alloc, pending, sums, table, &seen, &mut change) {
-        Ok(()) => Ok(change),
-        Err(fault) => Err(fault),
+    for number in 0..sums {
+        match add_summed(alloc, pending, sums, table, number, &mut change) {
+            Ok(()) => {}
+            Err(fault) => return Err(fault),
+        }
     }
+    Ok(change)
 }
 
-/// Adds the changes of the touched groups that have a row, and notes these groups.
-fn add_old_groups(
+/// Adds the changes of the groups of the pending counts.
+fn add_counted(
     alloc: Global,
     pending: &Pending,
     sums: usize,
     table: &Bag,
     change: &mut Bag,
-    seen: &mut Bag,
 ) -> Result<(), RowFault>
     requires columns { length pending.now.columns ≡ suc sums }
     requires fit { IsSummaryTable sums table.now }
     requires counts { NewCountsFit (Summed sums) table.now (bag_at pending.now.columns) }
-    requires change { change.old ≡ empty }
-    requires seen { seen.old ≡ empty }
-    ensures change { OnOk result ((q : List ℤ) → count_of change.new q
-        ≡ cond (has_group sums (group_of sums q) (written table.now)) (count_of (summary_change sums table.now (bag_at pending.now.columns)) q) (pos 0)) }
-    ensures seen { OnOk result ((g : List ℤ) → is_touched sums (bag_at pending.now.columns) g ≡ true
-        → is_nonzero (count_of seen.new g) ≡ has_group sums g (written table.now)) }
-    ensures sums { OnOk result ((g : List ℤ) → is_touched sums (bag_at pending.now.columns) g ≡ true
-        → has_group sums g (written table.now) ≡ true → GroupHasValue sums table.now (bag_at pending.now.columns) g) }
+    requires none { change.old ≡ empty }
+    ensures made { OnOk result (AreMade sums table.now (bag_at pending.now.columns) (stands_within 1 (bag_at pending.now.columns)) change.new) }
     ensures range { result ≡ Err RowFault.Range → ¬ (ChangeHasValue (Summed sums) table.now (bag_at pending.now.columns)) }
     ensures memory { result ≡ Err RowFault.Memory → ¬ (AreEmpty pending.now.columns) }
 {
-    for (row, _) in table.rows() {
-        let group = group_in(row, sums);
-        if is_touched(pending, sums, group) {
-            if let Err(fault) = add_change(alloc, pending, sums, Some(row), group, change) {
-                return Err(fault);
-            }
-            if let Err(fault) = note(seen, group) {
-                return Err(fault);
-            }
+    for (group, _) in pending.counts().rows() {
+        if let Err(fault) = add_group(alloc, pending, sums, table, 0, group, change) {
+            return Err(fault);
         }
     }
     Ok(())
 }
 
-/// Adds the rows of the touched groups that have none: those of the pending counts that were not
-/// seen. A group with no pending count gets no row.
-fn add_new_groups(
+/// Adds the changes of the groups of a pending sum, where those of the columns before it have been added.
+fn add_summed(
     alloc: Global,
     pending: &Pending,
     sums: usize,
     table: &Bag,
-    seen: &Bag,
+    number: usize,
     change: &mut Bag,
 ) -> Result<(), RowFault>
     requires columns { length pending.now.columns ≡ suc sums }
     requires fit { IsSummaryTable sums table.now }
     requires counts { NewCountsFit (Summed sums) table.now (bag_at pending.now.columns) }
-    requires change { (q : List ℤ) → count_of change.old q
-        ≡ cond (has_group sums (group_of sums q) (written table.now)) (count_of (summary_change sums table.now (bag_at pending.now.columns)) q) (pos 0) }
-    requires seen { (g : List ℤ) → is_touched sums (bag_at pending.now.columns) g ≡ true
-        → is_nonzero (count_of seen.now g) ≡ has_group sums g (written table.now) }
-    requires sums { (g : List ℤ) → is_touched sums (bag_at pending.now.columns) g ≡ true
-        → has_group sums g (written table.now) ≡ true → GroupHasValue sums table.now (bag_at pending.now.columns) g }
-    ensures change { OnOk result (change.new ≡ summary_change sums table.now (bag_at pending.now.columns)) }
-    ensures sums { OnOk result (ChangeHasValue (Summed sums) table.now (bag_at pending.now.columns)) }
+    requires number { number < sums }
+    requires made { AreMade sums table.now (bag_at pending.now.columns) (stands_within (suc number) (bag_at pending.now.columns)) change.old }
+    ensures made { OnOk result (AreMade sums table.now (bag_at pending.now.columns) (stands_within (suc (suc number)) (bag_at pending.now.columns)) change.new) }
     ensures range { result ≡ Err RowFault.Range → ¬ (ChangeHasValue (Summed sums) table.now (bag_at pending.now.columns)) }
     ensures memory { result ≡ Err RowFault.Memory → ¬ (AreEmpty pending.now.columns) }
 {
-    for (group, _) in pending.counts().rows() {
-        if seen.count(group) == 0 {
-            if let Err(fault) = add_change(alloc, pending, sums, None, group, change) {
-                return Err(fault);
-            }
+    for (group, _) in pending.sum_rows(number) {
+        if let Err(fault) = add_group(alloc, pending, sums, table, number + 1, group, change) {
+            return Err(fault);
         }
     }
     Ok(())

@@ -1,14 +1,17 @@
 //! What changes in one group of a summary.
 
-ghost use Rattle.std.specs.Prelude.{◌≡◌, ◌≢◌, ℕ, suc, ◌<◌, ℤ, pos, negsuc, ◌+ℤ◌, ◌++◌, map, List, length, IsTrue, ◌↔◌, FitsSigned, IfOk, OnOk, OnErr, MatchOption, ◌||◌, cond};
+ghost use Rattle.std.specs.Prelude.{◌≡◌, ◌≢◌, ℕ, suc, ◌<◌, ◌≤◌, ℤ, pos, negsuc, ◌+ℤ◌, ◌++◌, map, List, length, IsTrue, ◌↔◌, FitsSigned, IfOk, OnOk, OnErr, MatchOption, ◌||◌, cond, Bool, false};
 ghost use Rattle.std.specs.List.{range_with_len};
 ghost use mir.Syntax.{w64};
 ghost use Rattle.wh_row.specs.Row.{is_row};
 ghost use Rattle.wh_row.specs.Bag.{count as count_of};
 ghost use Rattle.wh_row.specs.Weigh.{count_in, negated};
-ghost use Rattle.wh_maint.specs.Comp.{bag_at};
-ghost use Rattle.wh_maint.specs.Summary.{group_of, cell_of, is_nonzero, is_touched};
-ghost use Rattle.wh_maint.specs.Finishing.{cell_before, cell_after, IsWide, AfterFits, row_after, row_before, made_row};
+ghost use Rattle.wh_maint.specs.View.{Summed};
+ghost use Rattle.wh_maint.specs.Comp.{bag_at, AreEmpty};
+ghost use Rattle.wh_maint.specs.Summary.{group_of, is_nonzero};
+ghost use Rattle.wh_maint.specs.Value.{NewCountsFit, ChangeHasValue};
+ghost use Rattle.wh_maint.specs.Fit.{IsSummaryTable};
+ghost use Rattle.wh_maint.specs.Finishing.{cell_before, cell_after, IsWide, AfterFits, row_after, row_before, made_row, IsOldRow, GroupCountFits, stands_within, with_group, AreMade};
 
 use crate::fault::RowFault;
 use crate::pending::Pending;
@@ -23,33 +26,73 @@ pub(crate) fn group_in(row: &[i64], sums: usize) -> &[i64]
     &row[..row.len() - (sums + 1)]
 }
 
-/// Whether the group stands in the pending accumulators.
-pub(crate) fn is_touched(pending: &Pending, sums: usize, group: &[i64]) -> bool
-    requires { length pending.now.columns ≡ suc sums }
-    ensures { result ≡ is_touched sums (bag_at pending.now.columns) group.now }
+/// The group's row in a summary's table, if it has one. Rows of longer groups may start with the same cells.
+fn old_row<'a>(table: &'a Bag, sums: usize, group: &[i64]) -> Option<&'a [i64]>
+    requires { IsSummaryTable sums table.now }
+    ensures { IsOldRow sums table.now group.now result }
 {
-    if pending.count(group) != 0 {
-        return true;
+    for (row, _) in table.rows_starting_with(group) {
+        if group_in(row, sums).len() == group.len() {
+            return Some(row);
+        }
     }
-    for number in 0..sums {
-        if pending.sum(number, group) != 0 {
+    None
+}
+
+/// Whether the new count of a group fits i64.
+pub(crate) fn count_fits(pending: &Pending, sums: usize, table: &Bag, group: &[i64]) -> bool
+    requires columns { length pending.now.columns ≡ suc sums }
+    requires fit { IsSummaryTable sums table.now }
+    ensures { IsTrue result ↔ GroupCountFits sums table.now (bag_at pending.now.columns) group.now }
+{
+    let before = old_cell(sums, old_row(table, sums, group), 0);
+    before.checked_add(pending.count(group)).is_some()
+}
+
+/// Adds the change of a group that stands in this column of the pending accumulators, unless it stands in an earlier one: then it has been
+/// added.
+pub(crate) fn add_group(
+    alloc: Global,
+    pending: &Pending,
+    sums: usize,
+    table: &Bag,
+    column: usize,
+    group: &[i64],
+    change: &mut Bag,
+) -> Result<(), RowFault>
+    requires columns { length pending.now.columns ≡ suc sums }
+    requires fit { IsSummaryTable sums table.now }
+    requires counts { NewCountsFit (Summed sums) table.now (bag_at pending.now.columns) }
+    requires column { column < suc sums }
+    requires stands { count_of (bag_at pending.now.columns column) group.now ≢ pos 0 }
+    requires none { stands_within column (bag_at pending.now.columns) group.now ≡ false
+        → (q : List ℤ) → group_of sums q ≡ group.now → count_of change.old q ≡ pos 0 }
+    ensures made { OnOk result ((done : List ℤ → Bool) → done group.now ≡ stands_within column (bag_at pending.now.columns) group.now
+        → AreMade sums table.now (bag_at pending.now.columns) done change.old → AreMade sums table.now (bag_at pending.now.columns) (with_group group.now done) change.new) }
+    ensures range { result ≡ Err RowFault.Range → ¬ (ChangeHasValue (Summed sums) table.now (bag_at pending.now.columns)) }
+    ensures memory { result ≡ Err RowFault.Memory → ¬ (AreEmpty pending.now.columns) }
+{
+    if stands_within(pending, column, group) {
+        return Ok(());
+    }
+    let old = old_row(table, sums, group);
+    match add_change(alloc, pending, sums, old, group, change) {
+        Ok(()) => Ok(()),
+        Err(fault) => Err(fault),
+    }
+}
+
+/// Whether the group stands in one of the first columns of the pending accumulators, so many.
+fn stands_within(pending: &Pending, columns: usize, group: &[i64]) -> bool
+    requires { columns ≤ length pending.now.columns }
+    ensures { result ≡ stands_within columns (bag_at pending.now.columns) group.now }
+{
+    for column in 0..columns {
+        if added(pending, column, group) != 0 {
             return true;
         }
     }
     false
-}
-
-/// Whether the new count of a row's group fits i64, as its old count does.
-pub(crate) fn count_fits(pending: &Pending, sums: usize, row: &[i64]) -> bool
-    requires columns { length pending.now.columns ≡ suc sums }
-    requires wide { sums < length row.now }
-    ensures new { IsTrue result ↔ FitsSigned w64 (cell_of sums 0 row.now +ℤ count_of (bag_at pending.now.columns 0) (group_of sums row.now)) }
-    ensures old { FitsSigned w64 (cell_of sums 0 row.now) }
-{
-    let before = old_cell(sums, Some(row), 0);
-    before
-        .checked_add(pending.count(group_in(row, sums)))
-        .is_some()
 }
 
 /// Notes a group.
@@ -67,7 +110,7 @@ pub(crate) fn note(seen: &mut Bag, group: &[i64]) -> Result<(), RowFault>
 }
 
 /// Adds the group's new row, and takes its old row out.
-pub(crate) fn add_change(
+fn add_change(
     alloc: Global,
     pending: &Pending,
     sums: usize,

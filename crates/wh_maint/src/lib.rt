@@ -32,7 +32,7 @@ pub use comps::comp;
 pub use evaluated::evaluate;
 pub use fault::{MaintFault, NamedRow};
 pub use finished::finish;
-pub use index::Index;
+pub use index::{Found, Index};
 pub use installed::install;
 pub use laws::{
     adding_stays_within, catalogs_are_graphs, changes_are_differences, changes_are_whole,

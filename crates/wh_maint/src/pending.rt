@@ -3,7 +3,7 @@
 ghost use Rattle.std.specs.Prelude.{◌≡◌, ℕ, suc, ◌<◌, ◌≤◌, ℤ, pos, ◌+ℤ◌, ◌*ℤ◌, FitsSigned, length, map, IfOk, IfErr, OnOk, OnErr, slice_index_or};
 ghost use Rattle.std.specs.List.{range_with_len};
 ghost use mir.Syntax.{w64, w128};
-ghost use Rattle.wh_row.specs.Bag.{count as count_of, empty, plus};
+ghost use Rattle.wh_row.specs.Bag.{count as count_of, written, empty, plus};
 ghost use Rattle.wh_maint.specs.Comp.{bag_at, merged};
 ghost use Rattle.wh_maint.specs.Refused.{MergedFit, BringsNothing, IsMergeFault};
 
@@ -11,7 +11,7 @@ use crate::both_sums::add_columns;
 use crate::fault::{MaintFault, RowFault};
 use std::alloc::{AllocError, Global};
 use std::marker::Model;
-use wh_row::{Bag, BagFault, Sums};
+use wh_row::{Bag, BagFault, SumRows, Sums};
 
 /// What the Comps of a view have added so far: of a joined view its rows with their counts, of a
 /// summary for each group the count and the sums.
@@ -143,6 +143,14 @@ impl Pending {
         ensures { result.now ≡ bag_at self.now.columns 0 }
     {
         &self.counts
+    }
+
+    /// The groups that have the sum with this number, from 0, in rising order, each with its sum.
+    pub(crate) fn sum_rows(&self, number: usize) -> SumRows<'_>
+        requires { suc number < length self.now.columns }
+        ensures { result ≡ written (bag_at self.now.columns (suc number)) }
+    {
+        self.sums[number].rows()
     }
 
     /// The counts alone.

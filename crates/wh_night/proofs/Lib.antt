@@ -17,3 +17,4 @@ pub mod Amid
 pub mod StageLaws
 pub mod NewCounts
 pub mod NightLists
+pub mod Fitted

@@ -207,6 +207,21 @@ parts_pending catalog s next v b p inside is t q c k =
       bases = λ u m e. ap (λ ks. is_known ks u) k ∙ p.bases u m e;
     }
 
+-- and when a view has another table of its width
+pub parts_table : (catalog : CatalogOf) (s next : KeptLists) (v : ℕ) (b : Bag) → AreParts catalog s → v < length catalog.views.children → HasWidth b (width_of catalog v)
+    → next.tables ≡ set s.tables v b → next.pendings ≡ s.pendings → next.changes ≡ s.changes → next.known ≡ s.known
+    → AreParts catalog next
+parts_table catalog s next v b p inside wide t q c k = record {
+  catalogue = p.catalogue;
+  tables = subst (AreBags catalog) (sym t) (bags_set catalog s.tables v b p.tables inside wide);
+  changes = subst (AreBags catalog) (sym c) p.changes;
+  each_pending = ap length q ∙ p.each_pending;
+  pending = λ u m. subst (λ ps. IsPendingFor catalog u (pending_at ps u)) (sym q) (p.pending u m);
+  wide = λ u e r j. subst (λ ps. HasWidth (bag_at (pending_at ps u).columns j) (key_width e.output)) (sym q) (p.wide u e r j);
+  each_known = ap length k ∙ p.each_known;
+  bases = λ u m e. ap (λ ks. is_known ks u) k ∙ p.bases u m e;
+}
+
 -- to add what a Comp adds is to compute it
 pub added_computes : (catalog : CatalogOf) (k : Kept) (v : ℕ) (ys : List ℕ) (added : PendingOf) → added.view ≡ v
     → added.columns ≡ comp_columns (view_of (definition_of catalog v)) (children_of catalog.views.children v) ys k.tables k.changes

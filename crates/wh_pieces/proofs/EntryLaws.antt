@@ -1,5 +1,5 @@
 -- Entries from a place on, and those above a row.
-use Rattle.std.proofs.Common.{◌≡◌, refl, sym, ap, subst, ◌∙◌, ℕ, zero, suc, ◌+◌, ◌<◌, ◌≤◌, List, [], ◌∷◌, ◌++◌, length, take, drop, Some, None, cond, slice_get, arith, length-append, length-drop, add-one, true, false, is_lt}
+use Rattle.std.proofs.Common.{◌≡◌, refl, sym, ap, subst, ◌∙◌, ℕ, zero, suc, ◌+◌, ◌<◌, ◌≤◌, List, [], ◌∷◌, ◌++◌, length, take, drop, Some, None, cond, slice_get, arith, length-append, length-drop, add-one, true, false, is_lt, is_le}
 use Rattle.std.proofs.lemmas.List.{drop-drop, take-append-drop, take-append-le, drop-append-le}
 use Rattle.std.specs.List.{AllByRecursion}
 use Rattle.std.specs.List.Sorted.{IsStrictlySortedBy}
@@ -7,7 +7,7 @@ use Rattle.std.specs.Map.{keys_of}
 use Rattle.std.specs.declared.cmp.Ordering.TheVariants.{Less}
 use Rattle.wh_pieces.specs.Row.{Row, row_cmp}
 use Rattle.wh_pieces.specs.Place.{AreRisingRows, IsAbove, IsBelowFirst, IsFirst, IsAt, IsGapFor}
-use Rattle.wh_pieces.specs.Pieces.{all_of, above, IsPieceFor, piece_at}
+use Rattle.wh_pieces.specs.Pieces.{all_of, above, from, IsPieceFor, piece_at}
 use Rattle.wh_pieces.proofs.RowLaws.{rows_exact}
 use Rattle.wh_pieces.proofs.PieceLaws.{lower_below, rising-back, all-append, all-split, below-append, drop-nth}
 
@@ -78,6 +78,34 @@ above-above : {T : Type 0} (row : Row) (a b : List (Row × T)) → IsAbove row a
 above-above row [] b h = refl
 above-above row (e ∷ a) b h = (λ i. cond (is_lt (h.0 i)) (e ∷ above row (a ++ b)) (above row (a ++ b))) ∙ above-above row a b h.1
 
+-- ---- the entries from a row on
+
+all_from : {T : Type 0} (row : Row) (es : List (Row × T)) → AllByRecursion (λ k. row_cmp row k ≡ Less) (keys_of es) → from row es ≡ es
+all_from row [] h = refl
+all_from row (e ∷ es) h = (λ i. cond (is_le (h.0 i)) (e ∷ from row es) (from row es)) ∙ ap (λ xs. e ∷ xs) (all_from row es h.1)
+
+from_first : {T : Type 0} (row : Row) (es : List (Row × T)) → IsBelowFirst row es → AreRisingRows es → from row es ≡ es
+unfolding IsStrictlySortedBy
+from_first row [] h s = refl
+from_first row (e ∷ es) h s = all_from row (e ∷ es) (h, lower_below row e.0 es h s.0)
+
+from-gap : {T : Type 0} (row : Row) (es : List (Row × T)) (place : ℕ) → IsAbove row (take place es) → IsBelowFirst row (drop place es) → AreRisingRows es → from row es ≡ drop place es
+unfolding IsStrictlySortedBy
+from-gap row es zero a b s = from_first row es b s
+from-gap row [] (suc place) a b s = refl
+from-gap row (e ∷ es) (suc place) a b s = (λ i. cond (is_le (a.0 i)) (e ∷ from row es) (from row es)) ∙ from-gap row es place a.1 b s.1
+
+from-at : {T : Type 0} (row : Row) (es : List (Row × T)) (place : ℕ) → IsAbove row (take place es) → IsFirst row (drop place es) → AreRisingRows es → from row es ≡ drop place es
+unfolding IsStrictlySortedBy
+from-at row [] zero a f s = absurd f
+from-at row [] (suc place) a f s = absurd f
+from-at row (e ∷ es) zero a f s = (λ i. cond (is_le (f i)) (e ∷ from row es) (from row es)) ∙ ap (λ xs. e ∷ xs) (all_from row es (subst (λ (k : Row). AllByRecursion (λ y. row_cmp k y ≡ Less) (keys_of es)) (sym (rows_exact row e.0 f)) s.0))
+from-at row (e ∷ es) (suc place) a f s = (λ i. cond (is_le (a.0 i)) (e ∷ from row es) (from row es)) ∙ from-at row es place a.1 f s.1
+
+from-above : {T : Type 0} (row : Row) (a b : List (Row × T)) → IsAbove row a → from row (a ++ b) ≡ from row b
+from-above row [] b h = refl
+from-above row (e ∷ a) b h = (λ i. cond (is_le (h.0 i)) (e ∷ from row (a ++ b)) (from row (a ++ b))) ∙ from-above row a b h.1
+
 module _ {T : Type 0} (row : Row) (ls : List (List (Row × T))) (nth place : ℕ) (at : IsPieceFor row ls nth) (rising : AreRisingRows (all_of ls)) where
   cut : all_of ls ≡ all_of (take nth ls) ++ all_of (drop nth ls)
   cut = ap all_of (sym (take-append-drop nth ls)) ∙ all-append (take nth ls) (drop nth ls)
@@ -111,6 +139,21 @@ module _ {T : Type 0} (row : Row) (ls : List (List (Row × T))) (nth place : ℕ
       let l : place ≤ length (piece_at ls nth) = omega (arith, i.within) in
       ap (λ n. drop n (all_of (drop nth ls))) (add-one place)
       ∙ sym (over_rest ∙ above-at row (all_of (drop nth ls)) place (above_taken l i.above)
+      (subst (λ (es : List (Row × T)). IsFirst row es) (sym (dropped l)) (first_in (drop place (piece_at ls nth)) (all_of (drop (suc nth) ls)) i.same))
+      rising_rest)
+
+  from_rest : from row (all_of ls) ≡ from row (all_of (drop nth ls))
+  from_rest = ap (from row) cut ∙ from-above row (all_of (take nth ls)) (all_of (drop nth ls)) at.above
+
+  pub from_gap : IsGapFor row (piece_at ls nth) place → drop place (all_of (drop nth ls)) ≡ from row (all_of ls)
+  from_gap gap = sym (from_rest ∙ from-gap row (all_of (drop nth ls)) place (above_taken gap.within gap.above)
+      (subst (λ (es : List (Row × T)). IsBelowFirst row es) (sym (dropped gap.within)) (below-append row (drop place (piece_at ls nth)) (all_of (drop (suc nth) ls)) gap.below at.below))
+      rising_rest)
+
+  pub from_at : IsAt row (piece_at ls nth) place → drop place (all_of (drop nth ls)) ≡ from row (all_of ls)
+  from_at i =
+      let l : place ≤ length (piece_at ls nth) = omega (arith, i.within) in
+      sym (from_rest ∙ from-at row (all_of (drop nth ls)) place (above_taken l i.above)
       (subst (λ (es : List (Row × T)). IsFirst row es) (sym (dropped l)) (first_in (drop place (piece_at ls nth)) (all_of (drop (suc nth) ls)) i.same))
       rising_rest)
 

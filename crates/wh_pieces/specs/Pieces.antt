@@ -1,6 +1,6 @@
 -- Pieces of entries, one after another.
 use Rattle.std.specs.Prelude.{◌≡◌, ℕ, suc, ◌<◌, ◌^◌, List, [], ◌∷◌, ◌++◌, take, drop, length, slice_index_or, Option, filter}
-use Rattle.std.specs.Ordering.{is_lt}
+use Rattle.std.specs.Ordering.{is_lt, is_le}
 use Rattle.std.specs.List.{AllByRecursion}
 use Rattle.std.specs.Map.{lookup, remove_entry}
 use Rattle.std.specs.BTreeMap.{insert_entry}
@@ -61,3 +61,7 @@ BeginsAt (x ∷ xs) place = (place < length x) × AreNotEmpty xs
 -- those whose rows are above this one
 abbrev pub above : {T : Type 0} → Row → List (Row × T) → List (Row × T)
 above row es = filter (λ e. is_lt (row_cmp row e.0)) es
+
+-- those whose rows are this one or above it
+abbrev pub from : {T : Type 0} → Row → List (Row × T) → List (Row × T)
+from row es = filter (λ e. is_le (row_cmp row e.0)) es

@@ -33,6 +33,16 @@ impl<'a, T> Model for Entries<'a, T> {
 }
 
 impl<'a, T: Copy + Drop> Entries<'a, T> {
+    /// No entries.
+    pub fn none() -> Self
+        ensures { result ≡ [] }
+    {
+        Entries {
+            pieces: &[],
+            place: 0,
+        }
+    }
+
     /// The entries of pieces, from a place in the first of them on.
     pub(crate) fn new(pieces: &'a [Piece<T>], place: usize) -> Self
         requires some { AreNotEmpty pieces.now }
@@ -52,7 +62,7 @@ impl<'a, T: Copy + Drop> Entries<'a, T> {
     }
 
     /// The first of these entries.
-    pub(crate) fn first(&self) -> Option<(&'a [i64], T)>
+    pub fn first(&self) -> Option<(&'a [i64], T)>
         ensures { MatchOption result (self.now ≡ []) (λ e. self.now ≡ lent e ∷ drop 1 self.now) }
     {
         let piece = self.pieces.first()?;
@@ -81,7 +91,7 @@ impl<'a, T: Copy + Drop> Entries<'a, T> {
     }
 
     /// Leaves the first of these entries behind.
-    pub(crate) fn pass(&mut self)
+    pub fn pass(&mut self)
         ensures { self.new ≡ drop 1 self.old }
     {
         let Some((piece, rest)) = self.pieces.split_first() else {

@@ -9,6 +9,7 @@
 mod bring;
 mod entries;
 mod merge;
+mod near;
 mod piece;
 mod pieces;
 

@@ -6,6 +6,7 @@ ghost use Rattle.std.specs.Map.{keys_of};
 ghost use Rattle.wh_pieces.specs.Flat.{flat};
 ghost use Rattle.wh_pieces.specs.Place.{AreRisingRows, IsAt, IsGapFor, set_at};
 
+use crate::near::{likely_place, longer, place_to_ask};
 use std::alloc::{AllocError, Global};
 use std::cmp::Ordering;
 use std::marker::Model;
@@ -92,15 +93,34 @@ impl<T: Copy + Drop> Piece<T> {
     {
         let mut low = 0;
         let mut high = self.len();
+        let mut likely = self.likely_place(row);
+        let mut step = 1;
         while low < high {
-            let asked = place_to_ask(low, high, self.len());
+            let asked = place_to_ask(low, high, likely);
             match row.cmp(self.row(asked)) {
-                Ordering::Less => high = asked,
+                Ordering::Less => {
+                    high = asked;
+                    likely = asked.saturating_sub(step);
+                    step = longer(step);
+                }
                 Ordering::Equal => return Ok(asked),
-                Ordering::Greater => low = asked + 1,
+                Ordering::Greater => {
+                    low = asked + 1;
+                    likely = asked.saturating_add(step);
+                    step = longer(step);
+                }
             }
         }
         Err(low)
+    }
+
+    /// About where the row stands.
+    fn likely_place(&self, row: &[i64]) -> usize {
+        let count = self.len();
+        if count == 0 {
+            return 0;
+        }
+        likely_place(row, self.row(0), self.row(count - 1), count)
     }
 
     /// Sets the value at a place.
@@ -166,20 +186,6 @@ impl<T: Copy + Drop> Piece<T> {
         self.cells.truncate(self.width * place);
         self.values.truncate(place);
     }
-}
-
-/// The place to ask next of those from `low` up to `high`: the middle, but the last of all early,
-/// since rows that come in order go behind it.
-pub(crate) fn place_to_ask(low: usize, high: usize, end: usize) -> usize
-    requires { low < high }
-    ensures from { low ≤ result }
-    ensures below { result < high }
-    ensures between { low + 1 < high → low < result }
-{
-    if high == end && 0 < low {
-        return high - 1;
-    }
-    low + (high - low) / 2
 }
 
 /// Puts cells before a place.

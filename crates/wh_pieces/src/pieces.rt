@@ -3,10 +3,11 @@
 ghost use Rattle.std.specs.Prelude.{◌≡◌, ◌≢◌, ◌<◌, ◌≤◌, ◌+◌, ◌^◌, ◌↔◌, [], ◌∷◌, ◌++◌, length, take, drop, set, Some, None, IsSome, IfOk, OnOk, OnErr, IsTrue, suc, false};
 ghost use Rattle.std.specs.List.{insert, remove};
 ghost use Rattle.wh_pieces.specs.Place.{AreRisingRows, IsAbove};
-ghost use Rattle.wh_pieces.specs.Pieces.{found, with_entry, without_entry, above, all_of, AreNotEmpty, ArePieces, AreCounted, IsPieceFor, piece_at, before, after};
+ghost use Rattle.wh_pieces.specs.Pieces.{found, with_entry, without_entry, above, from, all_of, AreNotEmpty, ArePieces, AreCounted, IsPieceFor, piece_at, before, after};
 
 use crate::entries::Entries;
-use crate::piece::{Piece, place_to_ask};
+use crate::near::{likely_place, longer, place_to_ask};
+use crate::piece::Piece;
 use std::alloc::{AllocError, Global};
 use std::cmp::Ordering;
 use std::marker::Model;
@@ -113,6 +114,21 @@ impl<T: Copy + Drop> Pieces<T> {
         let nth = find_piece(&self.pieces, row);
         let place = match self.pieces[nth].find(row) {
             Ok(place) => place + 1,
+            Err(place) => place,
+        };
+        Entries::new(&self.pieces[nth..], place)
+    }
+
+    /// The entries from this row on, in rising order. Those below it are not walked through.
+    pub fn entries_from(&self, row: &[i64]) -> Entries<'_, T>
+        ensures { result ≡ from row.now self.now }
+    {
+        if self.pieces.is_empty() {
+            return self.entries();
+        }
+        let nth = find_piece(&self.pieces, row);
+        let place = match self.pieces[nth].find(row) {
+            Ok(place) => place,
             Err(place) => place,
         };
         Entries::new(&self.pieces[nth..], place)
@@ -275,6 +291,15 @@ fn is_above_all<T: Copy + Drop>(pieces: &Vec<Piece<T>>, row: &[i64]) -> bool
     }
 }
 
+/// About which piece the row stands in.
+fn likely_piece<T: Copy + Drop>(pieces: &Vec<Piece<T>>, row: &[i64]) -> usize
+    requires some { 0 < length pieces.now.items }
+    requires pieces { ArePieces pieces.now.items }
+{
+    let last = pieces.len() - 1;
+    likely_place(row, pieces[0].row(0), pieces[last].row(0), last + 1)
+}
+
 /// The piece in which the row stands or would go.
 fn find_piece<T: Copy + Drop>(pieces: &Vec<Piece<T>>, row: &[i64]) -> usize
     requires some { 0 < length pieces.now.items }
@@ -283,11 +308,21 @@ fn find_piece<T: Copy + Drop>(pieces: &Vec<Piece<T>>, row: &[i64]) -> usize
 {
     let mut low = 0;
     let mut high = pieces.len();
+    let mut likely = likely_piece(pieces, row);
+    let mut step = 1;
     while 1 < high - low {
-        let asked = place_to_ask(low, high, pieces.len());
+        let asked = place_to_ask(low + 1, high, likely);
         match row.cmp(pieces[asked].row(0)) {
-            Ordering::Less => high = asked,
-            _ => low = asked,
+            Ordering::Less => {
+                high = asked;
+                likely = asked.saturating_sub(step);
+                step = longer(step);
+            }
+            _ => {
+                low = asked;
+                likely = asked.saturating_add(step);
+                step = longer(step);
+            }
         }
     }
     low

@@ -201,3 +201,62 @@ fn drawn_calls_leave_what_they_leave_in_an_ordered_map(rt: HostRuntime) -> Resul
     }
     Ok(())
 }
+
+/// Rows that lie close together and far apart, in rising order.
+const UNEVEN: [i64; 14] = [
+    -9223372036854775808,
+    -9223372036854775807,
+    -7,
+    0,
+    1,
+    2,
+    3,
+    4,
+    100,
+    101,
+    1000000,
+    4611686018427387904,
+    9223372036854775806,
+    9223372036854775807,
+];
+
+/// A map of such rows, in pieces of about `most`.
+fn uneven(alloc: Global, most: usize) -> Result<Pieces<i64>, AllocError> {
+    let mut map = Pieces::with_most(alloc, most);
+    for cell in &UNEVEN {
+        map.insert(&[*cell, 1], *cell)?;
+    }
+    Ok(map)
+}
+
+/// Asserts that each of them is found, and none beside it.
+fn assert_uneven(rt: &impl Abort, map: &Pieces<i64>) {
+    for cell in &UNEVEN {
+        assert_eq!(rt; map.get(&[*cell, 1]), Some(*cell));
+        assert!(rt; map.get(&[*cell, 0]).is_none());
+        let mut entries = map.entries_from(&[*cell]);
+        let first = entries.next();
+        assert!(rt; first.is_some_and(|(_, found)| found == *cell));
+    }
+}
+
+#[test]
+fn rows_that_lie_unevenly_are_found(rt: HostRuntime) -> Result<(), Fail> {
+    assert_uneven(&rt, &uneven(rt.alloc(), 4)?);
+    assert_uneven(&rt, &uneven(rt.alloc(), 64)?);
+    Ok(())
+}
+
+#[test]
+fn each_second_number_is_found(rt: HostRuntime) -> Result<(), Fail> {
+    let mut map = Pieces::new(rt.alloc());
+    for number in 0..2000 {
+        if number % 2 == 0 {
+            map.insert(&[number], number)?;
+        }
+    }
+    for number in 0..2000 {
+        assert_eq!(rt; map.get(&[number]).is_some(), number % 2 == 0);
+    }
+    Ok(())
+}

@@ -13,3 +13,6 @@ mod RaiseLaws
 mod OrderLaws
 mod FlatLaws
 mod RunningSums
+pub mod StartLaws
+mod KeptLaws
+mod KeptSums

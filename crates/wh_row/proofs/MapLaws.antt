@@ -96,18 +96,18 @@ put_first : (k : Row) (n : NonZero) (es : List (Row × NonZero)) → T (below_al
 put_first k n [] h = refl
 put_first k n (e ∷ es) h = ap (λ o. by_order o ((k, n) ∷ e ∷ es) ((e.0, n) ∷ es) (e ∷ put row_cmp k n es)) (is_less (row_cmp k e.0) (and_first _ _ h))
 
-nz : ℤ → NonZero
+pub nz : ℤ → NonZero
 nz (pos zero) = more 0
 nz (pos (suc n)) = more n
 nz (negsuc n) = fewer n
 
-whole-nz : (z : ℤ) → (z ≢ pos 0) → whole (nz z) ≡ z
+pub whole-nz : (z : ℤ) → (z ≢ pos 0) → whole (nz z) ≡ z
 unfolding nz
 whole-nz (pos zero) n = absurd (n refl)
 whole-nz (pos (suc n)) h = refl
 whole-nz (negsuc n) h = refl
 
-entries-set_count : (b : Bag) (k : Row) (z : ℤ) → (z ≢ pos 0) → fin.entries (set_count b k z) ≡ put row_cmp k (nz z) (fin.entries b)
+pub entries-set_count : (b : Bag) (k : Row) (z : ℤ) → (z ≢ pos 0) → fin.entries (set_count b k z) ≡ put row_cmp k (nz z) (fin.entries b)
 unfolding nz
 entries-set_count b k (pos zero) n = absurd (n refl)
 entries-set_count b k (pos (suc n)) h = fin.entries-insert rows_total b k (more n)

@@ -1,7 +1,9 @@
 -- More that is added to what a row counts by one search.
-use Rattle.std.proofs.Common.{◌≡◌, ◌≢◌, refl, sym, ap, subst, ◌∙◌, ℤ, pos, ◌+ℤ◌, Option, Some, None, unwrap_or, cond, FitsSigned, to_z, of_z, to_z-of_z}
+use Rattle.std.proofs.Common.{◌≡◌, ◌≢◌, ◌⊎◌, inl, inr, true, false, refl, sym, ap, subst, ◌∙◌, ℤ, pos, ◌+ℤ◌, Option, Some, None, unwrap_or, cond, FitsSigned, to_z, of_z, to_z-of_z}
 use lib.IntN.{+ℤ_idl}
 use Rattle.std.specs.Int.{Width}
+use Rattle.std.specs.Ordering.{int_eq}
+use Rattle.std.proofs.lemmas.Bool.Decides.{Decides-int_eq, not_from_Decides}
 use Rattle.wh_pieces.specs.Pieces.{found, with_entry}
 use Rattle.wh_row.specs.Row.{Row}
 use Rattle.wh_row.specs.Weigh.{Counted}
@@ -10,6 +12,7 @@ use Rattle.wh_row.specs.Room.{IsRaised}
 use Rattle.wh_row.specs.Stored.{from_counts, AreCountsIn}
 use Rattle.wh_row.proofs.RowLaws.{itself}
 use Rattle.wh_row.proofs.CountLaws.{count-set_count, set_twice, set_same}
+use Rattle.wh_row.proofs.WrittenLaws.{zero_or_not}
 use Rattle.wh_row.proofs.MapLaws.{from_counts-with, counts-with, found_counts, seen_count}
 
 -- a row that counted nothing counts as much
@@ -72,3 +75,18 @@ module _ (w : Width) (b s : Bag) (row : Row) (more n : ℤ) (raised : IsRaised w
 
   pub unchanged : ¬ (FitsSigned w (count b row +ℤ more)) → s ≡ b
   unchanged large = is ∙ ap (set_count b row) (raised.large large) ∙ set_same b row
+
+-- ---- there is one such number
+
+pub raised_one : (w : Width) (n more a b : ℤ) → IsRaised w n more a → IsRaised w n more b → a ≡ b
+raised_one w n more a b p q = by (zero_or_not (n +ℤ more))
+  where
+    by : (n +ℤ more ≡ pos 0) ⊎ (n +ℤ more ≢ pos 0) → a ≡ b
+    by (inl z) = p.zero z ∙ sym (q.zero z)
+    by (inr some) = elim (int_eq a b) as (λ t. int_eq a b ≡ t → a ≡ b) [
+      | true ↦ λ t. (Decides-int_eq a b).0 t
+      | false ↦ λ t.
+          let apart = not_from_Decides (int_eq a b) (Decides-int_eq a b) t in
+          let large : ¬ (FitsSigned w (n +ℤ more)) = λ fits. apart (p.sum fits some ∙ sym (q.sum fits some)) in
+          p.large large ∙ sym (q.large large)
+    ] refl

@@ -154,7 +154,7 @@ pub(crate) fn inst<P: Publish, F: RowTest, G: RowValue, R: Wait>(
         return Err(fault);
     }
     let rows = state.change(view).total();
-    if let Err(fault) = state.install(alloc, view) {
+    if let Err(fault) = state.install(view) {
         return Err(fault);
     }
     let Ok(()) = steps.push((Expression::Inst(view), rows)) else {

@@ -1,11 +1,11 @@
 //! Catalogues of two nights: what was given reads back, what is stored answers on combined rows, and what does not fit.
 
-use crate::nights::catalogs::{Cell, Every, first_and_fourth, joined, second, summed};
-use crate::plans::shapes::shaped;
 use std::process::Abort;
 use std::test::Fail;
 use wh_dag::{Catalog, Definition, Output};
 use wh_formula::{Combiner, Filter, Pred};
+use wh_given::catalogs::{Cell, Every, first_and_fourth, joined, second, summed};
+use wh_given::shapes::shaped;
 
 /// Each combiner's value at the row.
 fn gives(rt: &impl Abort, combiners: &[Combiner<Cell>], row: &[i64], values: &[i64]) {
@@ -18,7 +18,7 @@ fn gives(rt: &impl Abort, combiners: &[Combiner<Cell>], row: &[i64], values: &[i
 
 #[test]
 fn a_join_of_two_tables_reads_back(rt: HostRuntime) -> Result<(), Fail> {
-    let catalog = joined(&rt, rt.alloc())?;
+    let catalog = joined(rt.alloc())?;
     widths_read_back(&rt, &catalog);
     assert!(rt; catalog.shape().len() == 3 && !catalog.is_base(2));
     join_reads_back(&rt, catalog.derived(2));
@@ -47,7 +47,7 @@ fn join_reads_back(rt: &impl Abort, definition: &Definition<Every, Cell>) {
 
 #[test]
 fn a_summary_reads_back(rt: HostRuntime) -> Result<(), Fail> {
-    let catalog = summed(&rt, rt.alloc())?;
+    let catalog = summed(rt.alloc())?;
     assert!(rt; catalog.shape().len() == 2 && !catalog.is_base(1));
     assert_eq!(rt; (catalog.width(1), catalog.combined_width(1)), (3, 2));
     match catalog.derived(1).output() {
@@ -91,7 +91,7 @@ static WIDTHS: [(&[usize], bool); 5] = [
 // By exactly one width.
 #[test]
 fn a_base_view_has_1_to_64_columns(rt: HostRuntime) -> Result<(), Fail> {
-    let shape = shaped(&rt, rt.alloc(), &[("a", "-")])?;
+    let shape = shaped(rt.alloc(), &[("a", "-")])?;
     let none: Vec<Definition<Every, Cell>> = Vec::new(rt.alloc());
     for (widths, wanted) in &WIDTHS {
         assert_eq!(rt; Catalog::fits(&shape, widths, &none), *wanted);
@@ -101,7 +101,7 @@ fn a_base_view_has_1_to_64_columns(rt: HostRuntime) -> Result<(), Fail> {
 
 #[test]
 fn a_derived_view_needs_its_definition(rt: HostRuntime) -> Result<(), Fail> {
-    let shape = shaped(&rt, rt.alloc(), &[("a", "-"), ("v", "a")])?;
+    let shape = shaped(rt.alloc(), &[("a", "-"), ("v", "a")])?;
     let none: Vec<Definition<Every, Cell>> = Vec::new(rt.alloc());
     assert!(rt; !Catalog::fits(&shape, &[1], &none));
     assert!(rt; !Catalog::fits(&shape, &[1, 1], &none));

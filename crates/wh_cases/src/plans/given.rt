@@ -1,9 +1,9 @@
 //! Shapes, sizes and lists from the texts of examples.
 
-use crate::plans::shapes::shaped;
 use std::alloc::{AllocError, Global};
 use std::process::Abort;
 use wh_dag::{Shape, ShapeFault};
+use wh_given::shapes::shaped;
 use wh_strategy::{Expression, OutOfRange, SizeRow, Sizes, Sources, Strategy};
 
 pub(crate) static TWO_BASES: [(&str, &str); 3] = [("A", "-"), ("B", "-"), ("V", "A B")];
@@ -84,7 +84,7 @@ pub(crate) fn given(
     views: &[(&str, &str)],
     rows: &[(u64, u64, u64)],
 ) -> Result<Measured, ShapeFault> {
-    let shape = shaped(rt, alloc, views)?;
+    let shape = shaped(alloc, views)?;
     let sizes = sized(alloc, rows)?.expect(rt, "sizes");
     Ok(Measured { shape, sizes })
 }

@@ -4,12 +4,12 @@ use crate::plans::given::{
     CYCLIC, CYCLIC_SIZES, Measured, SIX, SIX_SIZES, TIED_SIZES, TWO_BASES, TWO_BASES_SIZES, given,
     sized, written,
 };
-use crate::plans::shapes::shaped;
 use std::alloc::{AllocError, Global};
 use std::process::Abort;
 use std::test::Fail;
 use wh_cert::{Certificate, PairMin, Planned, Scope};
 use wh_dag::Shape;
+use wh_given::shapes::shaped;
 use wh_minwork::{Decided, Graph, MinFault, SortFault, desired_order, min_work};
 use wh_strategy::Costs;
 
@@ -155,7 +155,7 @@ fn decisions_read_back(rt: HostRuntime) -> Result<(), Fail> {
 #[test]
 fn a_graph_without_decisions_is_sorted(rt: HostRuntime) -> Result<(), Fail> {
     let alloc = rt.alloc();
-    let shape = shaped(&rt, alloc, &CYCLIC)?;
+    let shape = shaped(alloc, &CYCLIC)?;
     let list = sorted_text(alloc, &shape, &Decided::new(alloc))?;
     assert_eq!(rt; list.as_str(), "V1<B V1<C V2<B V2<V1 B C V1 V2");
     Ok(())
@@ -164,7 +164,7 @@ fn a_graph_without_decisions_is_sorted(rt: HostRuntime) -> Result<(), Fail> {
 #[test]
 fn decisions_make_a_cycle(rt: HostRuntime) -> Result<(), Fail> {
     let alloc = rt.alloc();
-    let shape = shaped(&rt, alloc, &CYCLIC)?;
+    let shape = shaped(alloc, &CYCLIC)?;
     let decided = decided(&rt, alloc, &[(0, 1), (2, 0)])?;
     let cycle = sorted_text(alloc, &shape, &decided)?;
     assert_eq!(rt; cycle.as_str(), "V1 V2<B B V1<C");

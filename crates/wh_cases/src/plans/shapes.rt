@@ -4,34 +4,7 @@ use std::alloc::{AllocError, Global};
 use std::process::Abort;
 use std::test::Fail;
 use wh_dag::{ChildLists, Couple, Name, Shape, ShapeFault, SiblingPair};
-
-/// The children of a view, by their names with spaces between: "-" for a base view.
-fn children(alloc: Global, names: &str) -> Result<Option<Vec<String>>, AllocError> {
-    if names == "-" {
-        return Ok(None);
-    }
-    let mut children = Vec::new(alloc);
-    for name in names.split_whitespace() {
-        children.push(String::from_str(alloc, name)?)?;
-    }
-    Ok(Some(children))
-}
-
-/// The shape of these views, each by its name and the names of its children: "-" for a base view.
-pub(crate) fn shaped(
-    rt: &impl Abort,
-    alloc: Global,
-    rows: &[(&str, &str)],
-) -> Result<Shape, ShapeFault> {
-    let mut names = Vec::new(alloc);
-    let mut over = Vec::new(alloc);
-    for (name, own) in rows {
-        names.push(String::from_str(alloc, name)?)?;
-        over.push(children(alloc, own)?)?;
-    }
-    assert_eq!(rt; names.len(), over.len());
-    Shape::new(alloc, names, over)
-}
+use wh_given::shapes::shaped;
 
 /// A fault by its number, the view at fault and the text that it names.
 fn told(fault: &ShapeFault) -> (u8, usize, &str) {
@@ -50,7 +23,7 @@ fn told(fault: &ShapeFault) -> (u8, usize, &str) {
 #[test]
 fn a_view_over_two_bases_reads_back(rt: HostRuntime) -> Result<(), Fail> {
     let alloc = rt.alloc();
-    let shape = shaped(&rt, alloc, &[("a", "-"), ("b", "-"), ("v", "b a")])?;
+    let shape = shaped(alloc, &[("a", "-"), ("b", "-"), ("v", "b a")])?;
     assert_eq!(rt; shape.len(), 3);
     assert!(rt; !shape.is_empty());
     assert_eq!(rt; shape.name(2), "v");
@@ -62,8 +35,8 @@ fn a_view_over_two_bases_reads_back(rt: HostRuntime) -> Result<(), Fail> {
 
 #[test]
 fn children_in_another_order_are_other_lists(rt: HostRuntime) -> Result<(), Fail> {
-    let shape = shaped(&rt, rt.alloc(), &[("a", "-"), ("b", "-"), ("v", "b a")])?;
-    let other = shaped(&rt, rt.alloc(), &[("a", "-"), ("b", "-"), ("v", "a b")])?;
+    let shape = shaped(rt.alloc(), &[("a", "-"), ("b", "-"), ("v", "b a")])?;
+    let other = shaped(rt.alloc(), &[("a", "-"), ("b", "-"), ("v", "a b")])?;
     assert!(rt; !other.child_lists().is_same(shape.child_lists()));
     Ok(())
 }
@@ -81,7 +54,7 @@ static THREE_LEVELS: [(&str, &str); 4] = [("a", "-"), ("b", "-"), ("v", "a b"), 
 
 #[test]
 fn levels_follow_the_views(rt: HostRuntime) -> Result<(), Fail> {
-    let shape = shaped(&rt, rt.alloc(), &THREE_LEVELS)?;
+    let shape = shaped(rt.alloc(), &THREE_LEVELS)?;
     assert_eq!(rt; shape.len(), 4);
     assert_eq!(rt; shape.level(1), 0);
     assert_eq!(rt; shape.level(2), 1);
@@ -92,7 +65,7 @@ fn levels_follow_the_views(rt: HostRuntime) -> Result<(), Fail> {
 #[test]
 fn parents_follow_the_views(rt: HostRuntime) -> Result<(), Fail> {
     let alloc = rt.alloc();
-    let shape = shaped(&rt, alloc, &THREE_LEVELS)?;
+    let shape = shaped(alloc, &THREE_LEVELS)?;
     assert_eq!(rt; shape.len(), 4);
     for (view, parents) in [(0, [2, 3].as_slice()), (1, &[2]), (3, &[])] {
         assert_eq!(rt; shape.parents(alloc, view)?.as_slice(), parents);
@@ -149,7 +122,7 @@ fn tells(
     rows: &[(&str, &str)],
     want: (u8, usize, &str),
 ) -> Result<(), Fail> {
-    is_refused(rt, shaped(rt, alloc, rows), want);
+    is_refused(rt, shaped(alloc, rows), want);
     Ok(())
 }
 
@@ -173,7 +146,7 @@ fn six_children_pass_and_seven_are_too_many(rt: HostRuntime) -> Result<(), Fail>
         ("g", "-"),
         ("v", "a b c d e f"),
     ];
-    let shape = shaped(&rt, alloc, &rows)?;
+    let shape = shaped(alloc, &rows)?;
     assert_eq!(rt; shape.len(), 8);
     assert_eq!(rt; shape.children(7).len(), 6);
     rows[7] = ("v", "a b c d e f g");
@@ -270,7 +243,7 @@ static COUPLES: [Couple; 2] = [
 fn siblings_and_couples_rise(rt: HostRuntime) -> Result<(), Fail> {
     let alloc = rt.alloc();
     let rows = [("b", "-"), ("c", "-"), ("v", "b c"), ("w", "v b")];
-    let shape = shaped(&rt, alloc, &rows)?;
+    let shape = shaped(alloc, &rows)?;
     assert_eq!(rt; shape.sibling_pairs(alloc)?.as_slice(), PAIRS.as_slice());
     assert_eq!(rt; shape.couples(alloc)?.as_slice(), COUPLES.as_slice());
     Ok(())

@@ -3,11 +3,11 @@
 use crate::plans::given::{
     Measured, SIX, SIX_SIZES, TWO_BASES, TWO_BASES_SIZES, given, listed, sized,
 };
-use crate::plans::shapes::shaped;
 use std::alloc::{AllocError, Global};
 use std::process::Abort;
 use std::test::Fail;
 use wh_dag::{Shape, ShapeFault};
+use wh_given::shapes::shaped;
 use wh_strategy::{CheckFault, Costs, OutOfRange, check, work};
 
 /// What a check and the work of a list answer at costs of 1.
@@ -122,7 +122,7 @@ fn a_seventh_child_is_one_too_many(rt: HostRuntime) -> Result<(), Fail> {
     let mut seven = SIX[..6].to_vec(alloc)?;
     seven.push(("A7", "-"))?;
     seven.push(("V", "A1 A2 A3 A4 A5 A6 A7"))?;
-    let fault = shaped(&rt, alloc, &seven).expect_err(&rt, "seven children");
+    let fault = shaped(alloc, &seven).expect_err(&rt, "seven children");
     assert!(rt; matches!(fault, ShapeFault::TooMany { view: 7, .. }));
     Ok(())
 }

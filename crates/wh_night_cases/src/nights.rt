@@ -1,0 +1,14 @@
+//! Nights by public calls: what each Comp reads, what is installed, the tables in the end, and what is refused.
+
+mod calls;
+mod carried;
+mod closures;
+mod groups;
+mod indexed;
+mod installed;
+mod limits;
+mod opened;
+mod steps;
+mod waves;
+
+use wh_given::{catalogs, tables};

@@ -1,0 +1,171 @@
+// Joins of four thousand rows with ten, and an index by itself.
+ghost use Rattle.std.specs.Prelude.{◌≡◌};
+
+use crate::nights::calls::{change_of, comp_of, rows_of, value_of};
+use crate::nights::catalogs::joined;
+use std::alloc::Global;
+use std::test::Fail;
+use wh_maint::Index;
+use wh_row::Bag;
+
+/// a holds (k, k mod 10) for k from 0 to 3999, each so often.
+fn of_a(alloc: Global, times: i64) -> Result<Bag, Fail> {
+    let mut rows = Bag::new(alloc);
+    for k in 0..4000_i64 {
+        rows.add(&[k, k % 10], times)?;
+    }
+    Ok(rows)
+}
+
+/// b holds (j, j + 100) for j from 0 to 9.
+fn of_b(alloc: Global) -> Result<Bag, Fail> {
+    let mut rows = Bag::new(alloc);
+    for j in 0..10_i64 {
+        rows.add(&[j, j + 100], 1)?;
+    }
+    Ok(rows)
+}
+
+/// These rows of a, those of b, and a view without rows.
+fn tables(alloc: Global, a: Bag, b: Bag) -> Result<Vec<Bag>, Fail> {
+    let mut tables = Vec::new(alloc);
+    tables.push(a)?;
+    tables.push(b)?;
+    tables.push(Bag::new(alloc))?;
+    Ok(tables)
+}
+
+#[test]
+fn a_view_joins_four_thousand_rows(rt: HostRuntime) -> Result<(), Fail> {
+    let alloc = rt.alloc();
+    let catalog = joined(alloc)?;
+    let tables = tables(alloc, of_a(alloc, 1)?, of_b(alloc)?)?;
+    let value = value_of(&rt, alloc, &catalog, 2, &tables);
+    let value = value.ok().expect(&rt, "a value");
+    assert_eq!(&rt; value.total(), 4000);
+    assert_eq!(&rt; value.count(&[3999, 109]), 1);
+    assert_eq!(&rt; value.count(&[3999, 108]), 0);
+    Ok(())
+}
+
+#[test]
+fn all_rows_of_a_leave(rt: HostRuntime) -> Result<(), Fail> {
+    let alloc = rt.alloc();
+    let catalog = joined(alloc)?;
+    let old = tables(alloc, of_a(alloc, 1)?, of_b(alloc)?)?;
+    let changes = tables(alloc, of_a(alloc, -1)?, Bag::new(alloc))?;
+    assert_eq!(&rt; rows_of(&rt, &catalog, 2, &[0], &old, &changes), 4010);
+    let pending = comp_of(&rt, alloc, &catalog, 2, &[0], &old, &changes);
+    let pending = pending.ok().expect(&rt, "a comp");
+    let change = change_of(&rt, alloc, &catalog, 2, &pending, &Bag::new(alloc));
+    let change = change.ok().expect(&rt, "a change");
+    assert_eq!(&rt; change.total(), 4000);
+    assert_eq!(&rt; change.count(&[0, 100]), -1);
+    assert!(&rt; change.rows().all(|(_, count)| count == -1));
+    Ok(())
+}
+
+/// Whether an index finds just these rows with a key, each of which counts once.
+fn finds(index: &Index<'_>, key: &[i64], rows: &[&[i64]]) -> bool {
+    let mut found = index.rows(key);
+    for row in rows {
+        let Some((cells, count)) = found.next() else {
+            return false;
+        };
+        if cells != *row || count != 1 {
+            return false;
+        }
+    }
+    found.next().is_none()
+}
+
+/// Whether an index finds so many rows with a key.
+fn finds_many(index: &Index<'_>, key: &[i64], many: usize) -> bool {
+    let mut found = index.rows(key);
+    for _ in 0..many {
+        if found.next().is_none() {
+            return false;
+        }
+    }
+    found.next().is_none()
+}
+
+#[test]
+fn an_index_has_the_rows_of_a_key(rt: HostRuntime) -> Result<(), Fail> {
+    let alloc = rt.alloc();
+    let rows = of_a(alloc, 1)?;
+    assert!(&rt; rows.is_width(2));
+    let index = Index::new(alloc, &rows, vec![in alloc; 1]?)?;
+    assert!(&rt; finds_many(&index, &[3], 400));
+    assert_eq!(&rt; index.rows(&[3]).next(), Some(([3, 3].as_slice(), 1)));
+    assert_eq!(&rt; index.rows(&[3]).last(), Some(([3993, 3].as_slice(), 1)));
+    assert!(&rt; finds_many(&index, &[10], 0));
+    Ok(())
+}
+
+#[test]
+fn an_index_on_leading_columns_finds_rows_that_start_with_the_key(
+    rt: HostRuntime,
+) -> Result<(), Fail> {
+    let alloc = rt.alloc();
+    let rows = of_a(alloc, 1)?;
+    assert!(&rt; rows.is_width(2));
+    let index = Index::new(alloc, &rows, vec![in alloc; 0]?)?;
+    assert!(&rt; finds(&index, &[3993], &[&[3993, 3]]));
+    assert!(&rt; finds(&index, &[4000], &[]));
+    let index = Index::new(alloc, &rows, vec![in alloc; 0, 1]?)?;
+    assert!(&rt; finds(&index, &[3993, 3], &[&[3993, 3]]));
+    assert!(&rt; finds(&index, &[3993, 4], &[]));
+    Ok(())
+}
+
+#[test]
+fn an_index_finds_rows_by_columns_in_another_order(rt: HostRuntime) -> Result<(), Fail> {
+    let alloc = rt.alloc();
+    let mut rows = Bag::new(alloc);
+    for row in [[5, 1, 7], [5, 2, 7], [6, 1, 5], [7, 1, 5], [7, 3, 5]] {
+        rows.add(&row, 1)?;
+    }
+    assert!(&rt; rows.is_width(3));
+    let index = Index::new(alloc, &rows, vec![in alloc; 2, 0]?)?;
+    assert!(&rt; finds(&index, &[7, 5], &[&[5, 1, 7], &[5, 2, 7]]));
+    assert!(&rt; finds(&index, &[5, 7], &[&[7, 1, 5], &[7, 3, 5]]));
+    assert!(&rt; finds(&index, &[5, 5], &[]));
+    Ok(())
+}
+
+#[test]
+fn an_index_on_no_column_finds_each_row(rt: HostRuntime) -> Result<(), Fail> {
+    let alloc = rt.alloc();
+    let rows = of_b(alloc)?;
+    let index = Index::new(alloc, &rows, Vec::new(alloc))?;
+    assert!(&rt; finds_many(&index, &[], 10));
+    assert_eq!(&rt; index.rows(&[]).next(), Some(([0, 100].as_slice(), 1)));
+    assert!(&rt; finds_many(&index, &[0], 0));
+    Ok(())
+}
+
+#[test]
+fn a_key_of_another_length_finds_nothing(rt: HostRuntime) -> Result<(), Fail> {
+    let alloc = rt.alloc();
+    let rows = of_b(alloc)?;
+    assert!(&rt; rows.is_width(2));
+    let index = Index::new(alloc, &rows, vec![in alloc; 0, 1]?)?;
+    assert!(&rt; finds_many(&index, &[3], 0));
+    assert!(&rt; finds_many(&index, &[3, 103], 1));
+    assert!(&rt; finds_many(&index, &[3, 103, 0], 0));
+    let index = Index::new(alloc, &rows, vec![in alloc; 1]?)?;
+    assert!(&rt; finds_many(&index, &[], 0));
+    assert!(&rt; finds_many(&index, &[103, 3], 0));
+    Ok(())
+}
+
+#[test]
+fn an_index_of_no_rows_finds_none(rt: HostRuntime) -> Result<(), Fail> {
+    let alloc = rt.alloc();
+    let rows = Bag::new(alloc);
+    assert!(&rt; rows.is_width(2));
+    let index = Index::new(alloc, &rows, vec![in alloc; 1]?)?;
+    assert!(&rt; finds(&index, &[3], &[]));
+    Ok(())
+}

@@ -1,0 +1,9 @@
+//! Nights that are published: what they answer, what they leave, and the tables in the end.
+
+mod alone;
+mod gates;
+mod journal;
+mod published;
+mod refusing;
+mod run;
+mod warehouse;

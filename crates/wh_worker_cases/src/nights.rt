@@ -1,0 +1,4 @@
+//! Nights by several workers.
+
+mod meeting;
+mod workers;
