@@ -22,6 +22,7 @@ mod layout;
 mod opening;
 mod order;
 mod pending;
+mod price;
 mod size;
 mod step;
 mod term;
