@@ -15,7 +15,7 @@ use wh_strategy::check;
 
 /// The night over a(x,y) with (1,10) and (2,10), b(y,z) with (10,5) and v, which joins them, beside so many readers; a changes
 /// so, and b by -(10,5) +(10,6). None where it is not what a night asks for.
-fn served<R: Threads + Wait + Sync + Abort>(
+fn served<R: Threads + Wait + Sync>(
     rt: &R,
     alloc: Global,
     change: &[(&[i64], i64)],

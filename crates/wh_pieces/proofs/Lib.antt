@@ -6,3 +6,4 @@ pub mod LastLaws
 pub mod EntryLaws
 pub mod MergeLaws
 pub mod BringLaws
+pub mod WidthLaws

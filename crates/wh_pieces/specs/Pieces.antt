@@ -65,3 +65,7 @@ above row es = filter (λ e. is_lt (row_cmp row e.0)) es
 -- those whose rows are this one or above it
 abbrev pub from : {T : Type 0} → Row → List (Row × T) → List (Row × T)
 from row es = filter (λ e. is_le (row_cmp row e.0)) es
+
+-- each row has this many cells
+abbrev pub AreWide : {T : Type 0} → ℕ → List (Row × T) → Type 0
+AreWide width es = AllByRecursion (λ e. length e.0 ≡ width) es

@@ -1,9 +1,10 @@
 //! A piece of a map: rows of one width, side by side.
 
-ghost use Rattle.std.specs.Prelude.{◌≡◌, ◌<◌, ◌≤◌, ◌+◌, ◌*◌, [], ◌∷◌, ◌++◌, length, take, drop, slice_get, Some, IfOk, OnOk, OnErr, MatchResult, cond};
+ghost use Rattle.std.specs.Prelude.{◌≡◌, ◌<◌, ◌≤◌, ◌+◌, ◌*◌, ◌↔◌, [], ◌∷◌, ◌++◌, length, take, drop, slice_get, Some, IfOk, OnOk, OnErr, IsTrue, MatchResult, cond};
 ghost use Rattle.std.specs.List.{insert, remove};
 ghost use Rattle.std.specs.Map.{keys_of};
 ghost use Rattle.wh_pieces.specs.Flat.{flat};
+ghost use Rattle.wh_pieces.specs.Pieces.{AreWide};
 ghost use Rattle.wh_pieces.specs.Place.{AreRisingRows, IsAt, IsGapFor, set_at};
 
 use crate::near::{likely_place, longer, place_to_ask};
@@ -54,6 +55,13 @@ impl<T: Copy + Drop> Piece<T> {
         ensures { result ≡ length self.now }
     {
         self.values.len()
+    }
+
+    /// Whether each row has this many cells.
+    pub(crate) fn is_width(&self, width: usize) -> bool
+        ensures { IsTrue result ↔ AreWide width self.now }
+    {
+        self.width == width || self.values.is_empty()
     }
 
     /// The row at a place.

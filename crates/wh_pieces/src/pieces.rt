@@ -3,7 +3,7 @@
 ghost use Rattle.std.specs.Prelude.{◌≡◌, ◌≢◌, ◌<◌, ◌≤◌, ◌+◌, ◌^◌, ◌↔◌, [], ◌∷◌, ◌++◌, length, take, drop, set, Some, None, IsSome, IfOk, OnOk, OnErr, IsTrue, suc, false};
 ghost use Rattle.std.specs.List.{insert, remove};
 ghost use Rattle.wh_pieces.specs.Place.{AreRisingRows, IsAbove};
-ghost use Rattle.wh_pieces.specs.Pieces.{found, with_entry, without_entry, above, from, all_of, AreNotEmpty, ArePieces, AreCounted, IsPieceFor, piece_at, before, after};
+ghost use Rattle.wh_pieces.specs.Pieces.{found, with_entry, without_entry, above, from, all_of, AreWide, AreNotEmpty, ArePieces, AreCounted, IsPieceFor, piece_at, before, after};
 
 use crate::entries::Entries;
 use crate::near::{likely_place, longer, place_to_ask};
@@ -71,6 +71,18 @@ impl<T: Copy + Drop> Pieces<T> {
         ensures rising { AreRisingRows self.now }
     {
         self.len
+    }
+
+    /// Whether each row has this many cells. Pieces are asked, and no rows.
+    pub fn is_width(&self, width: usize) -> bool
+        ensures { IsTrue result ↔ AreWide width self.now }
+    {
+        for place in 0..self.pieces.len() {
+            if !self.pieces[place].is_width(width) {
+                return false;
+            }
+        }
+        true
     }
 
     /// Whether there are no rows.

@@ -86,6 +86,25 @@ fn rows_of_other_widths_stand_between(rt: HostRuntime) -> Result<(), Fail> {
 }
 
 #[test]
+fn rows_have_one_width_or_not(rt: HostRuntime) -> Result<(), Fail> {
+    let mut map = Pieces::with_most(rt.alloc(), 2);
+    assert!(rt; map.is_width(2));
+    assert!(rt; map.is_width(0));
+    for first in 0..5_i64 {
+        map.insert(&[first, 7], first)?;
+    }
+    assert!(rt; map.is_width(2));
+    assert!(rt; !map.is_width(1));
+    assert!(rt; !map.is_width(3));
+    map.insert(&[9], 1)?;
+    assert!(rt; !map.is_width(2));
+    assert!(rt; !map.is_width(1));
+    let _ = map.remove(&[9]);
+    assert!(rt; map.is_width(2));
+    Ok(())
+}
+
+#[test]
 fn a_row_that_is_there_gets_another_value(rt: HostRuntime) -> Result<(), Fail> {
     let mut map = map_of(rt.alloc(), &[(&[1], 10), (&[2], 20), (&[3], 30)])?;
     assert_eq!(rt; map.insert(&[2], 21)?, Some(20));

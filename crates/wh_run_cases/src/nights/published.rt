@@ -4,6 +4,7 @@ use crate::nights::refusing::{Refusals, Refusing};
 use crate::nights::run::has_rows;
 use crate::nights::warehouse::{changes, one_worker, opening, store_of};
 use std::alloc::{AllocError, Global};
+use std::process::Abort;
 use std::sync::Wait;
 use std::test::Fail;
 use std::thread::Threads;
@@ -58,7 +59,7 @@ struct Setting {
 }
 
 /// A night of two tables, and a publisher that refuses this.
-fn set<R: Abort>(rt: &R, alloc: Global, refusals: Refusals) -> Result<(Setting, Refusing), Fail> {
+fn set(alloc: Global, refusals: Refusals) -> Result<(Setting, Refusing), Fail> {
     let catalog = joined(alloc)?;
     let tables = opening(alloc, &[(&[1, 5], 1), (&[2, 5], 1)])?;
     let changes = changes(alloc, &[(&[2, 10], -1), (&[3, 10], 1)])?;
@@ -144,7 +145,7 @@ fn assert_night<R: Threads + Wait + Sync + Abort>(
     wanted: Result<u64, (u8, Left)>,
     published: &[Step],
 ) -> Result<(), Fail> {
-    let (setting, mut writer) = set(rt, alloc, refusals)?;
+    let (setting, mut writer) = set(alloc, refusals)?;
     let answer = carry_out(rt, alloc, &setting, &mut writer)?;
     assert_eq!(rt; told(&answer), wanted);
     assert_published(rt, alloc, &writer, published)
@@ -170,7 +171,7 @@ fn a_night_whose_begin_is_refused(rt: HostRuntime) -> Result<(), Fail> {
         &[Step::Begin, Step::GiveUp],
     )?;
     let still_open = Err((MEMORY, Left::StillOpen));
-    let (setting, mut writer) = set(&rt, alloc, at(1, true, 1))?;
+    let (setting, mut writer) = set(alloc, at(1, true, 1))?;
     let answer = carry_out(&rt, alloc, &setting, &mut writer)?;
     assert_eq!(rt; told(&answer), still_open);
     assert_published(&rt, alloc, &writer, &[])?;
@@ -201,7 +202,7 @@ fn a_night_that_is_refused_in_its_midst(rt: HostRuntime) -> Result<(), Fail> {
 fn a_night_whose_commit_is_held(rt: HostRuntime) -> Result<(), Fail> {
     let alloc = rt.alloc();
     assert_night(&rt, alloc, at(5, true, 0), Ok(1), &NIGHT)?;
-    let (setting, mut writer) = set(&rt, alloc, at(5, true, 1))?;
+    let (setting, mut writer) = set(alloc, at(5, true, 1))?;
     let answer = carry_out(&rt, alloc, &setting, &mut writer)?;
     assert_eq!(rt; told(&answer), Err((MEMORY, Left::StillOpen)));
     let [begin, a, b, v, _commit] = NIGHT;

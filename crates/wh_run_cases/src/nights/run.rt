@@ -33,7 +33,7 @@ pub(crate) fn table_of(writer: &Writer) -> Option<Bag> {
 }
 
 /// Carries the strategy out over a writer of these tables with so many workers, and ends the writer. None where they are not what a night asks for.
-fn over_writer<R: Threads + Wait + Sync + Abort>(
+fn over_writer<R: Threads + Wait + Sync>(
     rt: &R,
     alloc: Global,
     catalog: &Catalog<Every, Cell>,
@@ -77,7 +77,7 @@ fn over_writer<R: Threads + Wait + Sync + Abort>(
 }
 
 /// Carries the one-way strategy out from these opening rows of v, with this change of a, and b -(10,5) +(10,6), with one worker.
-fn published<R: Threads + Wait + Sync + Abort>(
+fn published<R: Threads + Wait + Sync>(
     rt: &R,
     alloc: Global,
     opening: &[(&[i64], i64)],
@@ -87,7 +87,7 @@ fn published<R: Threads + Wait + Sync + Abort>(
 }
 
 /// The same with so many workers.
-fn published_by<R: Threads + Wait + Sync + Abort>(
+fn published_by<R: Threads + Wait + Sync>(
     rt: &R,
     alloc: Global,
     opening: &[(&[i64], i64)],
