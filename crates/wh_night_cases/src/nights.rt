@@ -3,11 +3,13 @@
 mod calls;
 mod carried;
 mod closures;
+mod drawn;
 mod groups;
 mod indexed;
 mod installed;
 mod limits;
 mod opened;
+mod product;
 mod steps;
 mod waves;
 
