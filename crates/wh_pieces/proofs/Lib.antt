@@ -7,3 +7,4 @@ pub mod EntryLaws
 pub mod MergeLaws
 pub mod BringLaws
 pub mod WidthLaws
+pub mod CutLaws

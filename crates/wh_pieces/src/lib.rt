@@ -7,6 +7,7 @@
 #![tactic(auto)]
 
 mod bring;
+mod bulk;
 mod entries;
 mod merge;
 mod near;

@@ -50,6 +50,25 @@ impl<T: Copy + Drop> Piece<T> {
         })
     }
 
+    /// Rows of one width, side by side.
+    pub(crate) fn of(
+        alloc: Global,
+        width: usize,
+        cells: &[i64],
+        values: &[T],
+    ) -> Result<Self, AllocError>
+        requires { length cells.now ≡ width * length values.now }
+        ensures { IfOk result (λ l. l ≡ flat width cells.now values.now) }
+    {
+        let cells = Vec::from_slice(alloc, cells)?;
+        let values = Vec::from_slice(alloc, values)?;
+        Ok(Piece {
+            width,
+            cells,
+            values,
+        })
+    }
+
     /// How many rows there are.
     pub(crate) fn len(&self) -> usize
         ensures { result ≡ length self.now }

@@ -1,10 +1,12 @@
 //! A map's pieces, one after another.
 
-ghost use Rattle.std.specs.Prelude.{◌≡◌, ◌≢◌, ◌<◌, ◌≤◌, ◌+◌, ◌^◌, ◌↔◌, [], ◌∷◌, ◌++◌, length, take, drop, set, Some, None, IsSome, IfOk, OnOk, OnErr, IsTrue, suc, false};
+ghost use Rattle.std.specs.Prelude.{◌≡◌, ◌≢◌, ◌<◌, ◌≤◌, ◌+◌, ◌*◌, ◌^◌, ◌↔◌, [], ◌∷◌, ◌++◌, length, take, drop, set, Some, None, IsSome, IfOk, OnOk, OnErr, IsTrue, suc, false};
 ghost use Rattle.std.specs.List.{insert, remove};
+ghost use Rattle.wh_pieces.specs.Flat.{flat};
 ghost use Rattle.wh_pieces.specs.Place.{AreRisingRows, IsAbove};
 ghost use Rattle.wh_pieces.specs.Pieces.{found, with_entry, without_entry, above, from, all_of, AreWide, AreNotEmpty, ArePieces, AreCounted, IsPieceFor, piece_at, before, after};
 
+use crate::bulk::cut;
 use crate::entries::Entries;
 use crate::near::{likely_place, longer, place_to_ask};
 use crate::piece::Piece;
@@ -55,6 +57,32 @@ impl<T: Copy + Drop> Pieces<T> {
             pieces: Vec::new(alloc),
             len: 0,
         }
+    }
+
+    /// The map of these rows of one width, whose cells stand side by side, each with its value. They rise, so pieces are cut from them
+    /// and no row is looked at.
+    pub fn from_rising(
+        alloc: Global,
+        width: usize,
+        cells: &[i64],
+        values: &[T],
+    ) -> Result<Self, AllocError>
+        requires cells { length cells.now ≡ width * length values.now }
+        requires rising { AreRisingRows (flat width cells.now values.now) }
+        ensures ok { IfOk result (λ map. map ≡ flat width cells.now values.now) }
+        ensures memory { OnErr result (values.now ≢ []) }
+    {
+        let len = values.len();
+        if len > LARGEST {
+            return Err(AllocError);
+        }
+        let pieces = cut(alloc, width, cells, values)?;
+        Ok(Pieces {
+            alloc,
+            most: MOST,
+            pieces,
+            len,
+        })
     }
 
     /// No rows, in a map like this one.
