@@ -37,7 +37,7 @@ middle : {A : Type 0} (P : A → Type 0) (xs : List A) (x : A) (ys : List A) →
 middle P [] x ys h = h.0
 middle P (y ∷ xs) x ys h = middle P xs x ys h.1
 
-all_pushed : {A : Type 0} (P : A → Type 0) (xs : List A) (x : A) → AllByRecursion P xs → P x → AllByRecursion P (xs ++ x ∷ [])
+pub all_pushed : {A : Type 0} (P : A → Type 0) (xs : List A) (x : A) → AllByRecursion P xs → P x → AllByRecursion P (xs ++ x ∷ [])
 all_pushed P [] x h p = (p, tt)
 all_pushed P (y ∷ xs) x h p = (h.0, all_pushed P xs x h.1 p)
 

@@ -16,3 +16,4 @@ mod RunningSums
 pub mod StartLaws
 mod KeptLaws
 mod KeptSums
+mod BulkLaws

@@ -32,7 +32,7 @@ impl Kept {
 }
 
 /// 1 for a number below zero, else 0.
-fn one_if_below(number: i64) -> usize
+pub(crate) fn one_if_below(number: i64) -> usize
     ensures { result ≡ one_below number }
 {
     if number < 0 { 1 } else { 0 }

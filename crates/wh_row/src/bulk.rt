@@ -1,0 +1,31 @@
+//! What a bag keeps that is made of rising records at once.
+
+ghost use Rattle.std.specs.Prelude.{◌≡◌, IfSome, unsigned_abs};
+ghost use Rattle.std.specs.List.{sum_by};
+ghost use Rattle.wh_row.specs.Kept.{one_below};
+ghost use Rattle.wh_row.specs.Stored.{AreCounts};
+
+use crate::kept::{Kept, one_if_below};
+use crate::records::Records;
+
+/// What is kept of a bag of these records where each stands alone with its row; none where a count is 0 or all together leave u64.
+pub(crate) fn kept_of(records: &Records) -> Option<Kept>
+    ensures counts { IfSome result (λ kept. AreCounts records.now) }
+    ensures total { IfSome result (λ kept. kept.total ≡ sum_by (λ e. unsigned_abs e.1) records.now) }
+    ensures below { IfSome result (λ kept. kept.below ≡ sum_by (λ e. one_below e.1) records.now) }
+{
+    let mut total: u64 = 0;
+    let mut below = 0;
+    for place in 0..records.len() {
+        let (_, count) = records.get(place);
+        if count == 0 {
+            return None;
+        }
+        total = total.checked_add(count.unsigned_abs())?;
+        below += one_if_below(count);
+    }
+    Some(Kept {
+        total: u128::from(total),
+        below,
+    })
+}
