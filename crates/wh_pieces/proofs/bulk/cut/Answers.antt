@@ -4,7 +4,7 @@ use Rattle.wh_pieces.specs.Row.{Row}
 use Rattle.wh_pieces.specs.Flat.{flat}
 use Rattle.wh_pieces.specs.Pieces.{AreNotEmpty, all_of}
 use Rattle.wh_pieces.proofs.FlatLaws.{length-flat}
-use Rattle.wh_pieces.proofs.CutLaws.{front_even, back_even, cut-flat, one_more, some_more}
+use Rattle.wh_pieces.proofs.CutLaws.{back_even, cut-flat, one_more, some_more}
 use Rattle.wh_pieces.proofs.bulk.cut.Goals as goal
 
 pub loop-cells-preserved : goal.loop-cells-preserved
