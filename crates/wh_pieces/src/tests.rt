@@ -86,6 +86,22 @@ fn rows_of_other_widths_stand_between(rt: HostRuntime) -> Result<(), Fail> {
 }
 
 #[test]
+fn a_map_is_made_of_rows_that_rise(rt: HostRuntime) -> Result<(), Fail> {
+    let alloc = rt.alloc();
+    let mut map = Pieces::from_rising(alloc, 2, &[1, 5, 1, 6, 2, -3], &[10, 20, 30])?;
+    assert_lists(&rt, &map, &[(&[1, 5], 10), (&[1, 6], 20), (&[2, -3], 30)]);
+    assert!(&rt; map.insert(&[1], 7)?.is_none());
+    assert_lists(
+        &rt,
+        &map,
+        &[(&[1], 7), (&[1, 5], 10), (&[1, 6], 20), (&[2, -3], 30)],
+    );
+    let none = Pieces::<i64>::from_rising(alloc, 2, &[], &[])?;
+    assert!(&rt; none.is_empty());
+    Ok(())
+}
+
+#[test]
 fn rows_have_one_width_or_not(rt: HostRuntime) -> Result<(), Fail> {
     let mut map = Pieces::with_most(rt.alloc(), 2);
     assert!(rt; map.is_width(2));
