@@ -221,8 +221,10 @@ fn put_in(cells: &mut Vec<i64>, start: usize, row: &[i64]) -> Result<(), AllocEr
     ensures ok { OnOk result (cells.new.items ≡ take start cells.old.items ++ (row.now ++ drop start cells.old.items)) }
     ensures err { OnErr result (cells.new.items ≡ cells.old.items) }
 {
+    let end = cells.len();
     cells.extend_from_slice(row)?;
-    cells[start..].rotate_right(row.len());
+    cells.copy_within(start..end, start + row.len());
+    cells[start..start + row.len()].copy_from_slice(row);
     Ok(())
 }
 
@@ -232,6 +234,6 @@ fn take_out(cells: &mut Vec<i64>, start: usize, width: usize)
     ensures { cells.new.items ≡ take start cells.old.items ++ drop (start + width) cells.old.items }
 {
     let kept = cells.len() - width;
-    cells[start..].rotate_left(width);
+    cells.copy_within(start + width.., start);
     cells.truncate(kept);
 }
