@@ -1,5 +1,5 @@
 -- A night that runs while readers go through the tables of before.
-use Rattle.std.specs.Prelude.{◌≡◌, ◌≤◌, ℕ, List, [], None, Some, Bool, if◌then◌else◌, length, sum_by, IfErr, IfOk, OnOk, Ok, Result}
+use Rattle.std.specs.Prelude.{◌≡◌, ◌≤◌, ℕ, List, [], None, Some, length, sum_by, IfErr, IfOk, OnOk, Ok, Result}
 use Rattle.wh_row.specs.Bag.{Bag, written}
 use Rattle.wh_dag.specs.Catalog.{CatalogOf}
 use Rattle.wh_strategy.specs.Rules.{Judged}
@@ -21,8 +21,6 @@ use Rattle.wh_night.specs.Steps.{AreSteps}
 use Rattle.wh_night.specs.declared.report.Report.{Report}
 use Rattle.wh_course.specs.Night.{Night}
 use Rattle.wh_desk.specs.Desks.{Sitting}
-use Rattle.wh_run.specs.declared.left.Left.{Left}
-use Rattle.wh_run.specs.declared.left.Left.TheVariants.{GivenUp, Untouched}
 use Rattle.wh_run.specs.declared.left.NightFault.{NightFault}
 use Rattle.wh_run.specs.declared.running.Options.{Options}
 use Rattle.wh_run.specs.Refusals.{AreAllowed, IsRefused}
@@ -36,14 +34,6 @@ rows_of tables = sum_by (λ table. length (written table)) tables
 -- a warehouse that begins with these tables; nothing is published
 abbrev pub newly : Contents → Ledger
 newly tables = ledger (record { limit = 2; opening = tables }) [] None
-
--- the night of this strategy and these changes over them
-abbrev pub night_over : CatalogOf → List Expression → Contents → List Bag → ℕ → Night
-night_over catalog list tables changes keys = tonight catalog list (newly tables) changes keys
-
--- what a refused night leaves, by whether it had begun
-abbrev pub left_of : Bool → Left
-left_of started = if started then GivenUp else Untouched
 
 -- the desk is of this warehouse, and has a session of version 0
 abbrev pub IsSeated : Warehouse → Sitting → Type 0

@@ -15,10 +15,10 @@ ghost use Rattle.wh_night.specs.Refused.{AreAllowedBelow, ArePassedBelow};
 ghost use Rattle.wh_night.specs.Steps.{AreSteps};
 ghost use Rattle.wh_course.specs.Night.{Night};
 ghost use Rattle.wh_publish.specs.Ledgers.{Warehouse};
-ghost use Rattle.wh_run.specs.Refusals.{IsRefused, IsRefusedSo};
-ghost use Rattle.wh_run.specs.Tonight.{newest_in};
+ghost use Rattle.wh_run.specs.Refusals.{IsRefused, IsRefusedSo, left_of};
+ghost use Rattle.wh_run.specs.Tonight.{newest_in, night_over};
 ghost use Rattle.wh_store.specs.Windows.{Shows, current};
-ghost use Rattle.wh_readers.specs.Serving.{CanRun, IsReady, IsRun, IsSeated, IsServed, left_of, newly, night_over, rows_of};
+ghost use Rattle.wh_readers.specs.Serving.{CanRun, IsReady, IsRun, IsSeated, IsServed, newly, rows_of};
 
 use crate::reading::read_each;
 use std::alloc::Global;
@@ -28,10 +28,11 @@ use wh_dag::Catalog;
 use wh_desk::{Desk, Writer, open_warehouse};
 use wh_formula::{RowTest, RowValue};
 use wh_maint::MaintFault;
-use wh_night::{CarryFault, Report};
-use wh_publish::Alone;
+use wh_night::{Carried, CarryFault, Report};
 use wh_row::Bag;
-use wh_run::{Left, NightCause, NightFault, NoGate, Options, current_tables, night};
+use wh_run::{
+    Left, NightCause, NightFault, NoGate, Options, current_tables, night, night_alone,
+};
 use wh_store::Store;
 use wh_strategy::Correct;
 
@@ -162,50 +163,52 @@ fn answer_of(
     }
 }
 
-/// Runs a night over a store that nobody reads beside it.
-fn by_itself<F: RowTest, G: RowValue, R: Threads + Wait + Sync>(
-    rt: &R,
-    alloc: Global,
-    writer: &mut Alone,
-    catalog: &Catalog<F, G>,
-    changes: &[Bag],
-    correct: &Correct,
-    options: Options,
-) -> Result<Report, NightFault>
-    requires ready { CanRun catalog.now correct.now writer.old changes.now options }
-    ensures { IsRun catalog.now correct.now.list writer.old changes.now options.page_keys result writer.new }
-{
-    night(
-        rt, alloc, writer, catalog, changes, correct, options, &NoGate,
-    )
-}
-
-/// A night without readers. No second copy of the tables is made, and the new ones are handed out as they lie.
-fn serve_none<F: RowTest, G: RowValue, R: Threads + Wait + Sync>(
+/// A night without readers, over the tables as they lie.
+fn serve_none<F: RowTest, G: RowValue, R: Threads + Sync>(
     rt: &R,
     alloc: Global,
     catalog: &Catalog<F, G>,
-    store: Store,
+    tables: Vec<Bag>,
     changes: &[Bag],
     correct: &Correct,
     options: Options,
 ) -> Result<Served, CarryFault>
-    requires new { Shows store (current store) [] }
-    requires limit { store.limit ≡ 2 }
-    requires ready { CanRun catalog.now correct.now (newly (current store)) changes.now options }
-    ensures run { IfOk result (IsServed catalog.now correct.now.list (newly (current store)) changes.now options.page_keys) }
+    requires judged { correct.now.children ≡ catalog.now.views.children }
+    requires tables { AreBags catalog.now tables.items }
+    requires changes { AreBags catalog.now changes.now }
+    requires fit { AreFitTables catalog.now tables.items }
+    requires some { 1 ≤ options.workers }
+    requires few { options.workers ≤ 16 }
+    ensures bags { IfOk result (λ s. AreBags catalog.now s.tables.items) }
+    ensures tables { IfOk result (λ s. (v : ℕ) → v < length catalog.now.views.children
+        → bag_at s.tables.items v ≡ tables_after (graph_of catalog.now) (bag_at changes.now) correct.now.list (bag_at tables.items) v) }
+    ensures contents { IfOk result (λ s. AreContents (graph_of catalog.now) (bag_at tables.items)
+        → AreContentsOf (graph_of catalog.now) (changed (bag_at tables.items) (bag_at changes.now)) (bag_at s.tables.items)) }
+    ensures version { IfOk result (λ s. s.report.version ≡ 1) }
+    ensures steps { IfOk result (λ s. AreSteps catalog.now.views.children correct.now.list (bag_at tables.items)
+        (tables_after (graph_of catalog.now) (bag_at changes.now) correct.now.list (bag_at tables.items)) s.report.steps.items) }
+    ensures allowed { OnOk result (AreAllowedBelow catalog.now (bag_at tables.items) (bag_at changes.now) (length catalog.now.views.children)) }
+    ensures passed { OnOk result (ArePassedBelow catalog.now correct.now.list (bag_at tables.items) (bag_at changes.now) (length correct.now.list)) }
     ensures rows { IfOk result (λ s. s.rows.items ≡ []) }
     ensures refused { IfErr result (λ f. (f.fault ≡ Memory)
-        ⊎ IsRefusedSo (night_over catalog.now correct.now.list (current store) changes.now options.page_keys) (left_of f.started) f.fault) }
+        ⊎ ((keys : ℕ) → IsRefusedSo (night_over catalog.now correct.now.list tables.items changes.now keys) (left_of f.started) f.fault)) }
 {
-    let mut writer = Alone::new(store);
-    match by_itself(rt, alloc, &mut writer, catalog, changes, correct, options) {
-        Ok(report) => Ok(Served {
-            tables: writer.into_tables(),
+    match night_alone(
+        rt,
+        alloc,
+        catalog,
+        tables,
+        changes,
+        correct,
+        options.workers,
+        &NoGate,
+    ) {
+        Ok(Carried { tables, report }) => Ok(Served {
+            tables,
             report,
             rows: Vec::new(alloc),
         }),
-        Err(refused) => Err(refusal(refused)),
+        Err(refused) => Err(refused),
     }
 }
 
@@ -254,41 +257,13 @@ fn serve_some<F: RowTest, G: RowValue, R: Threads + Wait + Sync>(
     answer
 }
 
-/// A night over this store beside so many readers.
-fn serve_over<F: RowTest, G: RowValue, R: Threads + Wait + Sync>(
-    rt: &R,
-    alloc: Global,
-    catalog: &Catalog<F, G>,
-    store: Store,
-    changes: &[Bag],
-    correct: &Correct,
-    options: Options,
-    readers: usize,
-) -> Result<Served, CarryFault>
-    requires new { Shows store (current store) [] }
-    requires limit { store.limit ≡ 2 }
-    requires ready { CanRun catalog.now correct.now (newly (current store)) changes.now options }
-    requires readers { readers ≤ 16 }
-    ensures run { IfOk result (IsServed catalog.now correct.now.list (newly (current store)) changes.now options.page_keys) }
-    ensures rows { IfOk result (λ s. s.rows.items ≡ replicate readers (rows_of (current store))) }
-    ensures refused { IfErr result (λ f. (f.fault ≡ Memory)
-        ⊎ IsRefusedSo (night_over catalog.now correct.now.list (current store) changes.now options.page_keys) (left_of f.started) f.fault) }
-{
-    if readers == 0 {
-        return serve_none(rt, alloc, catalog, store, changes, correct, options);
-    }
-    serve_some(
-        rt, alloc, catalog, store, changes, correct, options, readers,
-    )
-}
-
 /// Runs a night over a new warehouse of these tables while readers go through them: one bag for each view, each fit, as the
 /// contents of a base are (`are_fit` tests it). There is a change for each view; those of derived views are not read. The
 /// strategy was judged over this catalogue's shape (`is_of` tests it).
 ///
 /// Each reader opens its session before the night begins, and reads each view once, in pages of 256 rows. The night goes wave by
 /// wave and is refused as [`wh_run::night`] refuses it; want of memory is also told where a reader was not answered. Where there are
-/// no readers there is no second copy of the tables for them.
+/// no readers the tables are changed where they lie, and none is copied.
 pub fn serve_night<F: RowTest, G: RowValue, R: Threads + Wait + Sync>(
     rt: &R,
     alloc: Global,
@@ -324,10 +299,13 @@ pub fn serve_night<F: RowTest, G: RowValue, R: Threads + Wait + Sync>(
 {
     // Makes known that the strategy keeps the rules.
     let _ = correct.strategy();
+    if readers == 0 {
+        return serve_none(rt, alloc, catalog, tables, changes, correct, options);
+    }
     let Ok(store) = Store::new(alloc, tables) else {
         return Err(want_of_memory());
     };
-    serve_over(
+    serve_some(
         rt, alloc, catalog, store, changes, correct, options, readers,
     )
 }

@@ -101,3 +101,7 @@ if_ok_on P Q (Err e) f h = tt
 pub if_err_both : {A : Type 0} {E : Type 0} (P Q S : E → Type 0) (r : Result A E) → ((e : E) → P e → Q e → S e) → IfErr r P → IfErr r Q → IfErr r S
 if_err_both P Q S (Ok x) f a b = tt
 if_err_both P Q S (Err e) f a b = f e a b
+
+pub on_three : {A : Type 0} {E : Type 0} (P Q S T : Type 0) (r : Result A E) → (P → Q → S → T) → OnOk r P → OnOk r Q → OnOk r S → OnOk r T
+on_three P Q S T (Ok x) f a b c = f a b c
+on_three P Q S T (Err e) f a b c = tt

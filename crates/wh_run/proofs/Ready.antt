@@ -1,5 +1,5 @@
 -- Jobs that can be run, one by one.
-use Rattle.std.proofs.Common.{◌≡◌, ◌↔◌, ℕ, zero, suc, ◌-◌, ◌<◌, ◌≤◌, ◌||◌, List, [], ◌∷◌, length, get_or, take, drop, slice_get, Some, Bool, true, false, sym, refl, ap, subst, ◌∙◌, eqb, IsTrue, ⊎_elim, arith}
+use Rattle.std.proofs.Common.{◌≡◌, ◌↔◌, ℕ, zero, suc, ◌-◌, ◌<◌, ◌≤◌, ◌||◌, List, [], ◌∷◌, length, get_or, take, drop, Bool, true, false, sym, refl, ap, subst, ◌∙◌, eqb, IsTrue, ⊎_elim, arith}
 use Rattle.std.proofs.lemmas.Bool.{eqb-true, false≢true, or_cases, or_left, or_right}
 use Rattle.std.proofs.lemmas.Option.{same_Some}
 use Rattle.std.proofs.lemmas.List.{take_all}

@@ -1,11 +1,12 @@
 -- A stage of a night: what it carries out and publishes, or why it is refused.
-use Rattle.std.proofs.Common.{◌≡◌, sym, ap, subst, ◌∙◌, ℕ, ◌+◌, eqb, List, [], ◌∷◌, ◌++◌, map, length, None, ◌⊎◌, inl, inr, ⊎_elim, arith}
+use Rattle.std.proofs.Common.{◌≡◌, refl, sym, ap, subst, ◌∙◌, ℕ, ◌+◌, eqb, List, [], ◌∷◌, ◌++◌, map, length, None, ◌⊎◌, inl, inr, ⊎_elim, arith}
 use Rattle.std.proofs.lemmas.Bool.{cases_Bool}
 use Rattle.std.proofs.lemmas.List.{append_assoc, length-map}
 use Rattle.wh_dag.specs.Catalog.{CatalogOf}
 use Rattle.wh_strategy.specs.declared.expression.Expression.{Expression}
 use Rattle.wh_strategy.specs.declared.expression.Expression.TheVariants.{Inst}
 use Rattle.wh_strategy.specs.Expression.{At}
+use Rattle.wh_row.specs.Bag.{Bag}
 use Rattle.wh_maint.specs.declared.fault.MaintFault.{MaintFault}
 use Rattle.wh_maint.specs.declared.fault.MaintFault.TheVariants.{Memory}
 use Rattle.wh_maint.specs.Comp.{bag_at}
@@ -28,13 +29,22 @@ use Rattle.wh_night.proofs.Nights.{agrees_next, passed_next, rows_right, steps_n
 use Rattle.wh_night.proofs.Reasons.{inst_reason}
 use Rattle.wh_night.proofs.Refusals.{same_fit, told_next, unfinished}
 use Rattle.wh_course.specs.Night.{Night, state_at}
-use Rattle.wh_course.specs.Standing.{IsWaveAt, place_of}
+use Rattle.wh_course.specs.Standing.{IsWaveAt, StandsAt, place_of}
 use Rattle.wh_course.proofs.Parts.{fits_behind, inst_at, place_next, wave_at}
-use Rattle.wh_run.specs.Refusals.{IsWaveFault}
+use Rattle.wh_run.specs.Refusals.{IsFirstStageFault, IsWaveFault}
 use Rattle.wh_run.specs.Tonight.{goes_out, made_by}
 use Rattle.wh_run.specs.Underway.{HasCome, IsAt, IsInstStopped, IsPartly, IsStopped, IsUnderway, Reports, is_cut, is_refused, out_below, puts_in}
 use Rattle.wh_run.proofs.Outs.{held_behind, out_more}
 use Rattle.wh_run.proofs.Puts.{begins_at, front_begins, out_next, wave_out}
+
+-- before the first expression
+pub comes_first : (catalog : CatalogOf) (list : List Expression) (tables changes : ℕ → Bag) (keys : ℕ) (k : Kept) → StandsAt (record { catalog = catalog; list = list; tables = tables; changes = changes; keys = keys }) 0 k
+    → HasCome (record { catalog = catalog; list = list; tables = tables; changes = changes; keys = keys }) 0 k []
+comes_first catalog list tables changes keys k stands = record {
+  stands = stands;
+  passed = λ q e l at. absurd (omega arith);
+  reported = record { each = refl; rows = λ q e l at. absurd (omega arith) };
+}
 
 module _ (n : Night) (l m : Ledger) (before after : List Stage) (k : Kept) (steps : List (Expression × ℕ)) (here : IsAt n l (place_of before) k steps m) where
   abbrev p : ℕ
@@ -148,3 +158,33 @@ module _ (n : Night) (l m : Ledger) (before after : List Stage) (k : Kept) (step
       ⊎_elim (λ e. inl e) (λ w. inr (record { before = before; refused = stage.Inst v; after = after; split = split; passed = here.come.passed; is = w })) (fault_is fault h),
     )
     inst_stops fault o (is_cut memory passed part) = (cut_underway o passed part, inl memory)
+
+-- ---- where nothing is published
+
+-- a night that has come to a place, seen as one that has published what it would have
+module _ (n : Night) (l : Ledger) (before after : List Stage) (k : Kept) (steps : List (Expression × ℕ)) (come : HasCome n (place_of before) k steps) where
+  abbrev so_far : Ledger
+  so_far = goes_out l (out_below n (place_of before)) None
+
+  here : IsAt n l (place_of before) k steps so_far
+  here = record { come = come; out = refl }
+
+  pub wave_here : (jobs : List Job) → stages_of n.list ≡ before ++ stage.Wave jobs ∷ after → IsWaveAt n.catalog jobs n (place_of before)
+  wave_here jobs split = its_wave n l so_far before after k steps here jobs split
+
+  pub wave_comes : (jobs : List Job) → stages_of n.list ≡ before ++ stage.Wave jobs ∷ after → (next : Kept) (more : List (Expression × ℕ)) → HasCome n (place_of before + length jobs) next more
+      → HasCome n (place_of (before ++ stage.Wave jobs ∷ [])) next more
+  wave_comes jobs split next more come = (wave_goes n l so_far before after k steps here jobs split next more come).come
+
+  pub wave_is_refused : (jobs : List Job) → stages_of n.list ≡ before ++ stage.Wave jobs ∷ after → (fault : MaintFault) → (fault ≡ Memory) ⊎ IsWaveFault n (place_of before) jobs fault
+      → (fault ≡ Memory) ⊎ IsFirstStageFault n fault
+  wave_is_refused jobs split fault f = (wave_stops n l so_far before after k steps here jobs split fault f).1
+
+  pub inst_has_come : (v : ℕ) → stages_of n.list ≡ before ++ stage.Inst v ∷ after → (next : Kept) (more : List (Expression × ℕ)) → IsPassedIn n.catalog k (Inst v)
+      → next ≡ installed v (finished n.catalog (λ u. eqb v u) k) → Reports (rows_in n.catalog (Inst v) k) (Inst v) steps more → HasCome n (place_of (before ++ stage.Inst v ∷ [])) next more
+  inst_has_come v split next more passed done report =
+      (inst_goes n l so_far before after k steps here v split next more (goes_out so_far (puts_in n.catalog n.keys v k) None) passed done report refl).come
+
+  pub inst_is_refused : (v : ℕ) → stages_of n.list ≡ before ++ stage.Inst v ∷ after → (fault : MaintFault) → IsStepFaultIn n.catalog k (Inst v) fault
+      → (fault ≡ Memory) ⊎ IsFirstStageFault n fault
+  inst_is_refused v split fault f = (inst_stops n l so_far before after k steps here v split fault so_far (is_refused refl f)).1

@@ -1,5 +1,5 @@
 -- Why a night is refused that could begin: by its base changes, or in the first of its stages that is refused.
-use Rattle.std.specs.Prelude.{◌≡◌, ◌⊎◌, ◌==◌, ℕ, suc, if◌then◌else◌, List, [], ◌∷◌, ◌++◌, length, slice_get, Some}
+use Rattle.std.specs.Prelude.{◌≡◌, ◌⊎◌, ◌==◌, ℕ, suc, Bool, if◌then◌else◌, List, [], ◌∷◌, ◌++◌, length, slice_get, Some}
 use Rattle.wh_strategy.specs.declared.expression.Expression.TheVariants.{Inst}
 use Rattle.wh_maint.specs.declared.fault.MaintFault.{MaintFault}
 use Rattle.wh_maint.specs.declared.fault.MaintFault.TheVariants.{Memory}
@@ -68,6 +68,10 @@ abbrev pub IsRefusedSo : Night → Left → MaintFault → Type 0
 IsRefusedSo n Untouched fault = IsBaseFault n.catalog n.tables n.changes fault
 IsRefusedSo n GivenUp fault = AreAllowed n × IsFirstStageFault n fault
 IsRefusedSo n StillOpen fault = AreAllowed n × IsFirstStageFault n fault
+
+-- what a refused night leaves, by whether it had begun
+abbrev pub left_of : Bool → Left
+left_of started = if started then GivenUp else Untouched
 
 -- why a night is refused that can begin: for want of memory, which may come at any point, or so
 pub record IsRefused (n : Night) (f : NightFault) : Type 0 where

@@ -20,9 +20,13 @@ use Rattle.wh_run.specs.declared.left.Left.TheVariants.{Untouched, GivenUp, Stil
 abbrev pub newest_in : Ledger → Contents
 newest_in l = (versions_in l.of l.list).newest
 
--- the night of this strategy and these changes, from the contents of the current version
+-- the night of this strategy and these changes over these tables
+abbrev pub night_over : CatalogOf → List Expression → Contents → List Bag → ℕ → Night
+night_over catalog list tables changes keys = record { catalog = catalog; list = list; tables = bag_at tables; changes = bag_at changes; keys = keys }
+
+-- that over the contents of the current version
 abbrev pub tonight : CatalogOf → List Expression → Ledger → List Bag → ℕ → Night
-tonight catalog list l changes keys = record { catalog = catalog; list = list; tables = bag_at (newest_in l); changes = bag_at changes; keys = keys }
+tonight catalog list l changes keys = night_over catalog list (newest_in l) changes keys
 
 -- the tables that it makes
 abbrev pub made_by : Night → ℕ → Bag

@@ -126,6 +126,37 @@ fn publish_change<P: Publish, R: Wait>(
     Ok(())
 }
 
+/// Carries an Inst out and reports it.
+pub(crate) fn install<F: RowTest, G: RowValue>(
+    alloc: Global,
+    catalog: &Catalog<F, G>,
+    view: usize,
+    state: &mut NightState,
+    steps: &mut Vec<(Expression, u128)>,
+) -> Result<(), MaintFault>
+    requires parts { AreParts catalog.now state.old }
+    requires fit { CanFinish catalog.now (kept state.old) }
+    requires view { view < length catalog.now.views.children }
+    ensures parts { OnOk result (AreParts catalog.now state.new) }
+    ensures fit { OnOk result (CanFinish catalog.now (kept state.new)) }
+    ensures done { OnOk result (kept state.new ≡ installed view (finished catalog.now (λ u. view == u) (kept state.old))) }
+    ensures passed { OnOk result (IsPassedIn catalog.now (kept state.old) (Inst view)) }
+    ensures reported { OnOk result (Reports (rows_in catalog.now (Inst view) (kept state.old)) (Inst view) steps.old.items steps.new.items) }
+    ensures refused { IfErr result (IsStepFaultIn catalog.now (kept state.old) (Inst view)) }
+{
+    if let Err(fault) = state.finish_one(alloc, catalog, view) {
+        return Err(fault);
+    }
+    let rows = state.change(view).total();
+    if let Err(fault) = state.install(view) {
+        return Err(fault);
+    }
+    let Ok(()) = steps.push((Expression::Inst(view), rows)) else {
+        return Err(MaintFault::Memory);
+    };
+    Ok(())
+}
+
 /// Carries an Inst out and reports it, and publishes the new counts.
 pub(crate) fn inst<P: Publish, F: RowTest, G: RowValue, R: Wait>(
     rt: &R,
@@ -150,16 +181,9 @@ pub(crate) fn inst<P: Publish, F: RowTest, G: RowValue, R: Wait>(
     ensures out { OnOk result (P.kept writer.new ≡ goes_out (P.kept writer.old) (puts_in catalog.now keys view (kept state.old)) None) }
     ensures err { IfErr result (λ fault. IsInstStopped catalog.now keys view (kept state.old) fault (P.kept writer.old) (P.kept writer.new)) }
 {
-    if let Err(fault) = state.finish_one(alloc, catalog, view) {
+    if let Err(fault) = install(alloc, catalog, view, state, steps) {
         return Err(fault);
     }
-    let rows = state.change(view).total();
-    if let Err(fault) = state.install(view) {
-        return Err(fault);
-    }
-    let Ok(()) = steps.push((Expression::Inst(view), rows)) else {
-        return Err(MaintFault::Memory);
-    };
     match publish_change(
         rt,
         alloc,

@@ -4,6 +4,7 @@
 //! on meanwhile. A night that is refused once it has begun is given up.
 #![tactic(auto)]
 
+mod alone;
 mod asked;
 mod cause;
 mod gate;
@@ -14,6 +15,7 @@ mod opening;
 mod running;
 mod waves;
 
+pub use alone::night_alone;
 pub use asked::can_run_wave;
 pub use cause::NightCause;
 pub use gate::{Gate, NoGate};

@@ -30,8 +30,9 @@ use Rattle.wh_night.specs.Laws.{AreFew}
 use Rattle.wh_strategy.specs.Rules.{IsCorrect}
 use Rattle.wh_strategy.specs.declared.expression.Expression.{Expression}
 use Rattle.whview.specs.FitNight.{AreReadTables}
-use Rattle.wh_run.specs.Refusals.{IsRefusedSo}
-use Rattle.wh_readers.specs.Serving.{left_of, night_over, rows_of}
+use Rattle.wh_run.specs.Refusals.{IsRefusedSo, left_of}
+use Rattle.wh_run.specs.Tonight.{night_over}
+use Rattle.wh_readers.specs.Serving.{rows_of}
 use Rattle.whview.specs.NightOutput.{AreOpened, IsDecided, IsRefusedFrom, IsShownFrom, night_from}
 use Rattle.whview.specs.declared.night.Outcome.TheVariants.{NoContents}
 use Rattle.whview.proofs.AnyKeys.{refused_any}

@@ -32,9 +32,9 @@ use Rattle.wh_night.specs.Steps.{AreSteps}
 use Rattle.wh_night.specs.declared.report.CarryFault.{CarryFault}
 use Rattle.wh_row.specs.Bag.{Bag, empty}
 use Rattle.wh_run.proofs.OneRefusal.{one_refusal as nights_have_one_refusal}
-use Rattle.wh_run.specs.Refusals.{IsRefusedSo}
+use Rattle.wh_run.specs.Refusals.{IsRefusedSo, left_of}
 use Rattle.wh_run.specs.declared.left.Left.TheVariants.{Untouched}
-use Rattle.wh_readers.specs.Serving.{left_of, rows_of}
+use Rattle.wh_readers.specs.Serving.{rows_of}
 use Rattle.wh_strategy.proofs.Agreeing.{refused as not_correct}
 use Rattle.wh_strategy.specs.Rules.{IsCorrect}
 use Rattle.wh_strategy.specs.declared.expression.Expression.{Expression}

@@ -24,8 +24,8 @@ use Rattle.wh_night.specs.Refused.{AreAllowedBelow, ArePassedBelow}
 use Rattle.wh_night.specs.Steps.{AreSteps}
 use Rattle.wh_night.specs.declared.report.CarryFault.{CarryFault}
 use Rattle.wh_course.specs.Night.{Night as NightFrom}
-use Rattle.wh_run.specs.Refusals.{IsRefusedSo}
-use Rattle.wh_readers.specs.Serving.{left_of, rows_of}
+use Rattle.wh_run.specs.Refusals.{IsRefusedSo, left_of}
+use Rattle.wh_readers.specs.Serving.{rows_of}
 use Rattle.wh_strategy.specs.Rules.{IsCorrect, IsFirstBroken}
 use Rattle.wh_strategy.specs.declared.expression.Expression.{Expression}
 use Rattle.wh_strategy.specs.declared.rule.Rule.{Rule}

@@ -1,60 +1,20 @@
-use Rattle.std.proofs.Common.{rules, ◌≡◌, refl, ap, subst, ◌∙◌, eqb, ℕ, map, cond, inr, None}
+use Rattle.std.proofs.Common.{◌≡◌, refl, ap, subst, ◌∙◌, eqb, ℕ, map, cond, None}
 use Rattle.std.proofs.lemmas.Bool.{eq-eqb, or_left}
-use Rattle.wh_row.specs.Bag.{Bag, SumFits, count, size, sum_of, written}
+use Rattle.wh_row.specs.Bag.{Bag, count, sum_of, written}
 use Rattle.wh_row.specs.Row.{Row}
 use Rattle.std.proofs.Common.{ℤ}
-use Rattle.wh_maint.specs.Refused.{IsInstallFault}
 use Rattle.wh_store.specs.Operations.{Writes}
 use Rattle.wh_night.specs.Kept.{Kept, kept, finished, installed}
 use Rattle.wh_night.specs.NightList.{pages_of}
-use Rattle.wh_night.proofs.Storing.{can_finish_installed}
 use Rattle.wh_run.specs.Tonight.{goes_out}
-use Rattle.wh_run.specs.Underway.{IsPartly, is_cut, is_refused, puts_in}
-use Rattle.wh_run.proofs.Outs.{partly_none}
+use Rattle.wh_run.specs.Underway.{IsPartly, is_cut, is_refused}
 use Rattle.wh_run.proofs.insts.inst.Goals as goal
 
 pub change-requires-clause-known : goal.change-requires-clause-known
 change-requires-clause-known g c = ap (λ (k : Kept). k.known c.args.view) c.in_default.ensures.done ∙ or_left (eqb c.args.view c.args.view) ((kept c.args.state.now).known c.args.view) (eq-eqb c.args.view c.args.view refl)
 
-pub install-requires-clause-known : goal.install-requires-clause-known
-install-requires-clause-known g c = ap (λ (k : Kept). k.known c.args.view) c.in_default.ensures.done ∙ or_left (eqb c.args.view c.args.view) ((kept c.args.state.now).known c.args.view) (eq-eqb c.args.view c.args.view refl)
-
-pub change-requires-2-clause-known : goal.change-requires-2-clause-known
-change-requires-2-clause-known g c =
-    ap (λ (k : Kept). k.known c.args.view) (c.in_default-install.ensures.done ∙ ap (installed c.args.view) c.in_default.ensures.done) ∙ or_left (eqb c.args.view c.args.view) ((kept c.args.state.now).known c.args.view) (eq-eqb c.args.view c.args.view refl)
-
-pub returns-in-Err-install-clause-err : goal.returns-in-Err-install-clause-err
-returns-in-Err-install-clause-err g c =
-    let v = c.args.view in
-    is_refused refl (inr (c.in_default.ensures.passed, subst (λ (k : Kept). IsInstallFault v (k.tables v) (k.changes v) c.in-Err-install.fault) c.in_default.ensures.done c.in-Err-install.ensures.refused))
-
-pub returns-in_default-push-clause-err : goal.returns-in_default-push-clause-err
-returns-in_default-push-clause-err g c =
-    let v = c.args.view in
-    is_cut refl (c.in_default.ensures.passed, subst (λ (k : Kept). SumFits (k.tables v) (k.changes v)) c.in_default.ensures.done c.in_default-install.ensures.fits)
-    (partly_none (g.P.Publish.kept c.args.writer.now) (puts_in c.args.catalog.now c.args.keys v (kept c.args.state.now)) c.requires.held)
-
-pub returns-in-Ok-publish_change-clause-done : goal.returns-in-Ok-publish_change-clause-done
-returns-in-Ok-publish_change-clause-done g c = c.in_default-install.ensures.done ∙ ap (installed c.args.view) c.in_default.ensures.done
-
-pub returns-in-Ok-publish_change-clause-fit : goal.returns-in-Ok-publish_change-clause-fit
-returns-in-Ok-publish_change-clause-fit g c =
-    can_finish_installed c.args.catalog.now (kept c.args.state.now) (kept c.install.new.self) c.args.view c.requires.fit (c.in_default-install.ensures.done ∙ ap (installed c.args.view) c.in_default.ensures.done)
-
-pub returns-in-Ok-publish_change-clause-passed : goal.returns-in-Ok-publish_change-clause-passed
-returns-in-Ok-publish_change-clause-passed g c =
-    let v = c.args.view in
-    (c.in_default.ensures.passed, subst (λ (k : Kept). SumFits (k.tables v) (k.changes v)) c.in_default.ensures.done c.in_default-install.ensures.fits)
-
-pub returns-in-Ok-publish_change-clause-reported : goal.returns-in-Ok-publish_change-clause-reported
-returns-in-Ok-publish_change-clause-reported g c =
-    let v = c.args.view in
-    record {
-      told = c.total-rows.result;
-      is = c.total-rows.ensures ∙ ap size c.change.ensures ∙ ap (λ (k : Kept). size (k.changes v)) c.in_default.ensures.done;
-      few = search rules;
-      steps = c.in-Ok.ensures.items;
-    }
+pub returns-in-Err-clause-err : goal.returns-in-Err-clause-err
+returns-in-Err-clause-err g c = is_refused refl c.in-Err.ensures.refused
 
 -- the pages of the change in the table that has it
 same_pages : (v keys : ℕ) (k installed_now : Kept) (over : Kept) (table change : Bag) → installed_now ≡ installed v over → table ≡ installed_now.tables v → change ≡ installed_now.changes v
@@ -64,21 +24,21 @@ same_pages v keys k installed_now over table change whole t d =
     let same_change : change ≡ over.changes v = d ∙ ap (λ (k : Kept). k.changes v) whole in
     (λ i. pages_of keys (map {A = Row × ℤ} {B = Row × ℤ} (λ e. (e.0, count (same_table i) e.0)) (written (same_change i))))
 
-pub returns-in-Ok-publish_change-clause-out : goal.returns-in-Ok-publish_change-clause-out
-returns-in-Ok-publish_change-clause-out g c =
+pub returns-in-Ok-clause-out : goal.returns-in-Ok-clause-out
+returns-in-Ok-clause-out g c =
     let v : ℕ = c.args.view in
     let k : Kept = kept c.args.state.now in
     let over : Kept = finished c.args.catalog.now (λ u. eqb v u) k in
     subst (λ pages. g.P.Publish.kept c.publish_change.new.writer ≡ goes_out (g.P.Publish.kept c.args.writer.now) (map (Writes v) pages) None)
-    (same_pages v c.args.keys k (kept c.install.new.self) over c.table.result.now c.change-2.result.now (c.in_default-install.ensures.done ∙ ap (installed v) c.in_default.ensures.done) c.table.ensures c.change-2.ensures)
-    c.in-Ok-publish_change.ensures.out
+    (same_pages v c.args.keys k (kept c.install.new.state) over c.table.result.now c.change.result.now c.in_default.ensures.done c.table.ensures c.change.ensures)
+    c.in-Ok.ensures.out
 
 pub returns-in-Err-publish_change-clause-err : goal.returns-in-Err-publish_change-clause-err
 returns-in-Err-publish_change-clause-err g c =
     let v : ℕ = c.args.view in
     let k : Kept = kept c.args.state.now in
     let over : Kept = finished c.args.catalog.now (λ u. eqb v u) k in
-    is_cut refl (c.in_default.ensures.passed, subst (λ (k : Kept). SumFits (k.tables v) (k.changes v)) c.in_default.ensures.done c.in_default-install.ensures.fits)
+    is_cut refl c.in_default.ensures.passed
     (subst (λ pages. IsPartly (g.P.Publish.kept c.args.writer.now) (map (Writes v) pages) (g.P.Publish.kept c.publish_change.new.writer))
-    (same_pages v c.args.keys k (kept c.install.new.self) over c.table.result.now c.change-2.result.now (c.in_default-install.ensures.done ∙ ap (installed v) c.in_default.ensures.done) c.table.ensures c.change-2.ensures)
+    (same_pages v c.args.keys k (kept c.install.new.state) over c.table.result.now c.change.result.now c.in_default.ensures.done c.table.ensures c.change.ensures)
     c.in-Err-publish_change.ensures.err)

@@ -1,4 +1,4 @@
-use Rattle.std.proofs.Common.{◌≡◌, ◌≢◌, refl, sym, subst, ◌∙◌, ℕ, List, [], length, Option, Some, None, inl, inr, ⊎_elim, arith}
+use Rattle.std.proofs.Common.{◌≡◌, ◌≢◌, refl, sym, subst, ◌∙◌, List, length, Option, Some, None, inl, inr, ⊎_elim}
 use Rattle.std.specs.Prelude.{MatchOption}
 use Rattle.wh_dag.specs.Catalog.{CatalogOf}
 use Rattle.wh_row.specs.Bag.{Bag}
@@ -15,7 +15,6 @@ use Rattle.wh_night.specs.Refused.{AreAllowedBelow, IsBaseFault}
 use Rattle.wh_night.specs.Waves.{stages_of}
 use Rattle.wh_course.specs.Night.{Night}
 use Rattle.wh_course.proofs.Parts.{stages_in, stands_first}
-use Rattle.wh_course.specs.Standing.{StandsAt}
 use Rattle.wh_run.specs.Causes.{cause_of_begin}
 use Rattle.wh_run.specs.declared.cause.NightCause.{NightCause}
 use Rattle.wh_run.specs.declared.left.Left.{Left}
@@ -23,9 +22,10 @@ use Rattle.wh_run.specs.declared.left.Left.TheVariants.{Untouched, GivenUp, Stil
 use Rattle.wh_run.specs.declared.left.NightFault.{NightFault}
 use Rattle.wh_run.specs.Refusals.{AreAllowed, IsFirstStageFault, IsRefused, IsRefusedSo}
 use Rattle.wh_run.specs.Tonight.{IsDone, made_by, newest_in, tonight}
-use Rattle.wh_run.specs.Underway.{Given, HasCome, IsRefusedLater, night_of}
+use Rattle.wh_run.specs.Underway.{Given, IsRefusedLater, night_of}
 use Rattle.wh_run.proofs.Outs.{if_err, if_ok, if_ok_on}
 use Rattle.wh_night.proofs.NewValues.{ends_in_contents}
+use Rattle.wh_run.proofs.Stages.{comes_first}
 use Rattle.wh_run.proofs.Soundness.{done_bags, done_tables, stays_sound}
 use Rattle.wh_run.proofs.running.night.Goals as goal
 
@@ -41,15 +41,6 @@ refused_so n fault StillOpen allowed s later = (allowed, s)
 
 later_so : (n : Night) (f : NightFault) → AreAllowed n → IsRefusedLater n f → IsRefused n f
 later_so n f allowed r = record { fault = r.fault; told = r.told; why = ⊎_elim (λ m. inl m) (λ s. inr (refused_so n r.fault f.left allowed s.0 s.1)) r.why }
-
--- before the first expression
-comes_first : (catalog : CatalogOf) (list : List Expression) (tables changes : ℕ → Bag) (keys : ℕ) (k : Kept) → StandsAt (record { catalog = catalog; list = list; tables = tables; changes = changes; keys = keys }) 0 k
-    → HasCome (record { catalog = catalog; list = list; tables = tables; changes = changes; keys = keys }) 0 k []
-comes_first catalog list tables changes keys k stands = record {
-  stands = stands;
-  passed = λ q e l at. absurd (omega arith);
-  reported = record { each = refl; rows = λ q e l at. absurd (omega arith) };
-}
 
 pub returns-in-Err-clause-refused : goal.returns-in-Err-clause-refused
 returns-in-Err-clause-refused g c =
