@@ -93,6 +93,11 @@ impl<T: Copy + Drop> Pieces<T> {
         Pieces::with_most(self.alloc, self.most)
     }
 
+    /// What gives it memory.
+    pub(crate) fn alloc(&self) -> Global {
+        self.alloc
+    }
+
     /// How many rows there are.
     pub fn len(&self) -> usize
         ensures len { result ≡ length self.now }
