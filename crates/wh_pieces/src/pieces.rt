@@ -434,8 +434,7 @@ fn put_behind<T: Copy + Drop>(
     ensures err { OnErr result (all_of pieces.new.items ≡ all_of pieces.old.items) }
     ensures some { AreNotEmpty pieces.new.items }
 {
-    let end = pieces[nth].len();
-    if pieces[nth].insert(most, end, row, value)? {
+    if pieces[nth].push(most, row, value)? {
         return Ok(());
     }
     put_piece(alloc, pieces, nth + 1, row, value)
