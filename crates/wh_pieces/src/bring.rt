@@ -30,8 +30,12 @@ impl<T: Copy + Drop> Pieces<T> {
             self.take_rows(&brought);
             return Err(AllocError);
         };
+        // Both rise, so each row that was brought is met as the first of those that are left.
+        let mut left = brought.entries();
         for (row, more) in other.entries() {
-            if brought.get(row).is_none() {
+            if left.begin_with(row) {
+                left.pass();
+            } else {
                 self.combine_at(row, more, &combine);
             }
         }
