@@ -1,12 +1,12 @@
 -- What is found after an edit, and entries that are known by what is found.
-use Rattle.std.proofs.Common.{◌≡◌, ◌≢◌, refl, sym, ap, subst, ◌∙◌, List, [], ◌∷◌, ◌++◌, Bool, true, false, cond, Option, Some, None, Result, Ok, Err, OnOk, OnErr}
+use Rattle.std.proofs.Common.{◌≡◌, ◌≢◌, refl, sym, ap, subst, ◌∙◌, List, [], ◌∷◌, ◌++◌, drop, Bool, true, false, cond, Option, Some, None, Result, Ok, Err, OnOk, OnErr}
 use Rattle.std.specs.List.Sorted.{IsStrictlySortedBy}
-use Rattle.std.specs.Ordering.{match_ordering}
+use Rattle.std.specs.Ordering.{is_eq, match_ordering}
 use Rattle.std.specs.Cmp.{tied_itself}
 use Rattle.std.specs.declared.cmp.Ordering.{Ordering}
 use Rattle.std.specs.declared.cmp.Ordering.TheVariants.{Less, Equal, Greater}
 use Rattle.wh_pieces.specs.Row.{Row, row_cmp, is_row}
-use Rattle.wh_pieces.specs.Place.{AreRisingRows}
+use Rattle.wh_pieces.specs.Place.{AreRisingRows, IsFirst}
 use Rattle.wh_pieces.specs.Pieces.{found, with_entry, without_entry}
 use Rattle.wh_pieces.specs.Merged.{lacking, either, without, IsCombined}
 use Rattle.wh_pieces.proofs.RowLaws.{rows_exact, rows_total, same_row, itself}
@@ -107,6 +107,10 @@ gone_without row (e ∷ es) s = elim (is_row row e.0) as (λ t. is_row row e.0 �
   | false ↦ λ t. ap (λ b. cond b (Some e.1) (found row (without_entry es row))) t ∙ gone_without row es s.1
 ] refl
 
+lacking_none : {T : Type 0} (o : Option T) → lacking o None ≡ None
+lacking_none None = refl
+lacking_none (Some v) = refl
+
 pub nothing_found : {T : Type 0} (es : List (Row × T)) → ((q : Row) → found q es ≡ None) → es ≡ []
 nothing_found [] h = refl
 nothing_found (e ∷ es) h = absurd (let bad : Some e.1 ≡ None = sym (found_first e es) ∙ h e.0 in cc)
@@ -122,29 +126,41 @@ restored (Some v) m (Some w) t e h = absurd (let bad : Some v ≡ None = e in cc
 
 -- ---- values that are combined in place, row by row
 
-pub record IsBringing {T : Type 0} (allowed : T → T → Option T → Type 0) (old other brought now rest : List (Row × T)) : Type 0 where
+pub record IsBringing {T : Type 0} (allowed : T → T → Option T → Type 0) (old other now rest : List (Row × T)) : Type 0 where
   pub rising : AreRisingRows rest
-  pub left : (q : Row) → found q rest ≢ None → (found q now ≡ either (found q brought) (found q old)) × (found q rest ≡ found q other)
+  pub left : (q : Row) → found q rest ≢ None → (found q now ≡ either (found q old) (found q other)) × (found q rest ≡ found q other)
   pub done : (q : Row) → found q rest ≡ None → IsCombined allowed (found q old) (found q other) (found q now)
 
-module _ {T : Type 0} (allowed : T → T → Option T → Type 0) (old other brought : List (Row × T)) (lacks : (q : Row) → found q brought ≡ lacking (found q old) (found q other)) where
-  nothing_new : (o t n b : Option T) → b ≡ lacking o t → n ≡ either b o → t ≡ None → IsCombined allowed o t n
-  nothing_new None t n b e h z = h ∙ ap (λ x. either x None) e ∙ ap (λ x. either x None) z ∙ sym z
-  nothing_new (Some v) t n b e h z = subst (λ (x : Option T). IsCombined allowed (Some v) x n) (sym z) (h ∙ ap (λ x. either x (Some v)) e)
+-- with what was lacking there is what either has
+either_none : {T : Type 0} (t : Option T) → either t None ≡ t
+either_none None = refl
+either_none (Some v) = refl
 
-  pub bringing_first : (now : List (Row × T)) → AreRisingRows other → ((q : Row) → found q now ≡ either (found q brought) (found q old)) → IsBringing allowed old other brought now other
+pub brought_all : {T : Type 0} (o t b : Option T) → b ≡ lacking o t → either b o ≡ either o t
+brought_all None t b e = ap (λ x. either x None) e ∙ either_none t
+brought_all (Some v) t b e = ap (λ x. either x (Some v)) e
+
+not_there : {T : Type 0} (o t : Option T) → lacking o t ≢ None → o ≡ None
+not_there None t h = refl
+not_there (Some v) t h = absurd (h refl)
+
+module _ {T : Type 0} (allowed : T → T → Option T → Type 0) (old other : List (Row × T)) where
+  nothing_new : (o t n : Option T) → n ≡ either o t → t ≡ None → IsCombined allowed o t n
+  nothing_new None t n h z = h
+  nothing_new (Some v) t n h z = subst (λ (x : Option T). IsCombined allowed (Some v) x n) (sym z) h
+
+  pub bringing_first : (now : List (Row × T)) → AreRisingRows other → ((q : Row) → found q now ≡ either (found q old) (found q other)) → IsBringing allowed old other now other
   bringing_first now s h = record {
     rising = s;
     left = λ q n. (h q, refl);
-    done = λ q n. nothing_new (found q old) (found q other) (found q now) (found q brought) (lacks q) (h q) n;
+    done = λ q n. nothing_new (found q old) (found q other) (found q now) (h q) n;
   }
 
-  brought_whole : (o t n b : Option T) → b ≡ lacking o t → b ≢ None → n ≡ either b o → IsCombined allowed o t n
-  brought_whole None t n None e k h = absurd (k refl)
-  brought_whole None t n (Some w) e k h = h ∙ e
-  brought_whole (Some v) t n b e k h = absurd (k e)
+  brought_whole : (o t n : Option T) → o ≡ None → n ≡ either o t → IsCombined allowed o t n
+  brought_whole None t n k h = h
+  brought_whole (Some v) t n k h = absurd (let bad : Some v ≡ None = k in cc)
 
-  module _ (now : List (Row × T)) (e : Row × T) (rest : List (Row × T)) (is : IsBringing allowed old other brought now (e ∷ rest)) where
+  module _ (now : List (Row × T)) (e : Row × T) (rest : List (Row × T)) (is : IsBringing allowed old other now (e ∷ rest)) where
     some_first : found e.0 (e ∷ rest) ≢ None
     some_first n = let bad : Some e.1 ≡ None = sym (found_first e rest) ∙ n in cc
 
@@ -162,7 +178,7 @@ module _ {T : Type 0} (allowed : T → T → Option T → Type 0) (old other bro
     rising_rest s = s.1
 
     -- a row that was brought stays as it is
-    pub bringing_kept : found e.0 brought ≢ None → IsBringing allowed old other brought now rest
+    pub bringing_kept : found e.0 old ≡ None → IsBringing allowed old other now rest
     bringing_kept k = record {
       rising = rising_rest is.rising;
       left = λ q n.
@@ -173,27 +189,27 @@ module _ {T : Type 0} (allowed : T → T → Option T → Type 0) (old other bro
         | true ↦ λ t.
             let at = is.left e.0 some_first in
             subst (λ (x : Row). IsCombined allowed (found x old) (found x other) (found x now)) (sym (same_row q e.0 t))
-            (brought_whole (found e.0 old) (found e.0 other) (found e.0 now) (found e.0 brought) (lacks e.0) k at.0)
+            (brought_whole (found e.0 old) (found e.0 other) (found e.0 now) k at.0)
         | false ↦ λ t. is.done q (passed q t ∙ n)
       ] refl;
     }
 
     -- a row of both gets what the two values give
-    pub bringing_changed : (new : List (Row × T)) → found e.0 brought ≡ None
+    pub bringing_changed : (new : List (Row × T)) → found e.0 old ≢ None
         → ((v : T) → found e.0 now ≡ Some v → (o : Option T) × allowed v e.1 o × ((q : Row) → found q new ≡ cond (is_row q e.0) o (found q now)))
-        → IsBringing allowed old other brought new rest
-    bringing_changed new none step = with_old (found e.0 old) refl
+        → IsBringing allowed old other new rest
+    bringing_changed new some step = with_old (found e.0 old) refl
       where
-        at : (found e.0 now ≡ either (found e.0 brought) (found e.0 old)) × (found e.0 (e ∷ rest) ≡ found e.0 other)
+        at : (found e.0 now ≡ either (found e.0 old) (found e.0 other)) × (found e.0 (e ∷ rest) ≡ found e.0 other)
         at = is.left e.0 some_first
 
         more : found e.0 other ≡ Some e.1
         more = sym at.1 ∙ found_first e rest
 
-        with_old : (o : Option T) → found e.0 old ≡ o → IsBringing allowed old other brought new rest
-        with_old None z = absurd (let bad : None ≡ Some e.1 = sym none ∙ lacks e.0 ∙ ap (λ x. lacking x (found e.0 other)) z ∙ more in cc)
+        with_old : (o : Option T) → found e.0 old ≡ o → IsBringing allowed old other new rest
+        with_old None z = absurd (some z)
         with_old (Some v) z =
-            let r = step v (at.0 ∙ ap (λ x. either x (found e.0 old)) none ∙ z) in
+            let r = step v (at.0 ∙ ap (λ x. either x (found e.0 other)) z) in
             record {
               rising = rising_rest is.rising;
               left = λ q n.
@@ -211,6 +227,51 @@ module _ {T : Type 0} (allowed : T → T → Option T → Type 0) (old other bro
                 | false ↦ λ t. subst (λ (x : Option T). IsCombined allowed (found q old) (found q other) x) (sym (r.2 q ∙ ap (λ b. cond b r.0 (found q now)) t)) (is.done q (passed q t ∙ n))
               ] refl;
             }
+
+-- ---- beside the rows that are left of one map walk those of them that another lacks
+
+module _ {T : Type 0} (old : List (Row × T)) (e : Row × T) (rest : List (Row × T)) (rises : AreRisingRows (e ∷ rest)) where
+  other_left : (q : Row) → is_row q e.0 ≡ false → found q (e ∷ rest) ≡ found q rest
+  other_left q t = ap (λ b. cond b (Some e.1) (found q rest)) t
+
+  gone_after : (q : Row) → is_row q e.0 ≡ true → lacking (found q old) (found q rest) ≡ None
+  gone_after q t = ap (lacking (found q old)) (ap (λ x. found x rest) (same_row q e.0 t) ∙ none_after e rest rises) ∙ lacking_none (found q old)
+
+  -- where the row is the first of them
+  pub beside_here : (n : List (Row × T)) → AreRisingRows n → ((q : Row) → found q n ≡ lacking (found q old) (found q (e ∷ rest))) → IsFirst e.0 n
+      → (found e.0 old ≡ None) × ((q : Row) → found q (drop 1 n) ≡ lacking (found q old) (found q rest))
+  beside_here [] s h f = absurd f
+  beside_here (x ∷ n) s h f =
+      let same : e.0 ≡ x.0 = rows_exact e.0 x.0 f in (
+        not_there (found e.0 old) (found e.0 (e ∷ rest)) (λ z. let bad : Some x.1 ≡ None = sym (λ i. cond (is_eq (f i)) (Some x.1) (found e.0 n)) ∙ h e.0 ∙ z in cc),
+        λ q. elim (is_row q e.0) as (λ t. is_row q e.0 ≡ t → found q n ≡ lacking (found q old) (found q rest)) [
+          | true ↦ λ t. ap (λ y. found y n) (same_row q e.0 t ∙ same) ∙ none_after x n s ∙ sym (gone_after q t)
+          | false ↦ λ t.
+              let apart : is_row q x.0 ≡ false = ap (is_row q) (sym same) ∙ t in
+              sym (ap (λ b. cond b (Some x.1) (found q n)) apart) ∙ h q ∙ ap (lacking (found q old)) (other_left q t)
+        ] refl,
+      )
+
+  none_among : (n : List (Row × T)) → AreRisingRows n → ((q : Row) → found q n ≡ lacking (found q old) (found q (e ∷ rest))) → (¬ (IsFirst e.0 n)) → found e.0 n ≡ None
+  none_among [] s h other = refl
+  none_among (x ∷ n) s h other = by_order (row_cmp e.0 x.0) refl
+    where
+      by_order : (o : Ordering) → row_cmp e.0 x.0 ≡ o → found e.0 (x ∷ n) ≡ None
+      by_order Less p = found-below e.0 (x ∷ n) p s
+      by_order Equal p = absurd (other p)
+      by_order Greater p = absurd (let bad : Some x.1 ≡ None = sym (found_first x n) ∙ h x.0 ∙ ap (lacking (found x.0 old)) (found-below x.0 (e ∷ rest) (turned e.0 x.0 Greater p) rises) ∙ lacking_none (found x.0 old) in cc)
+
+  -- and where it is not
+  pub beside_there : (n : List (Row × T)) → AreRisingRows n → ((q : Row) → found q n ≡ lacking (found q old) (found q (e ∷ rest))) → (¬ (IsFirst e.0 n))
+      → (found e.0 old ≢ None) × ((q : Row) → found q n ≡ lacking (found q old) (found q rest))
+  beside_there n s h other =
+      let none = none_among n s h other in (
+        λ z. let bad : Some e.1 ≡ None = sym (found_first e rest) ∙ sym (ap (λ o. lacking o (found e.0 (e ∷ rest))) z) ∙ sym (h e.0) ∙ none in cc,
+        λ q. elim (is_row q e.0) as (λ t. is_row q e.0 ≡ t → found q n ≡ lacking (found q old) (found q rest)) [
+          | true ↦ λ t. ap (λ x. found x n) (same_row q e.0 t) ∙ none ∙ sym (gone_after q t)
+          | false ↦ λ t. h q ∙ ap (lacking (found q old)) (other_left q t)
+        ] refl,
+      )
 
 -- ---- a step of each loop, by what is found
 
@@ -251,6 +312,11 @@ pub rising_tail : {T : Type 0} (e : Row × T) (rest : List (Row × T)) → AreRi
 unfolding IsStrictlySortedBy
 rising_tail e rest s = s.1
 
+pub rising_dropped : {T : Type 0} (es : List (Row × T)) → AreRisingRows es → AreRisingRows (drop 1 es)
+unfolding IsStrictlySortedBy
+rising_dropped [] s = tt
+rising_dropped (e ∷ es) s = s.1
+
 pub none_gone : {T : Type 0} (a xs rest : List (Row × T)) (e : Row × T) → xs ≡ e ∷ rest → (a ≡ [] → xs ≡ []) → a ≡ [] → rest ≡ []
 none_gone a xs rest e h n z = absurd (let bad : [] ≡ e ∷ rest = sym (n z) ∙ h in cc)
 
@@ -259,5 +325,5 @@ pub sure : {A E : Type 0} (r : Result A E) (P Q : Type 0) → OnOk r P → OnErr
 sure (Ok x) P Q p q n = p
 sure (Err e) P Q p q n = absurd (n q)
 
-pub bringing_at : {T : Type 0} (allowed : T → T → Option T → Type 0) (old other brought now rest es : List (Row × T)) → IsBringing allowed old other brought now rest → rest ≡ es → IsBringing allowed old other brought now es
-bringing_at {T} allowed old other brought now rest es is e = subst (λ (xs : List (Row × T)). IsBringing allowed old other brought now xs) e is
+pub bringing_at : {T : Type 0} (allowed : T → T → Option T → Type 0) (old other now rest es : List (Row × T)) → IsBringing allowed old other now rest → rest ≡ es → IsBringing allowed old other now es
+bringing_at {T} allowed old other now rest es is e = subst (λ (xs : List (Row × T)). IsBringing allowed old other now xs) e is

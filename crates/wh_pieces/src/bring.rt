@@ -1,7 +1,6 @@
 //! A small map brought into a large one, row by row.
 
-ghost use Rattle.std.specs.Prelude.{◌≡◌, ◌≢◌, [], List, ℤ, Option, Some, None, cond, OnOk, OnErr, IfOk};
-ghost use Rattle.wh_pieces.specs.Row.{is_row};
+ghost use Rattle.std.specs.Prelude.{◌≡◌, ◌≢◌, [], List, ℤ, None, OnOk, OnErr, IfOk};
 ghost use Rattle.wh_pieces.specs.Place.{AreRisingRows};
 ghost use Rattle.wh_pieces.specs.Pieces.{found};
 ghost use Rattle.wh_pieces.specs.Merged.{AreMerged, HaveRowsOf, lacking, either, without};
@@ -31,8 +30,12 @@ impl<T: Copy + Drop> Pieces<T> {
             self.take_rows(&brought);
             return Err(AllocError);
         };
+        // Both rise, so each row that was brought is met as the first of those that are left.
+        let mut left = brought.entries();
         for (row, more) in other.entries() {
-            if brought.get(row).is_none() {
+            if left.begin_with(row) {
+                left.pass();
+            } else {
                 self.combine_at(row, more, &combine);
             }
         }
@@ -75,24 +78,5 @@ impl<T: Copy + Drop> Pieces<T> {
         }
         // Told by the map.
         let _ = self.len();
-    }
-
-    /// Combines the value at a row that is here with another.
-    fn combine_at<F: Fn(T, T) -> Option<T>>(&mut self, row: &[i64], more: T, combine: &F)
-        requires callable { F.IsAlwaysCallable combine.now }
-        ensures { (v : T) → found row.now self.old ≡ Some v → (o : Option T) × (F.post combine.now v more o)
-            × ((q : List ℤ) → found q self.new ≡ cond (is_row q row.now) o (found q self.old)) }
-    {
-        let Some(value) = self.get(row) else {
-            return;
-        };
-        match combine(value, more) {
-            Some(sum) => {
-                let _ = self.insert(row, sum);
-            }
-            None => {
-                let _ = self.remove(row);
-            }
-        }
     }
 }

@@ -1,12 +1,14 @@
 //! The entries of a map, lent one after another.
 
-ghost use Rattle.std.specs.Prelude.{◌≡◌, ◌<◌, ◌≤◌, [], ◌∷◌, length, drop, MatchOption};
+ghost use Rattle.std.specs.Prelude.{◌≡◌, ◌<◌, ◌≤◌, ◌↔◌, [], ◌∷◌, length, drop, IsTrue, MatchOption};
 ghost use Rattle.std.specs.Iterator.{YieldsFirstBy, item_count};
 ghost use Rattle.wh_pieces.specs.Flat.{IsRun};
 ghost use Rattle.wh_pieces.specs.Lent.{lent};
 ghost use Rattle.wh_pieces.specs.Pieces.{all_of, AreNotEmpty, piece_at, BeginsAt};
+ghost use Rattle.wh_pieces.specs.Place.{IsFirst};
 
 use crate::piece::Piece;
+use std::cmp::Ordering;
 use std::marker::Model;
 
 /// The entries of a map that are still to come, in rising order: each row with its value.
@@ -67,6 +69,19 @@ impl<'a, T: Copy + Drop> Entries<'a, T> {
     {
         let piece = self.pieces.first()?;
         Some(piece.get(self.place))
+    }
+
+    /// Whether the first of these entries is that of the row.
+    pub(crate) fn begin_with(&self, row: &[i64]) -> bool
+        ensures { IsTrue result ↔ IsFirst row.now self.now }
+    {
+        let Some((first, _)) = self.first() else {
+            return false;
+        };
+        match row.cmp(first) {
+            Ordering::Equal => true,
+            _ => false,
+        }
     }
 
     /// The next of these entries that stand side by side, at most this many, which are left behind: their width, their cells, and

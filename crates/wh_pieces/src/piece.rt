@@ -182,6 +182,23 @@ impl<T: Copy + Drop> Piece<T> {
         Ok(true)
     }
 
+    /// Puts a row behind the others, if it has their width and there are fewer than `most`. No cell is moved for it.
+    pub(crate) fn push(&mut self, most: usize, row: &[i64], value: T) -> Result<bool, AllocError>
+        ensures { MatchResult result
+            (λ done. self.new ≡ cond done (self.old ++ (row.now, value) ∷ []) self.old)
+            (λ _. self.new ≡ self.old) }
+    {
+        if row.len() != self.width || self.values.len() >= most {
+            return Ok(false);
+        }
+        self.values.reserve(1)?;
+        self.cells.extend_from_slice(row)?;
+        let Ok(()) = self.values.push(value) else {
+            return Err(AllocError);
+        };
+        Ok(true)
+    }
+
     /// Removes the row at a place.
     pub(crate) fn remove(&mut self, place: usize)
         requires { place < length self.old }

@@ -1,8 +1,9 @@
 //! A map's pieces, one after another.
 
-ghost use Rattle.std.specs.Prelude.{◌≡◌, ◌≢◌, ◌<◌, ◌≤◌, ◌+◌, ◌*◌, ◌^◌, ◌↔◌, [], ◌∷◌, ◌++◌, length, take, drop, set, Some, None, IsSome, IfOk, OnOk, OnErr, IsTrue, suc, false};
+ghost use Rattle.std.specs.Prelude.{◌≡◌, ◌≢◌, ◌<◌, ◌≤◌, ◌+◌, ◌*◌, ◌^◌, ◌↔◌, [], ◌∷◌, ◌++◌, length, take, drop, set, List, ℤ, cond, Option, Some, None, IsSome, IfOk, OnOk, OnErr, IsTrue, suc, false};
 ghost use Rattle.std.specs.List.{insert, remove};
 ghost use Rattle.wh_pieces.specs.Flat.{flat};
+ghost use Rattle.wh_pieces.specs.Row.{is_row};
 ghost use Rattle.wh_pieces.specs.Place.{AreRisingRows, IsAbove};
 ghost use Rattle.wh_pieces.specs.Pieces.{found, with_entry, without_entry, above, from, all_of, AreWide, AreNotEmpty, ArePieces, AreCounted, IsPieceFor, piece_at, before, after};
 
@@ -90,6 +91,11 @@ impl<T: Copy + Drop> Pieces<T> {
         ensures { result ≡ [] }
     {
         Pieces::with_most(self.alloc, self.most)
+    }
+
+    /// What gives it memory.
+    pub(crate) fn alloc(&self) -> Global {
+        self.alloc
     }
 
     /// How many rows there are.
@@ -272,6 +278,28 @@ impl<T: Copy + Drop> Pieces<T> {
         }
     }
 
+    /// Combines the value at a row that is here with another. Where that gives none, the row is removed.
+    pub(crate) fn combine_at<F: Fn(T, T) -> Option<T>>(&mut self, row: &[i64], more: T, combine: &F)
+        requires callable { F.IsAlwaysCallable combine.now }
+        ensures { (v : T) → found row.now self.old ≡ Some v → (o : Option T) × (F.post combine.now v more o)
+            × ((q : List ℤ) → found q self.new ≡ cond (is_row q row.now) o (found q self.old)) }
+    {
+        if self.pieces.is_empty() {
+            return;
+        }
+        let nth = find_piece(&self.pieces, row);
+        let Ok(here) = self.pieces[nth].find(row) else {
+            return;
+        };
+        match combine(self.pieces[nth].get(here).1, more) {
+            Some(sum) => self.pieces[nth].set(here, sum),
+            None => {
+                take_from(&mut self.pieces, nth, here);
+                self.len -= 1;
+            }
+        }
+    }
+
     /// A map with the same entries, made by `alloc`.
     pub fn copy(&self, alloc: Global) -> Result<Self, AllocError>
         ensures ok { IfOk result (λ copy. copy ≡ self.now) }
@@ -406,8 +434,7 @@ fn put_behind<T: Copy + Drop>(
     ensures err { OnErr result (all_of pieces.new.items ≡ all_of pieces.old.items) }
     ensures some { AreNotEmpty pieces.new.items }
 {
-    let end = pieces[nth].len();
-    if pieces[nth].insert(most, end, row, value)? {
+    if pieces[nth].push(most, row, value)? {
         return Ok(());
     }
     put_piece(alloc, pieces, nth + 1, row, value)

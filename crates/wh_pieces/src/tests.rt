@@ -203,6 +203,17 @@ fn two_maps_are_one(rt: HostRuntime) -> Result<(), Fail> {
     Ok(())
 }
 
+#[test]
+fn a_map_and_no_rows_are_the_map(rt: HostRuntime) -> Result<(), Fail> {
+    let entries: [(&[i64], i64); 3] = [(&[1], 1), (&[2, 7], 2), (&[3], 3)];
+    let map = map_of(rt.alloc(), &entries)?;
+    let none = map_of(rt.alloc(), &[])?;
+    assert_lists(&rt, &map.merged(&none, added)?, &entries);
+    assert_lists(&rt, &none.merged(&map, added)?, &entries);
+    assert_lists(&rt, &none.merged(&none, added)?, &[]);
+    Ok(())
+}
+
 /// The next number of a xorshift generator.
 fn next(state: u64) -> u64 {
     let a = state ^ (state << 13);

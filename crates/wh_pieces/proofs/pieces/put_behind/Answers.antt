@@ -1,4 +1,5 @@
-use Rattle.std.proofs.Common.{◌≡◌, List, length, cond, set, ap, ◌∙◌}
+use Rattle.std.proofs.Common.{◌≡◌, List, [], ◌∷◌, ◌++◌, length, cond, set, sym, ap, ◌∙◌, arith}
+use Rattle.std.proofs.lemmas.List.{take_all, drop_all}
 use Rattle.std.specs.List.{insert}
 use Rattle.wh_pieces.specs.Row.{Row}
 use Rattle.wh_pieces.specs.Pieces.{all_of, piece_at}
@@ -13,11 +14,12 @@ returns-then-branch-clause-ok g c =
     let x = piece_at ls nth in
     let y = c.index_mut.result.now in
     let is : y ≡ x = piece_read ls nth y c.requires.within c.index_mut.ensures.value in
-    let end : c.len-end.result ≡ length x = c.len-end.ensures ∙ ap length (piece_read ls nth c.index.result.now c.requires.within c.index.ensures) in
-    let made : c.insert.new.self ≡ insert x (length x) e =
-    c.in_ok-insert.ensures
-    ∙ (λ i. cond (c.if-branch.true i) (insert y c.len-end.result e) y)
-    ∙ (λ i. insert (is i) (end i) e) in
+    let end : insert x (length x) e ≡ x ++ e ∷ [] = λ i. take_all (length x) x (omega arith) i ++ e ∷ drop_all (length x) x (omega arith) i in
+    let made : c.push.new.self ≡ insert x (length x) e =
+    c.in_ok-push.ensures
+    ∙ (λ i. cond (c.if-branch.true i) (y ++ e ∷ []) y)
+    ∙ ap (λ (z : List (Row × g.row.T.Denot)). z ++ e ∷ []) is
+    ∙ sym end in
     ap (λ (z : List (Row × g.row.T.Denot)). all_of (set ls nth z)) made
     ∙ put_in_piece ls nth (length x) e c.requires.within
     ∙ put_at_end ls nth e c.requires.within

@@ -1,8 +1,9 @@
-use Rattle.std.proofs.Common.{rules, ◌≡◌, ◌≢◌, ◌∷◌, None, ap, ◌∙◌}
+use Rattle.std.proofs.Common.{rules, ◌≡◌, ◌∷◌, List, ap, sym, subst, ◌∙◌}
 use Rattle.wh_pieces.specs.Row.{Row}
 use Rattle.wh_pieces.specs.Merged.{lacking}
-use Rattle.wh_pieces.specs.Pieces.{found, all_of}
-use Rattle.wh_pieces.proofs.BringLaws.{bringing_kept, bringing_changed, bringing_at, same_found, restored, nothing_found, none_lacking}
+use Rattle.wh_pieces.specs.Place.{AreRisingRows, IsFirst}
+use Rattle.wh_pieces.specs.Pieces.{found}
+use Rattle.wh_pieces.proofs.BringLaws.{bringing_kept, bringing_changed, bringing_at, beside_here, beside_there, rising_dropped, same_found, restored, nothing_found, none_lacking}
 use Rattle.wh_pieces.proofs.pieces.Pieces.merge.Goals as goal
 
 pub returns-in_default-clause-err : goal.returns-in_default-clause-err
@@ -17,28 +18,38 @@ pub returns-in_default-clause-memory : goal.returns-in_default-clause-memory
 returns-in_default-clause-memory g c = λ have.
     c.in_default.ensures.memory (nothing_found c.in_ok-brought.brought (λ q. c.in_ok-brought.ensures.ok q ∙ none_lacking (found q c.args.self.now) (found q c.args.other.now) (have q)))
 
-pub loop-row-preserved-then-is_none : goal.loop-row-preserved-then-is_none
-loop-row-preserved-then-is_none g c =
+pub loop-row-preserved-then-begin_with : goal.loop-row-preserved-then-begin_with
+loop-row-preserved-then-begin_with g c =
     let e : Row × g.row.T.Denot = (c.in-Some.row.now, c.in-Some.more) in
-    let brought = all_of c.brought.inside.pieces.items in
-    let steps : c.loop-row.row-iterator ≡ e ∷ c.next.new.self = c.in-Some.ensures.steps in
-    let lacks : (q : Row) → found q brought ≡ lacking (found q c.args.self.now) (found q c.args.other.now) = λ q. ap (found q) c.brought.view_is ∙ c.in_ok-brought.ensures.ok q in
-    let is = bringing_at _ _ _ _ _ _ (e ∷ c.next.new.self) c.loop-row.invariant.bringing steps in
-    let none : found e.0 brought ≡ None = search rules in
+    let rest = c.next.new.self in
+    let old = c.args.self.now in
+    let left = c.loop-row.left in
+    let steps : c.loop-row.row-iterator ≡ e ∷ rest = c.in-Some.ensures.steps in
+    let is = bringing_at _ _ _ _ _ (e ∷ rest) c.loop-row.invariant.bringing steps in
+    let beside : (q : Row) → found q left ≡ lacking (found q old) (found q (e ∷ rest)) = λ q. c.loop-row.invariant.beside q ∙ ap (λ es. lacking (found q old) (found q es)) steps in
+    let first : IsFirst e.0 left = search rules in
+    let here = beside_here old e rest is.rising left c.loop-row.invariant.rising beside first in
     record {
       next = search rules;
-      bringing = bringing_changed _ c.args.self.now c.args.other.now brought lacks c.loop-row.self e c.next.new.self is c.combine_at.new.self none c.combine_at.ensures;
+      bringing = bringing_kept _ old c.args.other.now c.loop-row.self e rest is here.0;
+      rising = subst (λ (es : List (Row × g.row.T.Denot)). AreRisingRows es) (sym c.pass.ensures) (rising_dropped left c.loop-row.invariant.rising);
+      beside = λ q. ap (found q) c.pass.ensures ∙ here.1 q;
     }
 
 pub loop-row-preserved : goal.loop-row-preserved
 loop-row-preserved g c =
     let e : Row × g.row.T.Denot = (c.in-Some.row.now, c.in-Some.more) in
-    let brought = all_of c.brought.inside.pieces.items in
-    let steps : c.loop-row.row-iterator ≡ e ∷ c.next.new.self = c.in-Some.ensures.steps in
-    let lacks : (q : Row) → found q brought ≡ lacking (found q c.args.self.now) (found q c.args.other.now) = λ q. ap (found q) c.brought.view_is ∙ c.in_ok-brought.ensures.ok q in
-    let is = bringing_at _ _ _ _ _ _ (e ∷ c.next.new.self) c.loop-row.invariant.bringing steps in
-    let some : found e.0 brought ≢ None = search rules in
+    let rest = c.next.new.self in
+    let old = c.args.self.now in
+    let left = c.loop-row.left in
+    let steps : c.loop-row.row-iterator ≡ e ∷ rest = c.in-Some.ensures.steps in
+    let is = bringing_at _ _ _ _ _ (e ∷ rest) c.loop-row.invariant.bringing steps in
+    let beside : (q : Row) → found q left ≡ lacking (found q old) (found q (e ∷ rest)) = λ q. c.loop-row.invariant.beside q ∙ ap (λ es. lacking (found q old) (found q es)) steps in
+    let other : ¬ (IsFirst e.0 left) = search rules in
+    let there = beside_there old e rest is.rising left c.loop-row.invariant.rising beside other in
     record {
       next = search rules;
-      bringing = bringing_kept _ c.args.self.now c.args.other.now brought lacks c.loop-row.self e c.next.new.self is some;
+      bringing = bringing_changed _ old c.args.other.now c.loop-row.self e rest is c.combine_at.new.self there.0 c.combine_at.ensures;
+      rising = c.loop-row.invariant.rising;
+      beside = there.1;
     }

@@ -1,4 +1,8 @@
-use Rattle.wh_pieces.specs.Pieces.{all_of}
+use Rattle.std.proofs.Common.{◌≡◌}
+use Rattle.wh_pieces.specs.Row.{Row}
+use Rattle.wh_pieces.specs.Merged.{lacking}
+use Rattle.wh_pieces.specs.Place.{AreRisingRows}
+use Rattle.wh_pieces.specs.Pieces.{found}
 use Rattle.wh_pieces.proofs.BringLaws.{IsBringing}
 use Rattle.wh_pieces.proofs.pieces.Pieces.merge.Given as goal
 
@@ -6,5 +10,7 @@ abbrev pub invariant-loop-row : goal.invariant-loop-row
 invariant-loop-row g l =
     record {
       next : (goal.iterator-loop-row g).can_next l.row-iterator × (goal.iterator-loop-row g).is_finite l.row-iterator;
-      bringing : IsBringing (goal.F-post g l.combine) l.fn.self l.other (all_of l.brought-inside.pieces.items) l.self l.row-iterator;
+      bringing : IsBringing (goal.F-post g l.combine) l.fn.self l.other l.self l.row-iterator;
+      rising : AreRisingRows l.left;
+      beside : (q : Row) → found q l.left ≡ lacking (found q l.fn.self) (found q l.row-iterator);
     }
