@@ -289,16 +289,6 @@ impl Store {
         self.held[newest].as_slice()
     }
 
-    /// The tables of the current version alone. None is copied; what is being written and what was there before is dropped.
-    pub fn into_tables(self) -> Vec<Bag>
-        ensures tables { result.items ≡ current self }
-        ensures of_list { (opening : Contents) (ops : List Operation) → Shows self opening ops → result.items ≡ (versions_of opening ops).newest }
-    {
-        let at = if self.active { 1 } else { 0 };
-        let mut held = self.held;
-        held.swap_remove(at)
-    }
-
     /// The table of a view in the current version.
     pub fn table(&self, view: usize) -> Result<Bag, AllocError>
         requires { view < length (current self.now) }

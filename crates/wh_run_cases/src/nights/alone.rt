@@ -1,28 +1,25 @@
-//! Nights over a store that one writer has alone: the tables that are handed out after them.
+//! Nights that nobody reads beside: what they answer, and the tables that they hand out.
 
 use crate::nights::run::has_rows;
-use crate::nights::warehouse::{changes, one_worker, opening, store_of};
+use crate::nights::warehouse::{changes, opening};
 use std::alloc::Global;
-use std::process::Abort;
-use std::sync::Wait;
 use std::test::Fail;
 use std::thread::Threads;
 use wh_given::catalogs::{joined, one_way};
-use wh_maint::are_bags;
-use wh_night::Report;
-use wh_publish::{Alone, Ended, Publish, PublishFault};
-use wh_row::{Bag, Row};
-use wh_run::{Left, NightFault, NoGate, night};
-use wh_store::{Op, Store};
+use wh_maint::{MaintFault, are_bags};
+use wh_night::{Carried, CarryFault, are_fit};
+use wh_row::Bag;
+use wh_run::{NoGate, night_alone};
 use wh_strategy::check;
 
-/// The night over a(x,y) with (1,10) and (2,10), b(y,z) with (10,5) and v, which joins them; a changes so, and b by -(10,5) +(10,6).
-/// What it answers, whether the store is in a night or holds an operation then, and the tables that it hands out.
-fn carried<R: Threads + Wait + Sync + Abort>(
+/// The night over a(x,y) with (1,10) and (2,10), b(y,z) with (10,5) and v, which joins them, by so many workers; a changes so, and b by
+/// -(10,5) +(10,6).
+fn carried<R: Threads + Sync>(
     rt: &R,
     alloc: Global,
     of_a: &[(&[i64], i64)],
-) -> Result<(Result<Report, NightFault>, bool, Vec<Bag>), Fail> {
+    workers: usize,
+) -> Result<Result<Carried, CarryFault>, Fail> {
     let catalog = joined(alloc)?;
     let tables = opening(alloc, &[(&[1, 5], 1), (&[2, 5], 1)])?;
     let changes = changes(alloc, of_a)?;
@@ -32,22 +29,15 @@ fn carried<R: Threads + Wait + Sync + Abort>(
     if !correct.is_of(catalog.shape()) || !are_bags(&catalog, &changes) {
         return Err(Fail::from("what a night asks for"));
     }
-    let Some(store) = store_of(alloc, &catalog, tables)? else {
+    if !are_bags(&catalog, &tables) || !are_fit(alloc, &catalog, &tables)? {
         return Err(Fail::from("fit tables"));
-    };
-    let mut writer = Alone::new(store);
-    let answer = night(
-        rt,
-        alloc,
-        &mut writer,
-        &catalog,
-        &changes,
-        &correct,
-        one_worker(),
-        &NoGate,
-    );
-    let is_busy = writer.active() || writer.held();
-    Ok((answer, is_busy, writer.into_tables()))
+    }
+    if workers == 0 || workers > 16 {
+        return Err(Fail::from("1 to 16 workers"));
+    }
+    Ok(night_alone(
+        rt, alloc, &catalog, tables, &changes, &correct, workers, &NoGate,
+    ))
 }
 
 /// Whether these are the tables of a, b and v, with these rows, once each.
@@ -58,93 +48,56 @@ fn are_tables(tables: &[Bag], a: &[&[i64]], b: &[&[i64]], v: &[&[i64]]) -> bool 
     }
 }
 
-#[test]
-fn night_alone(rt: HostRuntime) -> Result<(), Fail> {
-    let (answer, is_busy, tables) = carried(&rt, rt.alloc(), &[(&[2, 10], -1), (&[3, 10], 1)])?;
-    assert!(rt; matches!(&answer, Ok(report) if report.version == 1 && report.steps.len() == 5));
-    assert!(rt; !is_busy);
-    assert!(rt;
-        are_tables(
-            &tables,
+/// Whether the night was carried out, and made these tables: a row of a left, and one came.
+fn is_carried(answer: &Result<Carried, CarryFault>) -> bool {
+    let Ok(carried) = answer else {
+        return false;
+    };
+    carried.report.version == 1
+        && carried.report.steps.len() == 5
+        && are_tables(
+            &carried.tables,
             &[&[1, 10], &[3, 10]],
             &[&[10, 6]],
-            &[&[1, 6], &[3, 6]]
+            &[&[1, 6], &[3, 6]],
         )
-    );
+}
+
+#[test]
+fn night_without_readers(rt: HostRuntime) -> Result<(), Fail> {
+    let of_a: [(&[i64], i64); 2] = [(&[2, 10], -1), (&[3, 10], 1)];
+    let by_one = carried(&rt, rt.alloc(), &of_a, 1)?;
+    assert!(rt; is_carried(&by_one));
+    let by_four = carried(&rt, rt.alloc(), &of_a, 4)?;
+    assert!(rt; is_carried(&by_four));
     Ok(())
 }
 
 #[test]
-fn absent_row_alone(rt: HostRuntime) -> Result<(), Fail> {
-    let (answer, is_busy, tables) = carried(&rt, rt.alloc(), &[(&[9, 9], -1)])?;
+fn absent_row_without_readers(rt: HostRuntime) -> Result<(), Fail> {
+    let answer = carried(&rt, rt.alloc(), &[(&[9, 9], -1)], 1)?;
     let refused = match &answer {
-        Err(fault) => fault.cause.number() == 4 && fault.left == Left::Untouched,
-        Ok(_) => false,
+        Err(CarryFault {
+            fault: MaintFault::Absent(0, row),
+            started: false,
+        }) => row.cells() == [9, 9].as_slice(),
+        _ => false,
     };
-    assert!(rt; refused && !is_busy);
-    assert!(rt;
-        are_tables(
-            &tables,
-            &[&[1, 10], &[2, 10]],
-            &[&[10, 5]],
-            &[&[1, 5], &[2, 5]]
-        )
-    );
+    assert!(rt; refused);
     Ok(())
 }
 
-/// A store of one view of one column, with the row 1.
-fn one_row(rt: &impl Abort, alloc: Global) -> Result<Alone, Fail> {
-    let mut table = Bag::new(alloc);
-    table.add(&[1], 1)?;
-    assert!(rt; table.is_table());
-    let mut tables = Vec::new(alloc);
-    tables.push(table)?;
-    Ok(Alone::new(Store::new(alloc, tables)?))
-}
-
-/// New counts of the view: the row 2 in place of the row 1.
-fn put(alloc: Global, view: usize) -> Result<Op, Fail> {
-    let mut rows = Vec::new(alloc);
-    rows.push((Row::from_slice(alloc, &[1])?, 0))?;
-    rows.push((Row::from_slice(alloc, &[2])?, 1))?;
-    Ok(Op::Put(view, rows))
-}
-
+/// 2^57 rows of a, joined with one of b, are more than a Comp may have.
 #[test]
-fn an_open_night_alone_hands_out_the_tables_of_before(rt: HostRuntime) -> Result<(), Fail> {
-    let mut writer = one_row(&rt, rt.alloc())?;
-    assert!(rt; writer.publish(&rt, Op::Begin).is_ok());
-    let op = put(rt.alloc(), 0)?;
-    assert!(rt; writer.publish(&rt, op).is_ok());
-    assert!(rt; writer.active() && writer.current() == 0);
-    let tables = writer.into_tables();
-    assert!(rt; matches!(tables.as_slice(), [table] if has_rows(table, &[&[1]])));
-    Ok(())
-}
-
-#[test]
-fn a_night_alone_is_given_up_or_committed(rt: HostRuntime) -> Result<(), Fail> {
-    let mut writer = one_row(&rt, rt.alloc())?;
-    assert_eq!(rt; writer.publish(&rt, Op::Commit), Err(PublishFault::NoNight));
-    assert_eq!(rt; writer.give_up(&rt)?, Ended::NoneOpen);
-    assert!(rt; writer.publish(&rt, Op::Begin).is_ok());
-    assert_eq!(rt;
-        writer.publish(&rt, Op::Begin),
-        Err(PublishFault::NightOpen)
+fn a_comp_is_too_large_without_readers(rt: HostRuntime) -> Result<(), Fail> {
+    let answer = carried(&rt, rt.alloc(), &[(&[3, 10], 1 << 57)], 1)?;
+    let refused = matches!(
+        &answer,
+        Err(CarryFault {
+            fault: MaintFault::Large(2),
+            started: true
+        })
     );
-    let op = put(rt.alloc(), 1)?;
-    assert_eq!(rt; writer.publish(&rt, op), Err(PublishFault::NoView));
-    let op = put(rt.alloc(), 0)?;
-    assert!(rt; writer.publish(&rt, op).is_ok());
-    assert_eq!(rt; writer.give_up(&rt)?, Ended::GivenUp);
-    assert!(rt; writer.current() == 1 && !writer.active());
-    assert!(rt; writer.publish(&rt, Op::Begin).is_ok());
-    let op = put(rt.alloc(), 0)?;
-    assert!(rt; writer.publish(&rt, op).is_ok());
-    assert!(rt; writer.publish(&rt, Op::Commit).is_ok());
-    assert!(rt; writer.current() == 2 && !writer.held());
-    let tables = writer.into_tables();
-    assert!(rt; matches!(tables.as_slice(), [table] if has_rows(table, &[&[2]])));
+    assert!(rt; refused);
     Ok(())
 }
