@@ -30,9 +30,7 @@ use wh_formula::{RowTest, RowValue};
 use wh_maint::MaintFault;
 use wh_night::{Carried, CarryFault, Report};
 use wh_row::Bag;
-use wh_run::{
-    Left, NightCause, NightFault, NoGate, Options, current_tables, night, night_alone,
-};
+use wh_run::{Left, NightCause, NightFault, NoGate, Options, current_tables, night, night_alone};
 use wh_store::Store;
 use wh_strategy::Correct;
 

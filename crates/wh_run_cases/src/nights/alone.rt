@@ -77,10 +77,12 @@ fn night_without_readers(rt: HostRuntime) -> Result<(), Fail> {
 fn absent_row_without_readers(rt: HostRuntime) -> Result<(), Fail> {
     let answer = carried(&rt, rt.alloc(), &[(&[9, 9], -1)], 1)?;
     let refused = match &answer {
-        Err(CarryFault {
-            fault: MaintFault::Absent(0, row),
-            started: false,
-        }) => row.cells() == [9, 9].as_slice(),
+        Err(
+            CarryFault {
+                fault: MaintFault::Absent(0, row),
+                started: false,
+            },
+        ) => row.cells() == [9, 9].as_slice(),
         _ => false,
     };
     assert!(rt; refused);
