@@ -1,5 +1,5 @@
 -- What is found after an edit, and entries that are known by what is found.
-use Rattle.std.proofs.Common.{◌≡◌, ◌≢◌, refl, sym, ap, subst, ◌∙◌, List, [], ◌∷◌, ◌++◌, drop, Bool, true, false, cond, Option, Some, None, Result, Ok, Err, OnOk, OnErr}
+use Rattle.std.proofs.Common.{◌≡◌, ◌≢◌, refl, sym, ap, subst, ◌∙◌, List, [], ◌∷◌, ◌++◌, drop, Bool, true, false, cond, Option, Some, None}
 use Rattle.std.specs.List.Sorted.{IsStrictlySortedBy}
 use Rattle.std.specs.Ordering.{is_eq, match_ordering}
 use Rattle.std.specs.Cmp.{tied_itself}
@@ -111,34 +111,12 @@ lacking_none : {T : Type 0} (o : Option T) → lacking o None ≡ None
 lacking_none None = refl
 lacking_none (Some v) = refl
 
-pub nothing_found : {T : Type 0} (es : List (Row × T)) → ((q : Row) → found q es ≡ None) → es ≡ []
-nothing_found [] h = refl
-nothing_found (e ∷ es) h = absurd (let bad : Some e.1 ≡ None = sym (found_first e es) ∙ h e.0 in cc)
-
-pub none_lacking : {T : Type 0} (o t : Option T) → (o ≡ None → t ≡ None) → lacking o t ≡ None
-none_lacking None t h = h refl
-none_lacking (Some v) t h = refl
-
-pub restored : {T : Type 0} (b m o t : Option T) → b ≡ lacking o t → (b ≡ None → m ≡ o) → without b m ≡ o
-restored None m o t e h = h refl
-restored (Some v) m None t e h = refl
-restored (Some v) m (Some w) t e h = absurd (let bad : Some v ≡ None = e in cc)
-
 -- ---- values that are combined in place, row by row
 
 pub record IsBringing {T : Type 0} (allowed : T → T → Option T → Type 0) (old other now rest : List (Row × T)) : Type 0 where
   pub rising : AreRisingRows rest
   pub left : (q : Row) → found q rest ≢ None → (found q now ≡ either (found q old) (found q other)) × (found q rest ≡ found q other)
   pub done : (q : Row) → found q rest ≡ None → IsCombined allowed (found q old) (found q other) (found q now)
-
--- with what was lacking there is what either has
-either_none : {T : Type 0} (t : Option T) → either t None ≡ t
-either_none None = refl
-either_none (Some v) = refl
-
-pub brought_all : {T : Type 0} (o t b : Option T) → b ≡ lacking o t → either b o ≡ either o t
-brought_all None t b e = ap (λ x. either x None) e ∙ either_none t
-brought_all (Some v) t b e = ap (λ x. either x (Some v)) e
 
 not_there : {T : Type 0} (o t : Option T) → lacking o t ≢ None → o ≡ None
 not_there None t h = refl
@@ -273,40 +251,14 @@ module _ {T : Type 0} (old : List (Row × T)) (e : Row × T) (rest : List (Row �
         ] refl,
       )
 
--- ---- a step of each loop, by what is found
+-- ---- a row that is taken back
 
 module _ {T : Type 0} (e : Row × T) (rest : List (Row × T)) (q : Row) where
-  pub brought_step : (b s : Option T) → (is_row q e.0 ≡ true → s ≡ None) → either (either b (found q (e ∷ []))) (lacking s (found q rest)) ≡ either b (lacking s (found q (e ∷ rest)))
-  brought_step (Some x) s h = refl
-  brought_step None s h = elim (is_row q e.0) as (λ t. (t ≡ true → s ≡ None) → either (cond t (Some e.1) None) (lacking s (found q rest)) ≡ lacking s (cond t (Some e.1) (found q rest))) [
-    | true ↦ λ h. sym (ap (λ x. lacking x (Some e.1)) (h refl))
-    | false ↦ λ h. refl
-  ] h
-
-  pub kept_step : (s : Option T) → (is_row q e.0 ≡ true → s ≢ None) → lacking s (found q rest) ≡ lacking s (found q (e ∷ rest))
-  kept_step (Some x) h = refl
-  kept_step None h = elim (is_row q e.0) as (λ t. (t ≡ true → ⊥) → found q rest ≡ cond t (Some e.1) (found q rest)) [
-    | true ↦ λ h. absurd (h refl)
-    | false ↦ λ h. refl
-  ] (λ t. h t refl)
-
-  pub added_step : (old : Option T) → AreRisingRows (e ∷ rest) → either (found q rest) (cond (is_row q e.0) (Some e.1) old) ≡ either (found q (e ∷ rest)) old
-  added_step old s = elim (is_row q e.0) as (λ t. is_row q e.0 ≡ t → either (found q rest) (cond t (Some e.1) old) ≡ either (cond t (Some e.1) (found q rest)) old) [
-    | true ↦ λ t. ap (λ x. either x (Some e.1)) (ap (λ x. found x rest) (same_row q e.0 t) ∙ none_after e rest s)
-    | false ↦ λ t. refl
-  ] refl
-
   pub taken_step : (old : Option T) → without (found q rest) (cond (is_row q e.0) None old) ≡ without (found q (e ∷ rest)) old
   taken_step old = elim (is_row q e.0) as (λ t. without (found q rest) (cond t None old) ≡ without (cond t (Some e.1) (found q rest)) old) [
     | true ↦ without_none (found q rest)
     | false ↦ refl
   ]
-
-  pub part_step : {o : Option T} → (o ≡ None → found q (e ∷ rest) ≡ None) → o ≡ None → found q rest ≡ None
-  part_step h n = elim (is_row q e.0) as (λ t. cond t (Some e.1) (found q rest) ≡ None → found q rest ≡ None) [
-    | true ↦ λ f. absurd (let bad : Some e.1 ≡ None = f in cc)
-    | false ↦ λ f. f
-  ] (h n)
 
 pub rising_tail : {T : Type 0} (e : Row × T) (rest : List (Row × T)) → AreRisingRows (e ∷ rest) → AreRisingRows rest
 unfolding IsStrictlySortedBy
@@ -316,14 +268,6 @@ pub rising_dropped : {T : Type 0} (es : List (Row × T)) → AreRisingRows es �
 unfolding IsStrictlySortedBy
 rising_dropped [] s = tt
 rising_dropped (e ∷ es) s = s.1
-
-pub none_gone : {T : Type 0} (a xs rest : List (Row × T)) (e : Row × T) → xs ≡ e ∷ rest → (a ≡ [] → xs ≡ []) → a ≡ [] → rest ≡ []
-none_gone a xs rest e h n z = absurd (let bad : [] ≡ e ∷ rest = sym (n z) ∙ h in cc)
-
--- what cannot fail goes well
-pub sure : {A E : Type 0} (r : Result A E) (P Q : Type 0) → OnOk r P → OnErr r Q → (Q → ⊥) → P
-sure (Ok x) P Q p q n = p
-sure (Err e) P Q p q n = absurd (n q)
 
 pub bringing_at : {T : Type 0} (allowed : T → T → Option T → Type 0) (old other now rest es : List (Row × T)) → IsBringing allowed old other now rest → rest ≡ es → IsBringing allowed old other now es
 bringing_at {T} allowed old other now rest es is e = subst (λ (xs : List (Row × T)). IsBringing allowed old other now xs) e is

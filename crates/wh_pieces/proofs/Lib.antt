@@ -8,3 +8,4 @@ pub mod MergeLaws
 pub mod BringLaws
 pub mod WidthLaws
 pub mod CutLaws
+pub mod NotedLaws

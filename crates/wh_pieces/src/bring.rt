@@ -1,9 +1,10 @@
 //! A small map brought into a large one, row by row.
 
-ghost use Rattle.std.specs.Prelude.{◌≡◌, ◌≢◌, [], List, ℤ, None, OnOk, OnErr, IfOk};
-ghost use Rattle.wh_pieces.specs.Place.{AreRisingRows};
+ghost use Rattle.std.specs.Prelude.{◌≡◌, ◌++◌, List, ℤ, Some, None, cond, OnOk, OnErr, IfOk};
+ghost use Rattle.wh_pieces.specs.Row.{is_row};
+ghost use Rattle.wh_pieces.specs.Place.{AreRisingRows, IsAbove};
 ghost use Rattle.wh_pieces.specs.Pieces.{found};
-ghost use Rattle.wh_pieces.specs.Merged.{AreMerged, HaveRowsOf, lacking, either, without};
+ghost use Rattle.wh_pieces.specs.Merged.{AreMerged, HaveRowsOf, entry_of, lacking, either, without};
 
 use crate::pieces::Pieces;
 use std::alloc::AllocError;
@@ -23,13 +24,7 @@ impl<T: Copy + Drop> Pieces<T> {
         // Memory only where the other map has a row that is new here.
         ensures memory { OnErr result (¬ (HaveRowsOf self.old other.now)) }
     {
-        // Told by the map: its rows rise.
-        let _ = self.len();
-        let brought = self.new_rows(other)?;
-        let Ok(()) = self.add_rows(&brought) else {
-            self.take_rows(&brought);
-            return Err(AllocError);
-        };
+        let brought = self.bring(other)?;
         // Both rise, so each row that was brought is met as the first of those that are left.
         let mut left = brought.entries();
         for (row, more) in other.entries() {
@@ -42,29 +37,48 @@ impl<T: Copy + Drop> Pieces<T> {
         Ok(())
     }
 
-    /// The entries of another map whose rows are not here.
-    fn new_rows(&self, other: &Self) -> Result<Self, AllocError>
-        ensures ok { IfOk result (λ brought. (q : List ℤ) → found q brought ≡ lacking (found q self.now) (found q other.now)) }
-        ensures memory { OnErr result (¬ (HaveRowsOf self.now other.now)) }
+    /// Puts in the entries of another map whose rows are not here, and gives them; where it fails, none of them.
+    fn bring(&mut self, other: &Self) -> Result<Self, AllocError>
+        ensures brought { IfOk result (λ brought. (q : List ℤ) → found q brought ≡ lacking (found q self.old) (found q other.now)) }
+        ensures ok { OnOk result ((q : List ℤ) → found q self.new ≡ either (found q self.old) (found q other.now)) }
+        ensures err { OnErr result (self.new ≡ self.old) }
+        ensures memory { OnErr result (¬ (HaveRowsOf self.old other.now)) }
     {
+        // Told by the map: its rows rise.
+        let _ = self.len();
         let mut brought = self.none();
         for (row, value) in other.entries() {
-            if self.get(row).is_none() {
-                brought.push(row, value)?;
-            }
+            let Ok(()) = self.bring_row(row, value, &mut brought) else {
+                self.take_rows(&brought);
+                return Err(AllocError);
+            };
         }
         Ok(brought)
     }
 
-    /// Puts in all entries of another map; where it fails, some of them.
-    fn add_rows(&mut self, more: &Self) -> Result<(), AllocError>
-        ensures ok { OnOk result ((q : List ℤ) → found q self.new ≡ either (found q more.now) (found q self.old)) }
-        ensures err { OnErr result ((q : List ℤ) → found q more.now ≡ None → found q self.new ≡ found q self.old) }
-        ensures memory { OnErr result (more.now ≢ []) }
+    /// Puts in a row that is not here, and notes it behind those that are noted; where it fails, neither.
+    fn bring_row(&mut self, row: &[i64], value: T, noted: &mut Self) -> Result<(), AllocError>
+        requires { IsAbove row.now noted.old }
+        ensures here { OnOk result ((q : List ℤ) → found q self.new ≡ either (found q self.old) (cond (is_row q row.now) (Some value) None)) }
+        ensures noted { OnOk result (noted.new ≡ noted.old ++ entry_of row.now (lacking (found row.now self.old) (Some value))) }
+        ensures err { OnErr result ((q : List ℤ) → found q self.new ≡ found q self.old) }
+        ensures noted_err { OnErr result (noted.new ≡ noted.old) }
+        ensures memory { OnErr result (found row.now self.old ≡ None) }
     {
-        for (row, value) in more.entries() {
-            self.insert(row, value)?;
+        let stood = self.insert_or(
+            row,
+            value,
+            &move |old: T| -> T
+                ensures { result ≡ old }
+            { old },
+        )?;
+        if stood.is_some() {
+            return Ok(());
         }
+        let Ok(()) = noted.push(row, value) else {
+            let _ = self.remove(row);
+            return Err(AllocError);
+        };
         Ok(())
     }
 

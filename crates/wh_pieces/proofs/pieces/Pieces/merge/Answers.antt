@@ -3,20 +3,8 @@ use Rattle.wh_pieces.specs.Row.{Row}
 use Rattle.wh_pieces.specs.Merged.{lacking}
 use Rattle.wh_pieces.specs.Place.{AreRisingRows, IsFirst}
 use Rattle.wh_pieces.specs.Pieces.{found}
-use Rattle.wh_pieces.proofs.BringLaws.{bringing_kept, bringing_changed, bringing_at, beside_here, beside_there, rising_dropped, same_found, restored, nothing_found, none_lacking}
+use Rattle.wh_pieces.proofs.BringLaws.{bringing_kept, bringing_changed, bringing_at, beside_here, beside_there, rising_dropped}
 use Rattle.wh_pieces.proofs.pieces.Pieces.merge.Goals as goal
-
-pub returns-in_default-clause-err : goal.returns-in_default-clause-err
-returns-in_default-clause-err g c =
-    let old = c.args.self.now in
-    let brought = c.in_ok-brought.brought in
-    same_found c.take_rows.new.self old c.take_rows.ensures.rising c.len.ensures.rising (λ q.
-    c.take_rows.ensures.found q
-    ∙ restored (found q brought) (found q c.add_rows.new.self) (found q old) (found q c.args.other.now) (c.in_ok-brought.ensures.ok q) (c.in_default.ensures.err q))
-
-pub returns-in_default-clause-memory : goal.returns-in_default-clause-memory
-returns-in_default-clause-memory g c = λ have.
-    c.in_default.ensures.memory (nothing_found c.in_ok-brought.brought (λ q. c.in_ok-brought.ensures.ok q ∙ none_lacking (found q c.args.self.now) (found q c.args.other.now) (have q)))
 
 pub loop-row-preserved-then-begin_with : goal.loop-row-preserved-then-begin_with
 loop-row-preserved-then-begin_with g c =
