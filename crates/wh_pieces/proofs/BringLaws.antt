@@ -260,6 +260,10 @@ module _ {T : Type 0} (e : Row × T) (rest : List (Row × T)) (q : Row) where
     | false ↦ refl
   ]
 
+pub rising_tail : {T : Type 0} (e : Row × T) (rest : List (Row × T)) → AreRisingRows (e ∷ rest) → AreRisingRows rest
+unfolding IsStrictlySortedBy
+rising_tail e rest s = s.1
+
 pub rising_dropped : {T : Type 0} (es : List (Row × T)) → AreRisingRows es → AreRisingRows (drop 1 es)
 unfolding IsStrictlySortedBy
 rising_dropped [] s = tt
