@@ -1,9 +1,10 @@
 // Bags: the worked examples, and that ample memory is enough.
 
+use std::alloc::Global;
 use std::process::Abort;
 use std::test::Fail;
 use wh_given::tables::bag as bag_of;
-use wh_row::{Bag, BagFault, Records, RecordsFault};
+use wh_row::{Bag, BagFault, Keyed, Records, RecordsFault};
 
 /// Asserts that the bag lists these rows, with these counts, in this order.
 fn assert_lists(rt: &impl Abort, bag: &Bag, wanted: &[(&[i64], i64)]) {
@@ -137,5 +138,62 @@ fn rows_are_cut_where_it_is_asked(rt: HostRuntime) -> Result<(), Fail> {
         }
         assert!(&rt; rest.next().is_none());
     }
+    Ok(())
+}
+
+/// Asserts that just these rows, with these counts, start with the key.
+fn assert_finds(rt: &impl Abort, keyed: &Keyed, key: &[i64], wanted: &[(&[i64], i64)]) {
+    let mut rows = keyed.rows_starting_with(key);
+    for (row, count) in wanted {
+        assert_eq!(rt; rows.next(), Some((*row, *count)));
+    }
+    assert!(rt; rows.next().is_none());
+}
+
+/// A hundred rows (k, k mod 40), which the bag keeps behind their last cells too.
+fn kept_by_last_cells(alloc: Global) -> Result<Bag, Fail> {
+    let mut bag = Bag::new(alloc);
+    for k in 0..100_i64 {
+        bag.add(&[k, k % 40], 1)?;
+    }
+    bag.keep_keyed(alloc, vec![in alloc; 1]?)?;
+    Ok(bag)
+}
+
+#[test]
+fn rows_behind_their_keys_change_with_a_small_merge(rt: HostRuntime) -> Result<(), Fail> {
+    let mut bag = kept_by_last_cells(rt.alloc())?;
+    let change = bag_of(rt.alloc(), &[(&[3, 3], -1), (&[200, 3], 5)])?;
+    bag.merge(&change)?;
+    let keyed = bag.keyed_by(&[1]).expect(&rt, "rows behind their keys");
+    assert_eq!(rt; keyed.columns(), [1].as_slice());
+    let wanted: [(&[i64], i64); 3] = [(&[3, 43, 3], 1), (&[3, 83, 3], 1), (&[3, 200, 3], 5)];
+    assert_finds(&rt, keyed, &[3], &wanted);
+    Ok(())
+}
+
+#[test]
+fn rows_behind_their_keys_go_with_what_else_changes_a_bag(rt: HostRuntime) -> Result<(), Fail> {
+    let mut bag = kept_by_last_cells(rt.alloc())?;
+    assert!(rt; bag.keyed_by(&[0]).is_none());
+    assert!(rt; bag.keyed_by(&[1]).is_some());
+    bag.add(&[3, 3], 1)?;
+    assert!(rt; bag.keyed_by(&[1]).is_none());
+    bag.keep_keyed(rt.alloc(), vec![in rt.alloc(); 1]?)?;
+    assert!(rt; bag.keyed_by(&[1]).is_some());
+    let as_many = bag.copy(rt.alloc())?;
+    assert!(rt; as_many.keyed_by(&[1]).is_none());
+    bag.merge(&as_many)?;
+    assert!(rt; bag.keyed_by(&[1]).is_none());
+    Ok(())
+}
+
+#[test]
+fn rows_are_laid_out_behind_their_keys(rt: HostRuntime) -> Result<(), Fail> {
+    let bag = bag_of(rt.alloc(), &[(&[1, 7], 2), (&[2, 6], -3), (&[3, 7], 4)])?;
+    let keyed = Keyed::of(rt.alloc(), &bag, vec![in rt.alloc(); 1]?)?;
+    assert_finds(&rt, &keyed, &[6], &[(&[6, 2, 6], -3)]);
+    assert_finds(&rt, &keyed, &[7], &[(&[7, 1, 7], 2), (&[7, 3, 7], 4)]);
+    assert_finds(&rt, &keyed, &[8], &[]);
     Ok(())
 }

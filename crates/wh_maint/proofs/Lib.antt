@@ -16,7 +16,6 @@ mod FoundRows
 pub mod FromScratch
 pub mod GroupChanges
 mod KeyedRows
-mod KeyedSums
 mod Lacking
 mod Laying
 mod MadeRows

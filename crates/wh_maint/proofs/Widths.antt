@@ -7,12 +7,12 @@ use Rattle.std.proofs.lemmas.List.{length-map}
 use Rattle.wh_formula.specs.Expr.{ExprTree}
 use Rattle.wh_formula.specs.Expr as expr
 use Rattle.wh_dag.specs.Catalog.{OutputOf, Keep, Sums, columns}
-use Rattle.wh_row.specs.Row.{Row}
+use Rattle.wh_row.specs.Row.{Row, cell, cells_at}
 use Rattle.wh_row.specs.Weigh.{Counted}
 use Rattle.wh_row.specs.Bag.{Bag, HasWidth, written, sum_of, count}
 use Rattle.wh_row.proofs.BagLaws.{count-sum_of, each_entry}
 use Rattle.wh_maint.specs.View.{with_row, Fold, column, folded_rows}
-use Rattle.wh_maint.specs.Definition.{cell, cells_at, with_first, values_at, where_valued, row_under, kind_of, view_of}
+use Rattle.wh_maint.specs.Definition.{with_first, values_at, where_valued, row_under, kind_of, view_of}
 use Rattle.wh_maint.specs.Summary.{cells, group_of, cell_of, read_back, new_accumulators, is_touched, summary, shown, summary_change, change_of}
 use Rattle.wh_maint.specs.Width.{key_width, ColumnsHaveWidth, TablesHaveWidth, ChangesHaveWidth}
 use Rattle.wh_maint.proofs.BagLemmas.{zero_or_not, of_records}

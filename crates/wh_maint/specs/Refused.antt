@@ -1,5 +1,5 @@
 -- Why changes are refused.
-use Rattle.std.specs.Prelude.{◌≡◌, ◌≢◌, ℕ, suc, pos, ◌+ℤ◌, ◌≤ℤ◌, negsuc, List, FitsSigned}
+use Rattle.std.specs.Prelude.{◌≡◌, ℕ, suc, ◌+ℤ◌, ◌≤ℤ◌, negsuc, List, FitsSigned}
 use Rattle.std.specs.Int.{w128}
 use Rattle.std.specs.declared.cmp.Ordering.TheVariants.{Less}
 use Rattle.wh_row.specs.Row.{Row, row_cmp}

@@ -26,6 +26,7 @@ mod price;
 mod size;
 mod step;
 mod term;
+mod wants;
 
 pub use asked::{are_bags, are_sources, is_fit};
 pub use base_change::changed;
@@ -47,3 +48,4 @@ pub use laws::{
 pub use opening::opening_contents;
 pub use pending::Pending;
 pub use size::operand_rows;
+pub use wants::Wants;

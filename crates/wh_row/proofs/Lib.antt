@@ -15,5 +15,6 @@ mod FlatLaws
 mod RunningSums
 pub mod StartLaws
 mod KeptLaws
+pub mod KeyedLaws
 mod KeptSums
 mod BulkLaws

@@ -1,10 +1,11 @@
 -- What a bag keeps of its counts, so that no row is walked through for it.
-use Rattle.std.specs.Prelude.{◌≡◌, ℕ, ℤ, pos, negsuc}
+use Rattle.std.specs.Prelude.{◌≡◌, ℕ, ℤ, pos, negsuc, List}
 use Rattle.std.specs.List.{sum_by}
 use Rattle.wh_row.specs.declared.kept.Kept.{Kept}
 use Rattle.wh_row.specs.Weigh.{Counted}
 use Rattle.wh_row.specs.Bag.{Bag, size, written}
 use Rattle.wh_row.specs.Stored.{from_counts, AreCounts}
+use Rattle.wh_row.specs.Keyed.{KeyedOf, AreKeyed}
 
 -- 1 for a number below zero, else 0
 abbrev pub one_below : ℤ → ℕ
@@ -24,3 +25,8 @@ pub record IsKeptOf (b : Bag) (kept : Kept) : Type 0 where
 pub record AreKept (es : Counted) (kept : Kept) : Type 0 where
   pub counts : AreCounts es
   pub of_bag : IsKeptOf (from_counts es) kept
+
+-- a bag has these counts, this kept of them, and these of its rows behind their keys
+pub record IsStored (es : Counted) (sums : Kept) (laid : List KeyedOf) : Type 0 where
+  pub kept : AreKept es sums
+  pub keyed : AreKeyed (from_counts es) laid

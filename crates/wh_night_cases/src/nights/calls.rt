@@ -1,13 +1,13 @@
 // Each call, once what it asks for was tested.
 ghost use Rattle.std.specs.Prelude.{◌≡◌};
 
-use std::alloc::Global;
+use std::alloc::{AllocError, Global};
 use std::process::Abort;
 use wh_dag::Catalog;
 use wh_formula::{RowTest, RowValue};
 use wh_maint::{
-    MaintFault, Pending, are_bags, are_sources, comp, evaluate, finish, is_fit, opening_contents,
-    operand_rows,
+    MaintFault, Pending, Wants, are_bags, are_sources, comp, evaluate, finish, is_fit,
+    opening_contents, operand_rows,
 };
 use wh_row::Bag;
 
@@ -27,6 +27,25 @@ pub(crate) fn comp_of<F: RowTest, G: RowValue>(
     assert!(rt; are_bags(catalog, tables));
     assert!(rt; are_bags(catalog, changes));
     comp(alloc, catalog, view, sources, tables, changes)
+}
+
+/// Notes what a Comp would save.
+pub(crate) fn note<F: RowTest, G: RowValue>(
+    rt: &impl Abort,
+    alloc: Global,
+    wants: &mut Wants,
+    catalog: &Catalog<F, G>,
+    view: usize,
+    sources: &[usize],
+    tables: &[Bag],
+    changes: &[Bag],
+) -> Result<(), AllocError> {
+    assert!(rt; view < catalog.shape().len());
+    assert!(rt; !catalog.is_base(view));
+    assert!(rt; are_sources(catalog, view, sources));
+    assert!(rt; are_bags(catalog, tables));
+    assert!(rt; are_bags(catalog, changes));
+    wants.note(alloc, catalog, view, sources, tables, changes)
 }
 
 /// How many rows a Comp's operands have.

@@ -1,11 +1,12 @@
-// Joins of four thousand rows with ten, and an index by itself.
+// Joins of four thousand rows with ten, what they save, and an index by itself.
 ghost use Rattle.std.specs.Prelude.{◌≡◌};
 
-use crate::nights::calls::{change_of, comp_of, rows_of, value_of};
+use crate::nights::calls::{change_of, comp_of, note, rows_of, value_of};
 use crate::nights::catalogs::joined;
 use std::alloc::Global;
+use std::process::Abort;
 use std::test::Fail;
-use wh_maint::Index;
+use wh_maint::{Index, Pending, Wants};
 use wh_row::Bag;
 
 /// a holds (k, k mod 10) for k from 0 to 3999, each so often.
@@ -62,6 +63,70 @@ fn all_rows_of_a_leave(rt: HostRuntime) -> Result<(), Fail> {
     assert_eq!(&rt; change.total(), 4000);
     assert_eq!(&rt; change.count(&[0, 100]), -1);
     assert!(&rt; change.rows().all(|(_, count)| count == -1));
+    Ok(())
+}
+
+/// Grants what so many Comps from b want, of which each adds a row to b.
+fn granted(rt: &impl Abort, alloc: Global, tables: &mut [Bag], times: usize) -> Result<(), Fail> {
+    let catalog = joined(alloc)?;
+    let changes = one_of_b(alloc)?;
+    let mut wants = Wants::new(alloc);
+    for _ in 0..times {
+        note(rt, alloc, &mut wants, &catalog, 2, &[1], tables, &changes)?;
+    }
+    wants.grant(alloc, tables, 1)?;
+    Ok(())
+}
+
+/// The change by which b gets (3, 7).
+fn one_of_b(alloc: Global) -> Result<Vec<Bag>, Fail> {
+    let mut rows = Bag::new(alloc);
+    rows.add(&[3, 7], 1)?;
+    tables(alloc, Bag::new(alloc), rows)
+}
+
+/// Whether these are four hundred rows, the first (3, 7) and the last (3993, 7), each of which counts once.
+fn are_of_three(added: &Pending) -> bool {
+    let counts = added.counts();
+    counts.total() == 400 && counts.count(&[3, 7]) == 1 && counts.count(&[3993, 7]) == 1
+}
+
+/// Whether the first table keeps its rows behind their second cells.
+fn is_laid_out(tables: &[Bag]) -> bool {
+    match tables.first() {
+        Some(table) => table.keyed_by(&[1]).is_some(),
+        None => false,
+    }
+}
+
+#[test]
+fn a_table_is_laid_out_where_many_comps_want_it(rt: HostRuntime) -> Result<(), Fail> {
+    let alloc = rt.alloc();
+    let catalog = joined(alloc)?;
+    let changes = one_of_b(alloc)?;
+    let mut tables = tables(alloc, of_a(alloc, 1)?, of_b(alloc)?)?;
+    granted(&rt, alloc, &mut tables, 2)?;
+    assert!(&rt; !is_laid_out(&tables));
+    let added = comp_of(&rt, alloc, &catalog, 2, &[1], &tables, &changes);
+    assert!(&rt; are_of_three(&added.ok().expect(&rt, "a comp")));
+    granted(&rt, alloc, &mut tables, 20)?;
+    assert!(&rt; is_laid_out(&tables));
+    let added = comp_of(&rt, alloc, &catalog, 2, &[1], &tables, &changes);
+    assert!(&rt; are_of_three(&added.ok().expect(&rt, "a comp")));
+    Ok(())
+}
+
+#[test]
+fn a_table_is_laid_out_where_few_comps_want_it_again_and_again(
+    rt: HostRuntime,
+) -> Result<(), Fail> {
+    let alloc = rt.alloc();
+    let mut tables = tables(alloc, of_a(alloc, 1)?, of_b(alloc)?)?;
+    granted(&rt, alloc, &mut tables, 2)?;
+    granted(&rt, alloc, &mut tables, 2)?;
+    assert!(&rt; !is_laid_out(&tables));
+    granted(&rt, alloc, &mut tables, 2)?;
+    assert!(&rt; is_laid_out(&tables));
     Ok(())
 }
 
