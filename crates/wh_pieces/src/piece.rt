@@ -60,8 +60,8 @@ impl<T: Copy + Drop> Piece<T> {
         requires { length cells.now ≡ width * length values.now }
         ensures { IfOk result (λ l. l ≡ flat width cells.now values.now) }
     {
-        let cells = Vec::from_slice(alloc, cells)?;
-        let values = Vec::from_slice(alloc, values)?;
+        let cells = with_room(alloc, cells)?;
+        let values = with_room(alloc, values)?;
         Ok(Piece {
             width,
             cells,
@@ -213,8 +213,8 @@ impl<T: Copy + Drop> Piece<T> {
         requires { place ≤ length self.now }
         ensures { IfOk result (λ l. l ≡ drop place self.now) }
     {
-        let cells = Vec::from_slice(alloc, &self.cells[self.width * place..])?;
-        let values = Vec::from_slice(alloc, &self.values[place..])?;
+        let cells = with_room(alloc, &self.cells[self.width * place..])?;
+        let values = with_room(alloc, &self.values[place..])?;
         Ok(Piece {
             width: self.width,
             cells,
@@ -230,6 +230,19 @@ impl<T: Copy + Drop> Piece<T> {
         self.cells.truncate(self.width * place);
         self.values.truncate(place);
     }
+}
+
+/// Room is left for this part of what stands there.
+const ROOM: usize = 16;
+
+/// A copy of these with some room behind it, so that the first rows that come in between do not have all moved to another place.
+fn with_room<T: Copy + Drop>(alloc: Global, items: &[T]) -> Result<Vec<T>, AllocError>
+    ensures items { IfOk result (λ copy. copy.items ≡ items.now) }
+{
+    let room = items.len() / ROOM;
+    let mut copy = Vec::with_capacity(alloc, items.len().saturating_add(room))?;
+    copy.extend_from_slice(items)?;
+    Ok(copy)
 }
 
 /// Puts cells before a place.

@@ -21,16 +21,16 @@ offset_bounds-deref-self-inside g c =
     let cells = place_within s.width c.args.place (length s.values.items) fits in
     omega (arith, s.cells.small, s.cells.ok)
 
-pub slice_bounds-from_slice-count : goal.slice_bounds-from_slice-count
-slice_bounds-from_slice-count g c =
+pub slice_bounds-with_room-count : goal.slice_bounds-with_room-count
+slice_bounds-with_room-count g c =
     let s = c.self.inside in
     let inv : length s.cells.items ≡ s.width * length s.values.items = c.self.invariant in
     let fits : c.args.place ≤ length s.values.items = omega (arith, length-flat s.width s.cells.items s.values.items, ap length c.self.view_is) in
     let cells = place_within s.width c.args.place (length s.values.items) fits in
     omega (arith, ap length c.deref.ensures.value)
 
-pub slice_bounds-from_slice-start : goal.slice_bounds-from_slice-start
-slice_bounds-from_slice-start g c =
+pub slice_bounds-with_room-start : goal.slice_bounds-with_room-start
+slice_bounds-with_room-start g c =
     let s = c.self.inside in
     let inv : length s.cells.items ≡ s.width * length s.values.items = c.self.invariant in
     let fits : c.args.place ≤ length s.values.items = omega (arith, length-flat s.width s.cells.items s.values.items, ap length c.self.view_is) in
@@ -46,16 +46,16 @@ offset_bounds-deref-place g c =
     let cells = place_within s.width c.args.place (length s.values.items) fits in
     omega (arith, ap length c.deref-2.ensures.value)
 
-pub slice_bounds-from_slice-count-2 : goal.slice_bounds-from_slice-count-2
-slice_bounds-from_slice-count-2 g c =
+pub slice_bounds-with_room-count-2 : goal.slice_bounds-with_room-count-2
+slice_bounds-with_room-count-2 g c =
     let s = c.self.inside in
     let inv : length s.cells.items ≡ s.width * length s.values.items = c.self.invariant in
     let fits : c.args.place ≤ length s.values.items = omega (arith, length-flat s.width s.cells.items s.values.items, ap length c.self.view_is) in
     let cells = place_within s.width c.args.place (length s.values.items) fits in
     omega (arith, ap length c.deref-2.ensures.value)
 
-pub slice_bounds-from_slice-start-2 : goal.slice_bounds-from_slice-start-2
-slice_bounds-from_slice-start-2 g c =
+pub slice_bounds-with_room-start-2 : goal.slice_bounds-with_room-start-2
+slice_bounds-with_room-start-2 g c =
     let s = c.self.inside in
     let inv : length s.cells.items ≡ s.width * length s.values.items = c.self.invariant in
     let fits : c.args.place ≤ length s.values.items = omega (arith, length-flat s.width s.cells.items s.values.items, ap length c.self.view_is) in
