@@ -18,3 +18,4 @@ mod KeptLaws
 pub mod KeyedLaws
 mod KeptSums
 mod BulkLaws
+mod LaidLaws
