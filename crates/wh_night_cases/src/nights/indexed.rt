@@ -66,15 +66,17 @@ fn all_rows_of_a_leave(rt: HostRuntime) -> Result<(), Fail> {
     Ok(())
 }
 
-/// Grants what so many Comps from b want, of which each adds a row to b.
-fn granted(rt: &impl Abort, alloc: Global, tables: &mut [Bag], times: usize) -> Result<(), Fail> {
+/// Grants what a Comp wants from this change of b.
+fn granted(
+    rt: &impl Abort,
+    alloc: Global,
+    tables: &mut [Bag],
+    changes: &[Bag],
+) -> Result<(), Fail> {
     let catalog = joined(alloc)?;
-    let changes = one_of_b(alloc)?;
     let mut wants = Wants::new(alloc);
-    for _ in 0..times {
-        note(rt, alloc, &mut wants, &catalog, 2, &[1], tables, &changes)?;
-    }
-    wants.grant(alloc, tables, 1)?;
+    note(rt, alloc, &mut wants, &catalog, 2, &[1], tables, changes)?;
+    wants.grant(alloc, tables)?;
     Ok(())
 }
 
@@ -82,6 +84,15 @@ fn granted(rt: &impl Abort, alloc: Global, tables: &mut [Bag], times: usize) -> 
 fn one_of_b(alloc: Global) -> Result<Vec<Bag>, Fail> {
     let mut rows = Bag::new(alloc);
     rows.add(&[3, 7], 1)?;
+    tables(alloc, Bag::new(alloc), rows)
+}
+
+/// The change by which b gets (k, 7) for k from 0 to one less than so many.
+fn many_of_b(alloc: Global, many: i64) -> Result<Vec<Bag>, Fail> {
+    let mut rows = Bag::new(alloc);
+    for k in 0..many {
+        rows.add(&[k, 7], 1)?;
+    }
     tables(alloc, Bag::new(alloc), rows)
 }
 
@@ -100,16 +111,14 @@ fn is_laid_out(tables: &[Bag]) -> bool {
 }
 
 #[test]
-fn a_table_is_laid_out_where_many_comps_want_it(rt: HostRuntime) -> Result<(), Fail> {
+fn a_table_is_laid_out_that_a_comp_would_walk_through(rt: HostRuntime) -> Result<(), Fail> {
     let alloc = rt.alloc();
     let catalog = joined(alloc)?;
     let changes = one_of_b(alloc)?;
     let mut tables = tables(alloc, of_a(alloc, 1)?, of_b(alloc)?)?;
-    granted(&rt, alloc, &mut tables, 2)?;
-    assert!(&rt; !is_laid_out(&tables));
     let added = comp_of(&rt, alloc, &catalog, 2, &[1], &tables, &changes);
     assert!(&rt; are_of_three(&added.ok().expect(&rt, "a comp")));
-    granted(&rt, alloc, &mut tables, 20)?;
+    granted(&rt, alloc, &mut tables, &changes)?;
     assert!(&rt; is_laid_out(&tables));
     let added = comp_of(&rt, alloc, &catalog, 2, &[1], &tables, &changes);
     assert!(&rt; are_of_three(&added.ok().expect(&rt, "a comp")));
@@ -117,15 +126,24 @@ fn a_table_is_laid_out_where_many_comps_want_it(rt: HostRuntime) -> Result<(), F
 }
 
 #[test]
-fn a_table_is_laid_out_where_few_comps_want_it_again_and_again(
-    rt: HostRuntime,
-) -> Result<(), Fail> {
+fn a_table_is_not_laid_out_for_as_many_rows_as_it_has(rt: HostRuntime) -> Result<(), Fail> {
     let alloc = rt.alloc();
+    let changes = many_of_b(alloc, 4000)?;
     let mut tables = tables(alloc, of_a(alloc, 1)?, of_b(alloc)?)?;
-    granted(&rt, alloc, &mut tables, 2)?;
-    granted(&rt, alloc, &mut tables, 2)?;
+    granted(&rt, alloc, &mut tables, &changes)?;
+    granted(&rt, alloc, &mut tables, &changes)?;
     assert!(&rt; !is_laid_out(&tables));
-    granted(&rt, alloc, &mut tables, 2)?;
+    Ok(())
+}
+
+#[test]
+fn a_table_is_laid_out_for_half_as_many_the_second_time(rt: HostRuntime) -> Result<(), Fail> {
+    let alloc = rt.alloc();
+    let changes = many_of_b(alloc, 2000)?;
+    let mut tables = tables(alloc, of_a(alloc, 1)?, of_b(alloc)?)?;
+    granted(&rt, alloc, &mut tables, &changes)?;
+    assert!(&rt; !is_laid_out(&tables));
+    granted(&rt, alloc, &mut tables, &changes)?;
     assert!(&rt; is_laid_out(&tables));
     Ok(())
 }
