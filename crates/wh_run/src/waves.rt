@@ -262,7 +262,7 @@ pub(crate) fn wave<F: RowTest, G: RowValue, T: Gate + Sync, R: Threads + Sync>(
         return Err(fault);
     }
     // It is for time alone, so where memory is refused the wave goes on without it.
-    let _ = state.lay_out(alloc, catalog, jobs);
+    let _ = state.lay_out(alloc, catalog, jobs, workers.min(jobs.len()));
     let added = match run_wave(rt, alloc, catalog, jobs, state, workers, gate) {
         Ok(added) => added,
         Err(fault) => return Err(of_jobs(fault)),

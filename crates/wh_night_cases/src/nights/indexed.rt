@@ -1,7 +1,7 @@
 // Joins of four thousand rows with ten, what they save, and an index by itself.
 ghost use Rattle.std.specs.Prelude.{◌≡◌};
 
-use crate::nights::calls::{change_of, comp_of, note, rows_of, value_of};
+use crate::nights::calls::{change_of, comp_of, contents_of, note, rows_of, value_of};
 use crate::nights::catalogs::joined;
 use std::alloc::Global;
 use std::process::Abort;
@@ -66,17 +66,15 @@ fn all_rows_of_a_leave(rt: HostRuntime) -> Result<(), Fail> {
     Ok(())
 }
 
-/// Grants what a Comp wants from this change of b.
-fn granted(
-    rt: &impl Abort,
-    alloc: Global,
-    tables: &mut [Bag],
-    changes: &[Bag],
-) -> Result<(), Fail> {
+/// Grants what so many Comps from b want, of which each adds a row to b.
+fn granted(rt: &impl Abort, alloc: Global, tables: &mut [Bag], times: usize) -> Result<(), Fail> {
     let catalog = joined(alloc)?;
+    let changes = one_of_b(alloc)?;
     let mut wants = Wants::new(alloc);
-    note(rt, alloc, &mut wants, &catalog, 2, &[1], tables, changes)?;
-    wants.grant(alloc, tables)?;
+    for _ in 0..times {
+        note(rt, alloc, &mut wants, &catalog, 2, &[1], tables, &changes)?;
+    }
+    wants.grant(alloc, tables, 1)?;
     Ok(())
 }
 
@@ -84,15 +82,6 @@ fn granted(
 fn one_of_b(alloc: Global) -> Result<Vec<Bag>, Fail> {
     let mut rows = Bag::new(alloc);
     rows.add(&[3, 7], 1)?;
-    tables(alloc, Bag::new(alloc), rows)
-}
-
-/// The change by which b gets (k, 7) for k from 0 to one less than so many.
-fn many_of_b(alloc: Global, many: i64) -> Result<Vec<Bag>, Fail> {
-    let mut rows = Bag::new(alloc);
-    for k in 0..many {
-        rows.add(&[k, 7], 1)?;
-    }
     tables(alloc, Bag::new(alloc), rows)
 }
 
@@ -111,14 +100,16 @@ fn is_laid_out(tables: &[Bag]) -> bool {
 }
 
 #[test]
-fn a_table_is_laid_out_that_a_comp_would_walk_through(rt: HostRuntime) -> Result<(), Fail> {
+fn a_table_is_laid_out_where_many_comps_want_it(rt: HostRuntime) -> Result<(), Fail> {
     let alloc = rt.alloc();
     let catalog = joined(alloc)?;
     let changes = one_of_b(alloc)?;
     let mut tables = tables(alloc, of_a(alloc, 1)?, of_b(alloc)?)?;
+    granted(&rt, alloc, &mut tables, 2)?;
+    assert!(&rt; !is_laid_out(&tables));
     let added = comp_of(&rt, alloc, &catalog, 2, &[1], &tables, &changes);
     assert!(&rt; are_of_three(&added.ok().expect(&rt, "a comp")));
-    granted(&rt, alloc, &mut tables, &changes)?;
+    granted(&rt, alloc, &mut tables, 20)?;
     assert!(&rt; is_laid_out(&tables));
     let added = comp_of(&rt, alloc, &catalog, 2, &[1], &tables, &changes);
     assert!(&rt; are_of_three(&added.ok().expect(&rt, "a comp")));
@@ -126,25 +117,31 @@ fn a_table_is_laid_out_that_a_comp_would_walk_through(rt: HostRuntime) -> Result
 }
 
 #[test]
-fn a_table_is_not_laid_out_for_as_many_rows_as_it_has(rt: HostRuntime) -> Result<(), Fail> {
+fn a_table_is_laid_out_where_few_comps_want_it_again_and_again(
+    rt: HostRuntime,
+) -> Result<(), Fail> {
     let alloc = rt.alloc();
-    let changes = many_of_b(alloc, 4000)?;
     let mut tables = tables(alloc, of_a(alloc, 1)?, of_b(alloc)?)?;
-    granted(&rt, alloc, &mut tables, &changes)?;
-    granted(&rt, alloc, &mut tables, &changes)?;
-    assert!(&rt; !is_laid_out(&tables));
+    for _ in 0..3 {
+        granted(&rt, alloc, &mut tables, 2)?;
+        assert!(&rt; !is_laid_out(&tables));
+    }
+    granted(&rt, alloc, &mut tables, 2)?;
+    assert!(&rt; is_laid_out(&tables));
     Ok(())
 }
 
 #[test]
-fn a_table_is_laid_out_for_half_as_many_the_second_time(rt: HostRuntime) -> Result<(), Fail> {
+fn a_table_is_laid_out_as_a_view_over_it_is_opened(rt: HostRuntime) -> Result<(), Fail> {
     let alloc = rt.alloc();
-    let changes = many_of_b(alloc, 2000)?;
-    let mut tables = tables(alloc, of_a(alloc, 1)?, of_b(alloc)?)?;
-    granted(&rt, alloc, &mut tables, &changes)?;
-    assert!(&rt; !is_laid_out(&tables));
-    granted(&rt, alloc, &mut tables, &changes)?;
-    assert!(&rt; is_laid_out(&tables));
+    let catalog = joined(alloc)?;
+    let mut a = of_a(alloc, 1)?;
+    assert_eq!(&rt; a.miss(50_000), 50_000);
+    let opened = contents_of(&rt, alloc, &catalog, tables(alloc, a, of_b(alloc)?)?);
+    let opened = opened.ok().expect(&rt, "contents");
+    assert!(&rt; is_laid_out(&opened));
+    let value = opened.last().expect(&rt, "a view");
+    assert_eq!(&rt; (value.total(), value.count(&[3999, 109])), (4000, 1));
     Ok(())
 }
 
