@@ -18,6 +18,7 @@ pub mod GroupChanges
 mod KeyedRows
 mod Lacking
 mod Laying
+mod LostRows
 mod MadeRows
 mod Matched
 pub mod MetRows
@@ -31,6 +32,7 @@ mod OpenedContents
 pub mod Products
 mod Rearranged
 pub mod RuledOut
+pub mod Sifted
 pub mod SizeBounds
 mod SourceTests
 mod Standing

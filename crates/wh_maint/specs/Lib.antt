@@ -15,6 +15,7 @@ pub mod Opening
 pub mod Product
 pub mod Refused
 pub mod Share
+pub mod Sieve
 pub mod Size
 pub mod Summary
 pub mod SummaryLaws

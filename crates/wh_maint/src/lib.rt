@@ -23,6 +23,7 @@ mod opening;
 mod order;
 mod pending;
 mod price;
+mod sieve;
 mod size;
 mod step;
 mod term;

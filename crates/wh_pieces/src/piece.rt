@@ -36,12 +36,18 @@ impl<T> Model for Piece<T> {
 }
 
 impl<T: Copy + Drop> Piece<T> {
-    /// One row.
-    pub(crate) fn one(alloc: Global, row: &[i64], value: T) -> Result<Self, AllocError>
+    /// One row, with room for so many.
+    pub(crate) fn one(
+        alloc: Global,
+        room: usize,
+        row: &[i64],
+        value: T,
+    ) -> Result<Self, AllocError>
         ensures { IfOk result (λ l. l ≡ (row.now, value) ∷ []) }
     {
-        let cells = Vec::from_slice(alloc, row)?;
-        let mut values = Vec::new(alloc);
+        let mut cells = Vec::with_capacity(alloc, row.len().saturating_mul(room))?;
+        cells.extend_from_slice(row)?;
+        let mut values = Vec::with_capacity(alloc, room)?;
         values.push(value)?;
         Ok(Piece {
             width: row.len(),
@@ -235,12 +241,16 @@ impl<T: Copy + Drop> Piece<T> {
 /// Room is left for this part of what stands there.
 const ROOM: usize = 16;
 
+/// So many, and some room.
+pub(crate) fn and_room(many: usize) -> usize {
+    many.saturating_add(many / ROOM)
+}
+
 /// A copy of these with some room behind it, so that the first rows that come in between do not have all moved to another place.
 fn with_room<T: Copy + Drop>(alloc: Global, items: &[T]) -> Result<Vec<T>, AllocError>
     ensures items { IfOk result (λ copy. copy.items ≡ items.now) }
 {
-    let room = items.len() / ROOM;
-    let mut copy = Vec::with_capacity(alloc, items.len().saturating_add(room))?;
+    let mut copy = Vec::with_capacity(alloc, and_room(items.len()))?;
     copy.extend_from_slice(items)?;
     Ok(copy)
 }

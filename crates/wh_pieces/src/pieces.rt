@@ -10,7 +10,7 @@ ghost use Rattle.wh_pieces.specs.Pieces.{found, with_entry, without_entry, above
 use crate::bulk::cut;
 use crate::entries::Entries;
 use crate::near::{likely_place, longer, place_to_ask};
-use crate::piece::Piece;
+use crate::piece::{Piece, and_room};
 use std::alloc::{AllocError, Global};
 use std::cmp::Ordering;
 use std::marker::Model;
@@ -396,11 +396,12 @@ fn find_piece<T: Copy + Drop>(pieces: &Vec<Piece<T>>, row: &[i64]) -> usize
     low
 }
 
-/// Puts a piece of one row before a piece.
+/// Puts a piece of one row before a piece, with room for so many.
 fn put_piece<T: Copy + Drop>(
     alloc: Global,
     pieces: &mut Vec<Piece<T>>,
     nth: usize,
+    room: usize,
     row: &[i64],
     value: T,
 ) -> Result<(), AllocError>
@@ -411,7 +412,7 @@ fn put_piece<T: Copy + Drop>(
     ensures err { OnErr result (all_of pieces.new.items ≡ all_of pieces.old.items) }
     ensures some { AreNotEmpty pieces.new.items }
 {
-    let piece = Piece::one(alloc, row, value)?;
+    let piece = Piece::one(alloc, room, row, value)?;
     let Ok(()) = pieces.insert(nth, piece) else {
         return Err(AllocError);
     };
@@ -437,7 +438,7 @@ fn put_behind<T: Copy + Drop>(
     if pieces[nth].push(most, row, value)? {
         return Ok(());
     }
-    put_piece(alloc, pieces, nth + 1, row, value)
+    put_piece(alloc, pieces, nth + 1, 1, row, value)
 }
 
 /// Cuts a piece in two.
@@ -485,7 +486,7 @@ fn put_at<T: Copy + Drop>(
         return Ok(());
     }
     if place == 0 {
-        return put_piece(alloc, pieces, nth, row, value);
+        return put_piece(alloc, pieces, nth, 1, row, value);
     }
     if place == pieces[nth].len() {
         return put_behind(alloc, most, pieces, nth, row, value);
@@ -529,7 +530,7 @@ fn put<T: Copy + Drop>(
     put_at(alloc, most, pieces, nth + 1, place - half, row, value)
 }
 
-/// Puts a row behind all rows.
+/// Puts a row behind all rows. Behind a piece that has enough another is begun with room for as many, as more are likely to come.
 fn put_last<T: Copy + Drop>(
     alloc: Global,
     most: usize,
@@ -544,9 +545,18 @@ fn put_last<T: Copy + Drop>(
 {
     let count = pieces.len();
     if count == 0 {
-        return put_piece(alloc, pieces, 0, row, value);
+        return put_piece(alloc, pieces, 0, 1, row, value);
     }
-    put_behind(alloc, filled(most), pieces, count - 1, row, value)
+    let enough = filled(most);
+    if pieces[count - 1].push(enough, row, value)? {
+        return Ok(());
+    }
+    let room = if pieces[count - 1].len() < enough {
+        1
+    } else {
+        and_room(enough)
+    };
+    put_piece(alloc, pieces, count, room, row, value)
 }
 
 /// How many rows a piece gets from rows that come in order: some room is left for rows in between.

@@ -19,3 +19,4 @@ pub mod KeyedLaws
 mod KeptSums
 mod BulkLaws
 mod LaidLaws
+mod Totals

@@ -122,7 +122,7 @@ fn a_table_is_laid_out_where_few_comps_want_it_again_and_again(
 ) -> Result<(), Fail> {
     let alloc = rt.alloc();
     let mut tables = tables(alloc, of_a(alloc, 1)?, of_b(alloc)?)?;
-    for _ in 0..3 {
+    for _ in 0..6 {
         granted(&rt, alloc, &mut tables, 2)?;
         assert!(&rt; !is_laid_out(&tables));
     }
