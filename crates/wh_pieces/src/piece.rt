@@ -37,12 +37,7 @@ impl<T> Model for Piece<T> {
 
 impl<T: Copy + Drop> Piece<T> {
     /// One row, with room for so many.
-    pub(crate) fn one(
-        alloc: Global,
-        room: usize,
-        row: &[i64],
-        value: T,
-    ) -> Result<Self, AllocError>
+    pub(crate) fn one(alloc: Global, room: usize, row: &[i64], value: T) -> Result<Self, AllocError>
         ensures { IfOk result (λ l. l ≡ (row.now, value) ∷ []) }
     {
         let mut cells = Vec::with_capacity(alloc, row.len().saturating_mul(room))?;
