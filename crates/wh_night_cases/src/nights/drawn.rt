@@ -111,6 +111,28 @@ pub(crate) static LAYOUTS: [Layout; 5] = [
 /// The parts of three tables that have members, which are written in no order.
 pub(crate) static PARTS: [&[usize]; 7] = [&[0], &[1], &[1, 0], &[2], &[0, 2], &[2, 1], &[1, 2, 0]];
 
+/// How many rows tables and changes have at most, and how many numbers their cells are of.
+#[derive(Clone, Copy)]
+struct Size {
+    rows: u32,
+    changed: u32,
+    cells: u32,
+}
+
+/// Small tables of which all may change.
+const SMALL: Size = Size {
+    rows: 8,
+    changed: 8,
+    cells: 4,
+};
+
+/// Larger ones of which little does, so that most rows find none of a change.
+const LARGE: Size = Size {
+    rows: 32,
+    changed: 3,
+    cells: 8,
+};
+
 /// A view that is drawn, with a table and a change of each view.
 #[derive(Drop)]
 pub(crate) struct Drawn {
@@ -140,8 +162,9 @@ impl Drawn {
         };
         let first = draw.place(width);
         let second = draw.place(width);
-        let tables = drawn_bags(alloc, draw, layout, 1, 2)?;
-        let changes = drawn_bags(alloc, draw, layout, -2, 5)?;
+        let size = if draw.below(2) == 0 { SMALL } else { LARGE };
+        let tables = drawn_bags(alloc, draw, layout, size, size.rows, (1, 2))?;
+        let changes = drawn_bags(alloc, draw, layout, size, size.changed, (-2, 5))?;
         Ok(Drawn {
             layout,
             join,
@@ -211,28 +234,36 @@ fn drawn_join(alloc: Global, draw: &mut Draw, width: u32) -> Result<Vec<(usize, 
     Ok(join)
 }
 
-/// Draws a bag for each view but the last, which has no rows. Each row counts one of so many numbers from the least on.
+/// Draws a bag of at most so many rows for each view but the last, which has no rows. Each row counts one of so many numbers from the
+/// least on.
 fn drawn_bags(
     alloc: Global,
     draw: &mut Draw,
     layout: &Layout,
-    least: i64,
-    many: u32,
+    size: Size,
+    most: u32,
+    counts: (i64, u32),
 ) -> Result<Vec<Bag>, Fail> {
     let mut bags = Vec::new(alloc);
     for _base in 1..layout.names.len() {
-        bags.push(drawn_bag(alloc, draw, least, many)?)?;
+        bags.push(drawn_bag(alloc, draw, size, most, counts)?)?;
     }
     bags.push(Bag::new(alloc))?;
     Ok(bags)
 }
 
-/// Draws up to eight rows of two cells.
-fn drawn_bag(alloc: Global, draw: &mut Draw, least: i64, many: u32) -> Result<Bag, Fail> {
+/// Draws up to so many rows of two cells.
+fn drawn_bag(
+    alloc: Global,
+    draw: &mut Draw,
+    size: Size,
+    most: u32,
+    counts: (i64, u32),
+) -> Result<Bag, Fail> {
     let mut bag = Bag::new(alloc);
-    for _row in 0..draw.below(9) {
-        let row = [draw.number(0, 4), draw.number(0, 4)];
-        bag.add(&row, draw.number(least, many))?;
+    for _row in 0..draw.below(most.saturating_add(1)) {
+        let row = [draw.number(0, size.cells), draw.number(0, size.cells)];
+        bag.add(&row, draw.number(counts.0, counts.1))?;
     }
     Ok(bag)
 }
