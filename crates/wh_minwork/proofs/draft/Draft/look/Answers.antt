@@ -2,6 +2,7 @@ use Rattle.std.proofs.Common.{◌≡◌, map, ap, ◌∙◌}
 use Rattle.wh_minwork.specs.Draft.{completed}
 use Rattle.wh_minwork.specs.Nodes.{expression_of}
 use Rattle.wh_minwork.proofs.Looking.{over_within, placed_sorted, placed_left, round_of}
+use Rattle.wh_minwork.proofs.OpenAlong.{round_to_first}
 use Rattle.wh_minwork.proofs.Rounds.{round_is_cycle}
 use Rattle.wh_minwork.proofs.draft.Draft.look.Goals as goal
 
@@ -35,7 +36,12 @@ returns-in-Some-first_open c =
     let d = c.self.inside in
     let round = round_of d.edges.views d.edges.over d.edges.under d.edges.before d.children.now (completed d.ordered d.decided) c.in_ok-cycle.cycle.items c.self.invariant.edges c.in_ok-cycle.ensures in
     let cycle = round_is_cycle d.children.now (completed d.ordered d.decided) c.in_ok-cycle.cycle.items round in
-    (c.in-Some-first_open.ensures, (map expression_of c.in_ok-cycle.cycle.items, rw (← c.self.view_is) cycle))
+    let first = rw c.deref-2.ensures.value at c.in-Some-first_open.ensures in
+    let a = c.args.self.now in (
+      map expression_of c.in_ok-cycle.cycle.items,
+      rw (← c.self.view_is) cycle,
+      round_to_first a.children a.decided c.in-Some-first_open.couple c.in_ok-cycle.cycle.items first.0 first.1,
+    )
 
 pub returns : goal.returns
 returns c =
