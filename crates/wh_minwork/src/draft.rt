@@ -110,6 +110,7 @@ impl<'a> Draft<'a> {
         ensures children { IfOk result (λ d. d.children ≡ shape.now.children) }
         ensures ordered { IfOk result (λ d. IsOrdered shape.now.children (sizes_of sizes.now) d.ordered) }
         ensures decided { IfOk result (λ d. d.decided ≡ []) }
+        ensures err { OnErr result ((u : ℕ) × (w : ℕ) × IsCouple shape.now.children u w) }
     {
         let children = shape.child_lists();
         let ordered = Decided::by_desired_order(alloc, shape, sizes)?;
@@ -182,7 +183,10 @@ impl<'a> Draft<'a> {
     /// Sorts the graph, or says why it cannot be sorted. The cycle goes back from the smallest node that cannot be placed,
     /// each time to the smallest one that leads there.
     pub fn look(&self, alloc: Global) -> Result<Found, AllocError>
-        ensures { IfOk result (IsFound self.now.children self.now.ordered self.now.decided) }
+        ensures found { IfOk result (IsFound self.now.children self.now.ordered self.now.decided) }
+
+        // Without a view there is no node, and no memory is taken.
+        ensures some { OnErr result (0 < length self.now.children) }
     {
         let (placed, rest) = place_all(alloc, &self.edges)?;
         let Some(start) = rest.smallest() else {

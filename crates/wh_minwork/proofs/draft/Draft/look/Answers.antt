@@ -11,8 +11,8 @@ place_all-requires-clause-views c =
     let d = c.self.inside in
     over_within d.edges.views d.edges.over d.edges.under d.edges.before d.children.now (completed d.ordered d.decided) c.self.invariant.edges
 
-pub returns-in_default : goal.returns-in_default
-returns-in_default c =
+pub returns-in_default-clause-found : goal.returns-in_default-clause-found
+returns-in_default-clause-found c =
     let d = c.self.inside in
     let r = c.in_ok-placed.rest in
     let sorted = placed_sorted d.edges.views d.edges.over d.edges.under d.edges.before r.comps r.insts d.children.now (completed d.ordered d.decided) c.in_ok-placed.placed.items c.self.invariant.edges c.in_ok-placed.ensures.placed c.in_default.ensures in
@@ -31,8 +31,8 @@ first_open-requires c =
     let round = round_of d.edges.views d.edges.over d.edges.under d.edges.before d.children.now (completed d.ordered d.decided) c.in_ok-cycle.cycle.items c.self.invariant.edges c.in_ok-cycle.ensures in
     rw (c.deref-2.ensures.value, ← c.self.view_is) round
 
-pub returns-in-Some-first_open : goal.returns-in-Some-first_open
-returns-in-Some-first_open c =
+pub returns-in-Some-first_open-clause-found : goal.returns-in-Some-first_open-clause-found
+returns-in-Some-first_open-clause-found c =
     let d = c.self.inside in
     let round = round_of d.edges.views d.edges.over d.edges.under d.edges.before d.children.now (completed d.ordered d.decided) c.in_ok-cycle.cycle.items c.self.invariant.edges c.in_ok-cycle.ensures in
     let cycle = round_is_cycle d.children.now (completed d.ordered d.decided) c.in_ok-cycle.cycle.items round in
@@ -43,8 +43,8 @@ returns-in-Some-first_open c =
       round_to_first a.children a.decided c.in-Some-first_open.couple c.in_ok-cycle.cycle.items first.0 first.1,
     )
 
-pub returns : goal.returns
-returns c =
+pub returns-clause-found : goal.returns-clause-found
+returns-clause-found c =
     let a = c.args.self.now in
     let round = rw c.deref-2.ensures.value at c.in-None.ensures in
     let list : c.new-in-None.result ≡ map expression_of c.in_ok-cycle.cycle.items = c.new-in-None.ensures ∙ c.in_ok-list-in-None.ensures.list ∙ ap (map expression_of) c.deref-in-None.ensures.value in
