@@ -8,6 +8,7 @@ pub mod Hinting
 pub mod Inserted
 pub mod Listed
 pub mod Looking
+pub mod OpenAlong
 pub mod Opening
 pub mod Ordering
 pub mod Placing

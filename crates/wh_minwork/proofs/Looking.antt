@@ -1,5 +1,5 @@
 -- What the sets of a draft tell of its graph.
-use Rattle.std.proofs.Common.{◌≡◌, ℕ, List, [], true, false, ◌&&◌, ◌||◌, refl, sym, ap, ◌∙◌, length, map, arith}
+use Rattle.std.proofs.Common.{◌≡◌, ℕ, List, [], ◌<◌, true, false, ◌&&◌, ◌||◌, refl, sym, ap, ◌∙◌, length, map, arith}
 use Rattle.std.proofs.lemmas.Bool.{lt-ltb, false≢true, true_from_ne_false}
 use Rattle.wh_dag.specs.Shape.{has, children_of, IsShape}
 use Rattle.wh_strategy.proofs.Found.{has_within}
@@ -16,6 +16,7 @@ use Rattle.wh_minwork.proofs.Counting.{is_one, is_none}
 use Rattle.wh_minwork.proofs.Drafting.{completed_none, decisions_one_way}
 use Rattle.wh_minwork.proofs.Placing.{part_done}
 use Rattle.wh_minwork.proofs.Rounds.{round_moves}
+use Rattle.wh_minwork.proofs.Views.{node_view, some_view}
 
 pub over_within : (views : ℕ) (over under before : List ℕ) (shape : List (List ℕ)) (decided : List (ℕ × ℕ)) → AreEdges views over under before shape decided → (v u : ℕ) → in_rows over v u ≡ true → in_set views v ≡ true
 over_within views over under before shape decided h v u t =
@@ -57,6 +58,19 @@ placed_left views over before comps insts placed p = record {
       let a : one_if (is_left comps insts y) ≡ 1 = is_one (is_left comps insts y) _ refl l in
       true_from_ne_false (is_node_by over views y) (λ f. let z : one_if (is_node_by over views y) ≡ 0 = is_none (is_node_by over views y) _ refl f in omega arith);
 }
+
+-- a graph that has a node has a view
+pub node_by_view : (views : ℕ) (over under before : List ℕ) (shape : List (List ℕ)) (decided : List (ℕ × ℕ)) → AreEdges views over under before shape decided → (y : Node) → is_node_by over views y ≡ true → 0 < length shape
+node_by_view views over under before shape decided h y is = node_view shape y (sym (node_same views over under before shape decided h y) ∙ is)
+
+pub placed_by_view : (views : ℕ) (over under before comps : List ℕ) (insts : ℕ) (shape : List (List ℕ)) (decided : List (ℕ × ℕ)) (placed : List Node) → AreEdges views over under before shape decided → ArePlaced views over before comps insts placed → 0 < length placed → 0 < length shape
+placed_by_view views over under before comps insts shape decided placed h p l =
+    some_view shape placed
+    (λ e.
+    let k = p.each e in
+    let s = ap one_if (node_same views over under before shape decided h e) in
+    omega arith)
+    l
 
 pub round_of : (views : ℕ) (over under before : List ℕ) (shape : List (List ℕ)) (decided : List (ℕ × ℕ)) (walk : List Node) → AreEdges views over under before shape decided → IsRound (leads_by over before) (is_node_by over views) walk → IsRound (leads shape decided) (is_node shape) walk
 round_of views over under before shape decided walk h r =

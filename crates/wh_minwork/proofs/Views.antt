@@ -12,7 +12,7 @@ use Rattle.wh_minwork.specs.declared.node.Node.TheVariants.{Comp, Inst}
 use Rattle.wh_minwork.proofs.Counting.{times_get}
 use Rattle.wh_minwork.proofs.Placing.{IsPart}
 
-node_view : (shape : List (List ℕ)) (x : Node) → is_node shape x ≡ true → 0 < length shape
+pub node_view : (shape : List (List ℕ)) (x : Node) → is_node shape x ≡ true → 0 < length shape
 node_view shape (Comp v u) h = let l : v < length shape = has_within shape v u h in omega arith
 node_view shape (Inst v) h = let l : v < length shape = ltb-true v (length shape) h in omega arith
 

@@ -1,11 +1,14 @@
 -- Graphs of which couples are decided one after another.
-use Rattle.std.specs.Prelude.{◌≡◌, ℕ, List, ◌++◌, Bool, true, false, not, ◌||◌, filter}
+use Rattle.std.specs.Prelude.{◌≡◌, ℕ, ◌+◌, ◌<◌, List, [], ◌∷◌, ◌++◌, Bool, true, false, not, ◌||◌, filter}
 use Rattle.wh_dag.specs.Shape.{IsShape}
-use Rattle.wh_strategy.specs.declared.expression.Expression.{Expression}
 use Rattle.wh_dag.specs.Siblings.{IsCouple}
-use Rattle.wh_cert.specs.Graph.{decides, DecidesAll, IsCycle}
+use Rattle.wh_dag.specs.declared.siblings.Couple.{Couple}
+use Rattle.wh_strategy.specs.declared.expression.Expression.{Expression}
+use Rattle.wh_strategy.specs.declared.expression.Expression.TheVariants.{Comp, Inst}
+use Rattle.wh_strategy.specs.Expression.{At}
+use Rattle.wh_cert.specs.Graph.{decides, DecidesAll, HasEdge, IsCycle}
 use Rattle.wh_cert.specs.Search.{IsOpen}
-use Rattle.wh_minwork.specs.Left.{AreEdges}
+use Rattle.wh_minwork.specs.Left.{AreEdges, AreOf}
 use Rattle.wh_minwork.specs.Sets.{in_rows}
 use Rattle.wh_minwork.specs.Sorted.{IsSorted}
 use Rattle.wh_minwork.specs.declared.draft.Found.{Found}
@@ -29,12 +32,35 @@ completed ordered decided = decided ++ filter (leaves_open decided) ordered
 abbrev pub DecidesCouples : List (List ℕ) → List (ℕ × ℕ) → Type 0
 DecidesCouples shape decided = (u w : ℕ) → decides decided u w ≡ true → IsCouple shape u w
 
--- what is found of a graph where each couple that is not decided stands in this order: its nodes sorted, a cycle by decisions
--- alone, or, only where it has a cycle, a couple that is not decided
+-- the expressions of a cycle in its order, at the end the first one once more: edges lead from each to the next
+abbrev pub around : List Expression → List Expression
+around [] = []
+around (x ∷ xs) = x ∷ (xs ++ x ∷ [])
+
+-- The couple is the first one along the cycle that is not decided. An edge of the cycle leads from the Inst of one of its views
+-- to a Comp from the other one, and each edge of the cycle before that one is there by the decisions alone.
+pub record IsFirstOpen (shape : List (List ℕ)) (decided : List (ℕ × ℕ)) (cycle : List Expression) (couple : Couple) : Type 0 where
+  pub undecided : IsOpen shape decided couple
+  pub first : ℕ
+  pub second : ℕ
+  pub parent : ℕ
+  pub views : AreOf couple first second
+  pub place : ℕ
+  pub from : At (around cycle) place (Inst first)
+  pub to : At (around cycle) (place + 1) (Comp parent (second ∷ []))
+  pub earlier : (p : ℕ) (x y : Expression) → p < place → At (around cycle) p x → At (around cycle) (p + 1) y → HasEdge shape decided x y
+
+-- the couple is the first one that is not decided along some cycle of the completed graph
+abbrev pub OpensCycle : List (List ℕ) → List (ℕ × ℕ) → List (ℕ × ℕ) → Couple → Type 0
+OpensCycle shape ordered decided couple =
+    (cycle : List Expression) × IsCycle shape (completed ordered decided) cycle × IsFirstOpen shape decided cycle couple
+
+-- what is found of a graph where each couple that is not decided stands in this order: its nodes sorted, or a cycle by decisions
+-- alone, or of a cycle that is not, the first couple along it that is not decided
 abbrev pub IsFound : List (List ℕ) → List (ℕ × ℕ) → List (ℕ × ℕ) → Found → Type 0
 IsFound shape ordered decided (Sorted list) = IsSorted shape (completed ordered decided) list
 IsFound shape ordered decided (Cycle cycle) = IsCycle shape decided cycle
-IsFound shape ordered decided (Open couple) = IsOpen shape decided couple × ((cycle : List Expression) × IsCycle shape (completed ordered decided) cycle)
+IsFound shape ordered decided (Open couple) = OpensCycle shape ordered decided couple
 
 -- of no couple both orders are in the list
 abbrev pub DecidesOneWay : List (ℕ × ℕ) → Type 0

@@ -1,6 +1,7 @@
 -- The nodes that are left while a graph is sorted, with edges that sets of views tell.
 use Rattle.std.specs.Prelude.{◌≡◌, ℕ, ◌+◌, ◌<◌, List, [], ◌∷◌, Bool, true, false, ◌&&◌, ◌||◌, ◌==◌, nat_lt, slice_get, Some, length, ◌⊎◌}
 use Rattle.wh_dag.specs.Shape.{has, children_of}
+use Rattle.wh_dag.specs.declared.siblings.Couple.{Couple}
 use Rattle.wh_cert.specs.Graph.{decides}
 use Rattle.wh_minwork.specs.Nodes.{one_if, times}
 use Rattle.wh_minwork.specs.Sets.{in_set, in_rows}
@@ -75,3 +76,23 @@ Passes edge node x (y ∷ ys) z = (node y ≡ true) × (edge x y ≡ true) × Pa
 abbrev pub IsRound : (Node → Node → Bool) → (Node → Bool) → List Node → Type 0
 IsRound edge node [] = ⊥
 IsRound edge node (x ∷ xs) = (node x ≡ true) × Passes edge node x xs x
+
+-- the two views are those of the couple
+abbrev pub AreOf : Couple → ℕ → ℕ → Type 0
+AreOf couple u w = ((couple.lower ≡ u) × (couple.higher ≡ w)) ⊎ ((couple.lower ≡ w) × (couple.higher ≡ u))
+
+-- the first node installs one view of the couple, and the second is a Comp from the other one
+abbrev pub IsBetween : Couple → Node → Node → Type 0
+IsBetween couple (Inst u) (Comp v w) = AreOf couple u w
+IsBetween couple (Inst u) (Inst w) = ⊥
+IsBetween couple (Comp v u) y = ⊥
+
+-- by these edges one leads from x along the nodes of the list, and on to z, as far as the couple's edge
+abbrev pub PassesTo : (Node → Node → Bool) → Couple → Node → List Node → Node → Type 0
+PassesTo edge couple x [] z = IsBetween couple x z
+PassesTo edge couple x (y ∷ ys) z = IsBetween couple x y ⊎ ((edge x y ≡ true) × PassesTo edge couple y ys z)
+
+-- the same along a cycle, from its first node
+abbrev pub IsRoundTo : (Node → Node → Bool) → Couple → List Node → Type 0
+IsRoundTo edge couple [] = ⊥
+IsRoundTo edge couple (x ∷ xs) = PassesTo edge couple x xs x

@@ -8,7 +8,7 @@ ghost use Rattle.wh_cert.specs.Graph.{decides, IsOrdered};
 ghost use Rattle.wh_cert.specs.Search.{IsOpen};
 ghost use Rattle.wh_minwork.specs.Decided.{AreDecisions};
 ghost use Rattle.wh_minwork.specs.Draft.{completed, DecidesCouples, IsFound};
-ghost use Rattle.wh_minwork.specs.Left.{AreEdges, AreTurned, IsRound};
+ghost use Rattle.wh_minwork.specs.Left.{AreEdges, AreOf, AreTurned, IsBetween, IsRound, IsRoundTo};
 ghost use Rattle.wh_minwork.specs.Nodes.{is_node, leads};
 ghost use Rattle.wh_minwork.specs.Sets.{in_set, in_rows};
 ghost use Rattle.wh_minwork.specs.declared.node.Node.{Node};
@@ -88,7 +88,7 @@ fn edges_of(children: &ChildLists, ordered: &[(usize, usize)]) -> Edges
 fn couple_of(u: usize, w: usize) -> Couple
     requires { u ≢ w }
     ensures lower { result.lower < result.higher }
-    ensures both { ((result.lower ≡ u) × (result.higher ≡ w)) ⊎ ((result.lower ≡ w) × (result.higher ≡ u)) }
+    ensures both { AreOf result u w }
 {
     if u < w {
         Couple {
@@ -110,6 +110,7 @@ impl<'a> Draft<'a> {
         ensures children { IfOk result (λ d. d.children ≡ shape.now.children) }
         ensures ordered { IfOk result (λ d. IsOrdered shape.now.children (sizes_of sizes.now) d.ordered) }
         ensures decided { IfOk result (λ d. d.decided ≡ []) }
+        ensures err { OnErr result ((u : ℕ) × (w : ℕ) × IsCouple shape.now.children u w) }
     {
         let children = shape.child_lists();
         let ordered = Decided::by_desired_order(alloc, shape, sizes)?;
@@ -182,7 +183,10 @@ impl<'a> Draft<'a> {
     /// Sorts the graph, or says why it cannot be sorted. The cycle goes back from the smallest node that cannot be placed,
     /// each time to the smallest one that leads there.
     pub fn look(&self, alloc: Global) -> Result<Found, AllocError>
-        ensures { IfOk result (IsFound self.now.children self.now.ordered self.now.decided) }
+        ensures found { IfOk result (IsFound self.now.children self.now.ordered self.now.decided) }
+
+        // Without a view there is no node, and no memory is taken.
+        ensures some { OnErr result (0 < length self.now.children) }
     {
         let (placed, rest) = place_all(alloc, &self.edges)?;
         let Some(start) = rest.smallest() else {
@@ -202,7 +206,7 @@ impl<'a> Draft<'a> {
     /// The couple by which the Inst of the first view leads to a Comp from the last one, where it is not decided.
     fn open_couple(&self, u: usize, v: usize, w: usize) -> Option<Couple>
         requires { leads self.now.children (completed self.now.ordered self.now.decided) (Node.Inst u) (Node.Comp v w) ≡ true }
-        ensures { MatchOption result (leads self.now.children self.now.decided (Node.Inst u) (Node.Comp v w) ≡ true) (IsOpen self.now.children self.now.decided) }
+        ensures { MatchOption result (leads self.now.children self.now.decided (Node.Inst u) (Node.Comp v w) ≡ true) (λ couple. IsOpen self.now.children self.now.decided couple × AreOf couple u w) }
     {
         // The proof needs what the lists of a shape keep to.
         let (_views, _parent) = (self.children.len(), v);
@@ -216,7 +220,7 @@ impl<'a> Draft<'a> {
     /// The couple by which the first node leads to the other one, where it is not decided.
     fn open_between(&self, from: Node, to: Node) -> Option<Couple>
         requires { leads self.now.children (completed self.now.ordered self.now.decided) from to ≡ true }
-        ensures { MatchOption result (leads self.now.children self.now.decided from to ≡ true) (IsOpen self.now.children self.now.decided) }
+        ensures { MatchOption result (leads self.now.children self.now.decided from to ≡ true) (λ couple. IsOpen self.now.children self.now.decided couple × IsBetween couple from to) }
     {
         match (from, to) {
             (Node::Inst(u), Node::Comp(v, w)) => self.open_couple(u, v, w),
@@ -228,7 +232,7 @@ impl<'a> Draft<'a> {
     /// The first couple along the cycle that is not decided.
     fn first_open(&self, cycle: &[Node]) -> Option<Couple>
         requires { IsRound (leads self.now.children (completed self.now.ordered self.now.decided)) (is_node self.now.children) cycle.now }
-        ensures { MatchOption result (IsRound (leads self.now.children self.now.decided) (is_node self.now.children) cycle.now) (IsOpen self.now.children self.now.decided) }
+        ensures { MatchOption result (IsRound (leads self.now.children self.now.decided) (is_node self.now.children) cycle.now) (λ couple. IsOpen self.now.children self.now.decided couple × IsRoundTo (leads self.now.children self.now.decided) couple cycle.now) }
     {
         let [first, rest @ ..] = cycle else {
             return None;

@@ -127,6 +127,7 @@ pub(crate) fn place_all(alloc: Global, edges: &Edges) -> Result<(Vec<Node>, Rest
     ensures placed { IfOk result (λ r. ArePlaced edges.now.views edges.now.over edges.now.before r.1.comps r.1.insts r.0.items) }
     ensures turned { IfOk result (λ r. AreTurned r.1.comps r.1.reads) }
     ensures stuck { IfOk result (λ r. (y : Node) → is_left r.1.comps r.1.insts y ≡ true → IsLed edges.now.over edges.now.before r.1.comps r.1.insts y) }
+    ensures memory { OnErr result ((y : Node) × (is_node_by edges.now.over edges.now.views y ≡ true)) }
 {
     let mut rest = Rest::all(edges);
     let mut hints = Hints {

@@ -15,7 +15,7 @@ use Rattle.wh_strategy.specs.Work.{work_of}
 use Rattle.wh_cert.specs.Bound.{decided_bound_of}
 use Rattle.wh_cert.specs.Certificate.{IsJudged}
 use Rattle.wh_cert.specs.Graph.{IsCycle, DecidesAll, IsOrdered}
-use Rattle.wh_cert.specs.Search.{Placed, IsGood, IsGoodNode, IsAcceptedTree, IsOpen, nodes_below}
+use Rattle.wh_cert.specs.Search.{Placed, IsGood, IsGoodNode, IsAcceptedTree, IsOpen, nodes_below, nodes_of}
 use Rattle.wh_cert.specs.Tree.{CaseTree, Bound, Cycle, Branch, preorder, depth, tree_of, IsTreeOf}
 use Rattle.wh_cert.specs.declared.certificate.Certificate.{Certificate}
 use Rattle.wh_cert.specs.declared.certificate.Certificate.TheVariants.{Pairs, Search}
@@ -32,10 +32,12 @@ use Rattle.wh_minwork.proofs.Ordering.{cycle_moves}
 use Rattle.wh_minwork.proofs.Sorting.{sorted_is_correct, sorted_is_one_way, sorted_costs_decided}
 use Rattle.wh_prune.specs.declared.fault.PruneFault.{PruneFault}
 use Rattle.wh_prune.specs.declared.fault.PruneFault.TheVariants.{Budget, Memory}
-use Rattle.wh_prune.specs.Plan.{IsSearchReason, IsWithinBudget}
+use Rattle.wh_prune.specs.Branching.{BranchesOnCycle, IsOnCycle, TakesFromCycle}
+use Rattle.wh_prune.specs.Plan.{HasBranchesOnCycles, IsSearchReason, IsWithinBudget}
 use Rattle.wh_prune.specs.Searching.{IsExplored, IsHeld, IsStopped}
 use Rattle.wh_prune.specs.Spent.{IsWithinLowest}
 use Rattle.wh_prune.proofs.Bounding.{bound-reverse, bound-completed, completed_all}
+use Rattle.wh_prune.proofs.Branches.{on_cycle-reverse}
 use Rattle.wh_prune.proofs.Deciding.{decides-reverse, open-reverse}
 
 -- a sorted list of all couples' graph
@@ -53,21 +55,22 @@ held_completed shape sizes comp inst work ordered ds list sh o once couples so e
     (e ∙ sym (bound-completed shape sizes comp inst ordered ds o.1 (decisions_one_way ds once)))
 
 -- the last node of a search
-leaf : (shape : List (List ℕ)) (sizes : ℕ → Size) (comp inst best : ℕ) (ds : List (ℕ × ℕ)) (before after : List TreeNode) (tree : CaseTree) (x : TreeNode) → preorder tree ≡ x ∷ [] → depth tree ≡ 1 → nodes_below (reverse ds) tree ≡ record { above = reverse ds; node = x } ∷ [] → after ≡ before ++ x ∷ [] → IsGood shape sizes comp inst best (reverse ds) x → IsExplored shape sizes comp inst best 1 ds before after
-leaf shape sizes comp inst best ds before after tree x one deep below e good = record {
+leaf : (shape : List (List ℕ)) (sizes : ℕ → Size) (comp inst best : ℕ) (ds : List (ℕ × ℕ)) (before after : List TreeNode) (tree : CaseTree) (x : TreeNode) → preorder tree ≡ x ∷ [] → depth tree ≡ 1 → nodes_below (reverse ds) tree ≡ record { above = reverse ds; node = x } ∷ [] → after ≡ before ++ x ∷ [] → IsGood shape sizes comp inst best (reverse ds) x → TakesFromCycle shape sizes (reverse ds) x → IsExplored shape sizes comp inst best 1 ds before after
+leaf shape sizes comp inst best ds before after tree x one deep below e good on = record {
   tree = tree;
   nodes = e ∙ ap (λ z. before ++ z) (sym one);
   within = omega arith;
   good = rw below (All-cons (IsGoodNode shape sizes comp inst best) (record { above = reverse ds; node = x }) [] good (All-nil (IsGoodNode shape sizes comp inst best)));
+  branches = rw below (All-cons (BranchesOnCycle shape sizes) (record { above = reverse ds; node = x }) [] on (All-nil (BranchesOnCycle shape sizes)));
 }
 
 pub bound_leaf : (shape : List (List ℕ)) (sizes : ℕ → Size) (comp inst best : ℕ) (ds : List (ℕ × ℕ)) (before after : List TreeNode) → best ≤ decided_bound_of shape sizes comp inst ds → after ≡ before ++ node.Bound ∷ [] → IsExplored shape sizes comp inst best 1 ds before after
 bound_leaf shape sizes comp inst best ds before after l e =
-    leaf shape sizes comp inst best ds before after Bound node.Bound refl refl refl e (let k = bound-reverse shape sizes comp inst ds in omega arith)
+    leaf shape sizes comp inst best ds before after Bound node.Bound refl refl refl e (let k = bound-reverse shape sizes comp inst ds in omega arith) tt
 
 pub cycle_leaf : (shape : List (List ℕ)) (sizes : ℕ → Size) (comp inst best : ℕ) (ds : List (ℕ × ℕ)) (cycle : List Expression) (before after : List TreeNode) → IsCycle shape ds cycle → after ≡ before ++ node.Cycle cycle ∷ [] → IsExplored shape sizes comp inst best 1 ds before after
 cycle_leaf shape sizes comp inst best ds cycle before after c e =
-    leaf shape sizes comp inst best ds before after (Cycle cycle) (node.Cycle cycle) refl refl refl e (cycle_moves shape ds (reverse ds) (λ u w t. decides-reverse ds u w ∙ t) cycle c)
+    leaf shape sizes comp inst best ds before after (Cycle cycle) (node.Cycle cycle) refl refl refl e (cycle_moves shape ds (reverse ds) (λ u w t. decides-reverse ds u w ∙ t) cycle c) tt
 
 -- what is good for a work is good for a lower one
 good_lower : (shape : List (List ℕ)) (sizes : ℕ → Size) (comp inst work less : ℕ) → less ≤ work → (p : Placed) → IsGoodNode shape sizes comp inst work p → IsGoodNode shape sizes comp inst less p
@@ -79,8 +82,8 @@ good_lower shape sizes comp inst work less l p h = of p.node h
     of (node.Branch pair) g = g
 
 -- a branch and the trees below it
-pub fork : (shape : List (List ℕ)) (sizes : ℕ → Size) (comp inst middle best deep : ℕ) (ds : List (ℕ × ℕ)) (c : Couple) (before first second after : List TreeNode) → IsOpen shape ds c → best ≤ middle → first ≡ before ++ node.Branch c ∷ [] → IsExplored shape sizes comp inst middle deep (ds ++ (c.lower, c.higher) ∷ []) first second → IsExplored shape sizes comp inst best deep (ds ++ (c.higher, c.lower) ∷ []) second after → IsExplored shape sizes comp inst best (deep + 1) ds before after
-fork shape sizes comp inst middle best deep ds c before first second after o l e left right =
+pub fork : (shape : List (List ℕ)) (sizes : ℕ → Size) (comp inst middle best deep : ℕ) (ds : List (ℕ × ℕ)) (c : Couple) (before first second after : List TreeNode) → IsOpen shape ds c → IsOnCycle shape sizes ds c → best ≤ middle → first ≡ before ++ node.Branch c ∷ [] → IsExplored shape sizes comp inst middle deep (ds ++ (c.lower, c.higher) ∷ []) first second → IsExplored shape sizes comp inst best deep (ds ++ (c.higher, c.lower) ∷ []) second after → IsExplored shape sizes comp inst best (deep + 1) ds before after
+fork shape sizes comp inst middle best deep ds c before first second after o on l e left right =
     let dl : depth left.tree ≤ deep = left.within in
     let dr : depth right.tree ≤ deep = right.within in
     let P : Placed → Type 0 = IsGoodNode shape sizes comp inst best in
@@ -88,6 +91,11 @@ fork shape sizes comp inst middle best deep ds c before first second after o l e
     subst (λ z. All P (nodes_below z left.tree)) (reverse-append ds ((c.lower, c.higher) ∷ [])) (λ k d i. good_lower shape sizes comp inst middle best l _ (left.good k d i)) in
     let on_right : All P (nodes_below ((c.higher, c.lower) ∷ reverse ds) right.tree) =
     subst (λ z. All P (nodes_below z right.tree)) (reverse-append ds ((c.higher, c.lower) ∷ [])) right.good in
+    let Q : Placed → Type 0 = BranchesOnCycle shape sizes in
+    let left_on : All Q (nodes_below ((c.lower, c.higher) ∷ reverse ds) left.tree) =
+    subst (λ z. All Q (nodes_below z left.tree)) (reverse-append ds ((c.lower, c.higher) ∷ [])) left.branches in
+    let right_on : All Q (nodes_below ((c.higher, c.lower) ∷ reverse ds) right.tree) =
+    subst (λ z. All Q (nodes_below z right.tree)) (reverse-append ds ((c.higher, c.lower) ∷ [])) right.branches in
     record {
       tree = Branch c left.tree right.tree;
       nodes = right.nodes ∙ ap (λ z. z ++ preorder right.tree) (left.nodes ∙ ap (λ z. z ++ preorder left.tree) e)
@@ -95,12 +103,17 @@ fork shape sizes comp inst middle best deep ds c before first second after o l e
           ∙ append_assoc before (node.Branch c ∷ []) (preorder left.tree ++ preorder right.tree);
       within = omega arith;
       good = All-cons P (record { above = reverse ds; node = node.Branch c }) _ (open-reverse shape ds c o) (All-append P _ _ on_left on_right);
+      branches = All-cons Q (record { above = reverse ds; node = node.Branch c }) _ (on_cycle-reverse shape sizes ds c on) (All-append Q _ _ left_on right_on);
     }
 
 -- a search that began with nothing
 pub accepted : (shape : List (List ℕ)) (sizes : ℕ → Size) (comp inst best deep : ℕ) (nodes : List TreeNode) → IsExplored shape sizes comp inst best deep [] [] nodes → IsAcceptedTree shape sizes comp inst best (tree_of nodes)
 accepted shape sizes comp inst best deep nodes h =
     subst (λ t. IsAcceptedTree shape sizes comp inst best t) (sym (tree_of-preorder h.tree) ∙ ap tree_of (sym h.nodes)) h.good
+
+pub branches_on_cycles : (shape : List (List ℕ)) (sizes : ℕ → Size) (comp inst best deep : ℕ) (nodes : List TreeNode) → IsExplored shape sizes comp inst best deep [] [] nodes → All (BranchesOnCycle shape sizes) (nodes_of (tree_of nodes))
+branches_on_cycles shape sizes comp inst best deep nodes h =
+    subst (λ t. All (BranchesOnCycle shape sizes) (nodes_of t)) (sym (tree_of-preorder h.tree) ∙ ap tree_of (sym h.nodes)) h.branches
 
 pub is_tree : (shape : List (List ℕ)) (sizes : ℕ → Size) (comp inst best : ℕ) (nodes : List TreeNode) → IsShape shape → IsExplored shape sizes comp inst best (length (couples_of shape) + 1) [] [] nodes → IsTreeOf nodes (tree_of nodes)
 is_tree shape sizes comp inst best nodes sh h =
@@ -136,3 +149,7 @@ why_stopped shape sizes comp inst budget all best first list (Budget opened leas
 pub all_within : (shape : List (List ℕ)) (sizes : ℕ → Size) (comp inst work budget : ℕ) (certificate : Certificate) → IsJudged shape sizes comp inst work certificate AllStrategies → IsWithinBudget budget certificate
 all_within shape sizes comp inst work budget (Pairs lines) judged = tt
 all_within shape sizes comp inst work budget (Search nodes) judged = absurd judged
+
+pub all_branches : (shape : List (List ℕ)) (sizes : ℕ → Size) (comp inst work : ℕ) (certificate : Certificate) → IsJudged shape sizes comp inst work certificate AllStrategies → HasBranchesOnCycles shape sizes certificate
+all_branches shape sizes comp inst work (Pairs lines) judged = tt
+all_branches shape sizes comp inst work (Search nodes) judged = absurd judged

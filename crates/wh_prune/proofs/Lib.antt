@@ -1,4 +1,5 @@
 pub mod Bounding
+pub mod Branches
 pub mod Counted
 pub mod CoupleLists
 pub mod Deciding

@@ -1,3 +1,4 @@
+pub mod Branching
 pub mod Fault
 pub mod Plan
 pub mod Searching

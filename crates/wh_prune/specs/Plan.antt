@@ -1,14 +1,18 @@
 -- What is planned, and why nothing is.
 use Rattle.std.specs.Prelude.{ℕ, ◌≤◌, List, length}
+use Rattle.std.specs.List.{All}
 use Rattle.wh_strategy.specs.declared.expression.Expression.{Expression}
 use Rattle.wh_strategy.specs.Sizes.{Size}
 use Rattle.wh_cert.specs.Graph.{IsCycle, IsOrdered}
+use Rattle.wh_cert.specs.Search.{nodes_of}
+use Rattle.wh_cert.specs.Tree.{tree_of}
 use Rattle.wh_cert.specs.declared.certificate.Certificate.{Certificate}
 use Rattle.wh_cert.specs.declared.certificate.Certificate.TheVariants.{Pairs, Search}
 use Rattle.wh_cert.specs.declared.certificate.Scope.{Scope}
 use Rattle.wh_cert.specs.declared.certificate.Scope.TheVariants as scope
 use Rattle.wh_cert.specs.declared.certificate.Verdict.{Verdict}
 use Rattle.wh_cert.specs.declared.certificate.Verdict.TheVariants as verdict
+use Rattle.wh_prune.specs.Branching.{BranchesOnCycle}
 use Rattle.wh_prune.specs.Spent.{IsSpent}
 use Rattle.wh_prune.specs.declared.fault.PruneFault.{PruneFault}
 use Rattle.wh_prune.specs.declared.fault.PruneFault.TheVariants.{Budget, Memory}
@@ -22,6 +26,11 @@ accepted_for scope.OneWay = verdict.OneWay
 abbrev pub IsWithinBudget : ℕ → Certificate → Type 0
 IsWithinBudget budget (Pairs lines) = Unit {0}
 IsWithinBudget budget (Search nodes) = length nodes ≤ budget
+
+-- a tree branches on couples of cycles alone
+abbrev pub HasBranchesOnCycles : List (List ℕ) → (ℕ → Size) → Certificate → Type 0
+HasBranchesOnCycles shape sizes (Pairs lines) = Unit {0}
+HasBranchesOnCycles shape sizes (Search nodes) = All (BranchesOnCycle shape sizes) (nodes_of (tree_of nodes))
 
 -- the ordered graph has a cycle
 abbrev pub IsCyclicAsDesired : List (List ℕ) → (ℕ → Size) → Type 0

@@ -11,6 +11,7 @@ use Rattle.wh_cert.specs.Graph.{decides}
 use Rattle.wh_cert.specs.Search.{IsGoodNode, nodes_below}
 use Rattle.wh_cert.specs.Tree.{CaseTree, preorder, depth}
 use Rattle.wh_cert.specs.declared.tree.TreeNode.{TreeNode}
+use Rattle.wh_prune.specs.Branching.{BranchesOnCycle}
 use Rattle.wh_prune.specs.declared.fault.PruneFault.{PruneFault}
 use Rattle.wh_prune.specs.declared.fault.PruneFault.TheVariants.{Budget, Memory}
 
@@ -35,12 +36,13 @@ pub record IsHeld (shape : List (List ℕ)) (sizes : ℕ → Size) (comp inst wo
   pub costs : work_of shape sizes comp inst list ≡ work
 
 -- After the nodes of before come those of a tree, and nothing else. It is at most so deep, and below these decisions, the last
--- of which is the nearest, each of its nodes is good for a strategy of this work.
+-- of which is the nearest, each of its nodes is good for a strategy of this work, and each of its branches is on a couple of a cycle.
 pub record IsExplored (shape : List (List ℕ)) (sizes : ℕ → Size) (comp inst work deep : ℕ) (decided : List (ℕ × ℕ)) (before after : List TreeNode) : Type 0 where
   pub tree : CaseTree
   pub nodes : after ≡ before ++ preorder tree
   pub within : depth tree ≤ deep
   pub good : All (IsGoodNode shape sizes comp inst work) (nodes_below (reverse decided) tree)
+  pub branches : All (BranchesOnCycle shape sizes) (nodes_below (reverse decided) tree)
 
 -- Why a search stopped: as many nodes were opened as its budget says, where the whole tree has more, namely one fewer than `all`;
 -- and this is the least work so far. Or memory was refused.

@@ -10,6 +10,7 @@ ghost use Rattle.wh_cert.specs.Search.{IsOpen};
 ghost use Rattle.wh_cert.specs.declared.tree.TreeNode.{TreeNode};
 ghost use Rattle.wh_minwork.specs.Decided.{AreDecisions};
 ghost use Rattle.wh_minwork.specs.Draft.{DecidesCouples};
+ghost use Rattle.wh_prune.specs.Branching.{IsOnCycle};
 ghost use Rattle.wh_prune.specs.Searching.{AreLeft, DecidesLowerFirst, IsExplored, IsHeld, IsStopped};
 ghost use Rattle.wh_prune.specs.Spent.{IsWithinLowest};
 
@@ -121,7 +122,7 @@ impl<'a> Search<'a> {
         ensures down { self.new.best ≤ self.old.best }
         ensures draft { self.new.draft ≡ self.old.draft }
         ensures nodes { IfOk result (λ _. length self.new.nodes.items ≡ length self.old.nodes.items + 1) }
-        ensures explored { IfOk result (λ found. MatchOption found (IsExplored shape.now.children (sizes_of sizes.now) costs.comp costs.inst self.new.best 1 self.old.draft.decided self.old.nodes.items self.new.nodes.items) (λ couple. IsOpen shape.now.children self.old.draft.decided couple × (self.new.nodes.items ≡ self.old.nodes.items ++ TreeNode.Branch couple ∷ []) × (length self.old.draft.decided + 1 ≤ length (couples_of shape.now.children)))) }
+        ensures explored { IfOk result (λ found. MatchOption found (IsExplored shape.now.children (sizes_of sizes.now) costs.comp costs.inst self.new.best 1 self.old.draft.decided self.old.nodes.items self.new.nodes.items) (λ couple. IsOpen shape.now.children self.old.draft.decided couple × (self.new.nodes.items ≡ self.old.nodes.items ++ TreeNode.Branch couple ∷ []) × (length self.old.draft.decided + 1 ≤ length (couples_of shape.now.children)) × IsOnCycle shape.now.children (sizes_of sizes.now) self.old.draft.decided couple)) }
     {
         // The proof needs what the lists of a shape and the decisions of a draft keep to.
         let (_lists, _decided) = (shape.child_lists(), self.draft.decided());

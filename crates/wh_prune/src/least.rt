@@ -9,7 +9,7 @@ ghost use Rattle.wh_cert.specs.Bound.{pair_bound_of};
 ghost use Rattle.wh_cert.specs.Certificate.{IsJudged};
 ghost use Rattle.wh_cert.specs.declared.certificate.Scope.{Scope};
 ghost use Rattle.wh_minwork.specs.Plan.{IsAcyclicAsDesired, IsSortedAsDesired};
-ghost use Rattle.wh_prune.specs.Plan.{IsCyclicAsDesired, IsPlanReason, IsWithinBudget, accepted_for};
+ghost use Rattle.wh_prune.specs.Plan.{HasBranchesOnCycles, IsCyclicAsDesired, IsPlanReason, IsWithinBudget, accepted_for};
 
 use crate::fault::PruneFault;
 use crate::search::prune;
@@ -49,7 +49,7 @@ fn certified(shape: &Shape, sizes: &Sizes, costs: Costs, planned: Planned) -> Pl
 
 /// A plan of least work: among all correct strategies wherever the ordered graph has no cycle, or a one-way strategy
 /// reaches the pair bound all the same; otherwise among those whose Comps are each from one view.
-#[tactic(auto, using(crate::proofs::Exploring::all_within))]
+#[tactic(auto, using(crate::proofs::Exploring::all_within, crate::proofs::Exploring::all_branches))]
 pub fn plan(
     alloc: Global,
     shape: &Shape,
@@ -65,6 +65,7 @@ pub fn plan(
     ensures all { IfOk result (λ p. p.scope ≡ Scope.All ↔ p.work ≡ pair_bound_of shape.now.children (sizes_of sizes.now) costs.comp costs.inst) }
     ensures certified { IfOk result (λ p. IsJudged shape.now.children (sizes_of sizes.now) costs.comp costs.inst p.work p.certificate (accepted_for p.scope)) }
     ensures within { IfOk result (λ p. IsWithinBudget budget p.certificate) }
+    ensures branches { IfOk result (λ p. HasBranchesOnCycles shape.now.children (sizes_of sizes.now) p.certificate) }
     ensures least_of_all { IfOk result (λ p. p.scope ≡ Scope.All → (list : List Expression) → IsCorrect shape.now.children list → p.work ≤ work_of shape.now.children (sizes_of sizes.now) costs.comp costs.inst list) }
     ensures least_one_way { IfOk result (λ p. (list : List Expression) → IsCorrect shape.now.children list → IsOneWay list → p.work ≤ work_of shape.now.children (sizes_of sizes.now) costs.comp costs.inst list) }
     ensures acyclic { IfOk result (λ p. IsAcyclicAsDesired shape.now.children (sizes_of sizes.now) → p.scope ≡ Scope.All) }

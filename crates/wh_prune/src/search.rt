@@ -10,7 +10,7 @@ ghost use Rattle.wh_strategy.specs.Work.{work_of};
 ghost use Rattle.wh_cert.specs.Bound.{pair_bound_of};
 ghost use Rattle.wh_cert.specs.Certificate.{IsJudged};
 ghost use Rattle.wh_cert.specs.declared.certificate.Scope.{Scope};
-ghost use Rattle.wh_prune.specs.Plan.{IsSearchReason, IsWithinBudget, accepted_for};
+ghost use Rattle.wh_prune.specs.Plan.{HasBranchesOnCycles, IsSearchReason, IsWithinBudget, accepted_for};
 ghost use Rattle.wh_prune.specs.Searching.{IsExplored};
 
 use crate::explore::Search;
@@ -37,6 +37,7 @@ fn reason(
     ensures all { IfOk result (λ r. r.0 ≡ Scope.All ↔ work ≡ pair_bound_of shape.now.children (sizes_of sizes.now) costs.comp costs.inst) }
     ensures certified { IfOk result (λ r. IsJudged shape.now.children (sizes_of sizes.now) costs.comp costs.inst work r.1 (accepted_for r.0)) }
     ensures within { IfOk result (λ r. (budget : ℕ) → length nodes.items ≤ budget → IsWithinBudget budget r.1) }
+    ensures branches { IfOk result (λ r. HasBranchesOnCycles shape.now.children (sizes_of sizes.now) r.1) }
     ensures least_of_all { IfOk result (λ r. r.0 ≡ Scope.All → (list : List Expression) → IsCorrect shape.now.children list → work ≤ work_of shape.now.children (sizes_of sizes.now) costs.comp costs.inst list) }
     ensures least_one_way { IfOk result (λ r. (list : List Expression) → IsCorrect shape.now.children list → IsOneWay list → work ≤ work_of shape.now.children (sizes_of sizes.now) costs.comp costs.inst list) }
 {
@@ -66,6 +67,7 @@ pub fn prune(
     ensures all { IfOk result (λ p. p.scope ≡ Scope.All ↔ p.work ≡ pair_bound_of shape.now.children (sizes_of sizes.now) costs.comp costs.inst) }
     ensures certified { IfOk result (λ p. IsJudged shape.now.children (sizes_of sizes.now) costs.comp costs.inst p.work p.certificate (accepted_for p.scope)) }
     ensures within { IfOk result (λ p. IsWithinBudget budget p.certificate) }
+    ensures branches { IfOk result (λ p. HasBranchesOnCycles shape.now.children (sizes_of sizes.now) p.certificate) }
     ensures least_of_all { IfOk result (λ p. p.scope ≡ Scope.All → (list : List Expression) → IsCorrect shape.now.children list → p.work ≤ work_of shape.now.children (sizes_of sizes.now) costs.comp costs.inst list) }
     ensures least_one_way { IfOk result (λ p. (list : List Expression) → IsCorrect shape.now.children list → IsOneWay list → p.work ≤ work_of shape.now.children (sizes_of sizes.now) costs.comp costs.inst list) }
     ensures err { IfErr result (IsSearchReason shape.now.children (sizes_of sizes.now) costs.comp costs.inst budget) }

@@ -1,4 +1,6 @@
+use Rattle.wh_dag.proofs.SiblingLists.{on_err}
 use Rattle.wh_minwork.proofs.Hinting.{hinted_all, hinted_taken, placed_more, placed_none}
+use Rattle.wh_minwork.proofs.Looking.{placed_left}
 use Rattle.wh_minwork.proofs.ready.place_all.Goals as goal
 
 pub loop-node-init : goal.loop-node-init
@@ -26,3 +28,9 @@ loop-node-preserved c =
       turned = c.take.ensures.turned c.loop-node.invariant.turned;
       hints = c.note.ensures;
     }
+
+pub returns-in_err-push-clause-memory : goal.returns-in_err-push-clause-memory
+returns-in_err-push-clause-memory c =
+    let e = c.args.edges.now in
+    let left = placed_left e.views e.over e.before c.loop-node.rest.comps c.loop-node.rest.insts c.loop-node.placed.items c.loop-node.invariant.placed in
+    on_err _ (c.in-Some.node, left.each c.in-Some.node c.in-Some.ensures.ready.1)

@@ -1,8 +1,10 @@
 use Rattle.std.proofs.Common.{sym, subst}
+use Rattle.std.specs.List.{All}
 use Rattle.wh_strategy.specs.Sizes.{sizes_of}
-use Rattle.wh_cert.specs.Search.{IsAcceptedTree}
+use Rattle.wh_cert.specs.Search.{IsAcceptedTree, nodes_of}
 use Rattle.wh_cert.specs.Tree.{IsTreeOf, tree_of}
-use Rattle.wh_prune.proofs.Exploring.{accepted, is_tree, least_found}
+use Rattle.wh_prune.specs.Branching.{BranchesOnCycle}
+use Rattle.wh_prune.proofs.Exploring.{accepted, branches_on_cycles, is_tree, least_found}
 use Rattle.wh_prune.proofs.search.reason.Goals as goal
 
 pub unreachable-requires : goal.unreachable-requires
@@ -17,6 +19,11 @@ returns-clause-certified c = (
   subst (λ z. IsAcceptedTree c.args.shape.now.children (sizes_of c.args.sizes.now) c.args.costs.comp c.args.costs.inst c.args.work (tree_of z)) (sym c.in-Some.ensures)
       (accepted c.args.shape.now.children (sizes_of c.args.sizes.now) c.args.costs.comp c.args.costs.inst c.args.work _ c.args.nodes.items c.requires.explored),
 )
+
+pub returns-clause-branches : goal.returns-clause-branches
+returns-clause-branches c =
+    subst (λ z. All (BranchesOnCycle c.args.shape.now.children (sizes_of c.args.sizes.now)) (nodes_of (tree_of z))) (sym c.in-Some.ensures)
+    (branches_on_cycles c.args.shape.now.children (sizes_of c.args.sizes.now) c.args.costs.comp c.args.costs.inst c.args.work _ c.args.nodes.items c.requires.explored)
 
 pub returns-clause-least_one_way : goal.returns-clause-least_one_way
 returns-clause-least_one_way c list co ow =

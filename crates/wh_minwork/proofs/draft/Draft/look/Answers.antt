@@ -2,6 +2,7 @@ use Rattle.std.proofs.Common.{◌≡◌, map, ap, ◌∙◌}
 use Rattle.wh_minwork.specs.Draft.{completed}
 use Rattle.wh_minwork.specs.Nodes.{expression_of}
 use Rattle.wh_minwork.proofs.Looking.{over_within, placed_sorted, placed_left, round_of}
+use Rattle.wh_minwork.proofs.OpenAlong.{round_to_first}
 use Rattle.wh_minwork.proofs.Rounds.{round_is_cycle}
 use Rattle.wh_minwork.proofs.draft.Draft.look.Goals as goal
 
@@ -10,8 +11,8 @@ place_all-requires-clause-views c =
     let d = c.self.inside in
     over_within d.edges.views d.edges.over d.edges.under d.edges.before d.children.now (completed d.ordered d.decided) c.self.invariant.edges
 
-pub returns-in_default : goal.returns-in_default
-returns-in_default c =
+pub returns-in_default-clause-found : goal.returns-in_default-clause-found
+returns-in_default-clause-found c =
     let d = c.self.inside in
     let r = c.in_ok-placed.rest in
     let sorted = placed_sorted d.edges.views d.edges.over d.edges.under d.edges.before r.comps r.insts d.children.now (completed d.ordered d.decided) c.in_ok-placed.placed.items c.self.invariant.edges c.in_ok-placed.ensures.placed c.in_default.ensures in
@@ -30,15 +31,20 @@ first_open-requires c =
     let round = round_of d.edges.views d.edges.over d.edges.under d.edges.before d.children.now (completed d.ordered d.decided) c.in_ok-cycle.cycle.items c.self.invariant.edges c.in_ok-cycle.ensures in
     rw (c.deref-2.ensures.value, ← c.self.view_is) round
 
-pub returns-in-Some-first_open : goal.returns-in-Some-first_open
-returns-in-Some-first_open c =
+pub returns-in-Some-first_open-clause-found : goal.returns-in-Some-first_open-clause-found
+returns-in-Some-first_open-clause-found c =
     let d = c.self.inside in
     let round = round_of d.edges.views d.edges.over d.edges.under d.edges.before d.children.now (completed d.ordered d.decided) c.in_ok-cycle.cycle.items c.self.invariant.edges c.in_ok-cycle.ensures in
     let cycle = round_is_cycle d.children.now (completed d.ordered d.decided) c.in_ok-cycle.cycle.items round in
-    (c.in-Some-first_open.ensures, (map expression_of c.in_ok-cycle.cycle.items, rw (← c.self.view_is) cycle))
+    let first = rw c.deref-2.ensures.value at c.in-Some-first_open.ensures in
+    let a = c.args.self.now in (
+      map expression_of c.in_ok-cycle.cycle.items,
+      rw (← c.self.view_is) cycle,
+      round_to_first a.children a.decided c.in-Some-first_open.couple c.in_ok-cycle.cycle.items first.0 first.1,
+    )
 
-pub returns : goal.returns
-returns c =
+pub returns-clause-found : goal.returns-clause-found
+returns-clause-found c =
     let a = c.args.self.now in
     let round = rw c.deref-2.ensures.value at c.in-None.ensures in
     let list : c.new-in-None.result ≡ map expression_of c.in_ok-cycle.cycle.items = c.new-in-None.ensures ∙ c.in_ok-list-in-None.ensures.list ∙ ap (map expression_of) c.deref-in-None.ensures.value in

@@ -39,4 +39,4 @@ pub returns-else-holds : goal.returns-else-holds
 returns-else-holds c =
     let d = c.self.inside in
     let h = rw (← c.self.view_is) at c.requires in
-    rw (← c.self.view_is) (edge_open d.children.now d.ordered d.decided c.args.u c.args.v c.args.w c.couple_of.result c.self.invariant.ordered_all h (sym (c.holds.ensures ∙ c.self.invariant.settled_are c.args.u c.args.w) ∙ c.if-holds.false) c.couple_of.ensures.lower c.couple_of.ensures.both)
+    rw (← c.self.view_is) (edge_open d.children.now d.ordered d.decided c.args.u c.args.v c.args.w c.couple_of.result c.self.invariant.ordered_all h (sym (c.holds.ensures ∙ c.self.invariant.settled_are c.args.u c.args.w) ∙ c.if-holds.false) c.couple_of.ensures.lower c.couple_of.ensures.both, c.couple_of.ensures.both)

@@ -45,4 +45,4 @@ returns-clause-explored t c =
     let on_right = rw second at c.in-Ok-explore.ensures.explored in
     subst (λ k. IsExplored shape sizes c.args.costs.comp c.args.costs.inst c.explore-2.new.self.best (k + 1) ds c.args.self.now.nodes.items c.explore-2.new.self.nodes.items) n
     (fork shape sizes c.args.costs.comp c.args.costs.inst c.explore.new.self.best c.explore-2.new.self.best (c.args.left - 1 + 1) ds couple c.args.self.now.nodes.items c.open.new.self.nodes.items c.explore.new.self.nodes.items c.explore-2.new.self.nodes.items
-    e.0 c.explore-2.ensures.down e.1 on_left on_right)
+    e.0 e.3 c.explore-2.ensures.down e.1 on_left on_right)

@@ -2,7 +2,7 @@ use Rattle.std.proofs.Common.{◌≡◌, ◌≤◌, subst, arith}
 use Rattle.wh_strategy.specs.Sizes.{sizes_of}
 use Rattle.wh_cert.specs.Bound.{decided_bound_of}
 use Rattle.wh_cert.specs.Search.{IsOpen}
-use Rattle.wh_minwork.specs.Draft.{DecidesCouples, IsFound}
+use Rattle.wh_minwork.specs.Draft.{DecidesCouples, IsFound, OpensCycle}
 use Rattle.wh_prune.proofs.Counted.{fewer_decided}
 use Rattle.wh_prune.proofs.Exploring.{bound_leaf, cycle_leaf, held_completed}
 use Rattle.wh_prune.proofs.explore.Search.open.Goals as goal
@@ -49,8 +49,10 @@ returns-in_ok-push-in-Open-clause-explored c =
     let shape = c.args.shape.now.children in
     let d = c.args.self.now.draft in
     let found = rw c.requires.children at c.in_ok-list.ensures in
-    let is_open : IsOpen shape d.decided c.in-Open.couple = (subst (IsFound shape d.ordered d.decided) c.in-Open.is found).0 in (
+    let opens : OpensCycle shape d.ordered d.decided c.in-Open.couple = subst (IsFound shape d.ordered d.decided) c.in-Open.is found in
+    let is_open : IsOpen shape d.decided c.in-Open.couple = opens.2.undecided in (
       is_open,
       c.in_ok-push-in-Open.ensures.items,
       fewer_decided shape d.decided c.in-Open.couple c.child_lists-lists.ensures.shape c.decided-decided.ensures.once (subst (λ z. DecidesCouples z d.decided) c.requires.children c.decided-decided.ensures.couples) is_open,
+      (d.ordered, c.requires.ordered, opens),
     )

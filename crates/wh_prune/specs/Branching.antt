@@ -1,0 +1,24 @@
+-- The couples on which a search branches.
+use Rattle.std.specs.Prelude.{ℕ, List}
+use Rattle.wh_dag.specs.declared.siblings.Couple.{Couple}
+use Rattle.wh_strategy.specs.Sizes.{Size}
+use Rattle.wh_cert.specs.Graph.{IsOrdered}
+use Rattle.wh_cert.specs.Search.{Placed}
+use Rattle.wh_cert.specs.declared.tree.TreeNode.{TreeNode}
+use Rattle.wh_cert.specs.declared.tree.TreeNode.TheVariants as node
+use Rattle.wh_minwork.specs.Draft.{OpensCycle}
+
+-- below these decisions, the couple is the first one that is not decided along a cycle of the graph in which each couple that is
+-- not decided stands in the desired order
+abbrev pub IsOnCycle : List (List ℕ) → (ℕ → Size) → List (ℕ × ℕ) → Couple → Type 0
+IsOnCycle shape sizes decided couple = (ordered : List (ℕ × ℕ)) × IsOrdered shape sizes ordered × OpensCycle shape ordered decided couple
+
+-- the same of a node of a tree, if it is a branch
+abbrev pub TakesFromCycle : List (List ℕ) → (ℕ → Size) → List (ℕ × ℕ) → TreeNode → Type 0
+TakesFromCycle shape sizes above node.Bound = Unit {0}
+TakesFromCycle shape sizes above (node.Cycle list) = Unit {0}
+TakesFromCycle shape sizes above (node.Branch couple) = IsOnCycle shape sizes above couple
+
+-- of a node where it stands
+abbrev pub BranchesOnCycle : List (List ℕ) → (ℕ → Size) → Placed → Type 0
+BranchesOnCycle shape sizes placed = TakesFromCycle shape sizes placed.above placed.node
