@@ -1,4 +1,7 @@
+use Rattle.std.proofs.Common.{◌≡◌, true}
 use Rattle.wh_dag.proofs.SiblingLists.{on_err}
+use Rattle.wh_minwork.specs.Left.{is_node_by}
+use Rattle.wh_minwork.specs.declared.node.Node.{Node}
 use Rattle.wh_minwork.proofs.Hinting.{hinted_all, hinted_taken, placed_more, placed_none}
 use Rattle.wh_minwork.proofs.Looking.{placed_left}
 use Rattle.wh_minwork.proofs.ready.place_all.Goals as goal
@@ -33,4 +36,5 @@ pub returns-in_err-push-clause-memory : goal.returns-in_err-push-clause-memory
 returns-in_err-push-clause-memory c =
     let e = c.args.edges.now in
     let left = placed_left e.views e.over e.before c.loop-node.rest.comps c.loop-node.rest.insts c.loop-node.placed.items c.loop-node.invariant.placed in
-    on_err _ (c.in-Some.node, left.each c.in-Some.node c.in-Some.ensures.ready.1)
+    let some : (y : Node) × (is_node_by e.over e.views y ≡ true) = (c.in-Some.node, left.each c.in-Some.node c.in-Some.ensures.ready.1) in
+    on_err _ some

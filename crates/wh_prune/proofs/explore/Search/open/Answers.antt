@@ -22,7 +22,7 @@ returns-in_ok-push-in-Sorted-clause-held c =
     let sizes = sizes_of c.args.sizes.now in
     let d = c.args.self.now.draft in
     let bound : c.args.bound ≡ decided_bound_of shape sizes c.args.costs.comp c.args.costs.inst d.decided = c.requires.bound in
-    let found = rw c.requires.children at c.in_ok-list.ensures in
+    let found = rw c.requires.children at c.in_ok-list.ensures.found in
     let sorted = subst (IsFound shape d.ordered d.decided) c.in-Sorted.is found in
     held_completed shape sizes c.args.costs.comp c.args.costs.inst c.args.bound d.ordered d.decided c.in-Sorted.list c.child_lists-lists.ensures.shape c.requires.ordered c.decided-decided.ensures.once
     (subst (λ z. DecidesCouples z d.decided) c.requires.children c.decided-decided.ensures.couples) sorted bound
@@ -40,7 +40,7 @@ returns-in_ok-push-in-Cycle-clause-explored c =
     let shape = c.args.shape.now.children in
     let sizes = sizes_of c.args.sizes.now in
     let d = c.args.self.now.draft in
-    let found = rw c.requires.children at c.in_ok-list.ensures in
+    let found = rw c.requires.children at c.in_ok-list.ensures.found in
     let cycle = subst (IsFound shape d.ordered d.decided) c.in-Cycle.is found in
     cycle_leaf shape sizes c.args.costs.comp c.args.costs.inst c.args.self.now.best d.decided c.in-Cycle.cycle c.args.self.now.nodes.items c.push-in-Cycle.new.self.items cycle c.in_ok-push-in-Cycle.ensures.items
 
@@ -48,7 +48,7 @@ pub returns-in_ok-push-in-Open-clause-explored : goal.returns-in_ok-push-in-Open
 returns-in_ok-push-in-Open-clause-explored c =
     let shape = c.args.shape.now.children in
     let d = c.args.self.now.draft in
-    let found = rw c.requires.children at c.in_ok-list.ensures in
+    let found = rw c.requires.children at c.in_ok-list.ensures.found in
     let opens : OpensCycle shape d.ordered d.decided c.in-Open.couple = subst (IsFound shape d.ordered d.decided) c.in-Open.is found in
     let is_open : IsOpen shape d.decided c.in-Open.couple = opens.2.undecided in (
       is_open,
