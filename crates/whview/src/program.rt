@@ -1,6 +1,6 @@
 //! The whole program over a source and a sink.
 
-ghost use Rattle.std.specs.Prelude.{◌≡◌, ◌≢◌, ◌<◌, ◌⊎◌, ◌↔◌, ℕ, List, [], None, Some, codes, option_map, IfOk, MatchResult};
+ghost use Rattle.std.specs.Prelude.{◌≡◌, ◌≢◌, ◌<◌, ◌⊎◌, ◌↔◌, ℕ, List, [], Some, codes, option_map, IfOk, MatchResult};
 ghost use Rattle.std.specs.Io.KnownBytes.{Appends};
 ghost use Rattle.clap.specs.Walk.{texts};
 ghost use Rattle.whview.specs.CheckOutput.{line};
@@ -243,8 +243,7 @@ fn tell<W: Sink>(out: &mut W, answer: Result<Answer, AllocError>) -> u8
 /// Answers the status: 0 done, 1 a negative verdict or a night that is refused, 2 the command line, 3 a fault of the input,
 /// 4 memory or a budget that is spent, 5 the output.
 ///
-/// Its readers and writers count their failures: of its input `fault read` is answered exactly where a read failed, and 5 exactly
-/// where its output failed.
+/// It ends with 5 exactly where its output has failed, and takes its input for one that failed exactly where a read of it has.
 pub fn run<'a, E: Files + Threads + Wait + Sync, R: Source, W: Sink>(
     rt: &E,
     alloc: Global,
