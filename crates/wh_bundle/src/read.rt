@@ -4,7 +4,7 @@ ghost use Rattle.std.specs.Io.KnownBytes.{IsAtEnd};
 ghost use Rattle.wh_bundle.specs.Reading.{number_of_read_fault};
 
 use std::alloc::{AllocError, Global};
-use std::io::Read;
+use wh_stream::Source;
 
 // How many bytes one read asks for.
 const CHUNK: usize = 1 << 17;
@@ -52,8 +52,8 @@ fn append(all: &mut Vec<u8>, bytes: &[u8]) -> Result<(), AllocError>
     all.extend_from_slice(bytes)
 }
 
-// Reads to the end, a chunk at a time.
-fn read_by_chunks<R: Read>(
+// Reads to the end, a chunk at a time, and stops at the first read that fails.
+fn read_by_chunks<R: Source>(
     reader: &mut R,
     chunk: &mut [u8],
     alloc: Global,
@@ -64,6 +64,8 @@ fn read_by_chunks<R: Read>(
     ensures bytes { IfOk result (λ v. IfSome (R.remaining reader.old) (λ xs. v.items ≡ xs)) }
     ensures end { OnOk result (IsAtEnd (R.remaining reader.new)) }
     ensures too_long { IsErrOf result ReadFault.TooLong → IfSome (R.remaining reader.old) (λ xs. limit < length xs) }
+    ensures failed { IsErrOf result ReadFault.Read → R.faults reader.old < R.faults reader.new }
+    ensures faultless { ¬ (IsErrOf result ReadFault.Read) → R.faults reader.new ≡ R.faults reader.old }
 {
     let mut all = Vec::new(alloc);
     for turn in 0..u64::MAX {
@@ -83,14 +85,20 @@ fn read_by_chunks<R: Read>(
     unreachable!()
 }
 
-/// Reads to the end of the reader, and refuses more than `limit` bytes.
+/// Reads to the end of the reader, and refuses more than `limit` bytes. It answers Read exactly where a read failed.
 ///
-/// No clause can foretell which read fails. After an `Err` the reader stands anywhere.
-pub fn read_all<R: Read>(reader: &mut R, alloc: Global, limit: usize) -> Result<Vec<u8>, ReadFault>
+/// After an `Err` the reader stands anywhere.
+pub fn read_all<R: Source>(
+    reader: &mut R,
+    alloc: Global,
+    limit: usize,
+) -> Result<Vec<u8>, ReadFault>
     ensures within { IfOk result (λ v. vec_len v ≤ limit) }
     ensures bytes { IfOk result (λ v. IfSome (R.remaining reader.old) (λ xs. v.items ≡ xs)) }
     ensures end { OnOk result (IsAtEnd (R.remaining reader.new)) }
     ensures too_long { IsErrOf result ReadFault.TooLong → IfSome (R.remaining reader.old) (λ xs. limit < length xs) }
+    ensures failed { IsErrOf result ReadFault.Read → R.faults reader.old < R.faults reader.new }
+    ensures faultless { ¬ (IsErrOf result ReadFault.Read) → R.faults reader.new ≡ R.faults reader.old }
 {
     let Ok(mut chunk) = vec![in alloc; 0u8; CHUNK] else {
         return Err(ReadFault::Memory);

@@ -9,7 +9,7 @@ use Rattle.wh_bundle.specs.declared.read.ReadFault.TheVariants as reading
 use Rattle.whview.specs.CommandFault.{FailsAs, status_of}
 use Rattle.whview.specs.CommandLine.{whview_app}
 use Rattle.whview.specs.FirstLine.{words_in, names_input}
-use Rattle.whview.specs.Output.{AskFor, Bytes, Failed, HoldsOfReading, IsCommandOutput, IsHandedOutput, IsReadAnswer, IsRefused, IsSourceAnswer, IsUnreadShown, answered, file_of, too_long, within}
+use Rattle.whview.specs.Output.{AskFor, Bytes, Failed, HoldsOfFile, HoldsOfReading, IsCommandOutput, IsHandedOutput, IsReadAnswer, IsRefused, IsSourceAnswer, IsUnreadShown, Reading, answered, file_of, too_long, within}
 use Rattle.whview.specs.Status.{status_number}
 use Rattle.whview.specs.declared.command_line.Asked.{Asked}
 use Rattle.whview.specs.declared.command_line.fault.CommandFault.{CommandFault}
@@ -34,25 +34,37 @@ many_read (Some all) limit many = (all, refl, many)
 many_read None limit many = let long = longer limit in (long.0, tt, long.1)
 
 -- an answer to what was read, from the reader's bytes or from why they could not be had
-pub answers_reading : {B : Type 0} (read : Result B ReadFault) (items : B → List ℕ) (len : B → ℕ) (same : (v : B) → len v ≡ length (items v)) (known : Option (List ℕ)) (of : List ℕ → List ℕ → ℕ → Type 0) (text : List ℕ) (status : ℕ)
+pub answers_reading : {B : Type 0} (read : Result B ReadFault) (items : B → List ℕ) (len : B → ℕ) (same : (v : B) → len v ≡ length (items v)) (known : Option (List ℕ)) (before after : ℕ) (of : List ℕ → List ℕ → ℕ → Type 0) (text : List ℕ) (status : ℕ)
     → IfOk read (λ v. len v ≤ 67108864) → IfOk read (λ v. IfSome known (λ all. items v ≡ all)) → (IsErrOf read reading.TooLong → IfSome known (λ all. 67108864 < length all))
-    → MatchResult read (λ v. of (items v) text status) (λ fault. IsUnreadShown fault text status) → HoldsOfReading known (λ r. IsReadAnswer r of text status)
-answers_reading (Ok v) items len same known of text status fits all long is = (Bytes (items v), all, within (subst (λ n. n ≤ 67108864) (same v) fits) is)
-answers_reading (Err reading.Read) items len same known of text status fits all long is = (Failed, tt, is)
-answers_reading (Err reading.TooLong) items len same known of text status fits all long is =
-    let many = many_read known 67108864 (long refl) in (Bytes many.0, many.1, too_long many.2 is)
-answers_reading (Err reading.Memory) items len same known of text status fits all long is = absurd is
+    → (IsErrOf read reading.Read → before < after) → (¬ (IsErrOf read reading.Read) → after ≡ before)
+    → MatchResult read (λ v. of (items v) text status) (λ fault. IsUnreadShown fault text status) → HoldsOfReading known before after (λ r. IsReadAnswer r of text status)
+answers_reading (Ok v) items len same known before after of text status fits all long failed kept is =
+    (Bytes (items v), (all, kept (λ e. cc)), within (subst (λ n. n ≤ 67108864) (same v) fits) is)
+answers_reading (Err reading.Read) items len same known before after of text status fits all long failed kept is = (Failed, failed refl, is)
+answers_reading (Err reading.TooLong) items len same known before after of text status fits all long failed kept is =
+    let many = many_read known 67108864 (long refl) in (Bytes many.0, (many.1, kept (λ e. cc)), too_long many.2 is)
+answers_reading (Err reading.Memory) items len same known before after of text status fits all long failed kept is = absurd is
 
 -- ---- words that were handed in
 
-pub from_file : (words : List (List ℕ)) (known : Option (List ℕ)) (text : List ℕ) (status : ℕ) (command : Asked) (path : List ℕ) → AskFor words command → Some path ≡ file_of command
-    → HoldsOfReading None (λ own. IsReadAnswer own (IsCommandOutput command) text status) → HoldsOfReading known (λ reading. IsHandedOutput words reading text status)
-from_file words known text status command path ask is holds =
-    (Failed, tt, answered command ask (subst (λ file. IsSourceAnswer file Failed (IsCommandOutput command) text status) is holds))
+-- bytes that a reader may have, of which these are known
+pub some_bytes : (known : Option (List ℕ)) → (bytes : List ℕ) × IfSome known (λ all. bytes ≡ all)
+some_bytes (Some all) = (all, refl)
+some_bytes None = ([], tt)
 
-pub from_reader : (words : List (List ℕ)) (known : Option (List ℕ)) (text : List ℕ) (status : ℕ) (command : Asked) → AskFor words command → None ≡ file_of command
-    → HoldsOfReading known (λ own. IsReadAnswer own (IsCommandOutput command) text status) → HoldsOfReading known (λ reading. IsHandedOutput words reading text status)
-from_reader words known text status command ask is holds =
+-- what holds whatever was read, of a reader that was left unread
+pub left_unread : (known : Option (List ℕ)) (faults : ℕ) (P : Reading → Type 0) → ((reading : Reading) → P reading) → HoldsOfReading known faults faults P
+left_unread known faults P holds = let some = some_bytes known in (Bytes some.0, (some.1, refl), holds (Bytes some.0))
+
+pub from_file : (words : List (List ℕ)) (known : Option (List ℕ)) (faults : ℕ) (text : List ℕ) (status : ℕ) (command : Asked) (path : List ℕ) → AskFor words command → Some path ≡ file_of command
+    → HoldsOfFile (λ own. IsReadAnswer own (IsCommandOutput command) text status) → HoldsOfReading known faults faults (λ reading. IsHandedOutput words reading text status)
+from_file words known faults text status command path ask is holds =
+    left_unread known faults (λ reading. IsHandedOutput words reading text status)
+    (λ reading. answered command ask (subst (λ file. IsSourceAnswer file reading (IsCommandOutput command) text status) is holds))
+
+pub from_reader : (words : List (List ℕ)) (known : Option (List ℕ)) (before after : ℕ) (text : List ℕ) (status : ℕ) (command : Asked) → AskFor words command → None ≡ file_of command
+    → HoldsOfReading known before after (λ own. IsReadAnswer own (IsCommandOutput command) text status) → HoldsOfReading known before after (λ reading. IsHandedOutput words reading text status)
+from_reader words known before after text status command ask is holds =
     (holds.0, holds.1, answered command ask (subst (λ file. IsSourceAnswer file holds.0 (IsCommandOutput command) text status) is holds.2))
 
 -- ---- words on the first line

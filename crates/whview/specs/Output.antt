@@ -55,21 +55,25 @@ IsTold answer text status = MatchResult answer (λ a. (text ≡ a.text.items) ×
 
 -- ---- what was read
 
--- what reading to the end came to: all the bytes, or an error of the reader
+-- what reading to the end came to: all the bytes, or a read that failed
 pub data Reading : Type 0 where
   Bytes : List ℕ → Reading
   Failed : Reading
 
--- This may have been read of a reader of which these bytes are known: those bytes and no others; where none are known of it, any.
--- No clause can rule out that the reader failed. What std promises of a reader says which bytes a read gives, and that a read that
--- fails takes none of them, and nothing of when it fails: it may be at any read, also at the one after the last byte.
-abbrev pub IsReadingOf : Option (List ℕ) → Reading → Type 0
-IsReadingOf known (Bytes bytes) = IfSome known (λ all. bytes ≡ all)
-IsReadingOf known Failed = Unit {0}
+-- This was read of a reader of which these bytes are known, and which had counted so many failed reads before and so many after.
+-- Where no read failed it is those bytes and no others (any, where none are known), and where one did it is a failure.
+abbrev pub IsReadingOf : Option (List ℕ) → ℕ → ℕ → Reading → Type 0
+IsReadingOf known before after (Bytes bytes) = IfSome known (λ all. bytes ≡ all) × (after ≡ before)
+IsReadingOf known before after Failed = before < after
 
--- this holds of what was read of a reader, of which these bytes are known
-abbrev pub HoldsOfReading : Option (List ℕ) → (Reading → Type 0) → Type 0
-HoldsOfReading known P = (reading : Reading) × IsReadingOf known reading × P reading
+-- this holds of what was read of such a reader
+abbrev pub HoldsOfReading : Option (List ℕ) → ℕ → ℕ → (Reading → Type 0) → Type 0
+HoldsOfReading known before after P = (reading : Reading) × IsReadingOf known before after reading × P reading
+
+-- This holds of what may have been read of a file: any bytes, or a failure. What a file holds, and when opening or reading it fails,
+-- no clause of the system's files says.
+abbrev pub HoldsOfFile : (Reading → Type 0) → Type 0
+HoldsOfFile P = (reading : Reading) × P reading
 
 -- what is printed for these bytes, and the status: more than 67,108,864 are a fault, and for others it is this
 pub data IsLimited (bytes : List ℕ) (of : List ℕ → ℕ → Type 0) (text : List ℕ) (status : ℕ) : Type 0 where
@@ -110,7 +114,7 @@ pub data IsWordsAnswer (words : List (List ℕ)) (of : Asked → List ℕ → �
 -- what is printed where this was read of the program's reader; of a file, where one is named, anything may have been
 abbrev pub IsSourceAnswer : Option (List ℕ) → Reading → (List ℕ → List ℕ → ℕ → Type 0) → List ℕ → ℕ → Type 0
 IsSourceAnswer None reading of text status = IsReadAnswer reading of text status
-IsSourceAnswer (Some path) reading of text status = HoldsOfReading None (λ own. IsReadAnswer own of text status)
+IsSourceAnswer (Some path) reading of text status = HoldsOfFile (λ own. IsReadAnswer own of text status)
 
 -- what the program prints for words that were handed in, and the status, where this was read of its reader
 abbrev pub IsHandedOutput : List (List ℕ) → Reading → List ℕ → ℕ → Type 0

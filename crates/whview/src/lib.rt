@@ -1,9 +1,9 @@
 //! What the program `whview` does: it judges strategies of a warehouse's night, plans one of least work, judges the
 //! certificates of plans, carries a night out, and replays nights event by event.
 //!
-//! [`run`] is the whole program over a reader and a writer. Its words ask for a command, the reader has a bundle, and what
+//! [`run`] is the whole program over a source and a sink. Its words ask for a command, the source has a bundle, and what
 //! is written is the command's answer, built whole. What stands above it, `whview_main`, hands it the words of the command
-//! line, standard input and standard output.
+//! line, standard input and standard output, as [`Counted`] makes a source and a sink of them.
 #![tactic(auto)]
 
 mod answer;
@@ -23,3 +23,4 @@ mod words;
 
 pub use laws::{a_printed_plan_is_certified, one_answer_law};
 pub use program::{run, want_of_memory, words_without_text};
+pub use wh_stream::{Counted, Sink, Source};

@@ -1,12 +1,12 @@
-//! The whole program over a reader and a writer.
+//! The whole program over a source and a sink.
 
-ghost use Rattle.std.specs.Prelude.{◌≡◌, ◌≢◌, ◌⊎◌, ℕ, List, [], None, Some, codes, option_map, IfOk, MatchResult};
+ghost use Rattle.std.specs.Prelude.{◌≡◌, ◌≢◌, ◌<◌, ◌⊎◌, ◌↔◌, ℕ, List, [], Some, codes, option_map, IfOk, MatchResult};
 ghost use Rattle.std.specs.Io.KnownBytes.{Appends};
 ghost use Rattle.clap.specs.Walk.{texts};
 ghost use Rattle.whview.specs.CheckOutput.{line};
 ghost use Rattle.whview.specs.CommandFault.{status_of, text_of};
 ghost use Rattle.whview.specs.Status.{status_number};
-ghost use Rattle.whview.specs.Output.{AskToRead, HoldsOfReading, IsCommandOutput, IsHandedOutput, IsInputOutput, IsLineAnswer, IsMemoryTold, IsReadAnswer, IsTold, IsUnreadShown, file_of};
+ghost use Rattle.whview.specs.Output.{AskToRead, HoldsOfFile, HoldsOfReading, IsCommandOutput, IsHandedOutput, IsInputOutput, IsLineAnswer, IsMemoryTold, IsReadAnswer, IsTold, IsUnreadShown, file_of};
 
 use crate::answer::Answer;
 use crate::command_line::{Asked, CommandFault, parse};
@@ -15,14 +15,17 @@ use crate::words::{first_line, refuses_input, words_of_line};
 use crate::{certify, check, night, plan, replay};
 use std::alloc::{AllocError, Global};
 use std::fs::{self, Files};
-use std::io::{Read, Write};
 use std::str;
 use std::sync::Wait;
 use std::thread::Threads;
 use wh_load::{LoadFault, ReadFault, read_all};
+use wh_stream::{Counted, Sink, Source};
 
 /// The most bytes that an input may have.
 const LIMIT: usize = 67_108_864;
+
+/// What the program ends with where its sink fails.
+const OUTPUT_FAILED: u8 = 5;
 
 /// What a command answers for the bytes of a bundle.
 fn command_answer<E: Threads + Wait + Sync>(
@@ -83,29 +86,30 @@ fn answer_to<E: Threads + Wait + Sync>(
 }
 
 /// What a command answers for all that a reader has.
-fn read_answer<E: Threads + Wait + Sync, R: Read>(
+fn read_answer<E: Threads + Wait + Sync, R: Source>(
     rt: &E,
     alloc: Global,
     asked: &Asked<'_>,
     input: &mut R,
 ) -> Result<Answer, AllocError>
-    ensures { IfOk result (λ a. HoldsOfReading (R.remaining input.old) (λ reading. IsReadAnswer reading (IsCommandOutput asked.now) a.text.items (status_number a.status))) }
+    ensures { IfOk result (λ a. HoldsOfReading (R.remaining input.old) (R.faults input.old) (R.faults input.new) (λ reading. IsReadAnswer reading (IsCommandOutput asked.now) a.text.items (status_number a.status))) }
 {
     let read = read_all(input, alloc, LIMIT);
     answer_to(rt, alloc, asked, read)
 }
 
-/// What a command answers for a file. What it holds no contract can say, so the answer is the one to some bytes.
+/// What a command answers for a file. What it holds, and when it fails, no contract can say: the answer is the one to some
+/// bytes, or to a failure.
 fn file_answer<E: Files + Threads + Wait + Sync>(
     rt: &E,
     alloc: Global,
     asked: &Asked<'_>,
     path: &str,
 ) -> Result<Answer, AllocError>
-    ensures { IfOk result (λ a. HoldsOfReading None (λ reading. IsReadAnswer reading (IsCommandOutput asked.now) a.text.items (status_number a.status))) }
+    ensures { IfOk result (λ a. HoldsOfFile (λ reading. IsReadAnswer reading (IsCommandOutput asked.now) a.text.items (status_number a.status))) }
 {
     match fs::open(rt, path) {
-        Ok(mut file) => read_answer(rt, alloc, asked, &mut file),
+        Ok(file) => read_answer(rt, alloc, asked, &mut Counted::new(file)),
         Err(_) => Answer::fault(alloc, &LoadFault::Read),
     }
 }
@@ -123,13 +127,13 @@ fn refusal(alloc: Global, fault: &CommandFault) -> Result<Answer, AllocError>
 }
 
 /// What the program answers for words that were handed in.
-fn words_answer<'a, E: Files + Threads + Wait + Sync, R: Read>(
+fn words_answer<'a, E: Files + Threads + Wait + Sync, R: Source>(
     rt: &E,
     alloc: Global,
     words: &'a [&'a str],
     input: &mut R,
 ) -> Result<Answer, AllocError>
-    ensures answer { IfOk result (λ a. HoldsOfReading (R.remaining input.old) (λ reading. IsHandedOutput (texts words.now) reading a.text.items (status_number a.status))) }
+    ensures answer { IfOk result (λ a. HoldsOfReading (R.remaining input.old) (R.faults input.old) (R.faults input.new) (λ reading. IsHandedOutput (texts words.now) reading a.text.items (status_number a.status))) }
     ensures unread { ¬ (AskToRead (texts words.now)) → input.new ≡ input.old }
 {
     match parse(alloc, words) {
@@ -183,49 +187,49 @@ fn line_answer_to<E: Threads + Wait + Sync>(
 }
 
 /// What the program answers where it is handed no words.
-fn input_answer<E: Threads + Wait + Sync, R: Read>(
+fn input_answer<E: Threads + Wait + Sync, R: Source>(
     rt: &E,
     alloc: Global,
     input: &mut R,
 ) -> Result<Answer, AllocError>
-    ensures { IfOk result (λ a. HoldsOfReading (R.remaining input.old) (λ reading. IsInputOutput reading a.text.items (status_number a.status))) }
+    ensures { IfOk result (λ a. HoldsOfReading (R.remaining input.old) (R.faults input.old) (R.faults input.new) (λ reading. IsInputOutput reading a.text.items (status_number a.status))) }
 {
     let read = read_all(input, alloc, LIMIT);
     line_answer_to(rt, alloc, read)
 }
 
-/// Writes a text whole: the number of the status, or that of Output where the writer fails. Then nothing is said of how much
-/// went out.
-fn give<W: Write>(out: &mut W, text: &[u8], status: Status) -> u8
-    ensures { result ≢ 5 → (result ≡ status_number status) × Appends (W.contents out.old) (W.contents out.new) text.now }
+/// Writes a text whole: the number of the status, or 5 exactly where the sink fails. Then nothing is said of how much went out.
+fn give<W: Sink>(out: &mut W, text: &[u8], status: Status) -> u8
+    ensures given { result ≢ 5 → (result ≡ status_number status) × Appends (W.contents out.old) (W.contents out.new) text.now }
+    ensures failed { (result ≡ 5) ↔ (W.faults out.old < W.faults out.new) }
 {
-    if out.write_all(text).is_err() {
-        return Status::Output.number();
+    match out.put(text) {
+        Ok(()) => status.number(),
+        Err(_) => OUTPUT_FAILED,
     }
-    if out.flush().is_err() {
-        return Status::Output.number();
-    }
-    status.number()
 }
 
 /// What the program answers where a word of the command line is not UTF-8, as for a first line that is not: `fault words`
-/// and 2, or 5 where the writer fails.
-pub fn words_without_text<W: Write>(out: &mut W) -> u8
-    ensures { result ≢ 5 → (result ≡ 2) × Appends (W.contents out.old) (W.contents out.new) (line (codes "fault words")) }
+/// and 2, or 5 where the sink fails.
+pub fn words_without_text<W: Sink>(out: &mut W) -> u8
+    ensures told { result ≢ 5 → (result ≡ 2) × Appends (W.contents out.old) (W.contents out.new) (line (codes "fault words")) }
+    ensures failed { (result ≡ 5) ↔ (W.faults out.old < W.faults out.new) }
 {
     give(out, b"fault words\n", Status::Words)
 }
 
-/// What the program answers where memory was refused: `memory` and 4, or 5 where the writer fails.
-pub fn want_of_memory<W: Write>(out: &mut W) -> u8
-    ensures { result ≢ 5 → (result ≡ 4) × Appends (W.contents out.old) (W.contents out.new) (line (codes "memory")) }
+/// What the program answers where memory was refused: `memory` and 4, or 5 where the sink fails.
+pub fn want_of_memory<W: Sink>(out: &mut W) -> u8
+    ensures told { result ≢ 5 → (result ≡ 4) × Appends (W.contents out.old) (W.contents out.new) (line (codes "memory")) }
+    ensures failed { (result ≡ 5) ↔ (W.faults out.old < W.faults out.new) }
 {
     give(out, b"memory\n", Status::Limit)
 }
 
 /// Writes an answer whole, or that memory was refused.
-fn tell<W: Write>(out: &mut W, answer: Result<Answer, AllocError>) -> u8
-    ensures { result ≢ 5 → (text : List ℕ) × Appends (W.contents out.old) (W.contents out.new) text × IsTold answer text result }
+fn tell<W: Sink>(out: &mut W, answer: Result<Answer, AllocError>) -> u8
+    ensures told { result ≢ 5 → (text : List ℕ) × Appends (W.contents out.old) (W.contents out.new) text × IsTold answer text result }
+    ensures failed { (result ≡ 5) ↔ (W.faults out.old < W.faults out.new) }
 {
     match answer {
         Ok(answer) => give(out, &answer.text, answer.status),
@@ -238,19 +242,23 @@ fn tell<W: Write>(out: &mut W, answer: Result<Answer, AllocError>) -> u8
 ///
 /// Answers the status: 0 done, 1 a negative verdict or a night that is refused, 2 the command line, 3 a fault of the input,
 /// 4 memory or a budget that is spent, 5 the output.
-pub fn run<'a, E: Files + Threads + Wait + Sync, R: Read, W: Write>(
+///
+/// It ends with 5 exactly where its output has failed, and takes its input for one that failed exactly where a read of it has.
+pub fn run<'a, E: Files + Threads + Wait + Sync, R: Source, W: Sink>(
     rt: &E,
     alloc: Global,
     words: &'a [&'a str],
     input: &mut R,
     out: &mut W,
 ) -> u8
-    // Where the writer fails nothing is promised of the text.
+    ensures failed { (result ≡ 5) ↔ (W.faults out.old < W.faults out.new) }
+
+    // Where the output fails nothing is promised of the text.
     ensures handed { words.now ≢ [] → result ≢ 5 → (text : List ℕ) × Appends (W.contents out.old) (W.contents out.new) text
-        × (IsMemoryTold text result ⊎ HoldsOfReading (R.remaining input.old) (λ reading. IsHandedOutput (texts words.now) reading text result)) }
+        × (IsMemoryTold text result ⊎ HoldsOfReading (R.remaining input.old) (R.faults input.old) (R.faults input.new) (λ reading. IsHandedOutput (texts words.now) reading text result)) }
 
     ensures in_line { words.now ≡ [] → result ≢ 5 → (text : List ℕ) × Appends (W.contents out.old) (W.contents out.new) text
-        × (IsMemoryTold text result ⊎ HoldsOfReading (R.remaining input.old) (λ reading. IsInputOutput reading text result)) }
+        × (IsMemoryTold text result ⊎ HoldsOfReading (R.remaining input.old) (R.faults input.old) (R.faults input.new) (λ reading. IsInputOutput reading text result)) }
 
     // Words that name a file or are refused leave the reader unread.
     ensures unread { words.now ≢ [] → ¬ (AskToRead (texts words.now)) → input.new ≡ input.old }

@@ -1,9 +1,9 @@
-//! What the program ends with.
+//! What the program ends with where its output does not fail.
 
-ghost use Rattle.std.specs.Prelude.{◌≡◌};
+ghost use Rattle.std.specs.Prelude.{◌≡◌, ◌<◌};
 ghost use Rattle.whview.specs.Status.{status_number};
 
-/// How the program ended.
+/// What an answer comes to.
 #[derive(Clone, Copy)]
 pub enum Status {
     /// The answer is what was asked for, or help.
@@ -16,14 +16,13 @@ pub enum Status {
     Fault,
     /// Memory was refused, or a budget is spent.
     Limit,
-    /// The output failed.
-    Output,
 }
 
 impl Status {
-    /// The status of the process, 0 to 5.
+    /// The status of the process where the answer goes out, 0 to 4.
     pub fn number(self) -> u8
-        ensures { result ≡ status_number self }
+        ensures number { result ≡ status_number self }
+        ensures small { result < 5 }
     {
         match self {
             Status::Done => 0,
@@ -31,7 +30,6 @@ impl Status {
             Status::Words => 2,
             Status::Fault => 3,
             Status::Limit => 4,
-            Status::Output => 5,
         }
     }
 }

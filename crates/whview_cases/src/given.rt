@@ -124,14 +124,14 @@ pair V B A 80
 
 /// A reader that gives these bytes, so many at a read, and an error at one of the reads, counted from 1; at 0 none fails.
 #[derive(Drop)]
-pub struct Source<'a> {
+pub struct GivenReader<'a> {
     left: &'a [u8],
     step: usize,
     fails_at: usize,
     reads: usize,
 }
 
-impl<'a> Source<'a> {
+impl<'a> GivenReader<'a> {
     /// One that does not fail.
     pub fn new(bytes: &'a [u8], step: usize) -> Self
         ensures left { result.left.now ≡ bytes.now }
@@ -139,7 +139,7 @@ impl<'a> Source<'a> {
         ensures fails_at { result.fails_at ≡ 0 }
         ensures reads { result.reads ≡ 0 }
     {
-        Source::failing(bytes, step, 0)
+        GivenReader::failing(bytes, step, 0)
     }
 
     /// One that fails at this read.
@@ -149,7 +149,7 @@ impl<'a> Source<'a> {
         ensures fails_at { result.fails_at ≡ fails_at }
         ensures reads { result.reads ≡ 0 }
     {
-        Source {
+        GivenReader {
             left: bytes,
             step,
             fails_at,
@@ -165,7 +165,7 @@ impl<'a> Source<'a> {
     }
 }
 
-impl Read for Source<'_> {
+impl Read for GivenReader<'_> {
     fn read(&mut self, buf: &mut [u8]) -> io::Result<usize> {
         self.reads = self.reads.saturating_add(1);
         if self.reads == self.fails_at {
@@ -191,7 +191,7 @@ impl Read for Endless {
 
 /// A writer that takes so many bytes and then fails; where it has them all, a flush may fail.
 #[derive(Drop)]
-pub struct Sink {
+pub struct GivenWriter {
     /// What was written.
     pub text: Vec<u8>,
     /// How many bytes it takes.
@@ -200,14 +200,14 @@ pub struct Sink {
     pub flushes: bool,
 }
 
-impl Sink {
+impl GivenWriter {
     /// One that nothing was written to.
     pub fn new(alloc: Global, room: usize, flushes: bool) -> Self
         ensures text { result.text.items ≡ [] }
         ensures room { result.room ≡ room }
         ensures flushes { result.flushes ≡ flushes }
     {
-        Sink {
+        GivenWriter {
             text: Vec::new(alloc),
             room,
             flushes,
@@ -215,7 +215,7 @@ impl Sink {
     }
 }
 
-impl Write for Sink {
+impl Write for GivenWriter {
     fn write(&mut self, buf: &[u8]) -> io::Result<usize> {
         let count = buf.len().min(self.room.saturating_sub(self.text.len()));
         if count == 0 && !buf.is_empty() {
@@ -231,5 +231,41 @@ impl Write for Sink {
         } else {
             Err(io::Error::from(ErrorKind::BrokenPipe))
         }
+    }
+}
+
+/// A writer that takes a byte at a write, and is interrupted before each.
+#[derive(Drop)]
+pub struct Halting {
+    /// What was written.
+    pub text: Vec<u8>,
+    interrupted: bool,
+}
+
+impl Halting {
+    /// One that nothing was written to.
+    pub fn new(alloc: Global) -> Self
+        ensures { result.text.items ≡ [] }
+    {
+        Halting {
+            text: Vec::new(alloc),
+            interrupted: false,
+        }
+    }
+}
+
+impl Write for Halting {
+    fn write(&mut self, buf: &[u8]) -> io::Result<usize> {
+        self.interrupted = !self.interrupted;
+        if self.interrupted {
+            return Err(io::Error::from(ErrorKind::Interrupted));
+        }
+        let count = buf.len().min(1);
+        self.text.extend_from_slice(&buf[..count])?;
+        Ok(count)
+    }
+
+    fn flush(&mut self) -> io::Result<()> {
+        Ok(())
     }
 }

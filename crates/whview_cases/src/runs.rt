@@ -1,20 +1,23 @@
 // The program over readers and writers of every kind.
 
 use crate::given::{
-    ANSWER, BUNDLE, CARRIED, ENDLESS, Endless, MEASURED, NIGHT, PLANNED, REPLIES, SCHEDULE, Sink,
-    Source,
+    ANSWER, BUNDLE, CARRIED, ENDLESS, Endless, GivenReader, GivenWriter, Halting, MEASURED, NIGHT,
+    PLANNED, REPLIES, SCHEDULE,
 };
 use std::test::Fail;
-use whview::{run, want_of_memory, words_without_text};
+use whview::{Counted, run, want_of_memory, words_without_text};
 
 #[test]
 fn a_reader_that_gives_a_byte_at_a_time_is_answered(rt: HostRuntime) -> Result<(), Fail> {
     for (command, bundle, answer) in [("check", BUNDLE, ANSWER), ("night", NIGHT, CARRIED)] {
-        let mut input = Source::new(bundle.as_bytes(), 1);
-        let mut out = Sink::new(rt.alloc(), ENDLESS, true);
+        let mut input = Counted::new(GivenReader::new(bundle.as_bytes(), 1));
+        let mut out = Counted::new(GivenWriter::new(rt.alloc(), ENDLESS, true));
         let status = run(&rt, rt.alloc(), &[command], &mut input, &mut out);
         assert_eq!(&rt; status, 0, "of {command}");
-        assert!(&rt; out.text.as_slice() == answer.as_bytes(), "of {command}");
+        assert!(&rt;
+            out.inner.text.as_slice() == answer.as_bytes(),
+            "of {command}"
+        );
     }
     Ok(())
 }
@@ -28,11 +31,14 @@ fn plans_certificates_and_replays_are_answered(rt: HostRuntime) -> Result<(), Fa
         ("certify", certified.as_str(), "certified all work 154\n"),
         ("replay", replayed.as_str(), REPLIES),
     ] {
-        let mut input = Source::new(bundle.as_bytes(), 4096);
-        let mut out = Sink::new(rt.alloc(), ENDLESS, true);
+        let mut input = Counted::new(GivenReader::new(bundle.as_bytes(), 4096));
+        let mut out = Counted::new(GivenWriter::new(rt.alloc(), ENDLESS, true));
         let status = run(&rt, rt.alloc(), &[command], &mut input, &mut out);
         assert_eq!(&rt; status, 0, "of {command}");
-        assert!(&rt; out.text.as_slice() == answer.as_bytes(), "of {command}");
+        assert!(&rt;
+            out.inner.text.as_slice() == answer.as_bytes(),
+            "of {command}"
+        );
     }
     Ok(())
 }
@@ -40,11 +46,11 @@ fn plans_certificates_and_replays_are_answered(rt: HostRuntime) -> Result<(), Fa
 #[test]
 fn the_first_line_gives_the_words_a_byte_at_a_time(rt: HostRuntime) -> Result<(), Fail> {
     let text = format!(in rt.alloc(); "check --comp-cost 2\r\n{BUNDLE}")?;
-    let mut input = Source::new(text.as_bytes(), 1);
-    let mut out = Sink::new(rt.alloc(), ENDLESS, true);
+    let mut input = Counted::new(GivenReader::new(text.as_bytes(), 1));
+    let mut out = Counted::new(GivenWriter::new(rt.alloc(), ENDLESS, true));
     assert_eq!(&rt; run(&rt, rt.alloc(), &[], &mut input, &mut out), 0);
     // The Comps read 114 rows, and the Insts write 40.
-    assert!(&rt; out.text.as_slice() == b"correct\nwork 268\n".as_slice());
+    assert!(&rt; out.inner.text.as_slice() == b"correct\nwork 268\n".as_slice());
     Ok(())
 }
 
@@ -53,8 +59,8 @@ fn a_read_that_fails_is_a_fault_whichever_it_is(rt: HostRuntime) {
     let step = BUNDLE.len() / 4 + 1;
     // Four reads give the bytes and the fifth has none; where none fails, that is all.
     for at in 1..=6 {
-        let mut input = Source::failing(BUNDLE.as_bytes(), step, at);
-        let mut out = Sink::new(rt.alloc(), ENDLESS, true);
+        let mut input = Counted::new(GivenReader::failing(BUNDLE.as_bytes(), step, at));
+        let mut out = Counted::new(GivenWriter::new(rt.alloc(), ENDLESS, true));
         let status = run(&rt, rt.alloc(), &["check"], &mut input, &mut out);
         let (wanted, text) = if at <= 5 {
             (3, "fault read\n")
@@ -62,51 +68,66 @@ fn a_read_that_fails_is_a_fault_whichever_it_is(rt: HostRuntime) {
             (0, ANSWER)
         };
         assert_eq!(&rt; status, wanted, "at {at}");
-        assert!(&rt; out.text.as_slice() == text.as_bytes(), "at {at}");
-        assert_eq!(&rt; input.reads(), at.min(5), "at {at}");
+        assert!(&rt; out.inner.text.as_slice() == text.as_bytes(), "at {at}");
+        assert_eq!(&rt; input.inner.reads(), at.min(5), "at {at}");
     }
 }
 
 #[test]
 fn a_writer_that_fails_ends_with_5_wherever_it_does(rt: HostRuntime) {
     for room in 0..=ANSWER.len() {
-        let mut input = Source::new(BUNDLE.as_bytes(), 4096);
-        let mut out = Sink::new(rt.alloc(), room, room < ANSWER.len());
+        let mut input = Counted::new(GivenReader::new(BUNDLE.as_bytes(), 4096));
+        let mut out = Counted::new(GivenWriter::new(rt.alloc(), room, room < ANSWER.len()));
         let status = run(&rt, rt.alloc(), &["check"], &mut input, &mut out);
         assert_eq!(&rt; status, 5, "with room for {room}");
         assert!(&rt;
-            ANSWER.as_bytes().starts_with(&out.text),
+            ANSWER.as_bytes().starts_with(&out.inner.text),
             "with room for {room}"
         );
     }
-    let mut full = Sink::new(rt.alloc(), 0, true);
+    let mut full = Counted::new(GivenWriter::new(rt.alloc(), 0, true));
     assert_eq!(&rt; want_of_memory(&mut full), 5);
     assert_eq!(&rt; words_without_text(&mut full), 5);
 }
 
 #[test]
+fn a_writer_that_is_interrupted_has_all_bytes(rt: HostRuntime) {
+    let mut input = Counted::new(GivenReader::new(BUNDLE.as_bytes(), 4096));
+    let mut out = Counted::new(Halting::new(rt.alloc()));
+    let status = run(&rt, rt.alloc(), &["check"], &mut input, &mut out);
+    assert_eq!(&rt; status, 0);
+    assert!(&rt; out.inner.text.as_slice() == ANSWER.as_bytes());
+}
+
+#[test]
 fn words_that_are_refused_leave_the_reader_unread(rt: HostRuntime) {
-    let mut input = Source::new(BUNDLE.as_bytes(), 4096);
-    let mut out = Sink::new(rt.alloc(), ENDLESS, true);
+    let mut input = Counted::new(GivenReader::new(BUNDLE.as_bytes(), 4096));
+    let mut out = Counted::new(GivenWriter::new(rt.alloc(), ENDLESS, true));
     assert_eq!(&rt;
         run(&rt, rt.alloc(), &["check", "now"], &mut input, &mut out),
         2
     );
-    assert_eq!(&rt; input.reads(), 0);
+    assert_eq!(&rt; input.inner.reads(), 0);
 }
 
 #[test]
 fn a_reader_without_an_end_is_stopped_at_the_limit(rt: HostRuntime) {
-    let mut out = Sink::new(rt.alloc(), ENDLESS, true);
-    let status = run(&rt, rt.alloc(), &["check"], &mut Endless, &mut out);
+    let mut out = Counted::new(GivenWriter::new(rt.alloc(), ENDLESS, true));
+    let status = run(
+        &rt,
+        rt.alloc(),
+        &["check"],
+        &mut Counted::new(Endless),
+        &mut out,
+    );
     assert_eq!(&rt; status, 3);
-    assert!(&rt; out.text.as_slice() == b"fault toolong\n".as_slice());
+    assert!(&rt; out.inner.text.as_slice() == b"fault toolong\n".as_slice());
 }
 
 #[test]
 fn what_has_no_words_or_no_memory_is_told(rt: HostRuntime) {
-    let mut out = Sink::new(rt.alloc(), ENDLESS, true);
+    let mut out = Counted::new(GivenWriter::new(rt.alloc(), ENDLESS, true));
     assert_eq!(&rt; words_without_text(&mut out), 2);
     assert_eq!(&rt; want_of_memory(&mut out), 4);
-    assert!(&rt; out.text.as_slice() == b"fault words\nmemory\n".as_slice());
+    assert!(&rt; out.inner.text.as_slice() == b"fault words\nmemory\n".as_slice());
 }

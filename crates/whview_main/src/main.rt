@@ -1,4 +1,5 @@
-//! The program `whview`: hands the words of the command line, standard input and standard output to [`whview::run`].
+//! The program `whview`: hands the words of the command line, standard input and standard output to [`whview::run`], which
+//! counts the reads and writes that fail.
 #![tactic(auto)]
 
 use std::alloc::AllocError;
@@ -6,7 +7,7 @@ use std::io::ErrorKind;
 use std::process::ExitCode;
 use std::rt::Env;
 use std::{env, io};
-use whview::{run, want_of_memory, words_without_text};
+use whview::{Counted, run, want_of_memory, words_without_text};
 
 /// The words of the command line after the program's name. It fails where one of them is not UTF-8 (`InvalidData`), and
 /// where memory is refused.
@@ -19,8 +20,8 @@ fn handed_words<E: Env + AllocGlobal>(rt: &E) -> io::Result<Vec<String>> {
 }
 
 fn main(rt: HostRuntime) -> ExitCode {
-    let mut input = rt.stdin();
-    let mut out = rt.stdout();
+    let mut input = Counted::new(rt.stdin());
+    let mut out = Counted::new(rt.stdout());
     let words = match handed_words(&rt) {
         Ok(words) => words,
         Err(error) if error.kind() == ErrorKind::InvalidData => {
