@@ -218,6 +218,14 @@ class Locked(Kept):
         self.assertEqual(contents(self.folder / "versions/1/changes"), contents(SHOP / "changes"))
 
 
+    def test_a_night_that_was_kept_says_so_where_its_report_cannot_be_printed(self):
+        command = [sys.executable, TOOLS / "warehouse", "night", self.folder, "--commit", "--program", self.program]
+        with open("/dev/full", "w") as full:
+            ran = subprocess.run(command, stdout=full, stderr=subprocess.PIPE, text=True)
+        cause = "its report.txt, which is there, could not be printed: No space left on device"
+        self.assertEqual((ran.returncode, ran.stderr), (5, f"the night is done, and is versions/1; {cause}\n"))
+
+
 class Settled(Kept):
     """What a stopped night left is finished or undone by the next."""
 
