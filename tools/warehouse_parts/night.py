@@ -22,12 +22,15 @@ from .versions import CURRENT
 def preview(words):
     """Writes new/ whole, by a rename. Answers the report."""
     night, part, new = carried(Folder(words.folder), words), words.folder / "new.part", words.folder / "new"
-    os.makedirs(part)
-    for name, table in night.tables.items():
-        write(part / f"{name}.csv", table)
-    write(part / "report.txt", night.report.encode())
-    remove(new)
-    os.rename(part, new)
+    try:
+        os.makedirs(part)
+        for name, table in night.tables.items():
+            write(part / f"{name}.csv", table)
+        write(part / "report.txt", night.report.encode())
+        remove(new)
+        os.rename(part, new)
+    finally:
+        remove(part)
     return night.report
 
 
