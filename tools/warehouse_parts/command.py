@@ -39,6 +39,8 @@ class Words:
         if len(folders) != (2 if self.command == "diff" else 1):
             raise Failure(BAD_WORDS, "diff takes two files" if self.command == "diff" else f"{self.command} takes one folder")
         self.folder = self.folders[0]
+        if self.keep and not self.commit:
+            raise Failure(BAD_WORDS, "--keep goes with --commit, which makes the versions")
 
     def take(self, given, folders):
         """Takes the next word, and its value where it has one."""
