@@ -5,7 +5,7 @@ import sys
 from importlib import import_module
 from pathlib import Path
 
-from .finding import Failure, nearest, warn
+from .finding import Failure, nearest, of_system, warn
 from .lock import at_work
 from .program import OWN_PROGRAM
 from .status import BAD_INPUT, BAD_WORDS, DONE, NOT_WRITTEN
@@ -101,7 +101,7 @@ def main(given, about):
         warn(failure.lines)
         status = failure.status
     except OSError as error:
-        warn([f"tools/warehouse: {error.filename or 'the output'}: {error.strerror}"])
+        warn([f"tools/warehouse: {of_system(error)}"])
         status = NOT_WRITTEN
     drop_output()
     return status
