@@ -1,0 +1,83 @@
+"""How large the input of the program may be, and what is told where a folder is larger or comes near to it."""
+
+from .finding import Failure, Finding, Place
+from .records import table_text
+from .status import BAD_INPUT
+
+# The limit; how many of the largest files are told, and which part of the whole a file has that is not worth it.
+MOST, LARGEST, SMALL = 2**26, 3, 20
+CURE = "put numbers in the place of long texts, have fewer columns, or keep the facts of several years in folders of their own"
+# Above which part of the limit a warning is due.
+NEAR = 9 / 10
+# By how many bytes at most a quote, and a row besides its count, may grow as a table is written anew.
+QUOTE, ROW = 3, 3
+
+
+def beyond(total, what="the night's bundle has"):
+    """How far a number of bytes is beyond the limit, in words."""
+    return f"{what} {total:,} bytes, which is {total - MOST:,} more than the {MOST:,} that the program takes"
+
+
+def over_the_limit(sizes, **what):
+    """A finding where what these files make is larger than an input may be."""
+    total = sum(sizes.values())
+    if total <= MOST:
+        return []
+    largest = sorted(sizes, key=lambda file: -sizes[file])[:LARGEST]
+    files = ", ".join(f"{file} ({sizes[file]:,})" for file in largest if sizes[file] * SMALL > total)
+    return [Finding(Place(largest[0]), f"{beyond(total, **what)}; most of them are in {files}; {CURE}")]
+
+
+def part_size(heading, content):
+    """How long a part of a bundle is."""
+    ended = not content or content.endswith(b"\n")
+    return len(heading) + 2 + len(content) + (0 if ended else 1) + content.count(b"\n@") + content.startswith(b"@")
+
+
+def bundle_sizes(folder):
+    """How much of a night's bundle each file takes."""
+    found = {"catalogue.toml": part_size("catalogue", folder.catalogue.content)}
+    for name, records in folder.data.items():
+        found[records.file] = part_size(f"data {name}", records.content)
+    for name, changes in folder.changes.items():
+        if not changes.findings:
+            found[changes.files[0].file] = part_size(f"changes {name}", changes.content)
+    return found
+
+
+def judge(bundle):
+    """Refuses a bundle that the program would not take."""
+    if len(bundle) > MOST:
+        raise Failure(BAD_INPUT, f"{beyond(len(bundle))}; {CURE}")
+
+
+def most_after(folder):
+    """How much the base tables take at most after the night, without writing them."""
+    read = [*folder.data.values(), *(records for changes in folder.changes.values() for records in changes.files)]
+    digits = len(str(sum(max(records.rows.values(), default=0) for records in read)))
+    return sum(len(each.content) + QUOTE * each.content.count(b'"') + (digits + ROW) * len(each.rows) for each in read)
+
+
+def sizes_after(folder):
+    """How much the base tables and the catalogue take after the night, where that can come near to the limit; else nothing."""
+    if most_after(folder) + len(folder.catalogue.content) < NEAR * MOST:
+        return {}
+    tables = {view.name: table_text(view.columns, folder.rolled(view)) for view in folder.bases if view.name in folder.data}
+    return table_sizes(folder, tables)
+
+
+def table_sizes(folder, tables):
+    """How much these tables of base views and the catalogue take in the bundle of the next night."""
+    found = {f"data/{view.name}.csv": part_size(f"data {view.name}", tables[view.name]) for view in folder.bases if view.name in tables}
+    return found | {"catalogue.toml": part_size("catalogue", folder.catalogue.content)}
+
+
+def after(sizes):
+    """A fault where the folder could not be read again after this night, and a warning where it comes near to that."""
+    what = "after this night the base tables and the catalogue have"
+    found = over_the_limit(sizes, what=what)
+    total = sum(sizes.values())
+    if not found and total >= NEAR * MOST:
+        text = f"{what} {total:,} bytes, and the program takes {MOST:,} at most; {CURE}"
+        found = [Finding(Place(max(sizes, key=sizes.get)), text, True)]
+    return found
