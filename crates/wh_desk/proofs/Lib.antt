@@ -4,3 +4,4 @@ mod Adding
 mod Keeps
 mod Waiting
 mod Growing
+pub mod Telling

@@ -262,12 +262,16 @@ impl Writer {
         self.publish_by(rt, op)
     }
 
-    /// Publishes what is held, and then gives up the night that is open, if one is. After want of memory what was held may have gone
-    /// out, and the end of the night may be held.
+    /// Publishes what is held, and then gives up the night that is open, if one is. After want of memory, which is met only where there
+    /// is something to publish, what was held may have gone out, and the end of the night may be held.
+    #[tactic(auto, using(wh_publish::proofs::Idle::idle_ends))]
     pub fn give_up<R: Wait>(&mut self, rt: &R) -> Result<Ended, AllocError>
         ensures book { self.new.book ≡ self.old.book }
         ensures ends { MatchResult result (Ends self.old.ledger self.new.ledger) (λ _. EndsLater self.old.ledger self.new.ledger) }
     {
+        if !self.held() && !self.active() {
+            return Ok(Ended::NoneOpen);
+        }
         let ends = self.inner.ends;
         self.send_held(rt)?;
         if self.active() {
@@ -339,7 +343,13 @@ impl Writer {
 }
 
 impl Publish for Writer {
+    ghost use Rattle.logbook.specs.Pages.{Book};
+
     ghost kept = { λ w. w.ledger };
+
+    ghost Home = { Book };
+
+    ghost home = { λ w. w.book };
 
     fn publish<R: Wait>(&mut self, rt: &R, op: Op) -> Result<(), PublishFault> {
         Writer::publish(self, rt, op)

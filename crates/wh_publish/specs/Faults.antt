@@ -8,7 +8,7 @@ use Rattle.wh_publish.specs.declared.fault.PublishFault.{PublishFault}
 use Rattle.wh_publish.specs.declared.fault.PublishFault.TheVariants.{NightOpen, NoNight, NoView, BadPage, LastVersion, Held, Memory}
 use Rattle.wh_publish.specs.declared.ended.Ended.{Ended}
 use Rattle.wh_publish.specs.declared.ended.Ended.TheVariants.{Committed, GivenUp, NoneOpen}
-use Rattle.wh_publish.specs.Ledgers.{Ledger, ledger, window_in, gone_out, stays_open, closed}
+use Rattle.wh_publish.specs.Ledgers.{Ledger, is_busy, ledger, window_in, gone_out, stays_open, closed}
 
 -- the numbers of refusals
 abbrev pub fault_number : PublishFault → ℕ
@@ -62,7 +62,8 @@ ended None false = NoneOpen
 abbrev pub Ends : Ledger → Ledger → Ended → Type 0
 Ends l m answer = (m ≡ ledger l.of (closed (stays_open l) (gone_out l)) None) × (answer ≡ ended l.held (stays_open l))
 
--- for want of memory nothing has changed; or what was held has gone out, a night is open still, and its end is held or not
+-- for want of memory, where something is held or a night is open: nothing has changed; or what was held has gone out, a night is open
+-- still, and its end is held or not
 abbrev pub EndsLater : Ledger → Ledger → Type 0
 EndsLater l m =
-    (m ≡ l) ⊎ (IsTrue (stays_open l) × ((m ≡ ledger l.of (gone_out l) None) ⊎ (m ≡ ledger l.of (gone_out l) (Some Gives_up))))
+    IsTrue (is_busy l) × ((m ≡ l) ⊎ (IsTrue (stays_open l) × ((m ≡ ledger l.of (gone_out l) None) ⊎ (m ≡ ledger l.of (gone_out l) (Some Gives_up)))))

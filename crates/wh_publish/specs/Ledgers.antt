@@ -1,5 +1,5 @@
 -- What has been published of a warehouse, and what waits to be.
-use Rattle.std.specs.Prelude.{ℕ, List, [], ◌∷◌, ◌++◌, Option, Some, None, Bool, true, false, if◌then◌else◌}
+use Rattle.std.specs.Prelude.{ℕ, List, [], ◌∷◌, ◌++◌, Option, Some, None, is_some, Bool, true, false, ◌||◌, if◌then◌else◌}
 use Rattle.wh_store.specs.Operations.{Operation, Opens, Writes, Commits, Gives_up}
 use Rattle.wh_store.specs.Pages.{Contents}
 use Rattle.wh_store.specs.Versions.{Versions, is_active, versions_of}
@@ -34,6 +34,10 @@ with_held list (Some op) = list ++ op ∷ []
 
 abbrev pub gone_out : Ledger → List Operation
 gone_out l = with_held l.list l.held
+
+-- an operation is held, or a night is open
+abbrev pub is_busy : Ledger → Bool
+is_busy l = is_some l.held || is_active (versions_in l.of l.list)
 
 -- a night is open once what is held has gone out
 abbrev pub stays_open : Ledger → Bool

@@ -12,21 +12,28 @@ use std::sync::Wait;
 use wh_row::Bag;
 use wh_store::Op;
 
-/// A night publishes its operations one after another. What is published forms a list, which is well formed; an operation that could
-/// not be published for want of memory may be held, and goes out before any other.
+/// A night publishes its operations one after another, all of one warehouse. What is published forms a list, which is well formed; an
+/// operation that could not be published for want of memory may be held, and goes out before any other.
 pub trait Publish {
     ghost kept: { Self → Ledger };
 
+    // By what warehouses are told apart.
+    ghost Home: { Type 0 };
+
+    ghost home: { Self → Home };
+
     /// Publishes an operation. A refusal publishes nothing; the fault is [`PublishFault::Held`] or the first of a store's reasons.
     fn publish<R: Wait>(&mut self, rt: &R, op: Op) -> Result<(), PublishFault>
+        ensures home { home self.new ≡ home self.old }
         ensures ok { OnOk result (kept self.new ≡ ledger (kept self.old).of ((kept self.old).list ++ operation op ∷ []) None) }
         ensures err { IfErr result (λ fault. kept self.new ≡ refused (kept self.old) (operation op) fault) }
         ensures refused { MatchOption (publish_refusal (kept self.old) (operation op)) (IsOkUnlessMemory result) (λ fault. result ≡ Err fault) };
 
-    /// Publishes what is held, and then gives up the night that is open, if one is. After want of memory what was held may have gone
-    /// out, and the end of the night may be held.
+    /// Publishes what is held, and then gives up the night that is open, if one is. After want of memory, which is met only where there
+    /// is something to publish, what was held may have gone out, and the end of the night may be held.
     fn give_up<R: Wait>(&mut self, rt: &R) -> Result<Ended, AllocError>
-        ensures { MatchResult result (Ends (kept self.old) (kept self.new)) (λ _. EndsLater (kept self.old) (kept self.new)) };
+        ensures home { home self.new ≡ home self.old }
+        ensures ends { MatchResult result (Ends (kept self.old) (kept self.new)) (λ _. EndsLater (kept self.old) (kept self.new)) };
 
     /// The number of the current version.
     fn current(&self) -> u64

@@ -6,5 +6,5 @@ mod laws;
 mod reading;
 mod serving;
 
-pub use laws::desks_answer_as_the_machine;
+pub use laws::{desks_answer_as_the_machine, told_pages_are_of_contents};
 pub use serving::{Served, serve_night};

@@ -7,7 +7,7 @@ use Rattle.std.proofs.lemmas.List.{append_assoc}
 use Rattle.wh_store.specs.Operations.{Operation, Opens, Writes, Commits, Gives_up}
 use Rattle.wh_store.specs.Pages.{Contents}
 use Rattle.wh_store.specs.Versions.{Versions, after, is_active, versions_from, versions_of, written_over}
-use Rattle.wh_publish.specs.Ledgers.{Ledger, closed, gone_out, ledger, stays_open, versions_in, with_held}
+use Rattle.wh_publish.specs.Ledgers.{Ledger, closed, gone_out, is_busy, ledger, stays_open, versions_in, with_held}
 use Rattle.wh_publish.specs.Faults.{Ends, EndsLater}
 use Rattle.wh_publish.specs.declared.ended.Ended.{Ended}
 use Rattle.wh_course.specs.Night.{Night}
@@ -73,12 +73,26 @@ module _ (n : Night) (l m : Ledger) (u : IsUnderway n l m) where
 
   pub not_given_up : (o : Ledger) → EndsLater m o → IsOpen n l o
   not_given_up o e = ⊎_elim
-      (λ same. record { ops = u.ops; held = u.held; beginning = front u.held u.beginning; next = next u.held u.beginning; now = same ∙ u.now })
+      (λ same. record { ops = u.ops; held = u.held; beginning = front u.held u.beginning; next = next u.held u.beginning; now = same ∙ u.now; busy = subst (λ x. IsTrue (is_busy x)) (sym same) e.0 })
       (λ later. ⊎_elim
-      (λ none. record { ops = with_held u.ops u.held; held = None; beginning = u.beginning; next = nothing; now = out_now o None none })
-      (λ end. record { ops = with_held u.ops u.held; held = Some Gives_up; beginning = u.beginning; next = give_up; now = out_now o (Some Gives_up) end })
+      (λ none. record {
+        ops = with_held u.ops u.held;
+        held = None;
+        beginning = u.beginning;
+        next = nothing;
+        now = out_now o None none;
+        busy = subst (λ x. IsTrue (is_busy x)) (sym none) later.0;
+      })
+      (λ end. record {
+        ops = with_held u.ops u.held;
+        held = Some Gives_up;
+        beginning = u.beginning;
+        next = give_up u.begun;
+        now = out_now o (Some Gives_up) end;
+        busy = subst (λ x. IsTrue (is_busy x)) (sym end) refl;
+      })
       later.1)
-      e
+      e.1
 
 module _ (n : Night) (l m : Ledger) where
   -- the commit goes out
@@ -126,9 +140,10 @@ module _ (n : Night) (l m : Ledger) where
           beginning = begins_at n (length n.list) (omega arith) w.passed;
           next = commit (whole_out n w.passed);
           now = same ∙ w.out;
+          busy = subst (λ x. IsTrue (is_busy x)) (sym same) e.0;
         })
         (λ later. absurd (not_open (stays_open m) is_shut later.0))
-        e
+        e.1
       where
         not_open : (b : Bool) → b ≡ false → IsTrue b → ⊥
         not_open b e t = false≢true (sym e ∙ t)

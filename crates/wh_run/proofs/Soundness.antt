@@ -1,6 +1,6 @@
 -- A published list that is sound stays so.
 use Rattle.std.proofs.Common.{◌≡◌, refl, sym, ap, subst, ◌∙◌, ℕ, suc, ◌-◌, ◌≤◌, true, false, List, [], ◌∷◌, ◌++◌, length, take, None, ⊎_elim, arith}
-use Rattle.std.specs.Prelude.{IsTrue, IfErr, OnOk, Result, Ok, Err, slice_index_or}
+use Rattle.std.specs.Prelude.{IsTrue, IfErr, OnErr, OnOk, Result, Ok, Err, slice_index_or}
 use Rattle.std.specs.List.{list_all}
 use Rattle.std.proofs.lemmas.Bool.{and_parts, cases_lt, false≢true}
 use Rattle.wh_dag.specs.Shape.{children_of}
@@ -97,6 +97,37 @@ no_children : (catalog : CatalogOf) (v : ℕ) → length catalog.views.children 
 unfolding children_of
 no_children catalog v l = past catalog.views.children v [] l
 
+-- what operations behind the list make
+behind : (l : Ledger) (ops : List Operation) → versions_in l.of (l.list ++ ops) ≡ versions_from (versions_in l.of l.list) ops
+behind l ops = versions_append (versions_of l.of.opening []) l.list ops
+
+front_keeps : (n : Night) (v : Versions) (ops : List Operation) → Begin_it n ops → ((versions_from v ops).newest ≡ v.newest) × ((versions_from v ops).older ≡ v.older)
+front_keeps n v [] b = (refl, refl)
+front_keeps n v (x ∷ ops) b =
+    let o = begins_open n (x ∷ ops) (λ e. cc) b in
+    let k = keeps (after v Opens) o.puts o.write in
+    (ap (λ xs. (versions_from v xs).newest) o.is ∙ k.0, ap (λ xs. (versions_from v xs).older) o.is ∙ k.1)
+
+-- what a refused night leaves published makes the same newest contents
+module _ (n : Night) (l m : Ledger) where
+  open_newest : IsOpen n l m → newest_in m ≡ newest_in l
+  open_newest o = ap newest_in o.now ∙ ap (λ (v : Versions). v.newest) (behind l o.ops) ∙ (front_keeps n (versions_in l.of l.list) o.ops o.beginning).0
+
+  cut_newest : IsCut n l m → newest_in m ≡ newest_in l
+  cut_newest o =
+      let v0 : Versions = versions_in l.of l.list in
+      ap newest_in o.now ∙ ap (λ (v : Versions). v.newest) (behind l o.ops ∙ ap (versions_from v0) o.cut.cut ∙ versions_append v0 (Opens ∷ o.cut.puts) (Gives_up ∷ []))
+      ∙ (front_keeps n v0 (Opens ∷ o.cut.puts) o.cut.beginning).0
+
+  left_newest : (left : Left) → Leaves n l left m → newest_in m ≡ newest_in l
+  left_newest Untouched e = ap newest_in e
+  left_newest GivenUp o = cut_newest o
+  left_newest StillOpen o = open_newest o
+
+  pub refused_newest : (r : Result Report NightFault) → IfErr r (λ f. Leaves n l f.left m) → OnErr r (newest_in m ≡ newest_in l)
+  refused_newest (Ok report) leaves = tt
+  refused_newest (Err f) leaves = left_newest f.left leaves
+
 module _ (catalog : CatalogOf) (list : List Expression) (l m : Ledger) (changes : List Bag) (keys : ℕ) (is : IsCatalog catalog) (ok : IsCorrect catalog.views.children list)
     (bags : AreBags catalog (newest_in l)) (given : AreBags catalog changes) (some : 1 ≤ keys) (few : keys ≤ 256) (allowed : AreAllowed (tonight catalog list l changes keys)) (sound : IsSound catalog l)
     (well_formed : IsTrue (is_well_formed (length m.of.opening) m.list)) where
@@ -133,28 +164,17 @@ module _ (catalog : CatalogOf) (list : List Expression) (l m : Ledger) (changes 
         (cases_lt k (suc (length v0.older))));
   }
 
-  -- what operations behind the list make
-  behind : (ops : List Operation) → versions_in l.of (l.list ++ ops) ≡ versions_from v0 ops
-  behind ops = versions_append (versions_of l.of.opening []) l.list ops
-
-  front_keeps : (ops : List Operation) → Begin_it n ops → ((versions_from v0 ops).newest ≡ v0.newest) × ((versions_from v0 ops).older ≡ v0.older)
-  front_keeps [] b = (refl, refl)
-  front_keeps (x ∷ ops) b =
-      let o = begins_open n (x ∷ ops) (λ e. cc) b in
-      let k = keeps (after v0 Opens) o.puts o.write in
-      (ap (λ xs. (versions_from v0 xs).newest) o.is ∙ k.0, ap (λ xs. (versions_from v0 xs).older) o.is ∙ k.1)
-
   open_sound : IsOpen n l m → IsSound catalog m
   open_sound o =
-      let k = front_keeps o.ops o.beginning in
-      let now : versions_in m.of m.list ≡ versions_from v0 o.ops = ap (λ (x : Ledger). versions_in x.of x.list) o.now ∙ behind o.ops in
+      let k = front_keeps n v0 o.ops o.beginning in
+      let now : versions_in m.of m.list ≡ versions_from v0 o.ops = ap (λ (x : Ledger). versions_in x.of x.list) o.now ∙ behind l o.ops in
       same_sound (ap (λ (v : Versions). v.newest) now ∙ k.0) (ap (λ (v : Versions). v.older) now ∙ k.1)
 
   cut_sound : IsCut n l m → IsSound catalog m
   cut_sound o =
-      let k = front_keeps (Opens ∷ o.cut.puts) o.cut.beginning in
+      let k = front_keeps n v0 (Opens ∷ o.cut.puts) o.cut.beginning in
       let now : versions_in m.of m.list ≡ after (versions_from v0 (Opens ∷ o.cut.puts)) Gives_up =
-      ap (λ (x : Ledger). versions_in x.of x.list) o.now ∙ behind o.ops ∙ ap (versions_from v0) o.cut.cut ∙ versions_append v0 (Opens ∷ o.cut.puts) (Gives_up ∷ []) in
+      ap (λ (x : Ledger). versions_in x.of x.list) o.now ∙ behind l o.ops ∙ ap (versions_from v0) o.cut.cut ∙ versions_append v0 (Opens ∷ o.cut.puts) (Gives_up ∷ []) in
       one_more v0.newest newest_contents (ap (λ (v : Versions). v.newest) now ∙ k.0) (ap (λ (v : Versions). v.older) now ∙ (λ i. k.0 i ∷ k.1 i))
 
   abbrev base : ℕ → Bag
@@ -169,7 +189,7 @@ module _ (catalog : CatalogOf) (list : List Expression) (l m : Ledger) (changes 
       let end = night_lists_end_in_contents catalog list (bag_at v0.newest) (bag_at changes) keys v0 is ok some few (record { each = bags.each; are = λ v r. refl }) newest_contents counts w.values in
       let has = strategies_end_in_contents catalog list (bag_at v0.newest) (bag_at changes) is ok newest_contents counts w.values in
       let now : versions_in m.of m.list ≡ record { newest = end.newest; older = v0.newest ∷ v0.older; draft = None } =
-      ap (λ (x : Ledger). versions_in x.of x.list) o.now ∙ behind o.ops ∙ ap (versions_from v0) w.is ∙ end.published in
+      ap (λ (x : Ledger). versions_in x.of x.list) o.now ∙ behind l o.ops ∙ ap (versions_from v0) w.is ∙ end.published in
       one_more end.newest
       (own_contents g base (bag_at end.newest) (same_contents g base (contents g base) (bag_at end.newest)
       (λ v. ⊎_elim

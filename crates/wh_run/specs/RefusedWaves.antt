@@ -1,5 +1,5 @@
 -- Why the jobs of a wave are not computed.
-use Rattle.std.specs.Prelude.{◌≡◌, ◌⊎◌, ℕ, List, Some, slice_get}
+use Rattle.std.specs.Prelude.{◌≡◌, ◌≢◌, ◌⊎◌, ℕ, List, [], Some, slice_get}
 use Rattle.wh_dag.specs.Catalog.{CatalogOf}
 use Rattle.wh_maint.specs.Comp.{PendingOf}
 use Rattle.wh_maint.specs.declared.fault.MaintFault.{MaintFault}
@@ -24,7 +24,7 @@ IsAddedAt catalog k jobs number added = (job : Job) → slice_get jobs number �
 abbrev pub IsRefusedAt : CatalogOf → Kept → List Job → ℕ → MaintFault → Type 0
 IsRefusedAt catalog k jobs number fault = (job : Job) → slice_get jobs number ≡ Some job → IsCompFaultIn catalog k job.view job.from fault
 
--- for want of memory, or because the first job that cannot be computed is refused; never because a worker is lost
+-- for want of memory, where there is a job, or because the first job that cannot be computed is refused; never because a worker is lost
 abbrev pub IsRefusedWave : CatalogOf → Kept → List Job → WaveFault → Type 0
-IsRefusedWave catalog k jobs (Maint fault) = (fault ≡ Memory) ⊎ IsFirstUncomputed catalog k jobs fault
+IsRefusedWave catalog k jobs (Maint fault) = ((fault ≡ Memory) × (jobs ≢ [])) ⊎ IsFirstUncomputed catalog k jobs fault
 IsRefusedWave catalog k jobs WorkerLost = ⊥

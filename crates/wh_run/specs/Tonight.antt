@@ -1,5 +1,5 @@
 -- What a night publishes behind what stood published before, and what a refused one leaves.
-use Rattle.std.specs.Prelude.{◌≡◌, ℕ, ◌≤◌, List, [], ◌∷◌, ◌++◌, Option, Some, None, IsTrue, length}
+use Rattle.std.specs.Prelude.{◌≡◌, ◌≢◌, ℕ, ◌≤◌, List, [], ◌∷◌, ◌++◌, Option, Some, None, IsTrue, length}
 use Rattle.wh_row.specs.Bag.{Bag}
 use Rattle.wh_dag.specs.Catalog.{CatalogOf}
 use Rattle.wh_strategy.specs.declared.expression.Expression.{Expression}
@@ -9,7 +9,7 @@ use Rattle.wh_maint.specs.Definition.{graph_of}
 use Rattle.wh_store.specs.Operations.{Operation, Commits, Gives_up}
 use Rattle.wh_store.specs.Pages.{Contents}
 use Rattle.wh_store.specs.Versions.{is_well_formed, number, version}
-use Rattle.wh_publish.specs.Ledgers.{Ledger, ledger, versions_in}
+use Rattle.wh_publish.specs.Ledgers.{Ledger, is_busy, ledger, versions_in}
 use Rattle.wh_night.specs.Carry.{tables_after}
 use Rattle.wh_night.specs.NightList.{IsBeginning, IsCutNight, IsNightList}
 use Rattle.wh_course.specs.Night.{Night}
@@ -58,20 +58,21 @@ pub record IsCut (n : Night) (l m : Ledger) : Type 0 where
   pub cut : IsCutNight n.catalog n.list n.tables n.changes n.keys ops
   pub now : m ≡ goes_out l ops None
 
--- what is held is the night's next operation, or a give-up
+-- what is held is the night's next operation, or the give-up of a night that has begun
 pub data IsNext (n : Night) (ops : List Operation) : Option Operation → Type 0 where
   nothing : IsNext n ops None
   put : (op : Operation) → Begin_it n (ops ++ op ∷ []) → IsNext n ops (Some op)
   commit : IsWhole n (ops ++ Commits ∷ []) → IsNext n ops (Some Commits)
-  give_up : IsNext n ops (Some Gives_up)
+  give_up : ops ≢ [] → IsNext n ops (Some Gives_up)
 
--- a beginning of the night list has gone out, without its commit, and what is held comes next
+-- a beginning of the night list has gone out, without its commit, and what is held comes next; a night is open, or something is held
 pub record IsOpen (n : Night) (l m : Ledger) : Type 0 where
   pub ops : List Operation
   pub held : Option Operation
   pub beginning : Begin_it n ops
   pub next : IsNext n ops held
   pub now : m ≡ goes_out l ops held
+  pub busy : IsTrue (is_busy m)
 
 -- what a refused night leaves
 abbrev pub Leaves : Night → Ledger → Left → Ledger → Type 0

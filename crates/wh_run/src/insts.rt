@@ -33,6 +33,7 @@ fn publish_page<P: Publish, R: Wait>(
     page: &mut Vec<(Row, i64)>,
 ) -> Result<(), AllocError>
     requires held { (P.kept writer.old).held ≡ None }
+    ensures home { P.home writer.new ≡ P.home writer.old }
     ensures empty { OnOk result (page.new.items ≡ []) }
     ensures out { OnOk result (P.kept writer.new ≡ goes_out (P.kept writer.old) (Writes view (plain page.old.items) ∷ []) None) }
     ensures err { OnErr result ((rest : List Operation) → IsPartly (P.kept writer.old) (Writes view (plain page.old.items) ∷ rest) (P.kept writer.new)) }
@@ -56,6 +57,7 @@ fn make_room<P: Publish, R: Wait>(
     requires held { (P.kept writer.old).held ≡ None }
     requires some { 1 ≤ keys }
     requires few { length page.old.items ≤ keys }
+    ensures home { P.home writer.new ≡ P.home writer.old }
     ensures room { OnOk result (length page.new.items < keys) }
     ensures out { OnOk result (GoesOut view keys (plain page.old.items) (plain page.new.items) (P.kept writer.old) (P.kept writer.new)) }
     ensures err { OnErr result ((rest : Counted) → IsPartly (P.kept writer.old) (map (Writes view) (pages_of keys (plain page.old.items ++ rest))) (P.kept writer.new)) }
@@ -77,6 +79,7 @@ fn close_last<P: Publish, R: Wait>(
 ) -> Result<(), AllocError>
     requires held { (P.kept writer.old).held ≡ None }
     requires few { length page.old.items ≤ keys }
+    ensures home { P.home writer.new ≡ P.home writer.old }
     ensures out { OnOk result (P.kept writer.new ≡ goes_out (P.kept writer.old) (map (Writes view) (pages_of keys (plain page.old.items))) None) }
     ensures err { OnErr result (IsPartly (P.kept writer.old) (map (Writes view) (pages_of keys (plain page.old.items))) (P.kept writer.new)) }
 {
@@ -114,6 +117,7 @@ fn publish_change<P: Publish, R: Wait>(
 ) -> Result<(), AllocError>
     requires held { (P.kept writer.old).held ≡ None }
     requires some { 1 ≤ keys }
+    ensures home { P.home writer.new ≡ P.home writer.old }
     ensures out { OnOk result (P.kept writer.new ≡ goes_out (P.kept writer.old) (map (Writes view) (pages_of keys (map (λ e. (e.0, count table.now e.0)) (written change.now)))) None) }
     ensures err { OnErr result (IsPartly (P.kept writer.old) (map (Writes view) (pages_of keys (map (λ e. (e.0, count table.now e.0)) (written change.now)))) (P.kept writer.new)) }
 {
@@ -173,6 +177,7 @@ pub(crate) fn inst<P: Publish, F: RowTest, G: RowValue, R: Wait>(
     requires fit { CanFinish catalog.now (kept state.old) }
     requires view { view < length catalog.now.views.children }
     requires some { 1 ≤ keys }
+    ensures home { P.home writer.new ≡ P.home writer.old }
     ensures parts { OnOk result (AreParts catalog.now state.new) }
     ensures fit { OnOk result (CanFinish catalog.now (kept state.new)) }
     ensures done { OnOk result (kept state.new ≡ installed view (finished catalog.now (λ u. view == u) (kept state.old))) }

@@ -9,7 +9,8 @@ pub enum Left {
     Untouched,
     /// A beginning of the night was published, and given up.
     GivenUp,
-    /// The give-up could not be published: it, or an operation before it, may be held. It can be given up again.
+    /// The give-up could not be published: it, or an operation before it, may be held, or the night is open still. It can be given up
+    /// again.
     StillOpen,
 }
 

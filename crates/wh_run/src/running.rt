@@ -1,6 +1,6 @@
 //! A night over whatever publishes.
 
-ghost use Rattle.std.specs.Prelude.{◌≡◌, ◌≢◌, ◌⊎◌, ◌≤◌, ◌++◌, ◌∷◌, [], ℕ, List, None, Some, Err, length, slice_get, OnOk, IfOk, IfErr, MatchOption, MatchResult};
+ghost use Rattle.std.specs.Prelude.{◌≡◌, ◌≢◌, ◌⊎◌, ◌≤◌, ◌++◌, ◌∷◌, [], ℕ, List, None, Some, Err, length, slice_get, OnOk, OnErr, IfOk, IfErr, MatchOption, MatchResult};
 ghost use Rattle.wh_strategy.specs.declared.expression.Expression.{Expression as Step};
 ghost use Rattle.wh_maint.specs.Asked.{AreBags};
 ghost use Rattle.wh_maint.specs.Comp.{bag_at};
@@ -65,6 +65,7 @@ fn untouched(cause: NightCause) -> NightFault
 
 /// Gives the night up that has begun, or that waits to begin, and answers what is left.
 fn given_up<P: Publish, R: Wait>(rt: &R, writer: &mut P, fault: MaintFault) -> NightFault
+    ensures home { P.home writer.new ≡ P.home writer.old }
     ensures cause { result.cause ≡ cause_of fault }
     ensures started { result.left ≢ Untouched }
     ensures leaves { (n : Night) (l : Ledger) → IsUnderway n l (P.kept writer.old) → Leaves n l result.left (P.kept writer.new) }
@@ -82,6 +83,7 @@ fn given_up<P: Publish, R: Wait>(rt: &R, writer: &mut P, fault: MaintFault) -> N
 /// Begins a night.
 fn begin<P: Publish, R: Wait>(rt: &R, writer: &mut P) -> Result<(), NightFault>
     requires held { (P.kept writer.old).held ≡ None }
+    ensures home { P.home writer.new ≡ P.home writer.old }
     ensures ok { OnOk result (P.kept writer.new ≡ goes_out (P.kept writer.old) (Opens ∷ []) None) }
     ensures cause { IfErr result (λ f. f.cause ≡ cause_of Memory) }
     ensures leaves { IfErr result (λ f. (n : Night) → Leaves n (P.kept writer.old) f.left (P.kept writer.new)) }
@@ -110,6 +112,7 @@ fn commit_held<P: Publish, R: Wait>(
     writer: &mut P,
     steps: Vec<(Expression, u128)>,
 ) -> Result<Report, NightFault>
+    ensures home { P.home writer.new ≡ P.home writer.old }
     ensures version { IfOk result (λ r. r.version ≡ number (versions_in (P.kept writer.new).of (P.kept writer.new).list)) }
     ensures steps { IfOk result (λ r. r.steps.items ≡ steps.items) }
     ensures done { OnOk result ((n : Night) (l : Ledger) → WaitsToCommit n l (P.kept writer.old) → IsDone n l (P.kept writer.new)) }
@@ -131,6 +134,7 @@ fn commit<P: Publish, R: Wait>(
     writer: &mut P,
     steps: Vec<(Expression, u128)>,
 ) -> Result<Report, NightFault>
+    ensures home { P.home writer.new ≡ P.home writer.old }
     ensures version { IfOk result (λ r. r.version ≡ number (versions_in (P.kept writer.new).of (P.kept writer.new).list)) }
     ensures steps { IfOk result (λ r. r.steps.items ≡ steps.items) }
     ensures done { OnOk result ((n : Night) (l : Ledger) → IsPut n l (P.kept writer.old) → IsDone n l (P.kept writer.new)) }
@@ -164,6 +168,7 @@ fn stage_of<P: Publish, F: RowTest, G: RowValue, T: Gate + Sync, R: Threads + Wa
     requires some { 1 ≤ keys }
     requires least { 1 ≤ workers }
     requires most { workers ≤ 16 }
+    ensures home { P.home writer.new ≡ P.home writer.old }
     ensures held { OnOk result ((P.kept writer.new).held ≡ None) }
     ensures parts { OnOk result (AreParts catalog.now state.new) }
     ensures fit { OnOk result (CanFinish catalog.now (kept state.new)) }
@@ -208,6 +213,7 @@ fn through<P: Publish, F: RowTest, G: RowValue, T: Gate + Sync, R: Threads + Wai
     requires some { 1 ≤ keys }
     requires least { 1 ≤ workers }
     requires most { workers ≤ 16 }
+    ensures home { P.home writer.new ≡ P.home writer.old }
     ensures parts { OnOk result (AreParts catalog.now state.new) }
     ensures goes { IfOk result (λ steps. (t : Given) → stages.now ≡ stages_of t.list
         → IsAt (night_of catalog.now keys t) t.before 0 (kept state.old) [] (P.kept writer.old)
@@ -246,6 +252,7 @@ fn run<P: Publish, F: RowTest, G: RowValue, T: Gate + Sync, R: Threads + Wait + 
     requires some { 1 ≤ keys }
     requires least { 1 ≤ workers }
     requires most { workers ≤ 16 }
+    ensures home { P.home writer.new ≡ P.home writer.old }
     ensures version { IfOk result (λ r. r.version ≡ number (versions_in (P.kept writer.new).of (P.kept writer.new).list)) }
     ensures done { IfOk result (λ r. (t : Given) → t.before ≡ P.kept writer.old → stages.now ≡ stages_of t.list → HasCome (night_of catalog.now keys t) 0 (kept state.old) []
         → IsDone (night_of catalog.now keys t) t.before (P.kept writer.new)
@@ -293,6 +300,7 @@ pub fn night<P: Publish, F: RowTest, G: RowValue, T: Gate + Sync, R: Threads + W
     requires sixteen { options.workers ≤ 16 }
     requires least { 1 ≤ options.page_keys }
     requires most { options.page_keys ≤ 256 }
+    ensures home { P.home writer.new ≡ P.home writer.old }
     ensures done { OnOk result (IsDone (tonight catalog.now correct.now.list (P.kept writer.old) changes.now options.page_keys) (P.kept writer.old) (P.kept writer.new)) }
     ensures bags { OnOk result (AreBags catalog.now (newest_in (P.kept writer.new))) }
     ensures tables { OnOk result (HaveTables (newest_in (P.kept writer.new)) (length catalog.now.views.children)
@@ -305,6 +313,7 @@ pub fn night<P: Publish, F: RowTest, G: RowValue, T: Gate + Sync, R: Threads + W
     ensures allowed { OnOk result (AreAllowed (tonight catalog.now correct.now.list (P.kept writer.old) changes.now options.page_keys)) }
     ensures passed { OnOk result (ArePassedBelow catalog.now correct.now.list (bag_at (newest_in (P.kept writer.old))) (bag_at changes.now) (length correct.now.list)) }
     ensures leaves { IfErr result (λ f. Leaves (tonight catalog.now correct.now.list (P.kept writer.old) changes.now options.page_keys) (P.kept writer.old) f.left (P.kept writer.new)) }
+    ensures newest { OnErr result (newest_in (P.kept writer.new) ≡ newest_in (P.kept writer.old)) }
     ensures sound { IsSound catalog.now (P.kept writer.old) → IsSound catalog.now (P.kept writer.new) }
     ensures refused { MatchOption (publish_refusal (P.kept writer.old) Opens)
         (IfErr result (IsRefused (tonight catalog.now correct.now.list (P.kept writer.old) changes.now options.page_keys)))

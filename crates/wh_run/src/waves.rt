@@ -128,7 +128,7 @@ fn of_jobs(fault: WaveFault) -> MaintFault
 /// Computes what each job of a wave adds, over the tables and the changes of a night, where those of the jobs' sources are known. The
 /// jobs are drawn by 1 to 16 workers, each in a thread, of which the caller's is one; what they add comes in the order of the jobs.
 /// The gate is told of each job in the worker's thread. All jobs are done, so that the refusal of the lowest number is answered,
-/// whichever came first.
+/// whichever came first. A wave of no jobs is not refused.
 pub fn run_wave<F: RowTest, G: RowValue, T: Gate + Sync, R: Threads + Sync>(
     rt: &R,
     alloc: Global,
@@ -146,6 +146,9 @@ pub fn run_wave<F: RowTest, G: RowValue, T: Gate + Sync, R: Threads + Sync>(
     ensures added { IfOk result (λ added. AreAdded catalog.now (kept state.now) jobs.now added.items) }
     ensures refused { IfErr result (IsRefusedWave catalog.now (kept state.now) jobs.now) }
 {
+    if jobs.is_empty() {
+        return Ok(Vec::new(alloc));
+    }
     let compute = move |number: usize| -> Result<Pending, MaintFault>
         requires { (number < length jobs.now) × IsStageIn catalog.now (stage.Wave jobs.now) × SourcesAreKnown (kept state.now) jobs.now × AreParts catalog.now state.now }
         ensures added { IfOk result (IsAddedAt catalog.entry.now (kept state.entry.now) jobs.entry.now number) }

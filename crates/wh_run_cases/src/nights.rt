@@ -6,4 +6,5 @@ mod journal;
 mod published;
 mod refusing;
 mod run;
+mod telling;
 mod warehouse;

@@ -134,6 +134,10 @@ impl Refusing {
 impl Publish for Refusing {
     ghost kept = { λ r. r };
 
+    ghost Home = { Unit {0} };
+
+    ghost home = { λ r. tt };
+
     fn publish<R: Wait>(&mut self, _rt: &R, op: Op) -> Result<(), PublishFault> {
         if self.held.is_some() {
             return Err(PublishFault::Held);
@@ -154,7 +158,11 @@ impl Publish for Refusing {
         }
     }
 
+    #[tactic(auto, using(wh_publish::proofs::Idle::idle_ends))]
     fn give_up<R: Wait>(&mut self, _rt: &R) -> Result<Ended, AllocError> {
+        if self.held.is_none() && !self.journal.is_active() {
+            return Ok(Ended::NoneOpen);
+        }
         if self.refusals.is_give_up_refused() {
             return Err(AllocError);
         }

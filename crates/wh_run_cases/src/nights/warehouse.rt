@@ -1,6 +1,7 @@
 //! Warehouses for nights of two tables and the view that joins them.
 
 ghost use Rattle.std.specs.Prelude.{◌≡◌, [], IfOk, IfSome};
+ghost use Rattle.std.specs.List.{All};
 ghost use Rattle.wh_maint.specs.Asked.{AreBags};
 ghost use Rattle.wh_night.specs.Fit.{AreFitTables};
 ghost use Rattle.wh_store.specs.Windows.{Shows, current};
@@ -59,6 +60,7 @@ pub(crate) fn warehouse_of<R: Wait>(
 ) -> Result<Option<(Writer, Vec<Desk>)>, Fail>
     ensures bags { IfOk result (λ made. IfSome made (λ w. AreBags catalog.now (newest_in w.0.ledger))) }
     ensures fit { IfOk result (λ made. IfSome made (λ w. AreFitTables catalog.now (newest_in w.0.ledger))) }
+    ensures same { IfOk result (λ made. IfSome made (λ w. All (λ d. d.book ≡ w.0.book) w.1.items)) }
 {
     match store_of(alloc, catalog, tables)? {
         Some(store) => Ok(open_warehouse(rt, alloc, store, 1).ok()),

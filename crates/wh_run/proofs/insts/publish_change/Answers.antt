@@ -33,6 +33,7 @@ loop-row-preserved g c =
     let after : plain c.put_row.new.page.items ++ rest ≡ kept ++ map f c.loop-row.row-iterator =
     ap (λ ps. ps ++ rest) page ∙ append_assoc kept (f e ∷ []) rest ∙ ap (λ es. kept ++ map f es) (sym it) in
     record {
+      home = c.in_ok-make_room.ensures.home ∙ c.loop-row.invariant.home;
       few =
           let room = c.in_ok-make_room.ensures.room in
           let old = plain_length c.make_room.new.page.items in

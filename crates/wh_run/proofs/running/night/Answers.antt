@@ -26,7 +26,7 @@ use Rattle.wh_run.specs.Underway.{Given, IsRefusedLater, night_of}
 use Rattle.wh_run.proofs.Outs.{if_err, if_ok, if_ok_on}
 use Rattle.wh_night.proofs.NewValues.{ends_in_contents}
 use Rattle.wh_run.proofs.Stages.{comes_first}
-use Rattle.wh_run.proofs.Soundness.{done_bags, done_tables, stays_sound}
+use Rattle.wh_run.proofs.Soundness.{done_bags, done_tables, refused_newest, stays_sound}
 use Rattle.wh_run.proofs.running.night.Goals as goal
 
 -- where nothing stands in its way
@@ -123,6 +123,23 @@ returns-clause-leaves g c =
     let come = comes_first cat list (bag_at newest) (bag_at c.args.changes.now) c.args.options.page_keys k
     (stands_first cat list (bag_at newest) (bag_at c.args.changes.now) c.args.options.page_keys k c.in-Ok-over.ensures.parts.catalogue ok first) in
     if_err _ _ c.run-answer.result (λ f h. (h t refl are come).0) c.run-answer.ensures.refused
+
+pub returns-clause-newest : goal.returns-clause-newest
+returns-clause-newest g c =
+    let cat : CatalogOf = c.args.catalog.now in
+    let list : List Expression = c.args.correct.now.list in
+    let l : Ledger = g.P.Publish.kept c.args.writer.now in
+    let newest : List Bag = newest_in l in
+    let ok : IsCorrect cat.views.children list = subst (λ shape. IsCorrect shape list) c.requires.judged c.strategy.ensures.rules in
+    let same : c.in-Ok.tables.items ≡ newest = c.in-Ok.ensures in
+    let k : Kept = kept c.in-Ok-over.state in
+    let first : IsFirst cat (bag_at newest) (bag_at c.args.changes.now) k = subst (λ ts. IsFirst cat (bag_at ts) (bag_at c.args.changes.now) k) same c.in-Ok-over.ensures.first in
+    let t : Given = record { list = list; tables = bag_at newest; changes = bag_at c.args.changes.now; before = l } in
+    let are : c.as_slice.result.now ≡ stages_of list = c.as_slice.ensures.value ∙ c.in-Ok-waves.ensures.stages in
+    let come = comes_first cat list (bag_at newest) (bag_at c.args.changes.now) c.args.options.page_keys k
+    (stands_first cat list (bag_at newest) (bag_at c.args.changes.now) c.args.options.page_keys k c.in-Ok-over.ensures.parts.catalogue ok first) in
+    refused_newest (tonight cat list l c.args.changes.now c.args.options.page_keys) l (g.P.Publish.kept c.run-answer.new.writer) c.run-answer.result
+    (if_err _ _ c.run-answer.result (λ f h. (h t refl are come).0) c.run-answer.ensures.refused)
 
 pub returns-clause-refused : goal.returns-clause-refused
 returns-clause-refused g c =

@@ -11,6 +11,7 @@ use Rattle.wh_run.proofs.running.through.Goals as goal
 
 pub loop-stage-init : goal.loop-stage-init
 loop-stage-init g c = record {
+  home = refl;
   held = c.requires.held;
   parts = c.requires.parts;
   fit = c.requires.fit;
@@ -34,6 +35,7 @@ loop-stage-preserved g c =
     let here : slice_get stages i ≡ Some x = slice_get_read stages (length stages) i x refl (omega arith) c.stage-item.is in
     let next : take (i + 1) stages ≡ take i stages ++ x ∷ [] = take_next stages i x here in
     record {
+      home = c.in_default.ensures.home ∙ c.loop-stage.invariant.home;
       held = c.in_default.ensures.held;
       parts = c.in_default.ensures.parts;
       fit = c.in_default.ensures.fit;

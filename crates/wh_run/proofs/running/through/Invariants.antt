@@ -8,6 +8,7 @@ use Rattle.wh_run.proofs.running.through.Given as goal
 abbrev pub invariant-loop-stage : goal.invariant-loop-stage
 invariant-loop-stage g l =
     record {
+      home : g.P.Publish.home l.writer ≡ g.P.Publish.home l.fn.writer;
       held : (g.P.Publish.kept l.writer).held ≡ None;
       parts : AreParts l.catalog l.state;
       fit : CanFinish l.catalog (kept l.state);

@@ -15,7 +15,7 @@ pub returns-in-Err-run_wave-clause-refused : goal.returns-in-Err-run_wave-clause
 returns-in-Err-run_wave-clause-refused g c = λ keys place t wave come.
     let n = night_of c.args.catalog.now keys t in
     let x = c.in_default.ensures.stands keys place t wave come.stands in
-    ⊎_elim (λ m. inl m)
+    ⊎_elim (λ m. inl m.0)
     (λ f. first_uncomputed n place c.args.jobs.now wave (kept c.finish_sources.new.state) x.0 c.in_default.ensures.known x.1 c.of_jobs.result f)
     (subst (λ (s : KeptLists). IsRefusedWave c.args.catalog.now (kept s) c.args.jobs.now (Maint c.of_jobs.result)) c.lay_out.ensures.same
     (subst (IsRefusedWave c.args.catalog.now (kept c.lay_out.new.self) c.args.jobs.now) c.of_jobs.ensures c.in-Err-run_wave.ensures.refused))

@@ -1,0 +1,30 @@
+-- What a desk that is told what a writer has published knows of the pages that it was given.
+use Rattle.std.specs.Prelude.{◌≡◌, ◌≤◌, ◌<◌, ℕ, length, Option, Some}
+use mathlib.Core.List.{IsPrefix}
+use Rattle.wh_row.specs.Row.{Row}
+use Rattle.wh_dag.specs.Catalog.{CatalogOf}
+use Rattle.wh_maint.specs.Comp.{bag_at}
+use Rattle.wh_maint.specs.Contents.{AreContents}
+use Rattle.wh_maint.specs.Definition.{graph_of}
+use Rattle.wh_store.specs.Pages.{Contents, Shown, page_of}
+use Rattle.wh_store.specs.Versions.{number, table_in}
+use Rattle.wh_publish.specs.Ledgers.{Ledger, versions_in}
+use Rattle.wh_desk.specs.Desks.{Grows, Reads, Sitting}
+use Rattle.wh_run.specs.Tonight.{IsSound}
+
+-- the desk was told all that is published
+abbrev pub WasTold : Ledger → Sitting → Type 0
+WasTold l d = (l.of ≡ d.of) × IsPrefix l.list d.list
+
+-- the page is one of a view in the contents of a base
+pub record IsOfContents (catalog : CatalogOf) (view : ℕ) (row : Option Row) (limit : ℕ) (page : Shown) : Type 0 where
+  pub contents : Contents
+  pub of_base : AreContents (graph_of catalog) (bag_at contents)
+  pub there : view < length contents
+  pub is : page ≡ page_of (table_in contents view) row limit
+
+-- a page that a desk was given in a session of a version is of the contents of a base, once the desk was told a sound list that has come to that version
+abbrev pub ToldPagesAreOfContents : Type 0
+ToldPagesAreOfContents =
+    (catalog : CatalogOf) (l : Ledger) (before after told : Sitting) (v view limit : ℕ) (row : Option Row) (page : Shown) → IsSound catalog l → v ≤ number (versions_in l.of l.list)
+    → before.session ≡ Some v → Reads before after view row limit page → Grows after told → WasTold l told → IsOfContents catalog view row limit page
