@@ -1,55 +1,75 @@
-"""Copies of tools/ that the nights are run by: as it is, and spoilt in one way each, all of which have to be noticed."""
+"""Copies of tools/ that the nights are run by: as it is, and spoilt in ways each of which has to be noticed."""
 
 import compileall
 import shutil
 import sys
-from pathlib import Path
+from typing import NamedTuple
 
 sys.dont_write_bytecode = True
 from stops_parts.traced import Tool  # noqa: E402
 
-SPOILER = """
-import os, fcntl, shutil
+SPOILER = """import fcntl, os, shutil
 real = {name: getattr(os, name) for name in ("rename", "link", "unlink", "symlink")}
 """
-SPOILT = {
-    "claims by a copy": """
+CLAIMS_BY_A_COPY = """
 def rename(one, other, **more):
-    into_part = "/changes/" in str(one) and ".part/changes" in str(other)
-    return shutil.copyfile(one, other) if into_part else real["rename"](one, other, **more)
+    claims = "/changes/" in str(one) and ".part/changes/" in str(other)
+    return shutil.copyfile(one, other) if claims else real["rename"](one, other, **more)
 os.rename = rename
-""",
-    "turns current before it is decided": """
+"""
+TURNS_EARLY = """
 def rename(one, other, **more):
-    if str(one).endswith(".part") and os.path.basename(os.path.dirname(other)) == "versions":
-        folder = os.path.dirname(os.path.dirname(other))
-        real["symlink"]("versions/" + os.path.basename(other), os.path.join(folder, "early"))
-        real["rename"](os.path.join(folder, "early"), os.path.join(folder, "current"))
+    folder, kind = os.path.split(os.path.dirname(other))
+    if str(one).endswith(".part") and kind == "versions":
+        real["symlink"]("versions/" + os.path.basename(other), folder + "/early")
+        real["rename"](folder + "/early", folder + "/current")
     return real["rename"](one, other, **more)
 os.rename = rename
-""",
-    "does not put back": """
-os.link = lambda one, other, **more: None if "/changes/" in str(other) else real["link"](one, other, **more)
-""",
-    "overwrites as it puts back": """
+"""
+DOES_NOT_PUT_BACK = """
+def link(one, other, **more):
+    return None if "/changes/" in str(other) else real["link"](one, other, **more)
+os.link = link
+"""
+OVERWRITES = """
 def link(one, other, **more):
     if "/changes/" in str(other) and os.path.exists(other):
         real["unlink"](other)
     return real["link"](one, other, **more)
 os.link = link
-""",
-    "takes no lock": """
+"""
+TAKES_NO_LOCK = """
 fcntl.flock = lambda *words: None
-""",
-    "writes into a version": """
+"""
+WRITES_INTO_VERSIONS = """
 def symlink(one, other, **more):
-    for name in os.listdir(os.path.dirname(other) + "/versions"):
-        with open(os.path.join(os.path.dirname(other), "versions", name, "data/orders.csv"), "a") as file:
-            file.write("\\n")
+    versions = os.path.dirname(other) + "/versions"
+    for name in os.listdir(versions):
+        with open(os.path.join(versions, name, "data/orders.csv"), "a") as file:
+            file.write(chr(10))
     return real["symlink"](one, other, **more)
 os.symlink = symlink
-""",
-}
+"""
+
+
+class Spoilt(NamedTuple):
+    """A way in which a tool is spoilt, and what has to show that: what happens to which nights at which of their calls."""
+
+    way: str
+    code: str
+    start: str
+    what: str = "nothing"
+    call: str = ""
+
+
+SPOILT = [
+    Spoilt("claims changes by a copy", CLAIMS_BY_A_COPY, "later night"),
+    Spoilt("turns current before the night is decided", TURNS_EARLY, "later night", "killed", "rename"),
+    Spoilt("does not put changes back", DOES_NOT_PUT_BACK, "refused night"),
+    Spoilt("overwrites as it puts changes back", OVERWRITES, "refused night", "arrivals", "rename"),
+    Spoilt("takes no lock", TAKES_NO_LOCK, "later night", "two nights"),
+    Spoilt("writes into versions", WRITES_INTO_VERSIONS, "later night"),
+]
 
 
 def copied(tools, place, program):
@@ -62,10 +82,10 @@ def copied(tools, place, program):
     return Tool(place / "warehouse", program)
 
 
-def spoilt(tool, place, way):
-    """A copy of a tool that is spoilt in a way."""
+def spoilt(tool, place, code):
+    """A copy of a tool that is spoilt by code which runs before it."""
     shutil.copytree(tool.script.parent, place)
     script = place / "warehouse"
-    first, _, rest = script.read_text().partition("import sys\n")
-    script.write_text(f"{first}import sys\n{SPOILER}{SPOILT[way]}{rest}")
+    first, word, rest = script.read_text().partition("import sys\n")
+    script.write_text(f"{first}{word}{SPOILER}{code}{rest}")
     return Tool(script, tool.program)

@@ -1,11 +1,14 @@
 """What has to hold of a folder, whatever happened to a night of it."""
 
 import os
+import subprocess
+import traceback
 from collections import Counter
 
-from stops_parts.shop import VIEWS, after, base_tables, change_files, changes_in, table, views_of
+from stops_parts.shop import VIEWS, after, base_tables, changes_in, table, views_of
 
-SCRAP = ("*.part", "*.gone", "commit", "before", "versions/*.part", "versions/*.gone")
+SCRAP = ("*.part", "*.gone", "commit", "versions/*.part", "versions/*.gone")
+MANY = 100
 
 
 class Wrong(Exception):
@@ -15,6 +18,21 @@ class Wrong(Exception):
 def demand(holds, text):
     if not holds:
         raise Wrong(text)
+
+
+def judged(name, folder, work):
+    """What work in a folder answers, and what does not hold of it, or None; then the folder is removed."""
+    answer = wrong = None
+    try:
+        answer = work()
+    except Wrong as found:
+        wrong = f"{name}: {found}"
+    except (OSError, LookupError, ValueError, StopIteration) as found:
+        place = traceback.extract_tb(found.__traceback__)[-1]
+        wrong = f"{name}: {found!r} at {place.filename}:{place.lineno}"
+    if not wrong:
+        subprocess.run(["rm", "-rf", folder], check=True)
+    return answer, wrong
 
 
 def contents(folder):
@@ -51,15 +69,17 @@ class Judge:
 
     # ---- at every moment
 
-    def readable(self):
+    def readable(self, nights=1):
         """What a reader sees is a whole version, and where there is none the tables that the folder began with."""
         self.kept()
         self.chained()
-        seen = current(self.folder)
+        seen, there = current(self.folder), versions(self.folder)
         if seen is not None:
-            demand(seen in versions(self.folder), f"current leads to versions/{seen}, which is not there")
-            demand(self.was is None or seen in (self.was, self.was + 1), f"current leads from {self.was} to {seen}")
-        elif self.start.whole and not versions(self.folder):
+            demand(seen in there, f"current leads to versions/{seen}, which is not there")
+            first = -1 if self.was is None else self.was
+            last = max(self.before, default=1) + nights
+            demand(first <= seen <= last, f"current leads from {self.was} to {seen}")
+        elif self.start.whole and not there:
             demand(base_tables(self.folder) == base_tables(self.start.folder), "data/ is not as it was, and there is no version")
 
     def kept(self):
@@ -82,8 +102,7 @@ class Judge:
     def judge_new(self, number, path, known):
         if number == 0:
             demand(any(known[0] == history.first for history in self.start.histories), "versions/0 is not what the folder began with")
-        else:
-            demand(number - 1 in known, f"nothing is known of what versions/{number} came from")
+        elif number - 1 in known:
             changes = changes_in(path / "changes")
             demand(known[number] == after(known[number - 1], changes), f"versions/{number} is not the one before it with its changes")
         if number or (path / "views").is_dir():
@@ -113,7 +132,7 @@ class Judge:
 
     def done(self, given):
         """The folder's nights are done, and nothing of a night that was stopped is left."""
-        self.readable()
+        self.readable(MANY)
         self.placed(given)
         there = versions(self.folder)
         demand(current(self.folder) == max(there), f"current is {current(self.folder)} of {sorted(there)}")

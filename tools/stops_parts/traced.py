@@ -5,6 +5,9 @@ import re
 import shutil
 import signal
 import subprocess
+import sys
+import time
+from collections import Counter
 from pathlib import Path
 from typing import NamedTuple
 
@@ -16,6 +19,7 @@ LINE = re.compile(r"^([a-z0-9_]+)\((.*)$")
 OPENS = ("openat", "open", "creat")
 WRITES = ("O_WRONLY", "O_RDWR", "O_CREAT")
 LONGEST = 60
+TIME = "millisecond"
 
 
 class Place(NamedTuple):
@@ -55,7 +59,7 @@ class Tool:
         self.script, self.program = Path(script), program
 
     def words(self, command, folder, *options):
-        return ["python3", "-S", "-E", self.script, command, folder, *options, "--program", self.program]
+        return [sys.executable, "-S", "-E", self.script, command, folder, *options, "--program", self.program]
 
     def started(self, words):
         return subprocess.Popen(words, stdout=subprocess.PIPE, stderr=subprocess.PIPE, text=True, env=environment())
@@ -82,17 +86,26 @@ def ended(process):
 
 
 def places(tool, folder, options, trace):
-    """The calls by which a night changes the folder, in their order, and how it ended."""
+    """The calls by which a night changes the folder, in their order, and how it ended; without strace the milliseconds that it took."""
+    if not shutil.which("strace"):
+        began = time.monotonic()
+        told = tool.run("night", folder, *options)
+        return [Place(TIME, number) for number in range(int(1000 * (time.monotonic() - began)))], told
     strace = ["strace", "-y", "-s", "0", "-o", trace, "-e", f"trace={known_calls()}"]
     told = tool.run("night", folder, *options, before=strace)
-    counts, found = {}, []
-    for line in Path(trace).read_text(errors="replace").splitlines():
+    return calls_in(Path(trace).read_text(errors="replace"), str(folder)), told
+
+
+def calls_in(trace, folder):
+    """The calls of a trace that change something in a folder."""
+    counts, found = Counter(), []
+    for line in trace.splitlines():
         call = LINE.match(line)
         if call:
-            counts[call[1]] = counts.get(call[1], 0) + 1
-            if changes_something(call[1], line, str(folder)):
-                found.append(Place(call[1], counts[call[1]], line.partition(" = ")[0].replace(str(folder), "").strip()))
-    return found, told
+            counts[call[1]] += 1
+            if changes_something(call[1], line, folder):
+                found.append(Place(call[1], counts[call[1]], line.replace(folder, "").strip()))
+    return found
 
 
 def known_calls():
@@ -114,14 +127,28 @@ def injected(place, what):
 
 def disturbed(tool, folder, options, place, what):
     """A night at one place of which something is done: a signal comes, or the call fails."""
-    return tool.run("night", folder, *options, before=["strace", "-o", "/dev/null", *injected(place, what)])
+    if place.call != TIME:
+        return tool.run("night", folder, *options, before=["strace", "-o", "/dev/null", *injected(place, what)])
+    process = tool.started(tool.words("night", folder, *options))
+    time.sleep(place.nth / 1000)
+    process.send_signal(getattr(signal, f"SIG{what.removeprefix('signal=')}"))
+    return ended(process)
+
+
+def waiting(tool, words, place):
+    """A night that is held up after a place, and whether it came to that."""
+    if place.call != TIME:
+        process = tool.started(["strace", "-D", "-o", "/dev/null", *injected(place, "signal=STOP"), *words])
+    else:
+        process = tool.started(words)
+        time.sleep(place.nth / 1000)
+        process.send_signal(signal.SIGSTOP)
+    return process, os.waitid(os.P_PID, process.pid, os.WSTOPPED | os.WEXITED | os.WNOWAIT).si_code == os.CLD_STOPPED
 
 
 def held_up(tool, folder, options, place, meanwhile, kill):
     """A night that is held up after one place while something else is done, and then goes on or is killed."""
-    words = ["strace", "-D", "-o", "/dev/null", *injected(place, "signal=STOP"), *tool.words("night", folder, *options)]
-    process = tool.started(words)
-    came = os.waitid(os.P_PID, process.pid, os.WSTOPPED | os.WEXITED | os.WNOWAIT).si_code == os.CLD_STOPPED
+    process, came = waiting(tool, tool.words("night", folder, *options), place)
     try:
         if came:
             meanwhile()

@@ -1,17 +1,15 @@
 """One night each, at one place of which something is done to it, and what has to hold then."""
 
-import os
-import shutil
-import signal
 import sys
 from contextlib import contextmanager
+from dataclasses import replace
 from typing import NamedTuple
 
 sys.dont_write_bytecode = True
-from stops_parts.judge import Judge, Wrong, contents, demand  # noqa: E402
+from stops_parts.judge import Judge, Wrong, contents, demand, judged  # noqa: E402
 from stops_parts.shop import Hand  # noqa: E402
 from stops_parts.starts import COMMIT, mended  # noqa: E402
-from stops_parts.traced import disturbed, held_up  # noqa: E402
+from stops_parts.traced import disturbed, held_up, places  # noqa: E402
 
 NIGHTS = 4
 STOPPED = 3
@@ -97,32 +95,90 @@ def keeping(start):
     return ("--keep", str(start.keep)) if start.keep else ()
 
 
-def judge_trial(room, trial):
-    """Does what the trial says, and judges the folder then and after the nights that follow."""
-    tool, start, folder, place = room.tool, room.start, room.folder, trial.place
-    with room.writer():
-        if trial.what == "killed":
-            disturbed(tool, folder, start.options, place, "signal=KILL")
-            room.judge.readable()
-        elif trial.what == "killed after arrivals":
-            held_up(tool, folder, start.options, place, room.arrivals, True)
-            room.judge.readable()
-        elif trial.what in ("arrivals", "a reader beside"):
-            meanwhile = room.arrivals if trial.what == "arrivals" else room.reading
-            told = held_up(tool, folder, start.options, place, meanwhile, False)
-            room.judge.said(told, start.statuses)
-        elif trial.what in SIGNALS:
-            room.was_ended(disturbed(tool, folder, start.options, place, f"signal={trial.what}"))
-        else:
-            room.was_ended(disturbed(tool, folder, start.options, place, f"error={trial.what}"))
-    room.recover()
+def nothing(room, _):
+    """A night to which nothing happens."""
+    told = room.tool.run("night", room.folder, *room.start.options)
+    room.judge.said(told, room.start.statuses)
+    room.was_ended(told)
+
+
+def killed(room, place):
+    disturbed(room.tool, room.folder, room.start.options, place, "signal=KILL")
+    room.judge.readable()
+
+
+def killed_after_arrivals(room, place):
+    held_up(room.tool, room.folder, room.start.options, place, room.arrivals, True)
+    room.judge.readable()
+
+
+def arrivals(room, place):
+    told = held_up(room.tool, room.folder, room.start.options, place, room.arrivals, False)
+    room.judge.said(told, room.start.statuses)
+    room.judge.readable()
+
+
+def a_reader_beside(room, place):
+    told = held_up(room.tool, room.folder, room.start.options, place, room.reading, False)
+    room.judge.said(told, room.start.statuses)
+    room.judge.readable()
+
+
+def sent(signal):
+    return lambda room, place: room.was_ended(disturbed(room.tool, room.folder, room.start.options, place, f"signal={signal}"))
+
+
+def failing(error):
+    return lambda room, place: room.was_ended(disturbed(room.tool, room.folder, room.start.options, place, f"error={error}"))
+
+
+HAPPENS = {
+    "nothing": nothing,
+    "killed": killed,
+    "killed after arrivals": killed_after_arrivals,
+    "arrivals": arrivals,
+    "a reader beside": a_reader_beside,
+} | {signal: sent(signal) for signal in SIGNALS} | {error: failing(error) for error in ERRORS}
+
+
+def hindrances(start, place):
+    """What can happen to a night at a place but that it is killed."""
+    found = ["killed after arrivals", "arrivals", "a reader beside", *SIGNALS]
+    return [Trial(start, what, place) for what in found + (list(ERRORS) if place.call in CAN_FAIL else [])]
 
 
 def tried(tool, trial, folder):
     """What does not hold in a trial, or None."""
-    try:
-        judge_trial(Room(tool, trial.start, folder), trial)
-    except Wrong as wrong:
-        return f"{trial}: {wrong}"
-    shutil.rmtree(folder)
-    return None
+
+    def work():
+        room = Room(tool, trial.start, folder)
+        with room.writer():
+            HAPPENS[trial.what](room, trial.place)
+        room.recover()
+
+    return judged(str(trial), folder, work)[1]
+
+
+def listed(tool, start, folder):
+    """The places of a start's night, and what does not hold when nothing happens to it, or None."""
+    found = []
+
+    def work():
+        room = Room(tool, start, folder)
+        with room.writer():
+            calls, told = places(tool, folder, start.options, folder.with_suffix(".trace"))
+        found.extend(calls)
+        room.judge.said(told, start.statuses)
+        room.was_ended(told)
+        room.recover()
+
+    return found, judged(start.name, folder, work)[1]
+
+
+def stopped(tool, item, folder):
+    """The start of a night that finds one stopped, and newer changes under the names of those that were taken."""
+    start, place = item
+    room = Room(tool, start, folder)
+    disturbed(tool, folder, start.options, place, "signal=KILL")
+    room.hand.put("orders")
+    return replace(start, name=f"{start.name} stopped at {place}", folder=folder, given=room.hand.given, fresh=False)

@@ -1,0 +1,66 @@
+"""Two nights at once over one folder, and nights beside a reader that holds a version."""
+
+import fcntl
+import os
+import sys
+import time
+from random import Random
+
+sys.dont_write_bytecode = True
+from stops_parts.judge import contents, demand, judged, versions  # noqa: E402
+from stops_parts.starts import COMMIT  # noqa: E402
+from stops_parts.traced import ended  # noqa: E402
+from stops_parts.trials import Room  # noqa: E402
+
+LATER = 0.15
+
+
+def raced(tool, item, folder):
+    """Whether two nights met, and what does not hold after them."""
+    start, seed = item
+    return judged(f"two nights at once, {start.name}", folder, lambda: two_nights(Room(tool, start, folder), Random(seed)))
+
+
+def beside_a_reader(tool, start, folder):
+    """What does not hold beside a reader, or None."""
+    return judged(f"beside a reader, {start.name}", folder, lambda: reader_holds(Room(tool, start, folder)))[1]
+
+
+def two_nights(room, source):
+    """Two nights that are started together, with changes that arrive meanwhile at drawn moments."""
+    words = room.tool.words("night", room.folder, *room.start.options)
+    processes = [room.tool.started(words)]
+    time.sleep(source.choice([0, 0, source.uniform(0, LATER)]))
+    processes.append(room.tool.started(words))
+    for view in source.sample(["orders", "orders", "products", "lines"], source.randint(0, 3)):
+        time.sleep(source.uniform(0, LATER))
+        room.hand.put(view)
+    told = [ended(process) for process in processes]
+    statuses = [each.status for each in told]
+    demand(not any("Traceback" in each.told for each in told), f"a traceback: {told[0].told}{told[1].told}")
+    demand(sorted(statuses) in ([0, 0], [0, 6]), f"the statuses are {statuses}: {told[0].told}{told[1].told}")
+    demand(all("process" in each.told for each in told if each.status), "a night that ends for another does not say whose it is")
+    room.judge.readable(len([each for each in told if each.status == 0]))
+    room.recover()
+    return 6 in statuses
+
+
+def reader_holds(room):
+    """A version that a reader holds stays until it is let go."""
+    held = max(versions(room.folder))
+    was = contents(room.folder / f"versions/{held}")
+    handle = os.open(room.folder / "current", os.O_RDONLY | os.O_DIRECTORY)
+    try:
+        fcntl.flock(handle, fcntl.LOCK_SH)
+        for _ in range(2):
+            room.hand.put("orders")
+            told = room.tool.run("night", room.folder, *COMMIT, "--keep", "1")
+            demand(told.status == 0, f"a night beside a reader ends with {told.status}: {told.told}")
+            demand(held in versions(room.folder), "a version that a reader holds is gone")
+            demand(contents(room.folder / f"versions/{held}") == was, "a version that a reader holds is changed")
+    finally:
+        os.close(handle)
+    there = versions(room.folder)
+    demand(sorted(there) == [held, held + 2], f"versions {sorted(there)} are there, and {held} is held")
+    room.recover()
+    demand(held not in versions(room.folder), "a version that nobody holds any more is still there")
