@@ -82,6 +82,12 @@ class Judge:
         elif self.start.whole and not there:
             demand(base_tables(self.folder) == base_tables(self.start.folder), "data/ is not as it was, and there is no version")
 
+    def is_stopped(self):
+        """Whether a night has left something that the next one has to finish or undo."""
+        there = versions(self.folder)
+        behind = bool(there) and current(self.folder) != max(there)
+        return behind or any((self.folder / "versions").glob("*.part"))
+
     def kept(self):
         """Versions that were there are byte for byte as they were, or gone where nights prune."""
         there = versions(self.folder)

@@ -1,15 +1,17 @@
-"""Two nights at once over one folder, and nights beside a reader that holds a version."""
+"""Nights that meet others: a second night, a reader that holds a version, and whoever ends them while the program runs."""
 
 import fcntl
 import os
+import signal
 import sys
 import time
+from pathlib import Path
 from random import Random
 
 sys.dont_write_bytecode = True
 from stops_parts.judge import contents, demand, judged, versions  # noqa: E402
 from stops_parts.starts import COMMIT  # noqa: E402
-from stops_parts.traced import ended  # noqa: E402
+from stops_parts.traced import Tool, ended  # noqa: E402
 from stops_parts.trials import Room  # noqa: E402
 
 LATER = 0.15
@@ -28,10 +30,11 @@ def beside_a_reader(tool, start, folder):
 
 def two_nights(room, source):
     """Two nights that are started together, with changes that arrive meanwhile at drawn moments."""
-    words = room.tool.words("night", room.folder, *room.start.options)
-    processes = [room.tool.started(words)]
-    time.sleep(source.choice([0, 0, source.uniform(0, LATER)]))
-    processes.append(room.tool.started(words))
+    options = [room.start.options, source.choice([room.start.options, room.start.options, ()])]
+    processes = []
+    for each in options:
+        processes.append(room.tool.started(room.tool.words("night", room.folder, *each)))
+        time.sleep(source.choice([0, 0, source.uniform(0, LATER)]))
     for view in source.sample(["orders", "orders", "products", "lines"], source.randint(0, 3)):
         time.sleep(source.uniform(0, LATER))
         room.hand.put(view)
@@ -40,7 +43,7 @@ def two_nights(room, source):
     demand(not any("Traceback" in each.told for each in told), f"a traceback: {told[0].told}{told[1].told}")
     demand(sorted(statuses) in ([0, 0], [0, 6]), f"the statuses are {statuses}: {told[0].told}{told[1].told}")
     demand(all("process" in each.told for each in told if each.status), "a night that ends for another does not say whose it is")
-    room.judge.readable(len([each for each in told if each.status == 0]))
+    room.judge.readable(len(told))
     room.recover()
     return 6 in statuses
 
@@ -64,3 +67,26 @@ def reader_holds(room):
     demand(sorted(there) == [held, held + 2], f"versions {sorted(there)} are there, and {held} is held")
     room.recover()
     demand(held not in versions(room.folder), "a version that nobody holds any more is still there")
+
+
+def ended_while_the_program_runs(tool, item, folder):
+    """What does not hold of a night that a signal ends while it waits for the program, or None."""
+    start, name, group = item
+    return judged(f"SIG{name} while the program runs, {start.name}", folder, lambda: signalled(Room(tool, start, folder), name, group))[1]
+
+
+def signalled(room, name, group):
+    """Sends a signal, to a night alone or to the program as well, as a terminal does."""
+    began, slow = Path(f"{room.folder}.began"), Path(f"{room.folder}.slow")
+    slow.write_text(f'#!/bin/sh\ntouch {began}\nsleep 1\nexec {room.tool.program} "$@"\n')
+    slow.chmod(0o755)
+    process = Tool(room.tool.script, slow).started(Tool(room.tool.script, slow).words("night", room.folder, *room.start.options))
+    while not began.exists() and process.poll() is None:
+        time.sleep(0.01)
+    (os.killpg if group else os.kill)(process.pid, getattr(signal, f"SIG{name}"))
+    told = ended(process)
+    demand(told.status != 0, "the status is 0")
+    room.was_ended(told)
+    demand(len(told.told.splitlines()) == 1, f"not one line: {told.told}")
+    room.judge.undone(room.hand.given)
+    room.recover()

@@ -53,17 +53,17 @@ class Sweep:
         chosen = others + self.drawn(old, ALL if self.kills == ALL else SOME_OLD)
         return self.list_of(chosen)
 
-    def list_of(self, starts):
+    def list_of(self, starts, what="nights to which nothing happens"):
         """Lists the places of nights, to which nothing happens."""
         listings = self.mapped(listed, starts)
         self.places |= {start.name: (start, found) for start, (found, _) in zip(starts, listings)}
-        return Figures("nights to which nothing happens", len(starts), [wrong for _, wrong in listings if wrong])
+        return Figures(what, len(starts), [wrong for _, wrong in listings if wrong])
 
     def list_recoveries(self):
         """Stops nights at the steps by which a folder changes its look, and lists the places of the nights that find that."""
         steps = [(start, place) for name in STOPPED_IN for start, found in [self.places[name]] for place in found if place.call in STEPS]
         chosen = self.drawn(steps, ALL if self.kills == ALL else SOME_STOPPED)
-        return self.list_of(self.mapped(stopped, chosen))
+        return self.list_of(self.mapped(stopped, chosen), "nights that find one stopped")
 
     def all_places(self):
         return [(start, place) for start, found in self.places.values() for place in found]
@@ -83,8 +83,8 @@ class Sweep:
 
     def try_races(self, number):
         """Two nights at once, with seeds of their own, in turns over kinds that a night goes through."""
-        starts = [self.places[name][0] for name in STOPPED_IN]
-        items = [(starts[turn % len(starts)], self.source.random()) for turn in range(number)]
+        starts = [start for start, _ in self.places.values() if start.name in STOPPED_IN or not start.fresh]
+        items = [(self.source.choice(starts), self.source.random()) for _ in range(number)]
         found = self.mapped(races.raced, items)
         met = sum(each is True for each, _ in found)
         return Figures(f"two nights at once ({met} of them met)", number, [wrong for _, wrong in found if wrong])
@@ -92,6 +92,12 @@ class Sweep:
     def try_readers(self):
         found = self.mapped(races.beside_a_reader, [self.places["keeping 1"][0]])
         return Figures("nights beside a reader that holds a version", 1, [wrong for wrong in found if wrong])
+
+    def try_signals(self, names):
+        """Signals that come while the program runs, to the night alone and to both."""
+        items = [(self.places[start][0], name, group) for start in full_disk.KINDS for name in names for group in (False, True)]
+        found = self.mapped(races.ended_while_the_program_runs, items)
+        return Figures("nights that a signal ends while the program runs", len(items), [wrong for wrong in found if wrong])
 
     def try_written_through(self):
         found = self.mapped(written_through.in_order, [self.places[name][0] for name in COMMITTED])

@@ -62,7 +62,7 @@ class Tool:
         return [sys.executable, "-S", "-E", self.script, command, folder, *options, "--program", self.program]
 
     def started(self, words):
-        return subprocess.Popen(words, stdout=subprocess.PIPE, stderr=subprocess.PIPE, text=True, env=environment())
+        return subprocess.Popen(words, stdout=subprocess.PIPE, stderr=subprocess.PIPE, text=True, env=environment(), process_group=0)
 
     def run(self, command, folder, *options, before=()):
         """A command from its beginning to its end."""

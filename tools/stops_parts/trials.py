@@ -11,7 +11,7 @@ from stops_parts.shop import Hand  # noqa: E402
 from stops_parts.starts import COMMIT, mended  # noqa: E402
 from stops_parts.traced import disturbed, held_up, places  # noqa: E402
 
-NIGHTS = 4
+NIGHTS, EACH = 4, 3
 STOPPED = 3
 ERRORS = ("ENOSPC", "EIO")
 CAN_FAIL = "openat write rename link linkat unlink unlinkat mkdir mkdirat rmdir symlink symlinkat fsync fchmod chmod sendfile flock".split()
@@ -61,6 +61,15 @@ class Room:
         demand(told.status in (0, 1, STOPPED), f"lint beside a night ends with {told.status}: {told.told}")
         demand(contents(self.folder) == before, "lint changed the folder")
 
+    def reading_what_is_stopped(self):
+        """A command that reads says that a night was stopped, and changes nothing."""
+        before = contents(self.folder)
+        told = self.tool.run("lint", self.folder)
+        demand("Traceback" not in told.told, f"lint after a kill: {told.told}")
+        demand(contents(self.folder) == before, "lint changed the folder")
+        if self.judge.is_stopped():
+            demand(told.status == STOPPED and "stopped" in told.told, f"lint after a kill says {told.told!r} with {told.status}")
+
     def recover(self):
         """Nights until one goes through, each thing that sends them back put right and a further change put in."""
         self.hand.put("orders")
@@ -105,6 +114,8 @@ def nothing(room, _):
 def killed(room, place):
     disturbed(room.tool, room.folder, room.start.options, place, "signal=KILL")
     room.judge.readable()
+    if place.nth % EACH == 0:
+        room.reading_what_is_stopped()
 
 
 def killed_after_arrivals(room, place):
