@@ -5,7 +5,7 @@ import tomllib
 
 from .finding import Finding, Place, nearest
 from .formulas import MOST, MOST_COLUMNS, NAME, Formulas
-from .toml_places import places
+from .toml_places import places, top_place
 
 FILE = "catalogue.toml"
 OF_BASE, OF_JOINED = ("name", "columns"), ("name", "over", "join", "where", "keep")
@@ -62,15 +62,16 @@ def beyond(value, path=()):
 
 
 class Catalogue:
-    """The views of a catalogue and its findings."""
+    """The views of a catalogue and its findings. What the program passes over is a fault, and where one is lenient a warning."""
 
-    def __init__(self, folder):
-        self.views, self.findings = [], []
+    def __init__(self, folder, lenient=False):
+        self.views, self.findings, self.lenient, self.content = [], [], lenient, b""
         file = folder / FILE
         if not file.is_file():
             self.find(Place(FILE), "there is no catalogue.toml in this folder")
             return
-        text, tables = self.read(file.read_bytes())
+        self.content = file.read_bytes()
+        text, tables = self.read(self.content)
         if tables is None:
             return
         if not isinstance(tables, list) or not all(isinstance(table, dict) for table in tables):
@@ -92,7 +93,10 @@ class Catalogue:
         """The text and its array of views; None for what is no TOML, and False where there is no such array."""
         try:
             text = content.decode()
-            return text, tomllib.loads(text).get("view", False)
+            tables = tomllib.loads(text)
+            for key in tables:
+                self.judge_top(text, key)
+            return text, tables.get("view", False)
         except UnicodeDecodeError as error:
             self.find(Place(FILE, content[: error.start].count(b"\n") + 1), "this line is not UTF-8")
         except tomllib.TOMLDecodeError as error:
@@ -107,6 +111,12 @@ class Catalogue:
         lines = text.count("\n") + 1
         place = Place(FILE, int(told[2] or lines), int(told[3] or 1)) if told else Place(FILE)
         self.find(place, f"this is not TOML: {told[1] if told else error}")
+
+    def judge_top(self, text, key):
+        """A key of the catalogue itself."""
+        if key != "view":
+            told = f"{key} is no part of a catalogue, which has [[view]] alone{nearest(key, ['view'])}"
+            self.find(Place(FILE, *top_place(text, key)), told, self.lenient)
 
     # ---- view by view
 
@@ -125,9 +135,9 @@ class Catalogue:
         """A key that is not looked at, and values that the program's TOML has not."""
         what, looked_at = view.kind
         if key not in KEYS:
-            self.find(view.place(key), f"{view.name}: unknown key {key}{nearest(key, KEYS)}", warns=True)
+            self.find(view.place(key), f"{view.name}: unknown key {key}{nearest(key, looked_at)}", self.lenient)
         elif key not in looked_at and not (key == "group" and "keep" in view.table):
-            self.find(view.place(key), f"{view.name} is {what}, whose {key} is not looked at", warns=True)
+            self.find(view.place(key), f"{view.name} is {what}, whose {key} is not looked at; take it out", self.lenient)
         for path, text in beyond(view.table[key]):
             self.find(view.place(key, *path), f"{view.name}: {text}")
 

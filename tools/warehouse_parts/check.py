@@ -2,12 +2,11 @@
 
 from . import program
 from .finding import Failure
-from .folder import BAD_INPUT, sound
+from .folder import sound
 from .planning import parts
 from .sizes import given_text, sized, told_before
+from .status import BAD_INPUT, REFUSED
 from .strategy import FILE, Strategy
-
-BROKEN = 1
 
 
 def strategy_of(folder):
@@ -21,7 +20,7 @@ def strategy_of(folder):
         raise Failure(BAD_INPUT, *strategy.findings)
     broken = strategy.broken()
     if broken:
-        raise Failure(BROKEN, broken)
+        raise Failure(REFUSED, broken)
     return text
 
 
@@ -30,9 +29,6 @@ def run(words):
     given, told = given_text(folder), told_before(folder)
     sizes = sized(told or {view.name: (0, 0, 0) for view in folder.views}) if given is None else given
     text = strategy_of(folder)
-    status, answer = program.run(words.program, "check", parts(folder, sizes, strategy=text), words.through)
-    if status != 0:
-        raise Failure(status, answer.decode().strip())
-    lines = answer.decode().splitlines()
+    lines = program.answer(words.program, "check", parts(folder, sizes, strategy=text), words.through).decode().splitlines()
     print("\n".join(lines if given is not None or told else lines[:1]))
     return 0

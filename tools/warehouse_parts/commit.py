@@ -1,76 +1,95 @@
-"""The steps by which new/ becomes the data, in an order that a stop at any point can be told from.
-
-`commit.part/` is made first, and its rename to `commit/` decides: before it the commit has not been, and what there is of it is taken
-away; from then on it has, and the rest of the steps are done by whoever comes next. Last, `commit/` with what it took the place of
-becomes `before/`.
-"""
+"""A night that is kept: it takes its changes, makes its version beside the others, and one rename decides that it counts."""
 
 import os
-import shutil
 
-from .finding import Failure
-
-PARTS = ("data", "changes", "views")
-BAD_INPUT = 3
-
-
-def settle(folder):
-    """Has all that is in a folder written to the disk."""
-    for path in folder.rglob("*"):
-        handle = os.open(path, os.O_RDONLY)
-        os.fsync(handle)
-        os.close(handle)
+from .carried import carried
+from .catalogue import Catalogue
+from .claim import Claim, put_back
+from .disk import keep, put, remove, sync
+from .finding import Failure, warn
+from .folder import Folder
+from .inputs import Inputs
+from .status import BAD_INPUT, NOT_WRITTEN
+from .takeover import take_over
+from .versions import PART, TURNED, VERSIONS, place, point, prune, turn, whole
 
 
-def prepare(path, bases):
-    """Makes commit.part/ of new/ and report.txt, and decides by its rename."""
-    part = path / "commit.part"
-    for name in (*PARTS, "old"):
-        os.makedirs(part / name)
-    for table in sorted((path / "new").glob("*.csv")):
-        shutil.copyfile(table, part / ("data" if table.stem in bases else "views") / table.name)
-    shutil.copyfile(path / "report.txt", part / "views" / "report.txt")
-    settle(part)
-    os.rename(part, path / "commit")
+def to_take(folder):
+    """The files that the night takes. What is no such file in changes/ or data/ ends the command before anything is moved."""
+    inputs, catalogue = Inputs(folder), Catalogue(folder)
+    faults = [finding for finding in catalogue.findings + inputs.findings(catalogue) if not finding.warns]
+    inputs.state.release()
+    if faults:
+        raise Failure(BAD_INPUT, *faults)
+    return inputs.to_take([view.name for view in catalogue.views if view.is_base])
 
 
-def move(path, name):
-    """Puts one of the decided parts in its place."""
-    coming, going, there = path / "commit" / name, path / "commit" / "old" / name, path / name
-    if not coming.exists():
-        return
-    if there.exists():
-        if going.exists():
-            raise Failure(BAD_INPUT, f"a commit was stopped, and {there} was made since; move it away, it is neither old nor new")
-        os.rename(there, going)
-    os.rename(coming, there)
+def write_version(part, night):
+    """Writes all files of a version. Those that are as in the last one are links to it."""
+    last = night.folder.state.root
+    for kind in ("data", "views"):
+        os.makedirs(part / kind)
+    for view in night.folder.views:
+        file = f"{'data' if view.is_base else 'views'}/{view.name}.csv"
+        put(part / file, night.tables[view.name], last / file)
+    texts = {"strategy.txt": night.chosen.strategy, "plan.txt": night.chosen.plan, "report.txt": night.report}
+    files = {file: text.encode() for file, text in texts.items() if text}
+    for file, content in (files | {"catalogue.toml": night.folder.catalogue.content}).items():
+        put(part / file, content, last / file)
+    if not os.listdir(part / "given"):
+        os.rmdir(part / "given")
+    keep(part)
 
 
-def remove(path):
-    """Removes a folder where there is one."""
-    if path.exists():
-        shutil.rmtree(path)
+def undo(folder, part):
+    """Gives the changes back. Where that cannot be done, the next night does it."""
+    try:
+        remove(folder / TURNED)
+        put_back(folder, part)
+    except OSError as error:
+        warn([f"the changes cannot be put back: {error}; they lie in {part}, and the next night puts them back"])
 
 
-def is_stopped(path):
-    """Whether a commit was begun and is not done."""
-    return (path / "commit.part").exists() or (path / "commit").exists()
+def decided(words, interrupts, number):
+    """Carries the night out up to the rename that decides. Whatever ends it before has the changes put back."""
+    part = words.folder / VERSIONS / f"{number}{PART}"
+    claim = Claim(words.folder, part)
+    try:
+        try:
+            claim.take(to_take(words.folder))
+            night = carried(Folder(words.folder, part), words)
+            write_version(part, night)
+            point(words.folder, number)
+            claim.judge()
+        finally:
+            interrupts.armed = False
+        os.rename(part, place(words.folder, number))
+    except BaseException:
+        undo(words.folder, part)
+        raise
+    night.folder.state.release()
+    return night
 
 
-def finish(path):
-    """Undoes a commit that was not decided, and finishes one that was. Answers what it did, or None where there was none."""
-    undone = (path / "commit.part").exists()
-    remove(path / "commit.part")
-    if not (path / "commit").exists():
-        return "a commit that was stopped is undone" if undone else None
-    for name in PARTS:
-        move(path, name)
-    remove(path / "new")
-    remove(path / "before")
-    os.rename(path / "commit", path / "before")
-    return "a commit that was stopped is finished"
+def finish(words, number):
+    """Turns `current`, and removes what is no more wanted. The night counts, whatever comes between."""
+    steps = [lambda: sync(words.folder / VERSIONS), lambda: turn(words.folder), lambda: remove(words.folder / "new")]
+    if words.keep:
+        steps.append(lambda: prune(words.folder, words.keep))
+    errors = []
+    for step in steps:
+        try:
+            step()
+        except OSError as error:
+            errors.append(error)
+    if errors:
+        raise Failure(NOT_WRITTEN, f"the night is done and is version {number}, but {errors[0]}; the next night sees to it")
 
 
-def commit(path, bases):
-    prepare(path, bases)
-    finish(path)
+def commit(words, interrupts):
+    """A night that is kept. Answers its report."""
+    take_over(words.folder, interrupts)
+    number = whole(words.folder)[-1] + 1
+    night = decided(words, interrupts, number)
+    finish(words, number)
+    return night.report

@@ -6,8 +6,7 @@ import sys
 from collections import Counter
 
 from .finding import Failure
-
-BAD_INPUT = 3
+from .status import BAD_INPUT
 
 
 def exported(path):

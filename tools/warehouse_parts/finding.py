@@ -1,5 +1,6 @@
 """What is found in a folder: where, and what is wrong there."""
 
+import sys
 from difflib import get_close_matches
 from typing import NamedTuple
 
@@ -27,6 +28,12 @@ class Finding(NamedTuple):
 
     def __str__(self):
         return f"{self.place.file}:{self.place.line}:{self.place.column}: {'warning: ' if self.warns else ''}{self.text}"
+
+
+def warn(lines):
+    """Tells what does not end a command."""
+    for line in lines:
+        print(line, file=sys.stderr)
 
 
 class Failure(Exception):

@@ -4,7 +4,7 @@ from .explain import steps
 from .folder import sound
 from .finding import Failure
 from .layers import Layers
-from .planning import BUDGET_SPENT
+from .status import SPENT
 
 # A letter's width, of a font in which all have the same, over its size.
 LETTER = 0.62
@@ -135,7 +135,7 @@ def drawn(words):
     try:
         return steps(words)
     except Failure as failure:
-        if failure.status != BUDGET_SPENT:
+        if failure.status != SPENT:
             raise
         return sound(words.folder), []
 

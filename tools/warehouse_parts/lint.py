@@ -2,8 +2,10 @@
 
 import sys
 
-from .folder import BAD_INPUT, Folder
+from .folder import Folder
 from .given_sizes import GivenSizes
+from .limits import after, sizes_after
+from .status import BAD_INPUT, DONE
 from .strategy import FILE, Strategy
 
 
@@ -17,8 +19,9 @@ def strategy_findings(folder):
 
 
 def run(words):
-    folder = Folder(words.folder)
-    findings = sorted(folder.findings + strategy_findings(folder) + GivenSizes(folder.path, folder.views).findings)
-    for finding in findings:
+    folder = Folder(words.folder, lenient=words.lenient)
+    findings = folder.findings + strategy_findings(folder) + GivenSizes(folder.path, folder.views).findings
+    findings += after(sizes_after(folder))
+    for finding in sorted(findings):
         print(finding, file=sys.stderr)
-    return 0 if all(finding.warns for finding in findings) else BAD_INPUT
+    return DONE if all(finding.warns for finding in findings) else BAD_INPUT

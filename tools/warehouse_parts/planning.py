@@ -2,33 +2,24 @@
 
 from . import program
 from .bundle import part
-from .finding import Failure
 from .sizes import sizes_text
-
-BUDGET_SPENT = 4
 
 
 def parts(folder, sizes, **more):
     """The bundle of the catalogue, the sizes and other parts."""
-    catalogue = part("catalogue", (folder.path / "catalogue.toml").read_bytes())
+    catalogue = part("catalogue", folder.catalogue.content)
     return b"".join([catalogue, part("sizes", sizes.encode()), *(part(name, text.encode()) for name, text in more.items())])
 
 
 def planned(folder, words, options=()):
     """The plan's text, and from where its sizes are."""
     sizes, source = sizes_text(folder, words)
-    status, answer = program.run(words.program, "plan", parts(folder, sizes), options)
-    if status != 0:
-        raise Failure(status, answer.decode().strip())
-    return answer.decode(), sizes, source
+    return program.answer(words.program, "plan", parts(folder, sizes), options).decode(), sizes, source
 
 
 def certified(folder, words, plan, sizes, options=()):
     """What the program says of a plan."""
-    status, answer = program.run(words.program, "certify", parts(folder, sizes, plan=plan), options)
-    if status != 0:
-        raise Failure(status, answer.decode().strip())
-    return answer.decode().strip()
+    return program.answer(words.program, "certify", parts(folder, sizes, plan=plan), options).decode().strip()
 
 
 def strategy_of(plan):

@@ -5,21 +5,21 @@ import io
 import re
 from collections import Counter
 
+from .bundle import merged
 from .finding import Finding, Place
 
 NUMBER = re.compile(r"[+-]?[0-9]+")
 MOST = 2**63
-# A cell may be as long as an input.
-csv.field_size_limit(2**26)
 
 
 class Records:
     """The rows of a table or of changes, how often each stands in it, the line of each one's first record, and the findings."""
 
-    def __init__(self, folder, file, view, are_changes):
-        self.file, self.view, self.are_changes = file, view, are_changes
+    def __init__(self, source, view, are_changes):
+        self.file, self.view, self.are_changes = source.told, view, are_changes
         self.rows, self.lines, self.findings, self.begun = Counter(), {}, [], []
-        content = (folder / file).read_bytes().removeprefix(b"\xef\xbb\xbf")
+        self.content = source.path.read_bytes()
+        content = self.content.removeprefix(b"\xef\xbb\xbf")
         try:
             self.text = content.decode()
         except UnicodeDecodeError as error:
@@ -100,6 +100,28 @@ class Records:
         return line, column
 
 
+class Changes:
+    """The changes of a base view: those of one file or several, whose rows add up."""
+
+    def __init__(self, sources, view):
+        self.view, self.files, self.rows = view, [Records(source, view, True) for source in sources], Counter()
+        for records in self.files:
+            self.rows.update(records.rows)
+
+    @property
+    def findings(self):
+        return [finding for records in self.files for finding in records.findings]
+
+    @property
+    def content(self):
+        """What a bundle has of them, where they have no fault."""
+        return merged([records.content for records in self.files])
+
+    def place(self, row):
+        """Where a row stands first."""
+        return next(Place(records.file, records.lines[row]) for records in self.files if row in records.lines)
+
+
 def shown(row):
     """A row as a CSV file has it, without a line's end."""
     written = io.StringIO()
@@ -120,8 +142,8 @@ def absent(data, changes):
     """A finding for each row of changes of which more leave than there are."""
     found = []
     for row, count in changes.rows.items():
-        there = data.rows[row] if data else 0
+        there = data.rows[row]
         if there + count < 0:
-            text = f"{-count} of {shown(row)} leave, and data/{changes.view.name}.csv has {there}"
-            found.append(Finding(Place(changes.file, changes.lines[row]), text))
+            text = f"{-count} of {shown(row)} leave, and {data.file} has {there}"
+            found.append(Finding(changes.place(row), text))
     return found

@@ -3,13 +3,13 @@
 import sys
 
 from . import program
-from .bundle import part, unpack
+from .bundle import unpack
 from .finding import Failure
-from .folder import BAD_INPUT, sound
+from .folder import sound
 from .given_sizes import FILE, GivenSizes
+from .status import BAD_INPUT
 from .strategy import at_once, written
 
-REPORT = "views/report.txt"
 HEADER = "view,pre,post,change"
 
 
@@ -23,22 +23,27 @@ def base_sizes(folder):
     found = {}
     for view in folder.views:
         if view.is_base:
-            before = folder.data[view.name].rows.total() if view.name in folder.data else 0
+            before = folder.data[view.name].rows.total()
             changes = folder.changes[view.name].rows.values() if view.name in folder.changes else ()
             found[view.name] = (before, before + sum(changes), sum(map(abs, changes)))
     return found
 
 
 def of_report(text):
-    """The sizes that a report tells."""
+    """The sizes that a text ends with."""
     lines = text.partition(f"{HEADER}\n")[2].splitlines()
     return {name: tuple(map(int, numbers)) for name, *numbers in (line.split(",") for line in lines)}
 
 
+def last_report(folder):
+    """The sizes that the last report tells, or none."""
+    file = folder.state.report
+    return of_report(file.read_text()) if file.is_file() else {}
+
+
 def told_before(folder):
     """Sizes from the last report: derived views change as they did then, by as much more as the base views do. None without one."""
-    file = folder.path / REPORT
-    last = of_report(file.read_text()) if file.is_file() else {}
+    last = last_report(folder)
     if set(last) != {view.name for view in folder.views}:
         return None
     found = base_sizes(folder)
@@ -48,15 +53,6 @@ def told_before(folder):
             pre, change = last[view.name][1], -(-last[view.name][2] * now // max(then, 1))
             found[view.name] = (pre, pre, change)
     return {view.name: found[view.name] for view in folder.views}
-
-
-def bundle_of(folder, strategy, with_changes=True):
-    """The bundle of one night with this strategy."""
-    files = [("catalogue", "catalogue.toml")]
-    for kind, kept in (("data", folder.data), ("changes", folder.changes)):
-        files += [(f"{kind} {name}", f"{kind}/{name}.csv") for name in kept if kind == "data" or with_changes]
-    parts = [part(heading, (folder.path / file).read_bytes()) for heading, file in files]
-    return b"".join([*parts, part("strategy", strategy.encode())])
 
 
 def counted(table):
@@ -84,23 +80,17 @@ def of_night(folder, answer, before):
 
 def rows_before(folder, words):
     """How many rows each derived view has before the night: the last report says it, or a night without changes."""
-    file = folder.path / REPORT
-    last = of_report(file.read_text()) if file.is_file() else {}
+    last = last_report(folder)
     derived = [view.name for view in folder.views if not view.is_base]
     if all(name in last for name in derived):
         return {name: last[name][1] for name in derived}
-    status, answer = program.run(words.program, "night", bundle_of(folder, written(at_once(folder.views)), False))
-    if status != 0:
-        raise Failure(status, answer.decode(errors="replace").strip())
+    answer = program.night(folder, words, written(at_once(folder.views)), with_changes=False)
     return {name: counted(table) for name, table in unpack(answer).items()}
 
 
 def measured(folder, words):
     """Sizes by a night that is carried out and not kept."""
-    status, answer = program.run(words.program, "night", bundle_of(folder, written(at_once(folder.views))))
-    if status != 0:
-        raise Failure(status, answer.decode(errors="replace").strip())
-    return of_night(folder, answer, rows_before(folder, words))
+    return of_night(folder, program.night(folder, words, written(at_once(folder.views))), rows_before(folder, words))
 
 
 def given_text(folder):

@@ -92,6 +92,15 @@ def entry(found):
     return key.text.strip("\"'"), KeyPlaces(key[2:], spot(found))
 
 
+def top_place(text, key):
+    """The place of a key of the catalogue itself, or of the first heading of a table of this name."""
+    for statement in filter(None, statements(text)):
+        words = [token.text.strip("\"'") for token in statement if not is_mark(token, "[")]
+        if words[0].partition(".")[0] == key:
+            return statement[0][2:]
+    return 1, 1
+
+
 def places(text):
     """Of each view the place of its heading, and its keys by name."""
     found = []

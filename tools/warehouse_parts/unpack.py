@@ -8,8 +8,7 @@ import sys
 
 from .bundle import unpack
 from .finding import Failure
-
-NO_TABLES = 3
+from .status import BAD_INPUT
 
 
 def said_instead(answer):
@@ -22,7 +21,7 @@ def run(words):
     answer = sys.stdin.buffer.read()
     tables = unpack(answer)
     if not tables:
-        raise Failure(NO_TABLES, said_instead(answer))
+        raise Failure(BAD_INPUT, said_instead(answer))
     words.folder.mkdir(parents=True, exist_ok=True)
     for view, table in tables.items():
         (words.folder / f"{view}.csv").write_bytes(table)

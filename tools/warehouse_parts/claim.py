@@ -1,0 +1,126 @@
+"""What a night takes for its own: files of changes/, and tables of data/ that no version has. What it is given back as never lies
+over another file.
+"""
+
+import fcntl
+import os
+import re
+
+from .disk import NO_LINKS, remove, sync, writable
+from .finding import Failure
+from .status import AT_WORK
+
+# The folders of a version that is being made, and where their files come from.
+HOMES = {"changes": "changes", "given": "data"}
+
+
+def is_being_written(file):
+    """Whether a process has a file open for writing, as far as the file system can tell."""
+    handle = os.open(file, os.O_RDONLY)
+    try:
+        fcntl.fcntl(handle, fcntl.F_SETLEASE, fcntl.F_RDLCK)
+        fcntl.fcntl(handle, fcntl.F_SETLEASE, fcntl.F_UNLCK)
+    except BlockingIOError:
+        return True
+    except OSError:
+        pass
+    finally:
+        os.close(handle)
+    return False
+
+
+def look(file):
+    """By what a file that was written meanwhile is told."""
+    found = file.stat()
+    return found.st_ino, found.st_size, found.st_mtime_ns
+
+
+class Claim:
+    """The files that a night took, in the folder where its version is made."""
+
+    def __init__(self, folder, part):
+        self.folder, self.part, self.looks = folder, part, {}
+
+    def take(self, sources):
+        """Moves the files, each by a rename, and judges that none is being written."""
+        for kind in HOMES:
+            os.makedirs(self.part / kind)
+        for kind, source in sources:
+            self.move(source, self.part / kind / source.path.name)
+        for file, (source, _) in self.looks.items():
+            if is_being_written(file):
+                raise self.written(source)
+
+    def move(self, source, to):
+        """Moves one file; another that was removed meanwhile is none of this night's."""
+        try:
+            os.rename(source.path, to)
+        except FileNotFoundError:
+            return
+        self.looks[to] = source, look(to)
+
+    def judge(self):
+        """Judges that no file was written since it was taken."""
+        for file, (source, first) in self.looks.items():
+            if look(file) != first:
+                raise self.written(source)
+
+    def written(self, source):
+        return Failure(AT_WORK, f"{source.told} is still being written; put a file in by a rename")
+
+
+def put_back(folder, part):
+    """Undoes a night: the files that it took go back, and what it made is removed."""
+    for kind, home in HOMES.items():
+        if (part / kind).is_dir():
+            files_back(part / kind, folder / home)
+    remove(part)
+
+
+def files_back(taken, home):
+    """Gives all files of a folder back. Each stands in both places before it leaves the one."""
+    files = sorted(taken.iterdir())
+    if files:
+        os.makedirs(home, exist_ok=True)
+    for file in files:
+        give_back(file, home)
+    if files:
+        sync(home)
+    for file in files:
+        file.unlink(missing_ok=True)
+    os.rmdir(taken)
+
+
+def give_back(file, home):
+    """Links a file under its name, or where that is taken under the next free one. It may be there already."""
+    writable(file)
+    if is_there(file, home):
+        return
+    for name in names(file.name):
+        try:
+            os.link(file, home / name)
+            return
+        except FileExistsError:
+            continue
+        except OSError as error:
+            if error.errno not in NO_LINKS:
+                raise
+        if not os.path.lexists(home / name):
+            os.rename(file, home / name)
+            return
+
+
+def is_there(file, home):
+    """Whether a file stands in a folder, under whatever name."""
+    one = file.stat()
+    with os.scandir(home) as entries:
+        return any(os.path.samestat(one, entry.stat(follow_symlinks=False)) for entry in entries)
+
+
+def names(name):
+    """A name, and those that stand for it where it is taken: NAME.1.csv, NAME.2.csv and so on."""
+    yield name
+    stem, number = re.sub(r"(\.[0-9]+)?\.csv$", "", name), 0
+    while True:
+        number += 1
+        yield f"{stem}.{number}.csv"

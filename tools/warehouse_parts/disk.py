@@ -1,0 +1,67 @@
+"""Files that are to stay: written through to the disk, made read-only, linked, removed."""
+
+import errno
+import os
+import shutil
+from contextlib import contextmanager
+
+# What a file system says that has no hard links, or not this one.
+NO_LINKS = (errno.EPERM, errno.EOPNOTSUPP, errno.ENOSYS, errno.EMLINK, errno.EXDEV)
+READ_BITS, OWNER_WRITES = 0o444, 0o200
+
+
+@contextmanager
+def telling(path):
+    """Has an error of the system tell the file that it is of."""
+    try:
+        yield
+    except OSError as error:
+        raise OSError(error.errno, error.strerror, str(path)) from error
+
+
+def sync(path):
+    """Has a file, or the names in a folder, written to the disk."""
+    with telling(path):
+        handle = os.open(path, os.O_RDONLY)
+        try:
+            os.fsync(handle)
+        finally:
+            os.close(handle)
+
+
+def write(file, content):
+    with telling(file):
+        file.write_bytes(content)
+
+
+def keep(folder):
+    """Makes all files in a folder read-only, and has it written to the disk with all that is in it."""
+    for path in sorted(folder.rglob("*")):
+        if not path.is_dir():
+            os.chmod(path, path.stat().st_mode & READ_BITS)
+        sync(path)
+    sync(folder)
+
+
+def writable(file):
+    os.chmod(file, file.stat().st_mode & 0o777 | OWNER_WRITES)
+
+
+def put(file, content, like):
+    """Writes a file: as a hard link to the one that it is like, where that has the same bytes and can be linked."""
+    if like.is_file() and like.stat().st_size == len(content) and like.read_bytes() == content:
+        try:
+            os.link(like, file)
+            return
+        except OSError as error:
+            if error.errno not in NO_LINKS:
+                raise
+    write(file, content)
+
+
+def remove(path):
+    """Removes a file, a link or a folder, where it is there."""
+    if path.is_dir() and not path.is_symlink():
+        shutil.rmtree(path)
+    else:
+        path.unlink(missing_ok=True)

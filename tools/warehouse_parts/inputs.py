@@ -1,0 +1,110 @@
+"""The files that a night reads: the tables that it starts from, and its changes; and files beside them that nothing reads."""
+
+import re
+from typing import NamedTuple
+
+from .finding import Finding, Place, nearest
+from .versions import State
+
+TABLE, CHANGES = re.compile(r"(.+)\.csv"), re.compile(r"([A-Za-z_][A-Za-z0-9_]*)(?:\.([1-9][0-9]*))?\.csv")
+FORMS = {"data": "NAME.csv", "changes": "NAME.csv, NAME.1.csv, NAME.2.csv and so on"}
+
+
+class Source(NamedTuple):
+    """A file that is read: where it lies, and the name by which it is told."""
+
+    path: object
+    told: str
+
+
+def entries(folder):
+    """What lies in a folder, but for what is hidden."""
+    return sorted(path for path in folder.glob("*") if not path.name.startswith(".")) if folder.is_dir() else []
+
+
+def by_view(folder, told, form):
+    """The files of this form, by the name of the view that they are of; those of one view in the order of their numbers."""
+    found = []
+    for path in entries(folder):
+        match = form.fullmatch(path.name)
+        if match and path.is_file():
+            number = int(match[2] or 0) if form.groups > 1 else 0
+            found.append((match[1], number, Source(path, f"{told}/{path.name}")))
+    listed = {}
+    for name, _, source in sorted(found):
+        listed.setdefault(name, []).append(source)
+    return listed
+
+
+class Inputs:
+    """The files of a folder's next night. A night that is under way has taken them to where its version is made."""
+
+    def __init__(self, folder, part=None):
+        self.folder, self.state = folder, State(folder)
+        self.changes_folder = part / "changes" if part else folder / "changes"
+        self.changes = by_view(self.changes_folder, "changes", CHANGES)
+        self.carried = {name: sources[0] for name, sources in by_view(self.state.root / "data", self.state.told, TABLE).items()}
+        self.given = {}
+        if self.state.number is not None:
+            self.given = {name: each[0] for name, each in by_view(part / "given" if part else folder / "data", "data", TABLE).items()}
+
+    def table(self, name):
+        """The table of a base view, or None."""
+        return self.carried.get(name) or self.given.get(name)
+
+    def to_take(self, bases):
+        """What a night of these base views takes: all files of changes, and the tables that no version has."""
+        changes = [("changes", source) for name in bases for source in self.changes.get(name, ())]
+        return changes + [("given", self.given[name]) for name in bases if name in self.given and name not in self.carried]
+
+    def sizes(self):
+        """How large each file is that a bundle has as it is."""
+        single = [sources[0] for sources in self.changes.values() if len(sources) == 1]
+        return {source.told: source.path.stat().st_size for source in [*self.carried.values(), *self.given.values(), *single]}
+
+    # ---- what is not read
+
+    def findings(self, catalogue):
+        """Files of data/ and changes/ that nothing reads, and tables that no night carries on."""
+        bases = [view.name for view in catalogue.views if view.is_base]
+        found = []
+        for kind, form in (("data", TABLE), ("changes", CHANGES)):
+            for path in entries(self.folder / kind):
+                found += filter(None, [self.judge(kind, form, path, bases, catalogue.names)])
+        for name in self.carried if self.state.number is not None and bases else ():
+            if name not in bases:
+                text = f"{name} is no base view; its table stays in {self.state.told.removesuffix('/data')} and is not carried on"
+                found.append(Finding(Place(self.carried[name].told), text, True))
+        return found
+
+    def judge(self, kind, form, path, bases, names):
+        """What is wrong with a file of `data` or `changes`, or None."""
+        place, match = Place(f"{kind}/{path.name}"), form.fullmatch(path.name)
+        if not match or not path.is_file():
+            is_file = path.is_file() or path.is_symlink()
+            near = nearest(path.name, [f"{name}.csv" for name in bases])
+            text = f"this {'file' if is_file else 'folder'} is not read; {kind}/ has files {FORMS[kind]} alone{near}; move it away"
+            return Finding(place, text)
+        if match[1] not in bases:
+            return Finding(place, stranger(match[1], bases, names)) if names else None
+        if path.is_symlink() and not (kind == "data" and self.state.number is None):
+            return Finding(place, "this is a link, and a night takes the file itself; put the file in")
+        if kind == "data" and self.state.number is not None and match[1] in self.carried:
+            return self.second(place, path, self.carried[match[1]])
+        return None
+
+    def second(self, place, path, carried):
+        """A table in data/ of a view whose table is the version's; one of the same bytes does no harm."""
+        if path.read_bytes() == carried.path.read_bytes():
+            return None
+        return Finding(place, f"{place.file} is not looked at: the table of {path.stem} is {carried.told}; move it away")
+
+
+def stranger(name, bases, names):
+    """What is wrong with a file whose name is no base view's."""
+    if name in names:
+        return f"{name} is derived; only base views have data and changes"
+    for base in bases:
+        if base.lower() == name.lower():
+            return f"there is no view {name}; {base} differs in case alone"
+    return f"there is no view {name}{nearest(name, bases)}"

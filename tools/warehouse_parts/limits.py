@@ -1,0 +1,71 @@
+"""How large the input of the program may be, and what is told where a folder is larger or comes near to it."""
+
+from .finding import Failure, Finding, Place
+from .records import table_text
+from .status import BAD_INPUT
+
+MOST, LARGEST = 2**26, 3
+CURE = "put numbers in the place of long texts, have fewer columns, or keep the facts of several years in folders of their own"
+# Above which part of the limit a warning is due; and by how much at most a table may grow when it is written anew.
+NEAR, GROWTH, COUNTED = 9 / 10, 3, 24
+
+
+def over_the_limit(sizes, what="the night's bundle has", so=""):
+    """A finding where what these files make is larger than an input may be."""
+    total = sum(sizes.values())
+    if total <= MOST:
+        return []
+    largest = sorted(sizes, key=lambda file: -sizes[file])[:LARGEST]
+    files = ", ".join(f"{file} ({sizes[file]:,})" for file in largest if sizes[file])
+    text = f"{what} {total:,} bytes, which is {total - MOST:,} more than the {MOST:,} that the program takes{so}"
+    return [Finding(Place(largest[0]), f"{text}; the largest are {files}; {CURE}")]
+
+
+def part_size(heading, content):
+    """How long a part of a bundle is."""
+    ended = not content or content.endswith(b"\n")
+    return len(heading) + 2 + len(content) + (0 if ended else 1) + content.count(b"\n@") + content.startswith(b"@")
+
+
+def bundle_sizes(folder):
+    """How much of a night's bundle each file takes."""
+    found = {"catalogue.toml": part_size("catalogue", folder.catalogue.content)}
+    for name, records in folder.data.items():
+        found[records.file] = part_size(f"data {name}", records.content)
+    for name, changes in folder.changes.items():
+        if not changes.findings:
+            found[changes.files[0].file] = part_size(f"changes {name}", changes.content)
+    return found
+
+
+def judge(bundle):
+    """Refuses a bundle that the program would not take."""
+    found = over_the_limit({"catalogue.toml": len(bundle)})
+    if found:
+        raise Failure(BAD_INPUT, *found)
+
+
+def sizes_after(folder):
+    """How much the base tables and the catalogue take after the night, where that can come near to the limit; else nothing."""
+    read = [*folder.data.values(), *(records for changes in folder.changes.values() for records in changes.files)]
+    if GROWTH * sum(len(records.content) for records in read) + COUNTED * sum(len(records.rows) for records in read) < NEAR * MOST:
+        return {}
+    tables = {view.name: table_text(view.columns, folder.rolled(view)) for view in folder.bases if view.name in folder.data}
+    return table_sizes(folder, tables)
+
+
+def table_sizes(folder, tables):
+    """How much these tables of base views and the catalogue take in the bundle of the next night."""
+    found = {f"data/{view.name}.csv": part_size(f"data {view.name}", tables[view.name]) for view in folder.bases if view.name in tables}
+    return found | {"catalogue.toml": part_size("catalogue", folder.catalogue.content)}
+
+
+def after(sizes):
+    """A fault where the folder could not be read again after this night, and a warning where it comes near to that."""
+    what = "after this night the base tables and the catalogue have"
+    found = over_the_limit(sizes, what, ", so that no further night could read them")
+    total = sum(sizes.values())
+    if not found and total >= NEAR * MOST:
+        text = f"{what} {total:,} bytes, and the program takes {MOST:,} at most; {CURE}"
+        found = [Finding(Place(max(sizes, key=sizes.get)), text, True)]
+    return found

@@ -1,0 +1,71 @@
+"""One night at a time: the lock of a folder, and who holds it."""
+
+import fcntl
+import os
+import socket
+import sys
+import time
+
+from .finding import Failure
+from .status import AT_WORK
+
+FILE = ".lock"
+# A command that looks whether a night is at work holds the lock for a moment.
+TRIES, PAUSE = 20, 0.01
+
+
+def taken(handle, kind):
+    """Whether the lock could be taken."""
+    try:
+        fcntl.flock(handle, kind | fcntl.LOCK_NB)
+    except BlockingIOError:
+        return False
+    return True
+
+
+def told(folder, handle):
+    """Who is at work in a folder, by what stands in the file that is locked."""
+    holder = os.pread(handle, 4096, 0).decode(errors="replace").partition("\n")[0]
+    return f"a night is at work in {folder}{f': {holder}' if holder else ''}"
+
+
+def at_work(folder):
+    """Who is at work in a folder, or None where nobody is."""
+    try:
+        handle = os.open(folder / FILE, os.O_RDONLY)
+    except FileNotFoundError:
+        return None
+    try:
+        return None if taken(handle, fcntl.LOCK_SH) else told(folder, handle)
+    finally:
+        os.close(handle)
+
+
+class Lock:
+    """A folder is this night's alone. The system frees the lock when the process ends, however it ends."""
+
+    def __init__(self, folder):
+        self.folder = folder
+
+    def __enter__(self):
+        self.handle = os.open(self.folder / FILE, os.O_RDWR | os.O_CREAT, 0o644)
+        if not self.is_taken():
+            who = told(self.folder, self.handle)
+            os.close(self.handle)
+            raise Failure(AT_WORK, f"{who}; try again when it has ended")
+        since = time.strftime("%Y-%m-%d %H:%M:%S")
+        about = f"process {os.getpid()} on host {socket.gethostname()} since {since}\n{' '.join(sys.argv)}\n"
+        os.ftruncate(self.handle, 0)
+        os.pwrite(self.handle, about.encode(errors="replace"), 0)
+        return self
+
+    def is_taken(self):
+        """Tries for a moment."""
+        for _ in range(TRIES):
+            if taken(self.handle, fcntl.LOCK_EX):
+                return True
+            time.sleep(PAUSE)
+        return False
+
+    def __exit__(self, *_):
+        os.close(self.handle)

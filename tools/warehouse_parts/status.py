@@ -1,0 +1,7 @@
+"""The statuses of the commands: those of the program, and two of the tool's own."""
+
+DONE, REFUSED, BAD_WORDS, BAD_INPUT, SPENT, NOT_WRITTEN = range(6)
+# Somebody else is at work in the folder; and the program gave no answer that is one of its own.
+AT_WORK, NO_ANSWER = 6, 70
+# What a command that a signal ends has, with the signal's number added.
+SIGNALLED = 128

@@ -1,0 +1,37 @@
+"""What a night that was stopped has left, told from what is there; the next night finishes or undoes it."""
+
+from .claim import put_back
+from .disk import remove, sync
+from .versions import GONE, PART, TURNED, VERSIONS, ending, named, point, turn, whole
+
+FINISHED = "a night that was stopped is finished"
+UNDONE = "a night that was stopped is undone; its changes lie in changes/ again"
+
+
+def is_behind(folder):
+    """Whether a version that counts is newer than the one that `current` names."""
+    found, current = whole(folder), named(folder)
+    return bool(found) and (current is None or found[-1] > current)
+
+
+def is_stopped(folder):
+    """Whether a night was begun and is neither finished nor undone."""
+    return is_behind(folder) or bool(ending(folder, PART))
+
+
+def settle(folder):
+    """Finishes a night that was decided, undoes one that was not, and says so."""
+    said = []
+    remove(folder / TURNED)
+    for scrap in [*ending(folder, GONE), folder / "new.part", folder / "new.old"]:
+        remove(scrap)
+    if is_behind(folder):
+        sync(folder / VERSIONS)
+        point(folder, whole(folder)[-1])
+        turn(folder)
+        remove(folder / "new")
+        said.append(FINISHED)
+    for part in ending(folder, PART):
+        put_back(folder, part)
+        said.append(UNDONE)
+    return said

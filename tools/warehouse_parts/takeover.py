@@ -1,0 +1,213 @@
+"""A folder as it was before there were versions, taken over by its first night that is kept.
+
+Its tables, and those of the nights before that it still has, become versions; one rename of versions.part/ decides. What there was is
+removed where a version has the same bytes. A commit that was stopped then stands in commit/, and counts: `data`, `changes` and `views`
+were moved in this order, each from the folder to commit/old/ and from commit/ to the folder.
+"""
+
+import os
+import shutil
+from collections import Counter
+from pathlib import Path
+from typing import NamedTuple
+
+from .catalogue import Catalogue
+from .claim import give_back, look
+from .disk import keep, remove, sync
+from .finding import Failure, warn
+from .folder import Folder, judged
+from .inputs import Source, entries
+from .records import Records
+from .status import BAD_INPUT
+from .versions import VERSIONS, named, point, turn, whole
+
+PENDING, SCRAP, BEFORE, MADE = "commit", "commit.part", "before", "versions.part"
+OLD = (BEFORE, PENDING, "views", "report.txt")
+
+
+class Stage(NamedTuple):
+    """What becomes a version: the folders of its data, its views, and the changes that led to it, each of which may be missing."""
+
+    data: Path
+    views: Path
+    changes: object = None
+
+
+def is_pending(folder):
+    """Whether a commit was begun and is not done, by the rules of before there were versions."""
+    return (folder / SCRAP).exists() or (folder / PENDING).exists()
+
+
+def older(folder, name):
+    """Where one of the folders that the pending commit takes the place of is."""
+    moved = folder / PENDING / "old" / name
+    return folder / name if (folder / PENDING / name).exists() and not moved.exists() else moved
+
+
+def newer(folder, name):
+    """Where one of the folders that the pending commit made is."""
+    return folder / PENDING / name if (folder / PENDING / name).exists() else folder / name
+
+
+def stages(folder):
+    """What becomes versions, the oldest first."""
+    before, pending = folder / BEFORE / "old", folder / PENDING
+    found = [Stage(before / "data", before / "views")]
+    if pending.exists():
+        found.append(Stage(older(folder, "data"), older(folder, "views"), before / "changes"))
+    found.append(Stage(newer(folder, "data"), newer(folder, "views"), (pending / "old" if pending.exists() else before) / "changes"))
+    tables = [{path.name for path in entries(stage.data)} for stage in found]
+    # What was being removed when it was stopped has not all tables any more.
+    return [stage for stage, there in zip(found, tables) if there and there >= tables[-1]] or found[-1:]
+
+
+# ---- the changes that a pending commit carried out
+
+
+def rows(folder, name, view):
+    """The rows of a table of before there were versions."""
+    file = folder / f"{view.name}.csv"
+    records = Records(Source(file, name), view, False) if file.is_file() else None
+    if records and records.findings:
+        raise Failure(BAD_INPUT, *records.findings)
+    return records.rows if records else Counter()
+
+
+def difference(folder, view):
+    """The changes of a base view that the pending commit carried out."""
+    after, before = (rows(where, f"{where.name}/{view.name}.csv", view) for where in (newer(folder, "data"), older(folder, "data")))
+    counts = {row: after[row] - before[row] for row in after.keys() | before.keys()}
+    return {row: count for row, count in counts.items() if count}
+
+
+def to_move(folder, view):
+    """The file of changes that the pending commit carried out and did not move away, with its look; None where there is none."""
+    file, moved = folder / "changes" / f"{view.name}.csv", folder / PENDING / "old/changes" / f"{view.name}.csv"
+    if moved.exists() or not file.is_file():
+        return None
+    wanted = difference(folder, view)
+    if not wanted:
+        return None
+    seen, records = look(file), Records(Source(file, f"changes/{view.name}.csv"), view, True)
+    if records.findings or {row: count for row, count in records.rows.items() if count} != wanted:
+        raise Failure(BAD_INPUT, unlike(folder, records.file))
+    return file, moved, seen
+
+
+def unlike(folder, file):
+    told = f"a commit was stopped in {folder}, and {file} is not what it carried out"
+    return f"{told}; move the next changes out of changes/, run `tools/warehouse night {folder} --commit`, and put them back"
+
+
+def move_changes(folder):
+    """Moves away the changes that the pending commit carried out, and those alone. Where others lie among them nothing is touched."""
+    if not (folder / PENDING / "changes").exists():
+        return
+    catalogue = Catalogue(folder)
+    if any(not finding.warns for finding in catalogue.findings):
+        raise Failure(BAD_INPUT, *catalogue.findings)
+    moves = list(filter(None, [to_move(folder, view) for view in catalogue.views if view.is_base]))
+    os.makedirs(folder / PENDING / "old/changes", exist_ok=True)
+    for file, moved, seen in moves:
+        os.rename(file, moved)
+        if look(moved) != seen:
+            give_back(moved, folder / "changes")
+            moved.unlink(missing_ok=True)
+            raise Failure(BAD_INPUT, unlike(folder, f"changes/{file.name}"))
+    sync(folder / PENDING / "old/changes")
+    os.rmdir(folder / PENDING / "changes")
+
+
+# ---- versions
+
+
+def copy(stage, version):
+    """Makes a version of a stage, whose report lies among its views."""
+    for name, old in (("data", stage.data), ("views", stage.views), ("changes", stage.changes)):
+        os.makedirs(version / name)
+        for file in entries(old) if old else ():
+            if file.suffix == ".csv" and file.is_file():
+                shutil.copyfile(file, version / name / file.name)
+    if (stage.views / "report.txt").is_file():
+        shutil.copyfile(stage.views / "report.txt", version / "report.txt")
+
+
+def make(folder, part):
+    """Makes the versions, and the link to the newest."""
+    found = stages(folder)
+    for number, stage in enumerate(found):
+        copy(stage, part / str(number))
+    keep(part)
+    point(folder, len(found) - 1)
+
+
+def decide(folder, interrupts):
+    """Makes the versions, which count by a rename."""
+    part = folder / MADE
+    remove(part)
+    try:
+        make(folder, part)
+    except BaseException:
+        remove(part)
+        raise
+    with interrupts.put_off():
+        os.rename(part, folder / VERSIONS)
+        turn(folder)
+
+
+# ---- what is removed
+
+
+def is_kept(file, versions):
+    """Whether a version has a file of this name with the same bytes."""
+    content = file.read_bytes()
+    return any(other.read_bytes() == content for other in versions.get(file.name, ()) if other.stat().st_size == len(content))
+
+
+def clear(folder):
+    """Removes files of before there were versions that a version has, and tells of the others."""
+    old = [path for name in OLD for path in [folder / name, *(folder / name).rglob("*")]]
+    clear_tables(folder)
+    files = [path for path in old if path.is_file()]
+    versions = files_by_name(folder / VERSIONS) if files else {}
+    staying = []
+    for file in files:
+        if is_kept(file, versions):
+            file.unlink()
+        else:
+            staying.append(f"{file} is in no version, and stays; it is not looked at")
+    for path in sorted([*old, folder / "data"], reverse=True):
+        if path.is_dir() and not os.listdir(path):
+            os.rmdir(path)
+    warn(staying)
+
+
+def clear_tables(folder):
+    """Removes the tables of data/ that the version has; where a commit was stopped they may be those of the version before."""
+    current = folder / VERSIONS / str(named(folder))
+    versions = files_by_name(folder / VERSIONS if (folder / PENDING).exists() else current)
+    for file in entries(folder / "data"):
+        if (current / "data" / file.name).is_file() and is_kept(file, versions):
+            file.unlink()
+
+
+def files_by_name(folder):
+    """All files of a folder by their names."""
+    found = {}
+    for path in folder.rglob("*"):
+        if path.is_file():
+            found.setdefault(path.name, []).append(path)
+    return found
+
+
+def take_over(folder, interrupts):
+    """Makes versions of a folder that has none, and removes what there was."""
+    if not whole(folder):
+        remove(folder / SCRAP)
+        if (folder / PENDING).exists():
+            move_changes(folder)
+        else:
+            judged(Folder(folder))
+        decide(folder, interrupts)
+        remove(folder / "new")
+    clear(folder)
