@@ -8,7 +8,7 @@ from collections import Counter
 from stops_parts.shop import VIEWS, after, base_tables, changes_in, table, views_of
 
 SCRAP = ("*.part", "*.gone", "commit", "versions/*.part", "versions/*.gone")
-MANY = 100
+TAKEN_OVER, MANY = 2, 100
 
 
 class Wrong(Exception):
@@ -58,6 +58,12 @@ def current(folder):
         return None
 
 
+def state(folder):
+    """Where the tables are that the next night begins with."""
+    number = current(folder)
+    return folder if number is None else folder / f"versions/{number}"
+
+
 class Judge:
     """Judges one copy of a start against what is known of the start."""
 
@@ -77,7 +83,7 @@ class Judge:
         if seen is not None:
             demand(seen in there, f"current leads to versions/{seen}, which is not there")
             first = -1 if self.was is None else self.was
-            last = max(self.before, default=1) + nights
+            last = max(self.before, default=TAKEN_OVER) + nights
             demand(first <= seen <= last, f"current leads from {self.was} to {seen}")
         elif self.start.whole and not there:
             demand(base_tables(self.folder) == base_tables(self.start.folder), "data/ is not as it was, and there is no version")
@@ -111,7 +117,7 @@ class Judge:
         elif number - 1 in known:
             changes = changes_in(path / "changes")
             demand(known[number] == after(known[number - 1], changes), f"versions/{number} is not the one before it with its changes")
-        if number or (path / "views").is_dir():
+        if number or any((path / "views").glob("*.csv")):
             seen = {name: table(path / "views" / f"{name}.csv") for name in VIEWS}
             demand(seen == views_of(known[number]), f"the views of versions/{number} are not those of its tables")
 
@@ -124,12 +130,12 @@ class Judge:
         demand(told.status == 0 or told.told.strip(), f"nothing is said of status {told.status}")
 
     def is_as_before(self):
-        """Whether no version is there that was not."""
-        return max(versions(self.folder), default=None) == max(self.before, default=None)
+        """Whether the tables are those that the night began with."""
+        return current(self.folder) == self.was or self.was is None and base_tables(state(self.folder)) == base_tables(self.start.folder)
 
     def undone(self, given):
         """The folder is as before the night: its version, and its changes with what came since."""
-        demand(current(self.folder) == self.was, "another version is there")
+        demand(self.is_as_before(), "another version is there")
         self.placed(given)
         lying, had = changes_in(self.folder / "changes"), changes_in(self.start.folder / "changes")
         demand(not had - lying, f"changes are not back: {list(had - lying)[:2]}")

@@ -16,6 +16,7 @@ CALLS = (
     " fsync fdatasync chmod fchmod fchmodat ftruncate truncate flock fcntl copy_file_range sendfile utimensat utime utimes"
 ).split()
 LINE = re.compile(r"^([a-z0-9_]+)\((.*)$")
+HERE = re.compile(r"AT_FDCWD<[^>]*>, ")
 OPENS = ("openat", "open", "creat")
 WRITES = ("O_WRONLY", "O_RDWR", "O_CREAT")
 LONGEST = 60
@@ -104,7 +105,7 @@ def calls_in(trace, folder):
         if call:
             counts[call[1]] += 1
             if changes_something(call[1], line, folder):
-                found.append(Place(call[1], counts[call[1]], line.replace(folder, "").strip()))
+                found.append(Place(call[1], counts[call[1]], HERE.sub("", line.replace(folder, "")).strip()))
     return found
 
 

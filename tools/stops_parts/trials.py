@@ -34,7 +34,7 @@ class Room:
 
     def __init__(self, tool, start, folder):
         self.tool, self.start, self.folder = tool, start, start.copied(folder)
-        self.hand = Hand(folder, start.given, 500)
+        self.hand = Hand(folder, start.given, 500 + len(start.given))
         self.judge = Judge(start, folder)
 
     @contextmanager

@@ -34,7 +34,8 @@ class Disk:
             self.waiting.update((names[0], os.path.dirname(names[0])))
         elif call in ("rename", "link"):
             self.moved(*names)
-        elif call in ("symlink", "unlink"):
+        elif call in ("symlink", "unlink", "rmdir"):
+            self.waiting.discard(names[-1])
             self.waiting.add(os.path.dirname(names[-1]))
 
     def moved(self, one, other):
