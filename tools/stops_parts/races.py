@@ -11,10 +11,10 @@ from random import Random
 sys.dont_write_bytecode = True
 from stops_parts.judge import contents, demand, judged, versions  # noqa: E402
 from stops_parts.starts import COMMIT  # noqa: E402
-from stops_parts.traced import Tool, ended  # noqa: E402
+from stops_parts.traced import Tool  # noqa: E402
 from stops_parts.trials import Room  # noqa: E402
 
-LATER = 0.15
+LATER, SLOW = 0.15, 0.4
 
 
 def raced(tool, item, folder):
@@ -30,15 +30,15 @@ def beside_a_reader(tool, start, folder):
 
 def two_nights(room, source):
     """Two nights that are started together, with changes that arrive meanwhile at drawn moments."""
-    options = [room.start.options, source.choice([room.start.options, room.start.options, ()])]
-    processes = []
-    for each in options:
-        processes.append(room.tool.started(room.tool.words("night", room.folder, *each)))
+    tool = source.choice([room.tool, slowed(room, f"sleep {SLOW}")])
+    commands = []
+    for options in (room.start.options, source.choice([room.start.options, room.start.options, ()])):
+        commands.append(tool.started("night", room.folder, *options))
         time.sleep(source.choice([0, 0, source.uniform(0, LATER)]))
     for view in source.sample(["orders", "orders", "products", "lines"], source.randint(0, 3)):
         time.sleep(source.uniform(0, LATER))
         room.hand.put(view)
-    told = [ended(process) for process in processes]
+    told = [command.ended() for command in commands]
     statuses = [each.status for each in told]
     demand(not any("Traceback" in each.told for each in told), f"a traceback: {told[0].told}{told[1].told}")
     demand(sorted(statuses) in ([0, 0], [0, 6]), f"the statuses are {statuses}: {told[0].told}{told[1].told}")
@@ -75,16 +75,22 @@ def ended_while_the_program_runs(tool, item, folder):
     return judged(f"SIG{name} while the program runs, {start.name}", folder, lambda: signalled(Room(tool, start, folder), name, group))[1]
 
 
+def slowed(room, first):
+    """The tool with a program that does something else first."""
+    slow = Path(f"{room.folder}.slow")
+    slow.write_text(f'#!/bin/sh\n{first}\nexec {room.tool.program} "$@"\n')
+    slow.chmod(0o755)
+    return Tool(room.tool.script, slow)
+
+
 def signalled(room, name, group):
     """Sends a signal, to a night alone or to the program as well, as a terminal does."""
-    began, slow = Path(f"{room.folder}.began"), Path(f"{room.folder}.slow")
-    slow.write_text(f'#!/bin/sh\ntouch {began}\nsleep 1\nexec {room.tool.program} "$@"\n')
-    slow.chmod(0o755)
-    process = Tool(room.tool.script, slow).started(Tool(room.tool.script, slow).words("night", room.folder, *room.start.options))
-    while not began.exists() and process.poll() is None:
-        time.sleep(0.01)
-    (os.killpg if group else os.kill)(process.pid, getattr(signal, f"SIG{name}"))
-    told = ended(process)
+    began = Path(f"{room.folder}.began")
+    command = slowed(room, f"touch {began}; sleep 1").started("night", room.folder, *room.start.options)
+    while not began.exists() and not command.has_ended(0.01):
+        pass
+    command.signal(getattr(signal, f"SIG{name}"), group)
+    told = command.ended()
     demand(told.status != 0, "the status is 0")
     room.was_ended(told)
     demand(len(told.told.splitlines()) == 1, f"not one line: {told.told}")

@@ -6,7 +6,7 @@ from itertools import count
 from typing import NamedTuple
 
 sys.dont_write_bytecode = True
-from stops_parts import copies, full_disk, races, written_through  # noqa: E402
+from stops_parts import copies, full_disk, races, traced, written_through  # noqa: E402
 from stops_parts.starts import Starts  # noqa: E402
 from stops_parts.trials import Trial, hindrances, listed, stopped, tried  # noqa: E402
 
@@ -69,7 +69,8 @@ class Sweep:
         return [(start, place) for start, found in self.places.values() for place in found]
 
     def try_kills(self):
-        trials = [Trial(start, "killed", place) for start, place in self.drawn(self.all_places(), self.kills)]
+        places = [(start, place) for start, found in self.places.values() for place in traced.states(found)]
+        trials = [Trial(start, "killed", place) for start, place in self.drawn(places, self.kills)]
         return self.try_all("nights that are killed", trials)
 
     def try_hindrances(self, number):

@@ -1,13 +1,16 @@
-"""Nights that strace runs: the calls by which they change a folder, and what is done to them at one of these."""
+"""Nights that strace follows: the calls by which they change a folder, and what is done to them at one of these."""
 
+import json
 import os
 import re
+import select
 import shutil
 import signal
 import subprocess
 import sys
 import time
 from collections import Counter
+from itertools import count
 from pathlib import Path
 from typing import NamedTuple
 
@@ -15,16 +18,16 @@ CALLS = (
     "openat open creat write pwrite64 writev rename renameat renameat2 link linkat unlink unlinkat mkdir mkdirat rmdir symlink symlinkat"
     " fsync fdatasync chmod fchmod fchmodat ftruncate truncate flock fcntl copy_file_range sendfile utimensat utime utimes"
 ).split()
-LINE = re.compile(r"^([a-z0-9_]+)\((.*)$")
-HERE = re.compile(r"AT_FDCWD<[^>]*>, ")
-OPENS = ("openat", "open", "creat")
-WRITES = ("O_WRONLY", "O_RDWR", "O_CREAT")
+OPENS, WRITES = ("openat", "open", "creat"), ("O_WRONLY", "O_RDWR", "O_CREAT")
+IDLE = ("fsync", "fdatasync", "fcntl", "flock")
+LINE, HERE = re.compile(r"^([a-z0-9_]+)\((.*)$"), re.compile(r"AT_FDCWD<[^>]*>, ")
 LONGEST = 60
 TIME = "millisecond"
+READY = Path(__file__).with_name("ready.py")
 
 
 class Place(NamedTuple):
-    """A call of a night: its name, which of the calls of this name it is, and what it says."""
+    """A call of a night: its name, which of the calls of this name it is, and what it says. Without strace a time."""
 
     call: str
     nth: int
@@ -56,34 +59,82 @@ def installed():
 class Tool:
     """A tools/warehouse, with the program that it hands bundles to."""
 
+    loaded, numbers = {}, count()
+
     def __init__(self, script, program):
         self.script, self.program = Path(script), program
 
-    def words(self, command, folder, *options):
-        return [sys.executable, "-S", "-E", self.script, command, folder, *options, "--program", self.program]
+    def ready(self):
+        """The process of ours that has the tool's modules loaded."""
+        key = os.getpid(), self.script
+        if key not in self.loaded:
+            words = [sys.executable, "-S", "-E", READY, self.script]
+            # The order of everything is the same each time.
+            known = {"PATH": os.environ["PATH"], "PYTHONHASHSEED": "0", "LC_ALL": "C.UTF-8"}
+            self.loaded[key] = subprocess.Popen(words, stdin=subprocess.PIPE, stdout=subprocess.PIPE, text=True, env=known)
+        return self.loaded[key]
 
-    def started(self, words):
-        return subprocess.Popen(words, stdout=subprocess.PIPE, stderr=subprocess.PIPE, text=True, env=environment(), process_group=0)
+    def started(self, command, folder, *options, stopped=False):
+        """A command that has begun, or stands before its beginning."""
+        return Command(self, [command, str(folder), *options, "--program", str(self.program)], stopped)
 
-    def run(self, command, folder, *options, before=()):
+    def run(self, command, folder, *options):
         """A command from its beginning to its end."""
-        return ended(self.started([*before, *self.words(command, folder, *options)]))
+        return self.started(command, folder, *options).ended()
 
 
-def environment():
-    """What a night sees of ours: the same order of everything each time."""
-    return {"PATH": os.environ["PATH"], "PYTHONHASHSEED": "0", "LC_ALL": "C.UTF-8"}
+class Command:
+    """A command that runs."""
+
+    def __init__(self, tool, words, stopped):
+        name = f"said.{os.getpid()}.{next(tool.numbers)}"
+        self.process = tool.ready()
+        self.printed, self.told = (tool.script.with_name(f"{name}.{kind}") for kind in ("printed", "told"))
+        asked = {"words": words, "printed": str(self.printed), "told": str(self.told), "stopped": stopped}
+        self.pid = self.answer(asked)
+        self.handle = os.pidfd_open(self.pid)
+
+    def answer(self, asked):
+        self.process.stdin.write(f"{json.dumps(asked)}\n")
+        self.process.stdin.flush()
+        return int(self.process.stdout.readline())
+
+    def signal(self, number, group=False):
+        (os.killpg if group else os.kill)(self.pid, number)
+
+    def has_ended(self, seconds=0):
+        """Whether it has ended, within some seconds."""
+        return bool(select.select([self.handle], [], [], seconds)[0])
+
+    def is_held(self):
+        """Whether it stands still, after waiting for that or its end."""
+        return bool(self.answer({"held": self.pid}))
+
+    def ended(self):
+        """Waits for its end."""
+        late = "" if self.has_ended(LONGEST) else f"\nTraceback: it had not ended after {LONGEST} s"
+        if late:
+            self.signal(signal.SIGKILL)
+        os.close(self.handle)
+        status = self.answer({"ended": self.pid})
+        said = [path.read_text(errors="replace") for path in (self.printed, self.told)]
+        self.printed.unlink()
+        self.told.unlink()
+        return Ended(status, said[0], said[1] + late)
 
 
-def ended(process):
-    """Waits for a night's end."""
-    try:
-        printed, told = process.communicate(timeout=LONGEST)
-    except subprocess.TimeoutExpired:
-        process.kill()
-        printed, told = process.communicate()
-        told += f"\nTraceback: it had not ended after {LONGEST} s"
-    return Ended(process.returncode, printed, told)
+def followed(command, words):
+    """strace, which follows a command that stands before its beginning, and lets it begin."""
+    command.is_held()
+    strace = subprocess.Popen(["strace", "-p", str(command.pid), *words], stderr=subprocess.PIPE, text=True)
+    strace.stderr.readline()
+    command.signal(signal.SIGCONT)
+    return strace
+
+
+def finished(strace):
+    """Waits until strace has written all."""
+    strace.communicate()
 
 
 def places(tool, folder, options, trace):
@@ -92,8 +143,10 @@ def places(tool, folder, options, trace):
         began = time.monotonic()
         told = tool.run("night", folder, *options)
         return [Place(TIME, number) for number in range(int(1000 * (time.monotonic() - began)))], told
-    strace = ["strace", "-y", "-s", "0", "-o", trace, "-e", f"trace={known_calls()}"]
-    told = tool.run("night", folder, *options, before=strace)
+    command = tool.started("night", folder, *options, stopped=True)
+    strace = followed(command, ["-y", "-s", "0", "-o", trace, "-e", f"trace={known_calls()}"])
+    told = command.ended()
+    finished(strace)
     return calls_in(Path(trace).read_text(errors="replace"), str(folder)), told
 
 
@@ -109,6 +162,12 @@ def calls_in(trace, folder):
     return found
 
 
+def states(found):
+    """The places at which a folder is left otherwise than at the place before."""
+    changes = [place.call not in IDLE and " = -1 " not in place.text for place in found]
+    return [place for place, changed in zip(found, [True, *changes]) if changed]
+
+
 def known_calls():
     """The calls, of which those that this machine does not know are passed over."""
     return ",".join(f"?{call}" for call in CALLS)
@@ -118,43 +177,43 @@ def changes_something(call, line, folder):
     """Whether a call can change something in the folder, or holds something of it."""
     if folder not in line or " = -1 " in line and call in OPENS:
         return False
-    return call not in OPENS or any(way in line for way in WRITES)
-
-
-def injected(place, what):
-    """The words by which strace does something at a place."""
-    return ["-e", f"trace={place.call}", "-e", f"inject={place.call}:{what}:when={place.nth}"]
+    return "F_SETLEASE" in line if call == "fcntl" else call not in OPENS or any(way in line for way in WRITES)
 
 
 def disturbed(tool, folder, options, place, what):
     """A night at one place of which something is done: a signal comes, or the call fails."""
-    if place.call != TIME:
-        return tool.run("night", folder, *options, before=["strace", "-o", "/dev/null", *injected(place, what)])
-    process = tool.started(tool.words("night", folder, *options))
-    time.sleep(place.nth / 1000)
-    process.send_signal(getattr(signal, f"SIG{what.removeprefix('signal=')}"))
-    return ended(process)
-
-
-def waiting(tool, words, place):
-    """A night that is held up after a place, and whether it came to that."""
-    if place.call != TIME:
-        process = tool.started(["strace", "-D", "-o", "/dev/null", *injected(place, "signal=STOP"), *words])
-    else:
-        process = tool.started(words)
+    if place.call == TIME:
+        command = tool.started("night", folder, *options)
         time.sleep(place.nth / 1000)
-        process.send_signal(signal.SIGSTOP)
-    return process, os.waitid(os.P_PID, process.pid, os.WSTOPPED | os.WEXITED | os.WNOWAIT).si_code == os.CLD_STOPPED
+        command.signal(getattr(signal, f"SIG{what.removeprefix('signal=')}"))
+        return command.ended()
+    command, strace = at_place(tool, folder, options, place, what)
+    told = command.ended()
+    finished(strace)
+    return told
+
+
+def at_place(tool, folder, options, place, what):
+    """A night to which strace does something at a place."""
+    command = tool.started("night", folder, *options, stopped=True)
+    inject = ["-e", f"trace={place.call}", "-e", f"inject={place.call}:{what}:when={place.nth}"]
+    return command, followed(command, ["-o", "/dev/null", *inject])
 
 
 def held_up(tool, folder, options, place, meanwhile, kill):
     """A night that is held up after one place while something else is done, and then goes on or is killed."""
-    process, came = waiting(tool, tool.words("night", folder, *options), place)
+    if place.call == TIME:
+        command, strace = tool.started("night", folder, *options), None
+        time.sleep(place.nth / 1000)
+        command.signal(signal.SIGSTOP)
+    else:
+        command, strace = at_place(tool, folder, options, place, "signal=STOP")
     try:
-        if came:
+        if command.is_held():
             meanwhile()
     finally:
-        if came:
-            process.send_signal(signal.SIGKILL if kill else signal.SIGCONT)
-        told = ended(process)
+        command.signal(signal.SIGKILL if kill else signal.SIGCONT)
+        told = command.ended()
+    if strace:
+        finished(strace)
     return told
