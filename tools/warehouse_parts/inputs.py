@@ -83,7 +83,7 @@ class Inputs:
         if not match or not path.is_file():
             is_file = path.is_file() or path.is_symlink()
             near = nearest(path.name, [f"{name}.csv" for name in bases])
-            text = f"this {'file' if is_file else 'folder'} is not read; {kind}/ has files {FORMS[kind]} alone{near}; move it away"
+            text = f"this {'file' if is_file else 'folder'} is not read: {kind}/ has files {FORMS[kind]} alone; move it away{near}"
             return Finding(place, text)
         if match[1] not in bases:
             return Finding(place, stranger(match[1], bases, names)) if names else None

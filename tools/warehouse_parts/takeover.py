@@ -116,6 +116,7 @@ def move_changes(folder):
             raise Failure(BAD_INPUT, unlike(folder, f"changes/{file.name}"))
     sync(folder / PENDING / "old/changes")
     os.rmdir(folder / PENDING / "changes")
+    os.makedirs(folder / "changes", exist_ok=True)
 
 
 # ---- versions
@@ -176,19 +177,26 @@ def clear(folder):
             file.unlink()
         else:
             staying.append(f"{file} is in no version, and stays; it is not looked at")
-    for path in sorted([*old, folder / "data"], reverse=True):
-        if path.is_dir() and not os.listdir(path):
-            os.rmdir(path)
+    for path in sorted(old, reverse=True):
+        remove_empty(path)
     warn(staying)
 
 
 def clear_tables(folder):
     """Removes the tables of data/ that the version has; where a commit was stopped they may be those of the version before."""
     current = folder / VERSIONS / str(named(folder))
-    versions = files_by_name(folder / VERSIONS if (folder / PENDING).exists() else current)
-    for file in entries(folder / "data"):
-        if (current / "data" / file.name).is_file() and is_kept(file, versions):
-            file.unlink()
+    tables = [file for file in entries(folder / "data") if (current / "data" / file.name).is_file()]
+    versions = files_by_name(folder / VERSIONS if (folder / PENDING).exists() else current) if tables else {}
+    for file in filter(lambda file: is_kept(file, versions), tables):
+        file.unlink()
+    if tables:
+        remove_empty(folder / "data")
+
+
+def remove_empty(path):
+    """Removes a folder in which nothing is left."""
+    if path.is_dir() and not os.listdir(path):
+        os.rmdir(path)
 
 
 def files_by_name(folder):

@@ -1,0 +1,1 @@
+"""The tests of tools/warehouse, which tools/test_warehouse runs."""

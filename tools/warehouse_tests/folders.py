@@ -1,0 +1,260 @@
+"""How a folder lies before, in and after a night that is kept: its versions, its lock, and what a stopped night left."""
+
+import fcntl
+import os
+import signal
+import subprocess
+import sys
+import time
+from contextlib import contextmanager
+
+from .shop import SHOP, TOOLS, Shop, contents
+
+NEXT = b"#,id,day,region\n1,8,Thursday,south\n"
+
+
+class Kept(Shop):
+    """A shop with its nights."""
+
+    def night(self, *words):
+        """A night that is kept, which is done."""
+        status, told = self.ran("night", "--commit", *words)
+        self.assertEqual(status, 0, told)
+        return told
+
+    def changes(self):
+        """What lies in changes/."""
+        return {path.name: path.read_bytes() for path in sorted((self.folder / "changes").iterdir())}
+
+    def versions(self):
+        return sorted(os.listdir(self.folder / "versions"))
+
+    def put(self, content=NEXT, name="orders.csv"):
+        (self.folder / "changes").mkdir(exist_ok=True)
+        (self.folder / "changes" / name).write_bytes(content)
+
+    def slow(self, seconds):
+        """Has the program take its time."""
+        self.program.write_text(self.program.read_text().replace("cat > /dev/null", f"cat > /dev/null\nsleep {seconds}"))
+
+    def begun(self, *words):
+        command = [sys.executable, TOOLS / "warehouse", "night", self.folder, *words, "--program", self.program]
+        return subprocess.Popen(command, stdout=subprocess.PIPE, stderr=subprocess.PIPE, text=True)
+
+    @contextmanager
+    def under_way(self, *words):
+        """A night that has taken its changes and waits for the program."""
+        self.slow(2)
+        with self.begun(*words) as running:
+            while not (self.folder / ".lock").exists() or (self.folder / "changes/orders.csv").exists() and "--commit" in words:
+                time.sleep(0.01)
+            yield running
+
+
+class Laid(Kept):
+    def test_a_night_is_a_version_and_the_tables_before_it_are_the_first(self):
+        before = contents(self.folder)
+        self.night()
+        self.assertEqual((self.versions(), os.readlink(self.folder / "current")), (["0", "1"], "versions/1"))
+        for file in ("orders.csv", "lines.csv", "products.csv"):
+            self.assertEqual((self.folder / "versions/0/data" / file).read_bytes(), before[f"data/{file}"])
+            self.assertEqual((self.folder / "versions/1/changes" / file).read_bytes(), before[f"changes/{file}"])
+        self.assertEqual((self.changes(), (self.folder / "data").exists()), ({}, False))
+        made = set(contents(self.folder / "versions/1"))
+        tables = {f"views/{name}.csv" for name in ("sales", "daily_by_product", "daily_by_region")}
+        tables |= {f"{kind}/{name}.csv" for kind in ("data", "changes") for name in ("orders", "lines", "products")}
+        self.assertEqual(made, tables | {"catalogue.toml", "strategy.txt", "report.txt"})
+        modes = {path.stat().st_mode & 0o222 for path in (self.folder / "versions").rglob("*") if path.is_file()}
+        self.assertEqual(modes, {0})
+
+    def test_a_file_with_the_same_bytes_as_before_is_the_same_file(self):
+        self.night()
+        self.put()
+        self.night()
+        for name, is_same in (("data/lines.csv", True), ("data/orders.csv", False), ("views/sales.csv", True)):
+            self.assertEqual(os.path.samefile(self.folder / "versions/1" / name, self.folder / "versions/2" / name), is_same, name)
+
+    def test_a_preview_takes_nothing_and_is_gone_with_the_next_night_that_is_kept(self):
+        self.assertEqual(self.ran("night"), (0, []))
+        self.assertTrue((self.folder / "new/report.txt").exists())
+        self.assertEqual((self.changes().keys(), self.folder.joinpath("versions").exists()), ({"lines.csv", "orders.csv", "products.csv"}, False))
+        self.night()
+        self.assertFalse((self.folder / "new").exists())
+
+    def test_a_refused_night_changes_no_file(self):
+        self.night()
+        self.put()
+        before = contents(self.folder)
+        self.answers(b"refused range sales\nleft given-up\n", 1)
+        self.assertEqual(self.ran("night", "--commit"), (1, ["refused range sales", "left given-up"]))
+        self.assertEqual(self.without_lock(contents(self.folder)), self.without_lock(before))
+
+    def without_lock(self, found):
+        return {file: content for file, content in found.items() if file != ".lock"}
+
+    def test_a_fault_in_the_first_tables_leaves_them_to_be_mended(self):
+        self.edit("data/products.csv", "bread,300", "bread,12.50")
+        before = contents(self.folder)
+        self.assertEqual(self.ran("night", "--commit")[0], 3)
+        self.assertEqual(self.without_lock(contents(self.folder)), before)
+
+    def test_findings_name_the_files_as_they_lay_before_the_night(self):
+        self.night()
+        self.put(b"#,id,day,region\n-1,77,Thursday,south\n")
+        told = "changes/orders.csv:2:1: 1 of 77,Thursday,south leave, and versions/1/data/orders.csv has 0"
+        for command, status in (("lint", 3), ("night", 1)):
+            self.assertEqual(self.ran(command), (status, [told]))
+        self.assertEqual(self.ran("night", "--commit"), (1, [told]))
+
+    def test_a_table_beside_the_versions_is_a_fault_and_one_of_a_new_view_is_taken(self):
+        self.night()
+        (self.folder / "data").mkdir()
+        (self.folder / "data/orders.csv").write_text("id,day,region\n")
+        told = "data/orders.csv:1:1: data/orders.csv is not looked at: the table of orders is versions/1/data/orders.csv; move it away"
+        for words in (["lint"], ["night"], ["night", "--commit"], ["plan"]):
+            self.assertEqual(self.ran(*words), (3, [told]))
+        (self.folder / "data/orders.csv").unlink()
+        with (self.folder / "catalogue.toml").open("a") as file:
+            file.write('\n[[view]]\nname = "colours"\ncolumns = ["name:text"]\n')
+        self.edit("strategy.txt", "inst orders\n", "inst orders\ninst colours\n")
+        fault = "catalogue.toml:45:8: there is no data/colours.csv; an empty table is a file with its header: name"
+        self.assertEqual(self.ran("night", "--commit"), (3, [fault]))
+        (self.folder / "data/colours.csv").write_text("name\nred\n")
+        self.answers(b"refused range sales\n", 1)
+        self.assertEqual(self.ran("night", "--commit")[0], 1)
+        self.assertEqual((self.folder / "data/colours.csv").read_text(), "name\nred\n")
+        self.answer_as_the_shop()
+        self.night()
+        self.assertEqual((self.folder / "current/data/colours.csv").read_text(), "#,name\n1,red\n")
+        self.assertEqual((self.folder / "current/given/colours.csv").read_text(), "name\nred\n")
+        self.assertEqual(self.ran("lint"), (0, []))
+
+    def test_the_table_of_a_view_that_is_none_any_more_is_told_and_stays(self):
+        self.night()
+        self.edit("catalogue.toml", '[[view]]\nname = "orders"\ncolumns = ["id", "day:text", "region:text"]\n', "")
+        told = "versions/1/data/orders.csv:1:1: warning: orders is no base view; its table stays in versions/1 and is not carried on"
+        self.assertIn(told, self.ran("lint")[1])
+
+    def test_versions_that_are_not_to_stay_go_but_for_one_that_a_reader_holds(self):
+        for count in range(4):
+            self.night()
+        self.night("--keep", "3")
+        self.assertEqual(self.versions(), ["3", "4", "5"])
+        held = os.open(self.folder / "versions/4", os.O_RDONLY)
+        fcntl.flock(held, fcntl.LOCK_SH)
+        self.night("--keep", "1")
+        self.assertEqual(self.versions(), ["4", "6"])
+        os.close(held)
+        self.night("--keep", "1")
+        self.assertEqual((self.versions(), os.readlink(self.folder / "current")), (["7"], "versions/7"))
+
+    def test_the_bundle_of_a_folder_with_versions_has_the_tables_of_the_current_one(self):
+        self.night()
+        ran = subprocess.run([TOOLS / "warehouse", "pack", self.folder], capture_output=True, check=True)
+        self.assertIn(b"@data products\n" + (self.folder / "versions/1/data/products.csv").read_bytes() + b"@strategy\n", ran.stdout)
+        self.assertEqual(ran.stderr, b"")
+
+
+class Locked(Kept):
+    def test_of_two_nights_at_once_one_is_done_and_the_other_says_who_is_at_work(self):
+        with self.under_way("--commit") as running:
+            status, told = self.ran("night", "--commit")
+            self.assertEqual(status, 6)
+            form = rf"a night is at work in {self.folder}: process {running.pid} on host \S+ since [0-9-]+ [0-9:]+; try again when it has ended"
+            self.assertRegex("\n".join(told), f"^{form}$")
+            self.assertEqual(self.ran("night")[0], 6)
+            status, told = self.ran("lint")
+            self.assertEqual((status, len(told)), (0, 1), told)
+            self.assertRegex(told[0], "^a night is at work in .*; what is told here is without the changes that it has taken$")
+            self.assertEqual((running.communicate()[1], running.returncode), ("", 0))
+        self.assertEqual(self.versions(), ["0", "1"])
+
+    def test_what_comes_while_a_night_is_at_work_is_the_next_nights(self):
+        with self.under_way("--commit") as running:
+            self.put()
+            running.communicate()
+        self.assertEqual(self.changes(), {"orders.csv": NEXT})
+        self.assertEqual((self.folder / "versions/1/changes/orders.csv").read_bytes(), (SHOP / "changes/orders.csv").read_bytes())
+
+    def test_a_lock_whose_holder_was_killed_is_free(self):
+        with self.under_way("--commit") as running:
+            running.kill()
+        self.assertEqual(self.night(), ["a night that was stopped is undone; its changes lie in changes/ again"])
+        self.assertEqual((self.versions(), self.changes()), (["0", "1"], {}))
+
+    def test_a_night_that_a_signal_ends_is_undone_at_once(self):
+        before = contents(SHOP / "changes")
+        for number, status in ((signal.SIGTERM, 143), (signal.SIGINT, 130)):
+            with self.under_way("--commit") as running:
+                running.send_signal(number)
+                told = running.communicate()[1]
+            self.assertEqual((running.returncode, told), (status, f"the night was stopped by {number.name}; nothing is changed\n"))
+            self.assertEqual((self.versions(), contents(self.folder / "changes")), (["0"], before))
+
+    def test_a_file_that_is_being_written_is_not_taken(self):
+        with (self.folder / "changes/orders.csv").open("ab"):
+            status, told = self.ran("night", "--commit")
+        self.assertEqual((status, told), (6, ["changes/orders.csv is still being written; put a file in by a rename"]))
+        self.assertEqual(contents(self.folder / "changes"), contents(SHOP / "changes"))
+        self.night()
+
+
+class Settled(Kept):
+    """What a stopped night left is finished or undone by the next."""
+
+    UNDONE = "a night that was stopped is undone; its changes lie in changes/ again"
+    FINISHED = "a night that was stopped is finished"
+
+    def setUp(self):
+        super().setUp()
+        self.night()
+
+    def stopped(self, *files):
+        """Makes what a night has that was stopped before it was decided."""
+        part = self.folder / "versions/2.part"
+        for file in ("data/orders.csv", *files):
+            (part / file).parent.mkdir(parents=True, exist_ok=True)
+            (part / file).write_bytes(NEXT)
+            (part / file).chmod(0o444)
+
+    def test_changes_that_were_taken_come_back_and_are_carried_out(self):
+        self.stopped("changes/orders.csv")
+        told = f"a night was stopped in {self.folder}; `tools/warehouse night {self.folder} --commit` finishes or undoes it"
+        self.assertEqual(self.ran("lint"), (3, [told]))
+        self.assertEqual(self.ran("night"), (0, [self.UNDONE]))
+        self.assertEqual(self.changes(), {"orders.csv": NEXT})
+        self.assertTrue((self.folder / "changes/orders.csv").stat().st_mode & 0o200)
+        self.night()
+        self.assertIn(b"1,8,Thursday,south\n", (self.folder / "versions/2/data/orders.csv").read_bytes())
+
+    def test_what_comes_back_never_lies_over_another_file(self):
+        self.stopped("changes/orders.csv", "changes/orders.2.csv")
+        newer = {"orders.csv": NEXT.replace(b"8", b"9"), "orders.1.csv": NEXT.replace(b"8", b"10")}
+        for name, content in newer.items():
+            self.put(content, name)
+        self.assertEqual(self.ran("night")[0], 0)
+        self.assertEqual(self.changes(), newer | {"orders.2.csv": NEXT, "orders.3.csv": NEXT})
+
+    def test_a_file_that_was_on_its_way_back_comes_back_once(self):
+        self.stopped("changes/orders.csv")
+        os.link(self.folder / "versions/2.part/changes/orders.csv", self.folder / "changes/orders.csv")
+        self.assertEqual(self.ran("night"), (0, [self.UNDONE]))
+        self.assertEqual(self.changes(), {"orders.csv": NEXT})
+
+    def test_a_version_that_was_decided_becomes_the_current_one(self):
+        self.put()
+        self.night()
+        os.unlink(self.folder / "current")
+        os.symlink("versions/1", self.folder / "current")
+        os.symlink("versions/2", self.folder / "current.part")
+        (self.folder / "versions/0").rename(self.folder / "versions/0.gone")
+        self.assertEqual(self.ran("lint")[0], 3)
+        self.assertEqual(self.ran("night"), (0, [self.FINISHED]))
+        self.assertEqual((os.readlink(self.folder / "current"), self.versions()), ("versions/2", ["1", "2"]))
+        self.assertFalse((self.folder / "current.part").is_symlink())
+
+    def test_without_current_the_newest_version_counts(self):
+        os.unlink(self.folder / "current")
+        self.assertEqual(self.ran("lint")[0], 3)
+        self.assertEqual(self.night(), [self.FINISHED])
+        self.assertEqual((os.readlink(self.folder / "current"), self.versions()), ("versions/2", ["0", "1", "2"]))

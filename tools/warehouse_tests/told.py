@@ -1,0 +1,206 @@
+"""What is told of each mistake, word for word."""
+
+import os
+import subprocess
+import sys
+
+from .shop import SHOP, SIZES, TOOLS, Shop, contents
+
+
+class Told(Shop):
+    def test_the_shop_has_no_finding(self):
+        self.assertEqual(self.ran("lint"), (0, []))
+
+    def test_a_number_that_is_none(self):
+        self.edit("data/products.csv", "bread,300", "bread,12.50")
+        told = 'data/products.csv:2:7: "12.50" is not a whole number (keep cents)'
+        self.assertEqual(self.ran("night"), (3, [told]))
+
+    def test_a_number_below_a_cell_of_two_lines(self):
+        self.edit("data/lines.csv", '2,"tea, black",3', '2,"tea,\nblack",x')
+        self.assertIn('data/lines.csv:5:8: "x" is not a whole number', self.ran("lint")[1])
+
+    def test_a_misspelt_key_is_a_fault_and_a_view_without_a_join_a_warning(self):
+        self.edit("catalogue.toml", "join = ", "jion = ")
+        without = "catalogue.toml:16:1: warning: sales is over 3 views without a join: every row meets every row"
+        told = "catalogue.toml:19:1: {}sales: unknown key jion; did you mean join?"
+        self.assertEqual(self.ran("lint"), (3, [without, told.format("")]))
+        self.assertEqual(self.ran("lint", "--lenient"), (0, [without, told.format("warning: ")]))
+        before = contents(self.folder)
+        self.assertEqual(self.ran("night", "--commit"), (3, [without, told.format("")]))
+        self.assertEqual(self.told(before), before)
+        self.assertEqual(self.ran("pack"), (3, [told.format("")]))
+
+    def told(self, before):
+        """What a folder holds, but for the file that is locked."""
+        return {file: content for file, content in contents(self.folder).items() if file in before or file != ".lock"}
+
+    def test_a_function_that_there_is_not_and_what_stands_beside_the_views(self):
+        self.edit("catalogue.toml", 'sum = [["pieces"', 'avg = [["mean", "sales.cost"]]\nsum = [["pieces"')
+        self.edit("catalogue.toml", "# A small shop", 'where = ["=", "orders.id", 3]\n\n# A small shop')
+        told = [
+            "catalogue.toml:1:1: where is no part of a catalogue, which has [[view]] alone",
+            "catalogue.toml:36:1: daily_by_product: unknown key avg",
+        ]
+        self.assertEqual(self.ran("lint"), (3, told))
+        self.assertEqual(self.ran("night"), (3, told))
+
+    def test_a_base_view_without_its_table_is_a_fault(self):
+        (self.folder / "data/orders.csv").unlink()
+        told = "catalogue.toml:4:8: there is no data/orders.csv; an empty table is a file with its header: id,day,region"
+        before = contents(self.folder)
+        for words in (["lint"], ["night"], ["night", "--commit"], ["plan"]):
+            self.assertEqual(self.ran(*words), (3, [told]))
+        self.assertEqual(self.told(before), before)
+
+    def test_files_of_data_and_changes_that_nothing_reads(self):
+        os.rename(self.folder / "changes/orders.csv", self.folder / "changes/orders.CSV")
+        for name in ("changes/order.csv", "changes/lines.csv.gz", "changes/lines.x.csv", "data/.hidden", "notes.txt"):
+            (self.folder / name).write_text("")
+        (self.folder / "data/old").mkdir()
+        read = "changes/ has files NAME.csv, NAME.1.csv, NAME.2.csv and so on alone; move it away; did you mean"
+        told = [
+            f"changes/lines.csv.gz:1:1: this file is not read: {read} lines.csv?",
+            f"changes/lines.x.csv:1:1: this file is not read: {read} lines.csv?",
+            "changes/order.csv:1:1: there is no view order; did you mean orders?",
+            f"changes/orders.CSV:1:1: this file is not read: {read} orders.csv?",
+            "data/old:1:1: this folder is not read: data/ has files NAME.csv alone; move it away",
+            "notes.txt:1:1: warning: this file is no part of a warehouse, and is not looked at",
+        ]
+        self.assertEqual(self.ran("lint"), (3, told))
+        self.assertEqual(sorted(self.ran("night", "--commit")[1]), told)
+
+    def test_a_file_that_differs_from_a_view_in_case(self):
+        os.rename(self.folder / "changes/orders.csv", self.folder / "changes/Orders.csv")
+        told = "changes/Orders.csv:1:1: there is no view Orders; orders differs in case alone"
+        self.assertEqual(self.ran("lint"), (3, [told]))
+
+    def test_a_catalogue_that_is_not_toml(self):
+        self.edit("catalogue.toml", 'name = "lines"', "name = lines")
+        told = "catalogue.toml:8:8: this is not TOML: Invalid value"
+        self.assertEqual(self.ran("check"), (3, [told]))
+
+    def test_a_key_of_another_form(self):
+        self.edit("catalogue.toml", 'count = "lines"\nsum = [["pieces"', 'sum = [["pieces"')
+        told = "catalogue.toml:29:1: daily_by_product: a summary has count, the name of the column that counts"
+        self.assertEqual(self.ran("lint"), (3, [told]))
+
+    def test_an_unknown_column(self):
+        self.edit("catalogue.toml", '["region", "orders.region"]', '["region", "orders.regoin"]')
+        told = 'catalogue.toml:22:14: sales: there is no column "orders.regoin"; orders has id, day, region; did you mean orders.region?'
+        self.assertEqual(self.ran("plan"), (3, [told]))
+
+    def test_a_filter_of_another_form(self):
+        self.edit("catalogue.toml", 'join = [["orders.id", "lines.id"]', 'where = ["=", "orders.id"]\njoin = [["orders.id", "lines.id"]')
+        told = (
+            'catalogue.toml:19:1: sales: this is no predicate, which is true, ["=", E, E] with one of = <> < <= > >=, '
+            '["all", P, ...], ["any", P, ...] or ["not", P]'
+        )
+        self.assertEqual(self.ran("lint"), (3, [told]))
+
+    def test_a_key_that_is_not_looked_at(self):
+        self.edit("catalogue.toml", 'join = [["orders.id"', 'sum = [["all", "lines.pieces"]]\njoin = [["orders.id"')
+        told = "catalogue.toml:19:1: sales is a joined view, whose sum is not looked at; take it out"
+        self.assertEqual(self.ran("lint"), (3, [told]))
+
+    def test_a_text_that_is_compared_with_a_number(self):
+        self.edit("catalogue.toml", 'join = [["orders.id"', 'where = [">", "orders.region", 3]\njoin = [["orders.id"')
+        told = "catalogue.toml:19:1: sales: text is compared with int; both sides are of one kind"
+        self.assertEqual(self.ran("lint"), (3, [told]))
+
+    def test_a_broken_strategy(self):
+        self.edit("strategy.txt", "comp sales from orders\ninst orders\n", "inst orders\ncomp sales from orders\n")
+        told = (
+            "strategy.txt:2:1: rule S3, a Comp from a view stands before that view's Inst: "
+            '"comp sales from orders" has to stand before "inst orders" of line 1'
+        )
+        self.assertEqual(self.ran("check"), (1, [told]))
+        self.assertEqual(self.ran("night"), (1, [told]))
+
+    def test_rows_that_are_not_there(self):
+        self.edit("changes/lines.csv", "-1,4,jam,2", "-2,4,jam,2")
+        told = "changes/lines.csv:5:1: 2 of 4,jam,2 leave, and data/lines.csv has 1"
+        self.assertEqual(self.ran("night"), (1, [told]))
+        self.assertEqual(self.ran("lint"), (3, [told]))
+
+    def test_a_folder_without_sizes_is_checked_all_the_same(self):
+        self.answers(b"correct\nwork 0\n", 0)
+        command = [sys.executable, TOOLS / "warehouse", "check", self.folder, "--program", self.program]
+        self.assertEqual(subprocess.run(command, capture_output=True, check=True).stdout, b"correct\n")
+
+    def test_sizes_that_are_wrong(self):
+        (self.folder / "sizes.csv").write_text(SIZES.replace("orders,5,7,2", "order,5,7,1").replace("9,6", "9,-6"))
+        told = [
+            "sizes.csv:2:1: order: pre and post are further apart than change",
+            "sizes.csv:2:1: there is no view order; did you mean orders?",
+            'sizes.csv:3:1: "-6" is not a number of rows, which is 0 to 1099511627776',
+            "sizes.csv:8:1: orders has no record",
+        ]
+        self.assertEqual(self.ran("lint"), (3, told))
+        status, lines = self.ran("plan")
+        self.assertEqual((status, sorted(lines)), (3, told))
+
+    def test_words_that_mean_nothing(self):
+        there = "pack, unpack, night, lint, check, plan, certify, sizes, diff, explain, graph"
+        self.assertEqual(self.ran("nigth"), (2, [f"there is no command 'nigth'; there are {there}; did you mean night?"]))
+        self.assertEqual(self.ran("lint", "--commit"), (2, ["lint has no option --commit"]))
+        self.assertEqual(self.ran("night", "--keep", "0"), (2, ["--keep is how many versions stay, 1 or more, and not '0'"]))
+
+    def test_what_the_program_says_comes_to_the_terminal_with_its_status(self):
+        self.answers(b"refused large sales\nleft given-up\n", 1)
+        self.assertEqual(self.ran("night"), (1, ["refused large sales", "left given-up"]))
+
+
+class Rules(Shop):
+    """Each rule of a strategy, broken."""
+
+    def told(self, *lines):
+        (self.folder / "strategy.txt").write_text("".join(f"{line}\n" for line in lines))
+        return self.ran("check")
+
+    def test_s1_a_comp_too_many_and_one_that_is_missing(self):
+        rule = "rule S1, each view's changes are computed into each view over it, once: "
+        lines = (SHOP / "strategy.txt").read_text().splitlines()
+        says = "computes what an earlier line does, or names a view that sales is not over"
+        doubled = f'strategy.txt:2:1: {rule}"comp sales from orders" {says}'
+        self.assertEqual(self.told(lines[0], *lines), (1, [doubled]))
+        self.assertEqual(self.told(*lines[1:]), (1, [f'strategy.txt:11:1: {rule}"comp sales from orders" is missing']))
+
+    def test_s2_an_inst_twice_and_one_that_is_missing(self):
+        lines = (SHOP / "strategy.txt").read_text().splitlines()
+        rule = "rule S2, each view is installed once: "
+        self.assertEqual(self.told(*lines, lines[-1]), (1, [f'strategy.txt:12:1: {rule}"inst daily_by_region" stands a second time']))
+        self.assertEqual(self.told(*lines[:-1]), (1, [f'strategy.txt:11:1: {rule}"inst daily_by_region" is missing']))
+
+    def test_s4_two_comps_without_the_inst_between(self):
+        lines = (SHOP / "strategy.txt").read_text().splitlines()
+        told = (
+            "strategy.txt:2:1: rule S4, what one Comp of a view took is installed before the next Comp of it: "
+            '"inst orders" has to stand before "comp sales from lines"'
+        )
+        self.assertEqual(self.told(lines[0], lines[2], lines[1], *lines[3:]), (1, [told]))
+
+    def test_s5_a_comp_after_the_inst(self):
+        lines = ["inst sales", *(line for line in (SHOP / "strategy.txt").read_text().splitlines() if line != "inst sales")]
+        moved = [line for line in lines if not line.endswith("from sales")]
+        told = (
+            "strategy.txt:4:1: rule S5, all Comps of a view stand before its Inst: "
+            '"comp sales from orders" has to stand before "inst sales" of line 3'
+        )
+        self.assertEqual(self.told("comp daily_by_product from sales", "comp daily_by_region from sales", *moved), (1, [told]))
+
+    def test_s6_a_comp_from_a_view_before_all_is_computed_into_it(self):
+        lines = (SHOP / "strategy.txt").read_text().splitlines()
+        rest = [line for line in lines if line != "comp daily_by_region from sales"]
+        told = (
+            "strategy.txt:2:1: rule S6, all Comps of a view stand before a Comp from it: "
+            '"comp sales from orders" has to stand before "comp daily_by_region from sales" of line 1'
+        )
+        self.assertEqual(self.told("comp daily_by_region from sales", *rest), (1, [told]))
+
+    def test_lines_of_no_form_and_names_of_no_view(self):
+        told = [
+            'strategy.txt:1:1: "install orders" is no expression; it is "comp V from U .." or "inst V"',
+            "strategy.txt:2:17: there is no view order; did you mean orders?",
+        ]
+        self.assertEqual(self.told("install orders", "comp sales from order"), (3, told))
