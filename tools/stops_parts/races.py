@@ -32,7 +32,8 @@ def two_nights(room, source):
     """Two nights that are started together, with changes that arrive meanwhile at drawn moments."""
     tool = source.choice([room.tool, slowed(room, f"sleep {SLOW}")])
     commands = []
-    for options in (room.start.options, source.choice([room.start.options, room.start.options, ()])):
+    second = [room.start.options, room.start.options, () if room.start.fresh else room.start.options]
+    for options in (room.start.options, source.choice(second)):
         commands.append(tool.started("night", room.folder, *options))
         time.sleep(source.choice([0, 0, source.uniform(0, LATER)]))
     for view in source.sample(["orders", "orders", "products", "lines"], source.randint(0, 3)):

@@ -8,11 +8,11 @@ from typing import NamedTuple
 sys.dont_write_bytecode = True
 from stops_parts import copies, full_disk, races, traced, written_through  # noqa: E402
 from stops_parts.starts import Starts  # noqa: E402
-from stops_parts.trials import Trial, hindrances, listed, stopped, tried  # noqa: E402
+from stops_parts.trials import Trial, failures, hindrances, listed, stopped, tried  # noqa: E402
 
 ALL = sys.maxsize
 OLD = "commit stopped"
-SOME_OLD, SOME_STOPPED, RACES = 3, 3, 20
+RACES = 20
 STOPPED_IN = ("first night", "committed twice", "later night", "keeping 2")
 COMMITTED = (*STOPPED_IN, "planned night", "several files", "a view is new")
 STEPS = ("rename", "link", "unlink", "unlinkat", "symlink", "mkdir", "rmdir")
@@ -29,13 +29,49 @@ class Figures(NamedTuple):
         return f"{self.what}: {self.times:,}, {len(self.wrong)} wrong"
 
 
+class Counts(NamedTuple):
+    """How much is tried: the old commits and the stops of nights that nights begin with, and how many nights in which way."""
+
+    old: int
+    stops: int
+    kills: int
+    kills_of_recoveries: int
+    failures: int
+    hindrances: int
+    races: int
+    signals: tuple
+    disks: range
+
+    @classmethod
+    def of(cls, kills):
+        """For so many kills, or for all."""
+        if kills == ALL:
+            return cls(ALL, ALL, ALL, 2000, ALL, 2000, 200, ("INT", "TERM", "HUP"), range(40))
+        return cls(3, 3, kills - kills // 5, kills // 5, kills // 5, kills // 5, kills // 5, ("INT",), range(0, 40, 10))
+
+
 class Sweep:
     """Tries nights of a tool below a folder, with several processes."""
 
-    def __init__(self, tool, room, pool, source, kills):
-        self.tool, self.room, self.pool, self.source, self.kills = tool, room, pool, source, kills
+    def __init__(self, tool, room, pool, source, counts):
+        self.tool, self.room, self.pool, self.source, self.counts = tool, room, pool, source, counts
         self.folders = (room / f"trial{number}" for number in count())
-        self.places = {}
+        self.places, self.recoveries = {}, {}
+
+    def all(self):
+        """Everything that is tried, one after another."""
+        yield self.list_places()
+        yield self.try_spoilt()
+        yield self.list_recoveries()
+        yield self.try_kills("nights that are killed", self.places, self.counts.kills)
+        yield self.try_kills("nights that find one stopped and are killed", self.recoveries, self.counts.kills_of_recoveries)
+        yield self.try_failures()
+        yield self.try_hindrances()
+        yield self.try_races()
+        yield self.try_readers()
+        yield self.try_signals()
+        yield self.try_written_through()
+        yield self.try_full_disks()
 
     def drawn(self, found, number):
         """As many of what was found as are wanted, or all."""
@@ -49,54 +85,54 @@ class Sweep:
         """Makes the kinds of nights and lists the places of each; of the old commits that were stopped, some."""
         starts = Starts(self.tool, self.room).all()
         old = [start for start in starts if start.name.startswith(OLD)]
-        others = [start for start in starts if start not in old]
-        chosen = others + self.drawn(old, ALL if self.kills == ALL else SOME_OLD)
-        return self.list_of(chosen)
+        chosen = [start for start in starts if start not in old] + self.drawn(old, self.counts.old)
+        return self.list_of(chosen, self.places, "nights to which nothing happens")
 
-    def list_of(self, starts, what="nights to which nothing happens"):
+    def list_of(self, starts, places, what):
         """Lists the places of nights, to which nothing happens."""
         listings = self.mapped(listed, starts)
-        self.places |= {start.name: (start, found) for start, (found, _) in zip(starts, listings)}
+        places |= {start.name: (start, found) for start, (found, _) in zip(starts, listings)}
         return Figures(what, len(starts), [wrong for _, wrong in listings if wrong])
 
     def list_recoveries(self):
         """Stops nights at the steps by which a folder changes its look, and lists the places of the nights that find that."""
         steps = [(start, place) for name in STOPPED_IN for start, found in [self.places[name]] for place in found if place.call in STEPS]
-        chosen = self.drawn(steps, ALL if self.kills == ALL else SOME_STOPPED)
-        return self.list_of(self.mapped(stopped, chosen), "nights that find one stopped")
+        starts = self.mapped(stopped, self.drawn(steps, self.counts.stops))
+        return self.list_of(starts, self.recoveries, "nights that find one stopped")
 
-    def all_places(self):
-        return [(start, place) for start, found in self.places.values() for place in found]
+    def try_kills(self, what, nights, number):
+        places = [(start, place) for start, found in nights.values() for place in traced.states(found)]
+        return self.try_all(what, [Trial(start, "killed", place) for start, place in self.drawn(places, number)])
 
-    def try_kills(self):
-        places = [(start, place) for start, found in self.places.values() for place in traced.states(found)]
-        trials = [Trial(start, "killed", place) for start, place in self.drawn(places, self.kills)]
-        return self.try_all("nights that are killed", trials)
+    def try_failures(self):
+        """Calls that fail, one a night."""
+        trials = [trial for start, found in self.places.values() if start.fresh for place in found for trial in failures(start, place)]
+        return self.try_all("nights of which a call fails", self.drawn(trials, self.counts.failures))
 
-    def try_hindrances(self, number):
-        """At drawn places, one of the other things that can happen there."""
-        places = self.drawn(self.all_places(), number)
-        trials = [self.source.choice(hindrances(start, place)) for start, place in places]
-        return self.try_all("nights that are hindered, ended or hurried", trials)
+    def try_hindrances(self):
+        """Nights that meet one of the other things that can happen at a place."""
+        nights = [*self.places.values(), *self.recoveries.values()]
+        trials = [trial for start, found in nights for place in found for trial in hindrances(start, place)]
+        return self.try_all("nights that are ended, read beside or given more changes", self.drawn(trials, self.counts.hindrances))
 
     def try_all(self, what, trials):
         return Figures(what, len(trials), [wrong for wrong in self.mapped(tried, trials) if wrong])
 
-    def try_races(self, number):
+    def try_races(self):
         """Two nights at once, with seeds of their own, in turns over kinds that a night goes through."""
-        starts = [start for start, _ in self.places.values() if start.name in STOPPED_IN or not start.fresh]
-        items = [(self.source.choice(starts), self.source.random()) for _ in range(number)]
+        starts = [start for start, _ in [*self.places.values(), *self.recoveries.values()] if start.statuses == (0,)]
+        items = [(self.source.choice(starts), self.source.random()) for _ in range(self.counts.races)]
         found = self.mapped(races.raced, items)
         met = sum(each is True for each, _ in found)
-        return Figures(f"two nights at once ({met} of them met)", number, [wrong for _, wrong in found if wrong])
+        return Figures(f"two nights at once ({met} of them met)", len(items), [wrong for _, wrong in found if wrong])
 
     def try_readers(self):
         found = self.mapped(races.beside_a_reader, [self.places["keeping 1"][0]])
         return Figures("nights beside a reader that holds a version", 1, [wrong for wrong in found if wrong])
 
-    def try_signals(self, names):
+    def try_signals(self):
         """Signals that come while the program runs, to the night alone and to both."""
-        items = [(self.places[start][0], name, group) for start in full_disk.KINDS for name in names for group in (False, True)]
+        items = [(self.places[start][0], name, group) for start in full_disk.KINDS for name in self.counts.signals for group in (False, True)]
         found = self.mapped(races.ended_while_the_program_runs, items)
         return Figures("nights that a signal ends while the program runs", len(items), [wrong for wrong in found if wrong])
 
@@ -104,9 +140,9 @@ class Sweep:
         found = self.mapped(written_through.in_order, [self.places[name][0] for name in COMMITTED])
         return Figures("nights that are written to the disk in order", len(found), [wrong for wrong in found if wrong])
 
-    def try_full_disks(self, rooms):
+    def try_full_disks(self):
         """Disks with room for so many pages or files; where no disk can be mounted there is nothing to say."""
-        items = [(self.places[name][0], fill, left) for name in full_disk.KINDS for fill in full_disk.FILLS for left in rooms]
+        items = [(self.places[name][0], fill, left) for name in full_disk.KINDS for fill in full_disk.FILLS for left in self.counts.disks]
         found = self.mapped(full_disk.tried, items)
         if (None, None) in found:
             return Figures("full disks (none can be mounted here)", 0, [])

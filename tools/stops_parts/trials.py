@@ -89,14 +89,14 @@ class Room:
         changed = [name for name in was if there.get(name) != was[name] and name != ".lock"]
         demand(not changed, f"a refused folder is touched: {changed}")
 
-    def was_ended(self, told):
-        """A night that an error or a signal met: told in words, and undone at once or decided."""
+    def was_ended(self, told, may_stay=False):
+        """A night that an error or a signal met: told in words, and undone at once or decided; what fails as it is undone may stay."""
         demand("Traceback" not in told.told, f"a traceback: {told.told}")
         demand(told.status == 0 or told.told.strip(), f"nothing is said of status {told.status}")
         self.judge.readable()
         if told.status == 0 and self.start.options:
             self.judge.done(self.hand.given)
-        elif self.start.fresh and self.judge.is_as_before():
+        elif self.start.fresh and self.judge.is_as_before() and not (may_stay and self.judge.is_stopped()):
             self.judge.undone(self.hand.given)
 
 
@@ -140,7 +140,13 @@ def sent(signal):
 
 
 def failing(error):
-    return lambda room, place: room.was_ended(disturbed(room.tool, room.folder, room.start.options, place, f"error={error}"))
+    """Where a night is sent back, what fails may be what gives its changes back."""
+
+    def happens(room, place):
+        told = disturbed(room.tool, room.folder, room.start.options, place, f"error={error}")
+        room.was_ended(told, room.start.statuses != (0,))
+
+    return happens
 
 
 HAPPENS = {
@@ -153,9 +159,13 @@ HAPPENS = {
 
 
 def hindrances(start, place):
-    """What can happen to a night at a place but that it is killed."""
-    found = ["killed after arrivals", "arrivals", "a reader beside", *SIGNALS]
-    return [Trial(start, what, place) for what in found + (list(ERRORS) if place.call in CAN_FAIL else [])]
+    """What can happen to a night at a place but that it is killed or that the call fails."""
+    return [Trial(start, what, place) for what in ("killed after arrivals", "arrivals", "a reader beside", *SIGNALS)]
+
+
+def failures(start, place):
+    """The errors by which a call can fail."""
+    return [Trial(start, error, place) for error in ERRORS] if place.call in CAN_FAIL else []
 
 
 def tried(tool, trial, folder):
