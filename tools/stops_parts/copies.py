@@ -73,13 +73,15 @@ SPOILT = [
 
 
 def copied(tools, place, program):
-    """A copy of tools/warehouse, compiled, so that its nights begin at once."""
+    """A copy of tools/warehouse, compiled, so that its nights begin at once, and of the program; all users may read it."""
     place.mkdir()
+    place.parent.chmod(0o711)
     for file in (tools / "warehouse", *tools.glob("*.py")):
         shutil.copy(file, place)
     shutil.copytree(tools / "warehouse_parts", place / "warehouse_parts")
     compileall.compile_dir(place, quiet=2)
-    return Tool(place / "warehouse", program)
+    shutil.copy(program, place / "program")
+    return Tool(place / "warehouse", place / "program")
 
 
 def spoilt(tool, place, code):

@@ -18,6 +18,10 @@ def begun(asked):
     for handle, name, ways in ((0, os.devnull, os.O_RDONLY), (1, asked["printed"], os.O_WRONLY), (2, asked["told"], os.O_WRONLY)):
         os.dup2(os.open(name, ways | os.O_CREAT, 0o600), handle)
     os.closerange(3, 16)
+    if asked["user"] is not None:
+        os.setgroups([])
+        os.setresgid(*[asked["user"]] * 3)
+        os.setresuid(*[asked["user"]] * 3)
     if asked["stopped"]:
         os.kill(os.getpid(), signal.SIGSTOP)
     return asked["words"]

@@ -1,12 +1,13 @@
 """Which nights are tried: all that can happen at all places of all kinds of nights, or as many as are drawn of them."""
 
+import os
 import sys
 from functools import partial
 from itertools import count
 from typing import NamedTuple
 
 sys.dont_write_bytecode = True
-from stops_parts import copies, full_disk, races, traced, written_through  # noqa: E402
+from stops_parts import copies, full_disk, races, single, traced, written_through  # noqa: E402
 from stops_parts.starts import Starts  # noqa: E402
 from stops_parts.trials import Trial, failures, hindrances, listed, stopped, tried  # noqa: E402
 
@@ -70,6 +71,7 @@ class Sweep:
         yield self.try_races()
         yield self.try_readers()
         yield self.try_signals()
+        yield self.try_single()
         yield self.try_written_through()
         yield self.try_full_disks()
 
@@ -135,6 +137,15 @@ class Sweep:
         items = [(self.places[start][0], name, group) for start in full_disk.KINDS for name in self.counts.signals for group in (False, True)]
         found = self.mapped(races.ended_while_the_program_runs, items)
         return Figures("nights that a signal ends while the program runs", len(items), [wrong for wrong in found if wrong])
+
+    def try_single(self):
+        """What takes no drawing; what takes root is tried where this is root."""
+        start = {name: start for name, (start, _) in self.places.items()}
+        found = self.mapped(single.replaced, single.STEPS) + self.mapped(single.second_name, [start["later night"]])
+        if os.geteuid() == 0:
+            found += self.mapped(single.another_user, [start["later night"], start["refused night"]])
+        what = "commits whose changes were replaced, files of two names and of two users"
+        return Figures(what, len(found), [wrong for wrong in found if wrong])
 
     def try_written_through(self):
         found = self.mapped(written_through.in_order, [self.places[name][0] for name in COMMITTED])

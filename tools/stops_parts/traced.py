@@ -74,23 +74,23 @@ class Tool:
             self.loaded[key] = subprocess.Popen(words, stdin=subprocess.PIPE, stdout=subprocess.PIPE, text=True, env=known)
         return self.loaded[key]
 
-    def started(self, command, folder, *options, stopped=False):
-        """A command that has begun, or stands before its beginning."""
-        return Command(self, [command, str(folder), *options, "--program", str(self.program)], stopped)
+    def started(self, command, folder, *options, **how):
+        """A command that has begun, or that stands before its beginning; of the user who is named by a number, where one is."""
+        return Command(self, [command, str(folder), *options, "--program", str(self.program)], **how)
 
-    def run(self, command, folder, *options):
+    def run(self, command, folder, *options, **how):
         """A command from its beginning to its end."""
-        return self.started(command, folder, *options).ended()
+        return self.started(command, folder, *options, **how).ended()
 
 
 class Command:
     """A command that runs."""
 
-    def __init__(self, tool, words, stopped):
+    def __init__(self, tool, words, stopped=False, user=None):
         name = f"said.{os.getpid()}.{next(tool.numbers)}"
         self.process = tool.ready()
         self.printed, self.told = (tool.script.with_name(f"{name}.{kind}") for kind in ("printed", "told"))
-        asked = {"words": words, "printed": str(self.printed), "told": str(self.told), "stopped": stopped}
+        asked = {"words": words, "printed": str(self.printed), "told": str(self.told), "stopped": stopped, "user": user}
         self.pid = self.answer(asked)
         self.handle = os.pidfd_open(self.pid)
 
