@@ -6,7 +6,7 @@ import fcntl
 import os
 import re
 
-from .disk import NO_LINKS, remove, sync, writable
+from .disk import remove, sync, writable
 from .finding import Failure
 from .status import AT_WORK
 
@@ -70,7 +70,10 @@ class Claim:
 
 
 def put_back(folder, part):
-    """Undoes a night: the files that it took go back, and what it made is removed."""
+    """Undoes a night: what it made is removed, which makes room, and then the files that it took go back."""
+    for made in part.iterdir() if part.is_dir() else ():
+        if made.name not in HOMES:
+            remove(made)
     for kind, home in HOMES.items():
         if (part / kind).is_dir():
             files_back(part / kind, folder / home)
@@ -102,9 +105,9 @@ def give_back(file, home):
             return
         except FileExistsError:
             continue
-        except OSError as error:
-            if error.errno not in NO_LINKS:
-                raise
+        except OSError:
+            # A disk that is full, or a file system without hard links.
+            pass
         if not os.path.lexists(home / name):
             os.rename(file, home / name)
             return

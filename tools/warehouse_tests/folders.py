@@ -7,6 +7,7 @@ import subprocess
 import sys
 import time
 from contextlib import contextmanager
+from pathlib import Path
 
 from .shop import SHOP, TOOLS, Shop, contents
 
@@ -33,9 +34,12 @@ class Kept(Shop):
         (self.folder / "changes").mkdir(exist_ok=True)
         (self.folder / "changes" / name).write_bytes(content)
 
-    def slow(self, seconds):
-        """Has the program take its time."""
-        self.program.write_text(self.program.read_text().replace("cat > /dev/null", f"cat > /dev/null\nsleep {seconds}"))
+    def waiting(self):
+        """Has the program tell that it was begun, and wait until it may go on."""
+        waits = f"touch {self.program}.begun\nwhile [ ! -e {self.program}.go ]; do sleep 0.02; done"
+        self.program.write_text(self.program.read_text().replace("cat > /dev/null", f"cat > /dev/null\n{waits}"))
+        for name in ("begun", "go"):
+            Path(f"{self.program}.{name}").unlink(missing_ok=True)
 
     def begun(self, *words):
         command = [sys.executable, TOOLS / "warehouse", "night", self.folder, *words, "--program", self.program]
@@ -44,11 +48,15 @@ class Kept(Shop):
     @contextmanager
     def under_way(self, *words):
         """A night that has taken its changes and waits for the program."""
-        self.slow(2)
+        self.waiting()
         with self.begun(*words) as running:
-            while not (self.folder / ".lock").exists() or (self.folder / "changes/orders.csv").exists() and "--commit" in words:
+            while not Path(f"{self.program}.begun").exists():
                 time.sleep(0.01)
-            yield running
+            try:
+                yield running
+            finally:
+                Path(f"{self.program}.go").touch()
+        self.answer_as_the_shop()
 
 
 class Laid(Kept):
@@ -166,14 +174,12 @@ class Locked(Kept):
             status, told = self.ran("lint")
             self.assertEqual((status, len(told)), (0, 1), told)
             self.assertRegex(told[0], "^a night is at work in .*; what is told here is without the changes that it has taken$")
-            self.assertEqual((running.communicate()[1], running.returncode), ("", 0))
-        self.assertEqual(self.versions(), ["0", "1"])
+        self.assertEqual((running.returncode, self.versions()), (0, ["0", "1"]))
 
     def test_what_comes_while_a_night_is_at_work_is_the_next_nights(self):
         with self.under_way("--commit") as running:
             self.put()
-            running.communicate()
-        self.assertEqual(self.changes(), {"orders.csv": NEXT})
+        self.assertEqual((running.returncode, self.changes()), (0, {"orders.csv": NEXT}))
         self.assertEqual((self.folder / "versions/1/changes/orders.csv").read_bytes(), (SHOP / "changes/orders.csv").read_bytes())
 
     def test_a_lock_whose_holder_was_killed_is_free(self):

@@ -12,12 +12,13 @@ NEW = {"orders": b"#,id,day,region\n1,9,Friday,north\n", "lines": b"#,id,product
 
 class TakenOver(Kept):
     def setUp(self):
-        """The tables after the shop's night are had from a night that is kept in another copy."""
+        """The tables after the shop's night are those of a preview."""
         super().setUp()
-        self.night()
-        self.after = {path.name: path.read_bytes() for path in (self.folder / "versions/1/data").iterdir()}
-        self.derived = {path.name: path.read_bytes() for path in (self.folder / "versions/1/views").iterdir()}
-        self.derived["report.txt"] = (self.folder / "versions/1/report.txt").read_bytes()
+        self.assertEqual(self.ran("night"), (0, []))
+        made = self.of("new")
+        self.derived = {name: made.pop(name) for name in [f"{view}.csv" for view in VIEWS]}
+        self.derived["report.txt"] = made.pop("report.txt", b"") or (self.folder / "report.txt").read_bytes()
+        self.after = made
         shutil.rmtree(self.folder)
         shutil.copytree(SHOP, self.folder)
 
