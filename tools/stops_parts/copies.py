@@ -21,6 +21,8 @@ TURNS_EARLY = """
 def rename(one, other, **more):
     folder, kind = os.path.split(os.path.dirname(other))
     if str(one).endswith(".part") and kind == "versions":
+        if os.path.lexists(folder + "/early"):
+            real["unlink"](folder + "/early")
         real["symlink"]("versions/" + os.path.basename(other), folder + "/early")
         real["rename"](folder + "/early", folder + "/current")
     return real["rename"](one, other, **more)
@@ -50,6 +52,19 @@ def symlink(one, other, **more):
     return real["symlink"](one, other, **more)
 os.symlink = symlink
 """
+FORGETS_READERS = """
+flock = fcntl.flock
+def without_folders(handle, kind):
+    return None if os.path.isdir("/proc/self/fd/" + str(handle)) else flock(handle, kind)
+fcntl.flock = without_folders
+"""
+WRITES_NOTHING_THROUGH = """
+os.fsync = lambda handle: None
+"""
+LEAVES_SIGNALS_ALONE = """
+import signal
+signal.signal = lambda number, handler: None
+"""
 
 
 class Spoilt(NamedTuple):
@@ -69,6 +84,9 @@ SPOILT = [
     Spoilt("overwrites as it puts changes back", OVERWRITES, "refused night", "arrivals", "rename"),
     Spoilt("takes no lock", TAKES_NO_LOCK, "later night", "two nights"),
     Spoilt("writes into versions", WRITES_INTO_VERSIONS, "later night"),
+    Spoilt("removes versions that are held", FORGETS_READERS, "keeping 1", "a reader that holds"),
+    Spoilt("has nothing written through", WRITES_NOTHING_THROUGH, "later night", "written through"),
+    Spoilt("leaves signals as they are", LEAVES_SIGNALS_ALONE, "later night", "TERM", "rename"),
 ]
 
 

@@ -11,6 +11,8 @@ import sys
 from importlib import import_module
 from pathlib import Path
 
+LONGEST = 120
+
 
 def begun(asked):
     """Becomes a command, stopped where that is asked for, so that somebody can follow it from its beginning."""
@@ -51,12 +53,14 @@ def serve():
     children = Children()
     for line in iter(sys.stdin.readline, ""):
         asked = json.loads(line)
+        signal.alarm(LONGEST)
         if "words" not in asked:
             answer = int(children.is_held(asked["held"]) if "held" in asked else children.status(asked["ended"]))
         else:
             answer = os.fork()
             if answer == 0:
                 return begun(asked)
+        signal.alarm(0)
         os.write(1, f"{answer}\n".encode())
     os._exit(0)
 

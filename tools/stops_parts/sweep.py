@@ -148,7 +148,8 @@ class Sweep:
         return Figures(what, len(found), [wrong for wrong in found if wrong])
 
     def try_written_through(self):
-        found = self.mapped(written_through.in_order, [self.places[name][0] for name in COMMITTED])
+        names = COMMITTED if traced.installed() else []
+        found = self.mapped(written_through.in_order, [self.places[name][0] for name in names])
         return Figures("nights that are written to the disk in order", len(found), [wrong for wrong in found if wrong])
 
     def try_full_disks(self):
@@ -162,19 +163,26 @@ class Sweep:
 
     def try_spoilt(self):
         """Spoilt tools, each of which has to be noticed."""
-        ways = self.mapped(noticed, [(spoilt, *self.places[spoilt.start]) for spoilt in copies.SPOILT])
-        return Figures("spoilt tools", len(ways), [way for way in ways if way])
+        ways = [way for way in copies.SPOILT if traced.installed() or not way.call]
+        found = self.mapped(noticed, [(way, *self.places[way.start]) for way in ways])
+        return Figures("spoilt tools, of which all are noticed", len(ways), [wrong for wrong in found if wrong])
 
 
 def noticed(tool, item, folder):
     """That nothing shows how a tool is spoilt, or None."""
     way, start, found = item
     spoilt = copies.spoilt(tool, folder.with_suffix(".tools"), way.code)
-    for number in range(RACES) if way.what == "two nights" else []:
-        if races.raced(spoilt, (start, number / RACES), folder.with_name(f"{folder.name}.{number}"))[1]:
-            return None
-    at = [place for place in found if place.call == way.call] if way.call else [None] if way.what == "nothing" else []
-    for number, place in enumerate(at):
-        if tried(spoilt, Trial(start, way.what, place), folder.with_name(f"{folder.name}.{number}")):
-            return None
-    return f"nothing shows that a tool {way.way}"
+    shown = any(tries_of(spoilt, way, start, found, (folder.with_name(f"{folder.name}.{number}") for number in count())))
+    return None if shown else f"nothing shows that a tool {way.way}"
+
+
+def tries_of(tool, way, start, found, folders):
+    """What does not hold of nights of a spoilt tool, one after another."""
+    if way.what == "two nights":
+        return (races.raced(tool, (start, number / RACES), next(folders))[1] for number in range(RACES))
+    if way.what == "a reader that holds":
+        return (races.beside_a_reader(tool, start, next(folders)) for _ in range(1))
+    if way.what == "written through":
+        return (written_through.in_order(tool, start, next(folders)) for _ in range(1))
+    places = [place for place in found if place.call == way.call] if way.call else [None]
+    return (tried(tool, Trial(start, way.what, place), next(folders)) for place in places)

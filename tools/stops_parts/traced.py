@@ -46,14 +46,18 @@ class Ended(NamedTuple):
 
 
 def installed():
-    """Whether there is strace, which is installed where it is missing and that can be done."""
+    """Whether there is strace."""
+    return shutil.which("strace") is not None
+
+
+def install():
+    """Installs strace where it is missing and that can be done."""
     for command in (["install", "-y", "strace"], ["update"], ["install", "-y", "strace"]):
-        if shutil.which("strace"):
-            return True
+        if installed():
+            break
         quiet = {**os.environ, "DEBIAN_FRONTEND": "noninteractive"}
         if shutil.which("apt-get"):
             subprocess.run(["apt-get", *command], env=quiet, stdout=subprocess.DEVNULL, stderr=subprocess.DEVNULL, check=False)
-    return shutil.which("strace") is not None
 
 
 class Tool:
@@ -139,7 +143,7 @@ def finished(strace):
 
 def places(tool, folder, options, trace):
     """The calls by which a night changes the folder, in their order, and how it ended; without strace the milliseconds that it took."""
-    if not shutil.which("strace"):
+    if not installed():
         began = time.monotonic()
         told = tool.run("night", folder, *options)
         return [Place(TIME, number) for number in range(int(1000 * (time.monotonic() - began)))], told
@@ -208,11 +212,13 @@ def held_up(tool, folder, options, place, meanwhile, kill):
         command.signal(signal.SIGSTOP)
     else:
         command, strace = at_place(tool, folder, options, place, "signal=STOP")
+    is_held = command.is_held()
     try:
-        if command.is_held():
+        if is_held:
             meanwhile()
     finally:
-        command.signal(signal.SIGKILL if kill else signal.SIGCONT)
+        if is_held:
+            command.signal(signal.SIGKILL if kill else signal.SIGCONT)
         told = command.ended()
     if strace:
         finished(strace)

@@ -9,7 +9,7 @@ sys.dont_write_bytecode = True
 from stops_parts.judge import Judge, Wrong, contents, demand, judged  # noqa: E402
 from stops_parts.shop import Hand  # noqa: E402
 from stops_parts.starts import COMMIT, mended  # noqa: E402
-from stops_parts.traced import disturbed, held_up, places  # noqa: E402
+from stops_parts.traced import TIME, disturbed, held_up, places  # noqa: E402
 
 NIGHTS, EACH = 4, 3
 STOPPED = 3
@@ -160,7 +160,8 @@ HAPPENS = {
 
 def hindrances(start, place):
     """What can happen to a night at a place but that it is killed or that the call fails."""
-    return [Trial(start, what, place) for what in ("killed after arrivals", "arrivals", "a reader beside", *SIGNALS)]
+    signals = SIGNALS if place.call != TIME else ()
+    return [Trial(start, what, place) for what in ("killed after arrivals", "arrivals", "a reader beside", *signals)]
 
 
 def failures(start, place):
