@@ -5,6 +5,8 @@ over another file.
 import fcntl
 import os
 import re
+import shutil
+from contextlib import suppress
 
 from .disk import remove, sync, writable
 from .finding import Failure
@@ -39,7 +41,7 @@ class Claim:
     """The files that a night took, in the folder where its version is made."""
 
     def __init__(self, folder, part):
-        self.folder, self.part, self.looks = folder, part, {}
+        self.folder, self.part, self.looks, self.modes = folder, part, {}, {}
 
     def take(self, sources):
         """Moves the files, each by a rename, and judges that none is being written."""
@@ -57,7 +59,20 @@ class Claim:
             os.rename(source.path, to)
         except FileNotFoundError:
             return
-        self.looks[to] = source, look(to)
+        self.looks[to], self.modes[to] = (source, look(to)), to.stat().st_mode & 0o777
+
+    def own(self):
+        """Puts a copy in the place of each file that somebody else could go on writing: as its owner, or by another name of it."""
+        for file, (source, first) in self.looks.items():
+            found = file.stat()
+            if found.st_nlink == 1 and found.st_uid == os.geteuid():
+                continue
+            copied = file.with_name(f".{file.name}")
+            shutil.copy(file, copied)
+            if look(file) != first:
+                raise self.written(source)
+            os.rename(copied, file)
+            self.looks[file] = source, look(file)
 
     def judge(self):
         """Judges that no file was written since it was taken."""
@@ -67,6 +82,13 @@ class Claim:
 
     def written(self, source):
         return Failure(AT_WORK, f"{source.told} is still being written; put a file in by a rename")
+
+    def undo(self):
+        """Gives the files back as they were."""
+        for file, mode in self.modes.items():
+            with suppress(OSError):
+                os.chmod(file, mode)
+        put_back(self.folder, self.part)
 
 
 def put_back(folder, part):
@@ -82,6 +104,8 @@ def put_back(folder, part):
 
 def files_back(taken, home):
     """Gives all files of a folder back. Each stands in both places before it leaves the one."""
+    for copied in taken.glob(".*"):
+        copied.unlink()
     files = sorted(taken.iterdir())
     if files:
         os.makedirs(home, exist_ok=True)

@@ -4,7 +4,7 @@ import os
 
 from .carried import carried
 from .catalogue import Catalogue
-from .claim import Claim, put_back
+from .claim import Claim
 from .disk import keep, put, remove, sync
 from .finding import Failure, warn
 from .folder import Folder
@@ -38,16 +38,15 @@ def write_version(part, night):
         put(part / file, content, last / file)
     if not os.listdir(part / "given"):
         os.rmdir(part / "given")
-    keep(part)
 
 
-def undo(folder, part):
+def undo(claim):
     """Gives the changes back. Where that cannot be done, the next night does it."""
     try:
-        remove(folder / TURNED)
-        put_back(folder, part)
+        remove(claim.folder / TURNED)
+        claim.undo()
     except OSError as error:
-        warn([f"the changes cannot be put back: {error}; they lie in {part}, and the next night puts them back"])
+        warn([f"the changes cannot be put back: {error}; they lie in {claim.part}, and the next night puts them back"])
 
 
 def decided(words, interrupts, number):
@@ -59,13 +58,15 @@ def decided(words, interrupts, number):
             claim.take(to_take(words.folder))
             night = carried(Folder(words.folder, part), words)
             write_version(part, night)
+            claim.own()
+            keep(part)
             point(words.folder, number)
             claim.judge()
         finally:
             interrupts.armed = False
         os.rename(part, place(words.folder, number))
     except BaseException:
-        undo(words.folder, part)
+        undo(claim)
         raise
     night.folder.state.release()
     return night

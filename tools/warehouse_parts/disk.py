@@ -3,7 +3,7 @@
 import errno
 import os
 import shutil
-from contextlib import contextmanager
+from contextlib import contextmanager, suppress
 
 # What a file system says that has no hard links, or not this one.
 NO_LINKS = (errno.EPERM, errno.EOPNOTSUPP, errno.ENOSYS, errno.EMLINK, errno.EXDEV)
@@ -44,7 +44,11 @@ def keep(folder):
 
 
 def writable(file):
-    os.chmod(file, file.stat().st_mode & 0o777 | OWNER_WRITES)
+    """Lets the owner write a file, where this may be changed."""
+    mode = file.stat().st_mode & 0o777
+    if not mode & OWNER_WRITES:
+        with suppress(PermissionError):
+            os.chmod(file, mode | OWNER_WRITES)
 
 
 def put(file, content, like):

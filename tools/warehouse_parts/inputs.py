@@ -58,9 +58,10 @@ class Inputs:
         return changes + [("given", self.given[name]) for name in bases if name in self.given and name not in self.carried]
 
     def sizes(self):
-        """How large each file is that a bundle has as it is."""
+        """How large each file is that a bundle has as it is, so that it is no smaller."""
         single = [sources[0] for sources in self.changes.values() if len(sources) == 1]
-        return {source.told: source.path.stat().st_size for source in [*self.carried.values(), *self.given.values(), *single]}
+        texts = [Source(self.folder / name, name) for name in ("catalogue.toml", "strategy.txt") if (self.folder / name).is_file()]
+        return {source.told: source.path.stat().st_size for source in [*texts, *self.carried.values(), *self.given.values(), *single]}
 
     # ---- what is not read
 

@@ -4,21 +4,26 @@ from .finding import Failure, Finding, Place
 from .records import table_text
 from .status import BAD_INPUT
 
-MOST, LARGEST = 2**26, 3
+# The limit; how many of the largest files are told, and which part of the whole a file has that is not worth it.
+MOST, LARGEST, SMALL = 2**26, 3, 20
 CURE = "put numbers in the place of long texts, have fewer columns, or keep the facts of several years in folders of their own"
 # Above which part of the limit a warning is due; and by how much at most a table may grow when it is written anew.
 NEAR, GROWTH, COUNTED = 9 / 10, 3, 24
 
 
-def over_the_limit(sizes, what="the night's bundle has", so=""):
+def beyond(total, what="the night's bundle has"):
+    """How far a number of bytes is beyond the limit, in words."""
+    return f"{what} {total:,} bytes, which is {total - MOST:,} more than the {MOST:,} that the program takes"
+
+
+def over_the_limit(sizes, **what):
     """A finding where what these files make is larger than an input may be."""
     total = sum(sizes.values())
     if total <= MOST:
         return []
     largest = sorted(sizes, key=lambda file: -sizes[file])[:LARGEST]
-    files = ", ".join(f"{file} ({sizes[file]:,})" for file in largest if sizes[file])
-    text = f"{what} {total:,} bytes, which is {total - MOST:,} more than the {MOST:,} that the program takes{so}"
-    return [Finding(Place(largest[0]), f"{text}; the largest are {files}; {CURE}")]
+    files = ", ".join(f"{file} ({sizes[file]:,})" for file in largest if sizes[file] * SMALL > total)
+    return [Finding(Place(largest[0]), f"{beyond(total, **what)}; most of them are in {files}; {CURE}")]
 
 
 def part_size(heading, content):
@@ -40,9 +45,8 @@ def bundle_sizes(folder):
 
 def judge(bundle):
     """Refuses a bundle that the program would not take."""
-    found = over_the_limit({"catalogue.toml": len(bundle)})
-    if found:
-        raise Failure(BAD_INPUT, *found)
+    if len(bundle) > MOST:
+        raise Failure(BAD_INPUT, f"{beyond(len(bundle))}; {CURE}")
 
 
 def sizes_after(folder):
@@ -63,7 +67,7 @@ def table_sizes(folder, tables):
 def after(sizes):
     """A fault where the folder could not be read again after this night, and a warning where it comes near to that."""
     what = "after this night the base tables and the catalogue have"
-    found = over_the_limit(sizes, what, ", so that no further night could read them")
+    found = over_the_limit(sizes, what=what)
     total = sum(sizes.values())
     if not found and total >= NEAR * MOST:
         text = f"{what} {total:,} bytes, and the program takes {MOST:,} at most; {CURE}"

@@ -6,13 +6,14 @@ from .bundle import left_out, pack
 from .catalogue import Catalogue
 from .finding import Failure
 from .inputs import Inputs
-from .limits import judge
+from .limits import judge, over_the_limit
 from .status import BAD_INPUT, DONE
 
 
 def run(words):
-    catalogue = Catalogue(words.folder)
-    faults = [finding for finding in catalogue.findings + Inputs(words.folder).findings(catalogue) if not finding.warns]
+    catalogue, inputs = Catalogue(words.folder), Inputs(words.folder)
+    found = catalogue.findings + inputs.findings(catalogue) + over_the_limit(inputs.sizes())
+    faults = [finding for finding in found if not finding.warns]
     if faults:
         raise Failure(BAD_INPUT, *faults)
     for path in left_out(words.folder):

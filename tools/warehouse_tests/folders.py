@@ -56,6 +56,7 @@ class Kept(Shop):
                 yield running
             finally:
                 Path(f"{self.program}.go").touch()
+                running.told = running.communicate()[1]
         self.answer_as_the_shop()
 
 
@@ -193,8 +194,8 @@ class Locked(Kept):
         for number, status in ((signal.SIGTERM, 143), (signal.SIGINT, 130)):
             with self.under_way("--commit") as running:
                 running.send_signal(number)
-                told = running.communicate()[1]
-            self.assertEqual((running.returncode, told), (status, f"the night was stopped by {number.name}; nothing is changed\n"))
+                running.wait()
+            self.assertEqual((running.returncode, running.told), (status, f"the night was stopped by {number.name}; nothing is changed\n"))
             self.assertEqual((self.versions(), contents(self.folder / "changes")), (["0"], before))
 
     def test_a_file_that_is_being_written_is_not_taken(self):
@@ -203,6 +204,18 @@ class Locked(Kept):
         self.assertEqual((status, told), (6, ["changes/orders.csv is still being written; put a file in by a rename"]))
         self.assertEqual(contents(self.folder / "changes"), contents(SHOP / "changes"))
         self.night()
+
+    def test_a_file_that_has_another_name_too_is_copied_and_one_that_comes_back_is_as_it_was(self):
+        os.link(self.folder / "changes/orders.csv", self.folder.parent / "export.csv")
+        (self.folder / "changes/lines.csv").chmod(0o664)
+        self.answers(b"refused range sales\n", 1)
+        self.assertEqual(self.ran("night", "--commit")[0], 1)
+        self.assertEqual((self.folder / "changes/lines.csv").stat().st_mode & 0o777, 0o664)
+        self.assertTrue(os.path.samefile(self.folder / "changes/orders.csv", self.folder.parent / "export.csv"))
+        self.answer_as_the_shop()
+        self.night()
+        (self.folder.parent / "export.csv").write_text("")
+        self.assertEqual(contents(self.folder / "versions/1/changes"), contents(SHOP / "changes"))
 
 
 class Settled(Kept):

@@ -7,11 +7,13 @@ import tempfile
 import time
 import unittest
 from pathlib import Path
+from unittest import mock
 
-from warehouse_parts import bundle
+from warehouse_parts import bundle, limits
 from warehouse_parts.folder import Folder
+from warehouse_parts.records import table_text
 
-from .shop import SHOP
+from .shop import SHOP, Shop
 
 
 class Large(unittest.TestCase):
@@ -48,6 +50,37 @@ class Large(unittest.TestCase):
             if seconds < allowed:
                 return found
         self.fail(f"each of three runs took more than {times} times the measure, the last {seconds:.2f} of {allowed:.2f} s")
+
+
+class Limits(Shop):
+    """What is larger than the program takes is told before it is asked."""
+
+    FIRST = "data/lines.csv:1:1: "
+    CURE = "; put numbers in the place of long texts, have fewer columns, or keep the facts of several years in folders of their own"
+
+    def test_a_folder_of_seventy_six_million_bytes_is_refused_by_each_command(self):
+        (self.folder / "data/lines.csv").write_bytes(b"id,product,pieces\n" + b"1,jam,1\n" * 9_500_000)
+        files = "most of them are in data/lines.csv (76,000,018)"
+        told = "the night's bundle has 76,001,686 bytes, which is 8,892,822 more than the 67,108,864 that the program takes"
+        for words in (["lint"], ["night"], ["night", "--commit"], ["check"], ["plan"], ["pack"]):
+            with self.subTest(words=words):
+                self.assertEqual(self.ran(*words), (3, [f"{self.FIRST}{told}; {files}{self.CURE}"]))
+
+    def found(self, most):
+        """What is told with another limit."""
+        folder = Folder(self.folder)
+        with mock.patch.object(limits, "MOST", most):
+            return "".join(map(str, limits.after(limits.sizes_after(folder))))
+
+    def test_tables_that_could_not_be_read_again_after_the_night_are_told_before_it(self):
+        folder = Folder(self.folder)
+        tables = {view.name: table_text(view.columns, folder.rolled(view)) for view in folder.bases}
+        after = sum(limits.table_sizes(folder, tables).values())
+        has = f"after this night the base tables and the catalogue have {after:,} bytes"
+        told = f"catalogue.toml:1:1: {has}, which is 1 more than the {after - 1:,} that the program takes; most of them are in catalogue.toml"
+        self.assertTrue(self.found(after - 1).startswith(told), self.found(after - 1))
+        self.assertEqual(self.found(after), f"catalogue.toml:1:1: warning: {has}, and the program takes {after:,} at most{self.CURE}")
+        self.assertEqual(self.found(after * 10 // 9 + 2), "")
 
 
 def read(table):
