@@ -1,4 +1,4 @@
-"""What is tried once or a few times each: files of another user, of two names, and next changes in the place of those of a stopped commit."""
+"""What takes no drawing: files of another user, files of two names, and next changes in the place of a stopped commit's."""
 
 import os
 import shutil
@@ -73,7 +73,8 @@ def next_changes(tool, steps, folder):
     follow_advice(tool, folder)
     tables = base_tables(state(folder))
     coming = changes_in(versions(folder)[max(versions(folder))] / "changes")
-    demand(tables == after(carried_out, coming) and sum(coming.values()) == 2, "the tables are not those of the commit with the next changes")
+    demand(sum(coming.values()) == 2, "the next changes are not those of the last version")
+    demand(tables == after(carried_out, coming), "the tables are not those of the commit with the next changes")
 
 
 def newest(folder):

@@ -59,7 +59,9 @@ class Starts:
     def bare(self, name):
         """A folder of the shop that was never committed, without changes."""
         folder = self.room / name.replace(" ", "_")
-        shutil.copytree(SHOP, folder, ignore=lambda place, _: ["lines.csv", "orders.csv", "products.csv"] if place.endswith("changes") else [])
+        shutil.copytree(SHOP, folder)
+        shutil.rmtree(folder / "changes")
+        (folder / "changes").mkdir()
         return Hand(folder)
 
     def filled(self, name, nights):
@@ -129,8 +131,15 @@ class Starts:
         for view in ("orders", "orders", "products"):
             several.put(view)
         self.start("several files", several)
+        self.start("file of two names", self.with_two_names())
         self.start("preview", self.filled("preview", 1), options=())
         self.start("a view is new", self.with_a_new_view(), added=STORES)
+
+    def with_two_names(self):
+        """A folder where a file of changes has a second name beside."""
+        hand = self.filled("file of two names", 2)
+        (hand.folder / "export.csv").hardlink_to(hand.folder / "changes/orders.csv")
+        return hand
 
     def with_a_new_view(self):
         """A folder whose catalogue has one base view more than its version."""

@@ -9,13 +9,13 @@ from typing import NamedTuple
 sys.dont_write_bytecode = True
 from stops_parts import copies, full_disk, races, single, traced, written_through  # noqa: E402
 from stops_parts.starts import Starts  # noqa: E402
-from stops_parts.trials import Trial, failures, hindrances, listed, stopped, tried  # noqa: E402
+from stops_parts.trials import CAN_FAIL, ERRORS, Trial, hindrances, listed, stopped, tried  # noqa: E402
 
 ALL = sys.maxsize
 OLD = "commit stopped"
 RACES = 20
 STOPPED_IN = ("first night", "committed twice", "later night", "keeping 2")
-COMMITTED = (*STOPPED_IN, "planned night", "several files", "a view is new")
+COMMITTED = (*STOPPED_IN, "planned night", "several files", "file of two names", "a view is new")
 STEPS = ("rename", "link", "unlink", "unlinkat", "symlink", "mkdir", "rmdir")
 
 
@@ -47,7 +47,7 @@ class Counts(NamedTuple):
     def of(cls, kills):
         """For so many kills, or for all."""
         if kills == ALL:
-            return cls(ALL, ALL, ALL, 2000, ALL, 2000, 200, ("INT", "TERM", "HUP"), range(40))
+            return cls(ALL, 100, ALL, 1000, ALL, 1000, 200, ("INT", "TERM", "HUP"), range(40))
         return cls(3, 3, kills - kills // 5, kills // 5, kills // 5, kills // 5, kills // 5, ("INT",), range(0, 40, 10))
 
 
@@ -108,8 +108,9 @@ class Sweep:
 
     def try_failures(self):
         """Calls that fail, one a night."""
-        trials = [trial for start, found in self.places.values() if start.fresh for place in found for trial in failures(start, place)]
-        return self.try_all("nights of which a call fails", self.drawn(trials, self.counts.failures))
+        places = [(start, place) for start, found in self.places.values() if start.fresh for place in found if place.call in CAN_FAIL]
+        trials = [Trial(start, self.source.choice(ERRORS), place) for start, place in self.drawn(places, self.counts.failures)]
+        return self.try_all("nights of which a call fails", trials)
 
     def try_hindrances(self):
         """Nights that meet one of the other things that can happen at a place."""
@@ -154,12 +155,14 @@ class Sweep:
 
     def try_full_disks(self):
         """Disks with room for so many pages or files; where no disk can be mounted there is nothing to say."""
-        items = [(self.places[name][0], fill, left) for name in full_disk.KINDS for fill in full_disk.FILLS for left in self.counts.disks]
+        starts = [self.places[name][0] for name in full_disk.KINDS]
+        items = [(start, fill, left) for start in starts for fill in full_disk.FILLS for left in self.counts.disks]
         found = self.mapped(full_disk.tried, items)
         if (None, None) in found:
             return Figures("full disks (none can be mounted here)", 0, [])
         gone_through = sum(each is True for each, _ in found)
-        return Figures(f"full disks ({gone_through} of them with room enough)", len(items), [wrong for _, wrong in found if wrong])
+        what = f"full disks ({gone_through} of them with room enough)"
+        return Figures(what, len(items), [wrong for _, wrong in found if wrong])
 
     def try_spoilt(self):
         """Spoilt tools, each of which has to be noticed."""

@@ -164,11 +164,6 @@ def hindrances(start, place):
     return [Trial(start, what, place) for what in ("killed after arrivals", "arrivals", "a reader beside", *signals)]
 
 
-def failures(start, place):
-    """The errors by which a call can fail."""
-    return [Trial(start, error, place) for error in ERRORS] if place.call in CAN_FAIL else []
-
-
 def tried(tool, trial, folder):
     """What does not hold in a trial, or None."""
 

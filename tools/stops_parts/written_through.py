@@ -18,7 +18,7 @@ class Disk:
     """Which files and folders have something that is not yet on the disk."""
 
     def __init__(self):
-        self.waiting = set()
+        self.waiting, self.claimed = set(), set()
 
     def called(self, place):
         """Takes note of a call."""
@@ -40,11 +40,13 @@ class Disk:
 
     def moved(self, one, other):
         """A file or a folder comes to stand under another name, with what there is in it; what an operator wrote may wait as well."""
+        demand(not (one in self.waiting and other in self.claimed), f"{one} waits to be written as it takes the place of {other}")
         self.waiting.update(map(os.path.dirname, (one, other)))
         below = {path for path in self.waiting if f"{path}/".startswith(f"{one}/")}
         self.waiting.update(other + path.removeprefix(one) for path in below)
         if one.startswith("/changes/"):
             self.waiting.add(other)
+            self.claimed.add(other)
 
     def demand_written(self, folder, when):
         """Nothing below a folder waits."""
