@@ -45,9 +45,9 @@ def of_path(path):
 
 
 def versions(folder):
-    """The whole versions of a folder by their numbers."""
-    found = (folder / "versions").glob("*")
-    return {int(path.name): path for path in sorted(found) if path.name.isdigit()}
+    """The whole versions of a folder by their numbers, rising."""
+    found = {int(path.name): path for path in (folder / "versions").glob("*") if path.name.isdigit()}
+    return dict(sorted(found.items()))
 
 
 def current(folder):
