@@ -71,6 +71,7 @@ class Claim:
             shutil.copy(file, copied)
             if look(file) != first:
                 raise self.written(source)
+            sync(copied)
             os.rename(copied, file)
             self.looks[file] = source, look(file)
 
