@@ -11,7 +11,7 @@ import sys
 from importlib import import_module
 from pathlib import Path
 
-LONGEST = 120
+LONGEST = 900
 
 
 def begun(asked):

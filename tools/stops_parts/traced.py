@@ -21,7 +21,7 @@ CALLS = (
 OPENS, WRITES = ("openat", "open", "creat"), ("O_WRONLY", "O_RDWR", "O_CREAT")
 IDLE = ("fsync", "fdatasync", "fcntl", "flock")
 LINE, HERE = re.compile(r"^([a-z0-9_]+)\((.*)$"), re.compile(r"AT_FDCWD<[^>]*>, ")
-LONGEST = 60
+LONGEST = 600
 TIME = "millisecond"
 READY = Path(__file__).with_name("ready.py")
 
