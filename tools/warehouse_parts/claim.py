@@ -2,6 +2,7 @@
 over another file.
 """
 
+import errno
 import fcntl
 import os
 import re
@@ -10,7 +11,7 @@ from contextlib import suppress
 
 from .disk import remove, sync, writable
 from .finding import Failure
-from .status import AT_WORK
+from .status import AT_WORK, BAD_INPUT
 
 # The folders of a version that is being made, and where their files come from.
 HOMES = {"changes": "changes", "given": "data"}
@@ -59,6 +60,12 @@ class Claim:
             os.rename(source.path, to)
         except FileNotFoundError:
             return
+        except OSError as error:
+            if error.errno != errno.EXDEV:
+                raise
+            where = source.told.partition("/")[0]
+            told = f"{self.folder / where} is on another file system than {self.part.parent}, to which a night moves its files"
+            raise Failure(BAD_INPUT, f"{told}; have both on one") from error
         self.looks[to], self.modes[to] = (source, look(to)), to.stat().st_mode & 0o777
 
     def own(self):

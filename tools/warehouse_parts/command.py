@@ -1,10 +1,11 @@
 """The words of tools/warehouse, and which command they mean."""
 
+import os
 import sys
 from importlib import import_module
 from pathlib import Path
 
-from .finding import Failure, nearest
+from .finding import Failure, nearest, warn
 from .lock import at_work
 from .program import OWN_PROGRAM
 from .status import BAD_INPUT, BAD_WORDS, DONE, NOT_WRITTEN
@@ -91,11 +92,22 @@ def main(given, about):
         words = Words(given)
         if words.command not in ("unpack", "diff"):
             judge_folder(words)
-        return import_module(f"warehouse_parts.{words.command}").run(words)
+        status = import_module(f"warehouse_parts.{words.command}").run(words)
+        sys.stdout.flush()
+        return status
     except Failure as failure:
-        for line in failure.lines:
-            print(line, file=sys.stderr)
-        return failure.status
+        warn(failure.lines)
+        status = failure.status
     except OSError as error:
-        print(f"tools/warehouse: {error.filename or 'the output'}: {error.strerror}", file=sys.stderr)
-        return NOT_WRITTEN
+        warn([f"tools/warehouse: {error.filename or 'the output'}: {error.strerror}"])
+        status = NOT_WRITTEN
+    drop_output()
+    return status
+
+
+def drop_output():
+    """Has what cannot be printed be no further trouble as the process ends."""
+    try:
+        sys.stdout.flush()
+    except OSError:
+        os.dup2(os.open(os.devnull, os.O_WRONLY), sys.stdout.fileno())

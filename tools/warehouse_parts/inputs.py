@@ -36,17 +36,20 @@ def by_view(folder, told, form):
     return listed
 
 
+def tables(folder, told):
+    """The tables in a folder, by the names of their views."""
+    return {name: sources[0] for name, sources in by_view(folder, told, TABLE).items()}
+
+
 class Inputs:
     """The files of a folder's next night. A night that is under way has taken them to where its version is made."""
 
     def __init__(self, folder, part=None):
         self.folder, self.state = folder, State(folder)
-        self.changes_folder = part / "changes" if part else folder / "changes"
-        self.changes = by_view(self.changes_folder, "changes", CHANGES)
-        self.carried = {name: sources[0] for name, sources in by_view(self.state.root / "data", self.state.told, TABLE).items()}
-        self.given = {}
-        if self.state.number is not None:
-            self.given = {name: each[0] for name, each in by_view(part / "given" if part else folder / "data", "data", TABLE).items()}
+        self.places = {"data": part / "given", "changes": part / "changes"} if part else {kind: folder / kind for kind in FORMS}
+        self.changes = by_view(self.places["changes"], "changes", CHANGES)
+        self.carried = tables(self.state.root / "data", self.state.told)
+        self.given = {} if self.state.number is None else tables(self.places["data"], "data")
 
     def table(self, name):
         """The table of a base view, or None."""
@@ -70,7 +73,7 @@ class Inputs:
         bases = [view.name for view in catalogue.views if view.is_base]
         found = []
         for kind, form in (("data", TABLE), ("changes", CHANGES)):
-            for path in entries(self.folder / kind):
+            for path in entries(self.places[kind]):
                 found += filter(None, [self.judge(kind, form, path, bases, catalogue.names)])
         for name in self.carried if self.state.number is not None and bases else ():
             if name not in bases:

@@ -6,6 +6,7 @@ import socket
 import sys
 import time
 
+from .disk import telling
 from .finding import Failure
 from .status import AT_WORK
 
@@ -49,15 +50,22 @@ class Lock:
 
     def __enter__(self):
         self.handle = os.open(self.folder / FILE, os.O_RDWR | os.O_CREAT, 0o644)
-        if not self.is_taken():
+        with telling(self.folder / FILE):
+            is_taken = self.is_taken()
+        if not is_taken:
             who = told(self.folder, self.handle)
             os.close(self.handle)
             raise Failure(AT_WORK, f"{who}; try again when it has ended")
+        with telling(self.folder / FILE):
+            self.sign()
+        return self
+
+    def sign(self):
+        """Writes who is at work."""
         since = time.strftime("%Y-%m-%d %H:%M:%S")
         about = f"process {os.getpid()} on host {socket.gethostname()} since {since}\n{' '.join(sys.argv)}\n"
         os.ftruncate(self.handle, 0)
         os.pwrite(self.handle, about.encode(errors="replace"), 0)
-        return self
 
     def is_taken(self):
         """Tries for a moment."""

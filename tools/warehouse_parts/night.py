@@ -13,21 +13,36 @@ from .finding import Failure, warn
 from .folder import Folder
 from .interrupts import Interrupts
 from .lock import Lock
-from .status import BAD_INPUT, DONE
+from .status import BAD_INPUT, DONE, NOT_WRITTEN
 from .stopped import settle
 from .takeover import is_pending
+from .versions import CURRENT
 
 
 def preview(words):
     """Writes new/ whole, by a rename. Answers the report."""
     night, part, new = carried(Folder(words.folder), words), words.folder / "new.part", words.folder / "new"
-    os.makedirs(part)
-    for name, table in night.tables.items():
-        write(part / f"{name}.csv", table)
-    write(part / "report.txt", night.report.encode())
-    remove(new)
-    os.rename(part, new)
+    try:
+        os.makedirs(part)
+        for name, table in night.tables.items():
+            write(part / f"{name}.csv", table)
+        write(part / "report.txt", night.report.encode())
+        remove(new)
+        os.rename(part, new)
+    finally:
+        remove(part)
     return night.report
+
+
+def tell(words, report):
+    """Prints the report. A night that was kept is kept, whether or not that can be done."""
+    try:
+        print(report, end="", flush=True)
+    except OSError as error:
+        if not words.commit:
+            raise
+        done = f"the night is done, and is {os.readlink(words.folder / CURRENT)}"
+        raise Failure(NOT_WRITTEN, f"{done}; its report.txt, which is there, could not be printed: {error.strerror}") from error
 
 
 def run(words):
@@ -36,6 +51,6 @@ def run(words):
             again = f"`tools/warehouse night {words.folder} --commit` finishes or undoes it"
             raise Failure(BAD_INPUT, f"a commit was stopped in {words.folder}; {again}")
         warn(settle(words.folder))
-        told = commit(words, interrupts) if words.commit else preview(words)
-        print(told, end="", flush=True)
+        report = commit(words, interrupts) if words.commit else preview(words)
+    tell(words, report)
     return DONE

@@ -56,7 +56,7 @@ def stages(folder):
     if pending.exists():
         found.append(Stage(older(folder, "data"), older(folder, "views"), before / "changes"))
     found.append(Stage(newer(folder, "data"), newer(folder, "views"), (pending / "old" if pending.exists() else before) / "changes"))
-    tables = [{path.name for path in entries(stage.data)} for stage in found]
+    tables = [{path.name for path in entries(stage.data) if path.suffix == ".csv"} for stage in found]
     # What was being removed when it was stopped has not all tables any more.
     return [stage for stage, there in zip(found, tables) if there and there >= tables[-1]] or found[-1:]
 

@@ -164,6 +164,15 @@ class Laid(Kept):
         self.assertEqual(ran.stderr, b"")
 
 
+    def test_the_example_of_a_reader(self):
+        """The commands of docs/WAREHOUSE.md as they are written."""
+        self.night()
+        page = (TOOLS.parent / "docs/WAREHOUSE.md").read_text()
+        block = page.partition("**Readers.**")[2].partition("```\n")[2].partition("```")[0]
+        ran = subprocess.run(["bash", "-e", "-c", block], cwd=self.folder.parent, capture_output=True, check=True)
+        self.assertEqual(ran.stdout, (self.folder / "versions/1/views/daily_by_region.csv").read_bytes())
+
+
 class Locked(Kept):
     def test_of_two_nights_at_once_one_is_done_and_the_other_says_who_is_at_work(self):
         with self.under_way("--commit") as running:
@@ -180,6 +189,8 @@ class Locked(Kept):
     def test_what_comes_while_a_night_is_at_work_is_the_next_nights(self):
         with self.under_way("--commit") as running:
             self.put()
+            self.put(b"", "notes.txt")
+        os.unlink(self.folder / "changes/notes.txt")
         self.assertEqual((running.returncode, self.changes()), (0, {"orders.csv": NEXT}))
         self.assertEqual((self.folder / "versions/1/changes/orders.csv").read_bytes(), (SHOP / "changes/orders.csv").read_bytes())
 
@@ -216,6 +227,14 @@ class Locked(Kept):
         self.night()
         (self.folder.parent / "export.csv").write_text("")
         self.assertEqual(contents(self.folder / "versions/1/changes"), contents(SHOP / "changes"))
+
+
+    def test_a_night_that_was_kept_says_so_where_its_report_cannot_be_printed(self):
+        command = [sys.executable, TOOLS / "warehouse", "night", self.folder, "--commit", "--program", self.program]
+        with open("/dev/full", "w") as full:
+            ran = subprocess.run(command, stdout=full, stderr=subprocess.PIPE, text=True)
+        cause = "its report.txt, which is there, could not be printed: No space left on device"
+        self.assertEqual((ran.returncode, ran.stderr), (5, f"the night is done, and is versions/1; {cause}\n"))
 
 
 class Settled(Kept):
