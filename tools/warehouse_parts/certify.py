@@ -3,6 +3,7 @@
 from .folder import sound
 from .planning import certified, planned
 from .sizes import sizes_text
+from .status import DONE
 
 
 def run(words):
@@ -13,4 +14,4 @@ def run(words):
     else:
         plan, sizes, _ = planned(folder, words)
     print(certified(folder, words, plan, sizes, words.through))
-    return 0
+    return DONE

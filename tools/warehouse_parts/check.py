@@ -5,7 +5,7 @@ from .finding import Failure
 from .folder import sound
 from .planning import parts
 from .sizes import given_text, sized, told_before
-from .status import BAD_INPUT, REFUSED
+from .status import BAD_INPUT, DONE, REFUSED
 from .strategy import FILE, Strategy
 
 
@@ -31,4 +31,4 @@ def run(words):
     text = strategy_of(folder)
     lines = program.answer(words.program, "check", parts(folder, sizes, strategy=text), words.through).decode().splitlines()
     print("\n".join(lines if given is not None or told else lines[:1]))
-    return 0
+    return DONE

@@ -1,5 +1,5 @@
-"""What a night takes for its own: files of changes/, and tables of data/ that no version has. What it is given back as never lies
-over another file.
+"""What a night takes for its own: files of changes/, and tables of data/ that no version has. A file that goes back never lies over
+another one.
 """
 
 import errno
@@ -32,6 +32,15 @@ def is_being_written(file):
     return False
 
 
+def tells_of_writers(folder):
+    """Whether a file system tells of a file that nobody has open that nobody writes it; some say of each file that it is in use."""
+    probe = folder / ".probe"
+    probe.touch()
+    found = is_being_written(probe)
+    probe.unlink()
+    return not found
+
+
 def look(file):
     """By what a file that was written meanwhile is told."""
     found = file.stat()
@@ -50,6 +59,8 @@ class Claim:
             os.makedirs(self.part / kind)
         for kind, source in sources:
             self.move(source, self.part / kind / source.path.name)
+        if not tells_of_writers(self.part):
+            return
         for file, (source, _) in self.looks.items():
             if is_being_written(file):
                 raise self.written(source)

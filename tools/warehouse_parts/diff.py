@@ -6,7 +6,7 @@ import sys
 from collections import Counter
 
 from .finding import Failure
-from .status import BAD_INPUT
+from .status import BAD_INPUT, DONE
 
 
 def exported(path):
@@ -36,4 +36,4 @@ def run(words):
     counts = {row: after[1][row] - before[1][row] for row in before[1].keys() | after[1].keys()}
     writer.writerows([count, *row] for row, count in sorted(counts.items()) if count)
     sys.stdout.buffer.write(written.getvalue().encode("utf-8", errors="surrogateescape"))
-    return 0
+    return DONE

@@ -6,6 +6,7 @@ from .check import strategy_of as given_strategy
 from .folder import sound
 from .planning import planned, strategy_of
 from .sizes import of_report, sizes_text
+from .status import DONE
 from .strategy import FILE, Strategy
 
 
@@ -72,4 +73,4 @@ def steps(words):
 def run(words):
     for line, step in steps(words)[1]:
         print(f"{line}: {step.rows()}\n    {step.text()}")
-    return 0
+    return DONE

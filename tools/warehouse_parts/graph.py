@@ -4,7 +4,7 @@ from .explain import steps
 from .folder import sound
 from .finding import Failure
 from .layers import Layers
-from .status import SPENT
+from .status import DONE, SPENT
 
 # A letter's width, of a font in which all have the same, over its size.
 LETTER = 0.62
@@ -146,4 +146,4 @@ def run(words):
     if folder.views:
         for name, made in (("graph.dot", dot), ("graph.svg", svg)):
             (folder.path / name).write_text(made(folder.views, named, edges))
-    return 0
+    return DONE

@@ -4,10 +4,11 @@ import sys
 
 from .folder import sound
 from .planning import planned
+from .status import DONE
 
 
 def run(words):
     plan, _, source = planned(sound(words.folder), words, words.through)
     print(f"sizes {source}", file=sys.stderr)
     print(plan, end="")
-    return 0
+    return DONE

@@ -7,7 +7,7 @@ from .bundle import unpack
 from .finding import Failure
 from .folder import sound
 from .given_sizes import FILE, GivenSizes
-from .status import BAD_INPUT
+from .status import BAD_INPUT, DONE
 from .strategy import at_once, written
 
 HEADER = "view,pre,post,change"
@@ -117,4 +117,4 @@ def run(words):
     text, source = sizes_text(sound(words.folder), words)
     print(f"sizes {source}", file=sys.stderr)
     print(text, end="")
-    return 0
+    return DONE

@@ -8,7 +8,7 @@ import sys
 
 from .bundle import unpack
 from .finding import Failure
-from .status import BAD_INPUT
+from .status import BAD_INPUT, DONE
 
 
 def said_instead(answer):
@@ -25,4 +25,4 @@ def run(words):
     words.folder.mkdir(parents=True, exist_ok=True)
     for view, table in tables.items():
         (words.folder / f"{view}.csv").write_bytes(table)
-    return 0
+    return DONE

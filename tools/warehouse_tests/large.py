@@ -77,7 +77,7 @@ class Limits(Shop):
         tables = {view.name: table_text(view.columns, folder.rolled(view)) for view in folder.bases}
         after = sum(limits.table_sizes(folder, tables).values())
         has = f"after this night the base tables and the catalogue have {after:,} bytes"
-        told = f"catalogue.toml:1:1: {has}, which is 1 more than the {after - 1:,} that the program takes; most of them are in catalogue.toml"
+        told = f"catalogue.toml:1:1: {has}, which is 1 more than the {after - 1:,} that the program takes; most of them are in "
         self.assertTrue(self.found(after - 1).startswith(told), self.found(after - 1))
         self.assertEqual(self.found(after), f"catalogue.toml:1:1: warning: {has}, and the program takes {after:,} at most{self.CURE}")
         self.assertEqual(self.found(after * 10 // 9 + 2), "")

@@ -112,7 +112,7 @@ class TakenOver(Kept):
                     before = contents(self.folder)
                     status, told = self.ran("night", "--commit")
                     self.assertEqual((status, len(told)), (3, 1))
-                    self.assertRegex(told[0], "a commit was stopped in .*, and changes/(orders|lines).csv is not what it carried out; move the next")
+                    self.assertRegex(told[0], "a commit was stopped in .*, and changes/(orders|lines).csv is not what it carried out; move")
                     after = contents(self.folder)
                     self.assertEqual({file: after[file] for file in before}, before)
                     for name in ("orders.csv", "lines.csv"):
