@@ -116,7 +116,8 @@ class Sweep:
         """Nights that meet one of the other things that can happen at a place."""
         nights = [*self.places.values(), *self.recoveries.values()]
         trials = [trial for start, found in nights for place in found for trial in hindrances(start, place)]
-        return self.try_all("nights that are ended, read beside or given more changes", self.drawn(trials, self.counts.hindrances))
+        what = "nights that are ended, or meet a reader, a second night or more changes"
+        return self.try_all(what, self.drawn(trials, self.counts.hindrances))
 
     def try_all(self, what, trials):
         return Figures(what, len(trials), [wrong for wrong in self.mapped(tried, trials) if wrong])
@@ -135,7 +136,8 @@ class Sweep:
 
     def try_signals(self):
         """Signals that come while the program runs, to the night alone and to both."""
-        items = [(self.places[start][0], name, group) for start in full_disk.KINDS for name in self.counts.signals for group in (False, True)]
+        starts = [self.places[name][0] for name in full_disk.KINDS]
+        items = [(start, name, group) for start in starts for name in self.counts.signals for group in (False, True)]
         found = self.mapped(races.ended_while_the_program_runs, items)
         return Figures("nights that a signal ends while the program runs", len(items), [wrong for wrong in found if wrong])
 

@@ -12,7 +12,7 @@ from stops_parts.starts import COMMIT, mended  # noqa: E402
 from stops_parts.traced import TIME, disturbed, held_up, places  # noqa: E402
 
 NIGHTS, EACH = 4, 3
-STOPPED = 3
+STOPPED, AT_WORK = 3, 6
 ERRORS = ("ENOSPC", "EIO")
 CAN_FAIL = "openat write rename link linkat unlink unlinkat mkdir mkdirat rmdir symlink symlinkat fsync fchmod chmod sendfile flock".split()
 SIGNALS = ("INT", "TERM")
@@ -60,6 +60,15 @@ class Room:
         demand("Traceback" not in told.told, f"lint beside a night: {told.told}")
         demand(told.status in (0, 1, STOPPED), f"lint beside a night ends with {told.status}: {told.told}")
         demand(contents(self.folder) == before, "lint changed the folder")
+
+    def second_night(self):
+        """A second night: where it does not come first, it ends for the other one, says so and changes nothing."""
+        before = contents(self.folder)
+        told = self.tool.run("night", self.folder, *self.start.options)
+        self.judge.said(told, (*self.start.statuses, AT_WORK))
+        if told.status not in self.start.statuses:
+            demand("a night is at work" in told.told, f"a night that ends for another does not say so: {told.told}")
+            demand(contents(self.folder) == before, "a night that ends for another changed the folder")
 
     def reading_what_is_stopped(self):
         """A command that reads says that a night was stopped, and changes nothing."""
@@ -135,6 +144,12 @@ def a_reader_beside(room, place):
     room.judge.readable()
 
 
+def a_second_night(room, place):
+    told = held_up(room.tool, room.folder, room.start.options, place, room.second_night, False)
+    room.judge.said(told, room.start.statuses)
+    room.judge.readable(2)
+
+
 def sent(signal):
     return lambda room, place: room.was_ended(disturbed(room.tool, room.folder, room.start.options, place, f"signal={signal}"))
 
@@ -155,13 +170,14 @@ HAPPENS = {
     "killed after arrivals": killed_after_arrivals,
     "arrivals": arrivals,
     "a reader beside": a_reader_beside,
+    "a second night": a_second_night,
 } | {signal: sent(signal) for signal in SIGNALS} | {error: failing(error) for error in ERRORS}
 
 
 def hindrances(start, place):
     """What can happen to a night at a place but that it is killed or that the call fails."""
     signals = SIGNALS if place.call != TIME else ()
-    return [Trial(start, what, place) for what in ("killed after arrivals", "arrivals", "a reader beside", *signals)]
+    return [Trial(start, what, place) for what in ("killed after arrivals", "arrivals", "a reader beside", "a second night", *signals)]
 
 
 def tried(tool, trial, folder):
