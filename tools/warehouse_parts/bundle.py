@@ -23,6 +23,8 @@ OWN += ("views", "before", "commit", "commit.part")
 HEADING = re.compile(rb"^(?:view ([A-Za-z_][A-Za-z0-9_]{0,63})|reader [^\n]*)$", re.MULTILINE)
 READER = re.compile(rb"reader [0-9]+ version [0-9]+ rows [0-9]+")
 READERS_END = 4096
+# A byte order mark, which may stand before a table.
+MARK = b"\xef\xbb\xbf"
 
 
 def lines_of(content):
@@ -45,7 +47,7 @@ def merged(contents):
         return contents[0]
     header, rows = None, Counter()
     for content in contents:
-        text = content.removeprefix(b"\xef\xbb\xbf").decode(errors="surrogateescape")
+        text = content.removeprefix(MARK).decode(errors="surrogateescape")
         records = list(filter(None, csv.reader(io.StringIO(text, newline=""))))
         if not records or records[0] != (header or records[0]):
             raise ValueError("the files of changes of one view have headers that differ")

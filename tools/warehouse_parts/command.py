@@ -5,7 +5,7 @@ import sys
 from importlib import import_module
 from pathlib import Path
 
-from .finding import Failure, nearest, warn
+from .finding import Failure, nearest, of_system, warn
 from .lock import at_work
 from .program import OWN_PROGRAM
 from .status import BAD_INPUT, BAD_WORDS, DONE, NOT_WRITTEN
@@ -39,6 +39,8 @@ class Words:
         if len(folders) != (2 if self.command == "diff" else 1):
             raise Failure(BAD_WORDS, "diff takes two files" if self.command == "diff" else f"{self.command} takes one folder")
         self.folder = self.folders[0]
+        if self.keep and not self.commit:
+            raise Failure(BAD_WORDS, "--keep goes with --commit, which makes the versions")
 
     def take(self, given, folders):
         """Takes the next word, and its value where it has one."""
@@ -99,7 +101,7 @@ def main(given, about):
         warn(failure.lines)
         status = failure.status
     except OSError as error:
-        warn([f"tools/warehouse: {error.filename or 'the output'}: {error.strerror}"])
+        warn([f"tools/warehouse: {of_system(error)}"])
         status = NOT_WRITTEN
     drop_output()
     return status

@@ -6,7 +6,7 @@ from .carried import carried
 from .catalogue import Catalogue
 from .claim import Claim
 from .disk import keep, put, remove, sync
-from .finding import Failure, warn
+from .finding import Failure, of_system, warn
 from .folder import Folder
 from .inputs import Inputs
 from .status import BAD_INPUT, NOT_WRITTEN
@@ -46,7 +46,7 @@ def undo(claim):
         remove(claim.folder / TURNED)
         claim.undo()
     except OSError as error:
-        warn([f"the changes cannot be put back: {error}; they lie in {claim.part}, and the next night puts them back"])
+        warn([f"the changes cannot be put back: {of_system(error)}; they lie in {claim.part}, and the next night puts them back"])
 
 
 def decided(words, interrupts, number):
@@ -84,7 +84,7 @@ def finish(words, number):
         except OSError as error:
             errors.append(error)
     if errors:
-        raise Failure(NOT_WRITTEN, f"the night is done and is version {number}, but {errors[0]}; the next night sees to it")
+        raise Failure(NOT_WRITTEN, f"the night is done and is version {number}, but {of_system(errors[0])}; the next night sees to it")
 
 
 def commit(words, interrupts):

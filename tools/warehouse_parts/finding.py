@@ -36,6 +36,11 @@ def warn(lines):
         print(line, file=sys.stderr)
 
 
+def of_system(error):
+    """What the system said, and of which file."""
+    return f"{error.filename or 'the output'}: {error.strerror}"
+
+
 class Failure(Exception):
     """Why a command ends: its status, and the lines that say it."""
 

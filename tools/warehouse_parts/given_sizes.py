@@ -3,6 +3,7 @@
 import csv
 import io
 
+from .bundle import MARK
 from .finding import Finding, Place, nearest
 from .records import NUMBER
 
@@ -16,7 +17,7 @@ class GivenSizes:
     def __init__(self, path, views):
         self.names, self.seen, self.findings = [view.name for view in views], set(), []
         if (path / FILE).is_file():
-            self.read((path / FILE).read_bytes().removeprefix(b"\xef\xbb\xbf"))
+            self.read((path / FILE).read_bytes().removeprefix(MARK))
 
     def find(self, line, text):
         self.findings.append(Finding(Place(FILE, line), text))

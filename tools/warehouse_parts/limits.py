@@ -7,8 +7,10 @@ from .status import BAD_INPUT
 # The limit; how many of the largest files are told, and which part of the whole a file has that is not worth it.
 MOST, LARGEST, SMALL = 2**26, 3, 20
 CURE = "put numbers in the place of long texts, have fewer columns, or keep the facts of several years in folders of their own"
-# Above which part of the limit a warning is due; and by how much at most a table may grow when it is written anew.
-NEAR, GROWTH, COUNTED = 9 / 10, 3, 24
+# Above which part of the limit a warning is due.
+NEAR = 9 / 10
+# By how many bytes at most a quote, and a row besides its count, may grow as a table is written anew.
+QUOTE, ROW = 3, 3
 
 
 def beyond(total, what="the night's bundle has"):
@@ -49,10 +51,16 @@ def judge(bundle):
         raise Failure(BAD_INPUT, f"{beyond(len(bundle))}; {CURE}")
 
 
+def most_after(folder):
+    """How much the base tables take at most after the night, without writing them."""
+    read = [*folder.data.values(), *(records for changes in folder.changes.values() for records in changes.files)]
+    digits = len(str(sum(max(records.rows.values(), default=0) for records in read)))
+    return sum(len(each.content) + QUOTE * each.content.count(b'"') + (digits + ROW) * len(each.rows) for each in read)
+
+
 def sizes_after(folder):
     """How much the base tables and the catalogue take after the night, where that can come near to the limit; else nothing."""
-    read = [*folder.data.values(), *(records for changes in folder.changes.values() for records in changes.files)]
-    if GROWTH * sum(len(records.content) for records in read) + COUNTED * sum(len(records.rows) for records in read) < NEAR * MOST:
+    if most_after(folder) + len(folder.catalogue.content) < NEAR * MOST:
         return {}
     tables = {view.name: table_text(view.columns, folder.rolled(view)) for view in folder.bases if view.name in folder.data}
     return table_sizes(folder, tables)

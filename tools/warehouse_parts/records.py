@@ -4,8 +4,9 @@ import csv
 import io
 import re
 from collections import Counter
+from functools import cached_property
 
-from .bundle import merged
+from .bundle import MARK, merged
 from .finding import Finding, Place
 
 NUMBER = re.compile(r"[+-]?[0-9]+")
@@ -19,15 +20,20 @@ class Records:
         self.file, self.view, self.are_changes = source.told, view, are_changes
         self.rows, self.lines, self.findings, self.begun = Counter(), {}, [], []
         self.content = source.path.read_bytes()
-        content = self.content.removeprefix(b"\xef\xbb\xbf")
+        content = self.content.removeprefix(MARK)
         try:
-            self.text = content.decode()
+            text = content.decode()
         except UnicodeDecodeError as error:
             line = content[: error.start].count(b"\n") + 1
             start = content.rfind(b"\n", 0, error.start) + 1
             self.find(line, len(content[start : error.start].decode()) + 1, "this is not UTF-8")
             return
-        self.read(csv.reader(io.StringIO(self.text, newline="")))
+        self.read(csv.reader(io.StringIO(text, newline="")))
+
+    @cached_property
+    def text(self):
+        """What places are counted in."""
+        return self.content.removeprefix(MARK).decode()
 
     def find(self, line, column, text):
         self.findings.append(Finding(Place(self.file, line, column), text))

@@ -8,6 +8,7 @@ were moved in this order, each from the folder to commit/old/ and from commit/ t
 import os
 import shutil
 from collections import Counter
+from contextlib import suppress
 from pathlib import Path
 from typing import NamedTuple
 
@@ -171,15 +172,13 @@ def clear(folder):
     clear_tables(folder)
     files = [path for path in old if path.is_file()]
     versions = files_by_name(folder / VERSIONS) if files else {}
-    staying = []
     for file in files:
         if is_kept(file, versions):
-            file.unlink()
+            remove_kept(file)
         else:
-            staying.append(f"{file} is in no version, and stays; it is not looked at")
+            warn([f"{file} is in no version, and stays; it is not looked at"])
     for path in sorted(old, reverse=True):
         remove_empty(path)
-    warn(staying)
 
 
 def clear_tables(folder):
@@ -188,15 +187,24 @@ def clear_tables(folder):
     tables = [file for file in entries(folder / "data") if (current / "data" / file.name).is_file()]
     versions = files_by_name(folder / VERSIONS if (folder / PENDING).exists() else current) if tables else {}
     for file in filter(lambda file: is_kept(file, versions), tables):
-        file.unlink()
+        remove_kept(file)
     if tables:
         remove_empty(folder / "data")
 
 
+def remove_kept(file):
+    """Removes a file that a version has. Where that cannot be, the night goes on."""
+    try:
+        file.unlink()
+    except OSError as error:
+        warn([f"{file} is in a version, and cannot be removed: {error.strerror}"])
+
+
 def remove_empty(path):
     """Removes a folder in which nothing is left."""
-    if path.is_dir() and not os.listdir(path):
-        os.rmdir(path)
+    if path.is_dir() and not path.is_symlink() and not os.listdir(path):
+        with suppress(OSError):
+            os.rmdir(path)
 
 
 def files_by_name(folder):

@@ -18,8 +18,7 @@ PART, GONE = ".part", ".gone"
 
 def whole(folder):
     """The numbers of the versions that are whole, rising."""
-    names = os.listdir(folder / VERSIONS) if (folder / VERSIONS).is_dir() else []
-    return sorted(int(name) for name in names if NUMBER.fullmatch(name))
+    return sorted(int(path.name) for path in (folder / VERSIONS).glob("*") if NUMBER.fullmatch(path.name) and path.is_dir())
 
 
 def ending(folder, end):

@@ -50,7 +50,7 @@ class Kept(Shop):
         """A night that has taken its changes and waits for the program."""
         self.waiting()
         with self.begun(*words) as running:
-            while not Path(f"{self.program}.begun").exists():
+            while running.poll() is None and not Path(f"{self.program}.begun").exists():
                 time.sleep(0.01)
             try:
                 yield running

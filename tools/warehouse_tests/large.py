@@ -9,7 +9,8 @@ import unittest
 from pathlib import Path
 from unittest import mock
 
-from warehouse_parts import bundle, limits
+from warehouse_parts import bundle, carried, limits
+from warehouse_parts.finding import Failure
 from warehouse_parts.folder import Folder
 from warehouse_parts.records import table_text
 
@@ -81,6 +82,9 @@ class Limits(Shop):
         self.assertTrue(self.found(after - 1).startswith(told), self.found(after - 1))
         self.assertEqual(self.found(after), f"catalogue.toml:1:1: warning: {has}, and the program takes {after:,} at most{self.CURE}")
         self.assertEqual(self.found(after * 10 // 9 + 2), "")
+        with mock.patch.object(limits, "MOST", after - 1), self.assertRaises(Failure) as refused:
+            carried.judge_after(folder, True)
+        self.assertEqual(refused.exception.status, 3)
 
 
 def read(table):
