@@ -119,6 +119,9 @@ class SQLite(Dialect):
     def planned(self, _, __, statement, ___):
         return [statement]
 
+    def apart(self, *_):
+        return sql("")
+
     def skipped(self, _, made):
         return made
 
