@@ -31,6 +31,8 @@ class Script(Comps, Changes, Insts):
     def __init__(self, catalogue, dialect, plain=()):
         self.views, self.words, self.dialect = catalogue.views, catalogue.words, dialect
         self.shape, self.steps = Shape(self.views, plain), Steps(self.views)
+        for view in self.views:
+            dialect.judge_table(view.name)
         self.tables = Names(dialect, [view.name for view in self.views])
         self.columns = [Names(dialect, [said for said, _ in view.columns], dialect.own_columns) for view in self.views]
         self.checked = dialect.checks(self)
