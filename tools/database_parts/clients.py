@@ -164,7 +164,7 @@ def settings():
 # ---- limits of parsers
 
 
-def formula(where="true", kept="a.x"):
+def formula(where="true", kept='"a.x"'):
     catalogue = f'[[view]]\nname = "a"\ncolumns = ["x", "y"]\n[[view]]\nname = "v"\nover = ["a"]\nwhere = {where}\nkeep = [["x", {kept}]]\n'
     return {"catalogue": catalogue, "rows": {"a": [(1, 2), (3, 4), (5, 6)]}}
 
@@ -186,7 +186,7 @@ def limits():
         "arithmetic 30 deep to the right": {"kept": nested('["-", "a.y", ', '"a.x"', "]", 30)},
         "arithmetic 63 deep": {"kept": nested('["-", "a.y", ', '"a.x"', "]", 63)},
         "arithmetic 30 deep in a filter": {"where": '["<", ' + nested('["+", ', '"a.x"', ', "a.y"]', 30) + ", 99]"},
-        "all in any in all 60 deep": {"where": nested('["all", ["any", ["not", ', '["=", "a.x", 3]', ', ["=", "a.y", 2]]]]', 20)},
+        "all in any in all 60 deep": {"where": nested('["all", ["any", ["not", ', '["=", "a.x", 3]', '], ["=", "a.y", 2]]]', 20)},
         "any of 3,000": {"where": f'["any", {members}]'},
         "all of 3,000": {"where": '["all", ' + members.replace('"="', '"<>"') + "]"},
     }
