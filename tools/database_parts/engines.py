@@ -125,7 +125,7 @@ class Server(PostgreSQLEngine):
 class PostgreSQLDatabase:
     """A database of a server, which is emptied for each night."""
 
-    engine = "postgresql"
+    engine, refers = "postgresql", True
 
     def __init__(self, server, name="tried", encoding="UTF8"):
         self.server, self.name, self.encoding = server, name, encoding
@@ -161,6 +161,13 @@ class PostgreSQLDatabase:
             tables.setdefault((root, leaf), Counter())[tuple(row.items())] += times
         return State(tables, Counter(lines[cut + 1 :]))
 
+    def listed(self):
+        """The names and columns of the schema's tables, in the order in which they were made."""
+        columns = "json_agg(a.attname ORDER BY a.attnum)"
+        tables = "FROM pg_class AS c JOIN pg_attribute AS a ON a.attrelid = c.oid AND a.attnum > 0"
+        chosen = f"WHERE c.relnamespace = '{quoted(self.schema)}'::regnamespace AND c.relkind = 'r' GROUP BY c.oid, c.relname ORDER BY c.oid"
+        return [tuple(json.loads(line)) for line in self.asked(f"SELECT json_build_array(c.relname, {columns}) {tables} {chosen};")]
+
     def named(self, name):
         """A table's name as a state has it."""
         return f"{self.schema}.{name}"
@@ -185,7 +192,7 @@ class SQLiteDatabase:
     engine, schema, encoding = "sqlite", "main", "UTF8"
 
     def __init__(self, folder, has_foreign_keys=True):
-        self.folder, self.has_foreign_keys = Path(folder), has_foreign_keys
+        self.folder, self.has_foreign_keys, self.refers = Path(folder), has_foreign_keys, has_foreign_keys
         self.path, self.script = self.folder / "warehouse.db", self.folder / "night.sql"
 
     def fresh(self, *_, **__):
@@ -215,6 +222,14 @@ class SQLiteDatabase:
                 tables[name, name] = self.rows(database, name)
         database.close()
         return State({name: rows for name, rows in tables.items() if rows}, Counter(made))
+
+    def listed(self):
+        """The names and columns of the tables, in the order in which they were made."""
+        database = self.opened()
+        names = database.execute("SELECT name FROM sqlite_schema WHERE type = 'table' ORDER BY rowid").fetchall()
+        found = [(name, [row[1] for row in database.execute(f"PRAGMA table_info({quoted(name)})")]) for name, in names]
+        database.close()
+        return found
 
     def rows(self, database, name):
         told = database.execute(f"SELECT * FROM {quoted(name)}")
