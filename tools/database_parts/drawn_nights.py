@@ -69,7 +69,7 @@ class DrawnTables:
     def __init__(self, source, database, night):
         self.source, self.database, self.night = source, database, night
         self.is_postgresql = database.engine == "postgresql"
-        self.schema = source.choice(["public", "public", "warehouse", "Sales"]) if self.is_postgresql else "main"
+        self.schema = source.choice(["public"]) if self.is_postgresql else "main"
         self.role = source.choice(["postgres", "clerk"]) if self.is_postgresql else ""
         self.client = self.drawn_client()
         self.beside, self.reasons, self.may, self.touched = [], [], [], []

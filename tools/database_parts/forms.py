@@ -20,10 +20,11 @@ PLAIN_KINDS = {"postgresql": {"int": "bigint", "text": "text"}, "sqlite": {"int"
 
 @dataclass
 class Form:
-    """A table as it is drawn: its columns as declared, by name and declaration; what stands behind its columns; how it is parted; what
+    """A table as it is drawn: its columns as declared, by name and declaration; its key and what else stands behind its columns; how it is parted; what
     is said after it is made and after it is filled; and which columns are others'."""
 
     columns: list
+    constraint: str = ""
     behind: str = ""
     parts: str = None
     parted_by: str = None
@@ -121,7 +122,7 @@ class Forms:
             form.columns = [(name, "INTEGER PRIMARY KEY" if name == names[0] else kind) for name, kind in form.columns]
             form.told.append("INTEGER PRIMARY KEY")
         elif choice < 0.75:
-            form.columns.append((None, f"PRIMARY KEY ({listed})"))
+            form.constraint = f", PRIMARY KEY ({listed})"
             form.told.append("primary key")
             self.without_rowid(form)
         else:
@@ -179,7 +180,7 @@ class Forms:
 
     def made(self, v, form):
         """The statements that make the table."""
-        columns = ", ".join(kind if name is None else f"{quoted(name)} {kind}" for name, kind in form.columns)
+        columns = ", ".join(f"{quoted(name)} {kind}" for name, kind in form.columns) + form.constraint
         table = self.name(self.tables[v].name)
         if form.parts is None or form.parts == "inherited":
             made = [f"CREATE TABLE {table} ({columns}) {form.behind};"]
@@ -196,7 +197,7 @@ class Forms:
     def moved(self, v, form, table, heir):
         """Some rows of a table go to its heir."""
         test = f"{quoted(form.parted_by)} <> {'0' if form.parted_kind == 'int' else literal('oak')}"
-        names = [name for name, declared in form.columns if name and "GENERATED" not in declared]
+        names = [name for name, declared in form.columns if "GENERATED" not in declared]
         listed = ", ".join(map(quoted, names))
         return [f"INSERT INTO {heir} ({listed}) SELECT {listed} FROM ONLY {table} WHERE {test};", f"DELETE FROM ONLY {table} WHERE {test};"]
 
