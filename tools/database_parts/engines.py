@@ -141,7 +141,7 @@ class PostgreSQLDatabase:
         ran = self.server.psql(database or self.name, ("-v", "ON_ERROR_STOP=1"), given=given.encode())
         if ran.returncode:
             raise Broken(ran.stderr.decode(errors="replace") + "of\n" + text)
-        return ran.stdout.decode().splitlines()
+        return ran.stdout.decode().split("\n")[:-1]
 
     def fresh(self, schema="public", more=(), role="postgres"):
         """The database with these empty schemas alone."""
@@ -174,7 +174,8 @@ class PostgreSQLDatabase:
 
     def run(self, text, client=PSQL):
         """What is told where a script does not go through, or None."""
-        text = "".join(line for line in text.splitlines(True) if not line.startswith("\\")) if client.is_bare else text
+        if client.is_bare:
+            text = "\n".join(line for line in text.split("\n") if not line.startswith("\\"))
         self.script.write_bytes(text.encode())
         words = client.words if client.is_piped else (*client.words, "-f", self.script)
         given = text.encode() if client.is_piped else b""
@@ -262,8 +263,8 @@ class SQLiteDatabase:
     def by_statements(self, text, _):
         """A client that goes on after an error, and commits in the end."""
         database, begun, told = self.opened(), "", []
-        for line in text.splitlines(True):
-            begun += line
+        for line in text.split("\n"):
+            begun += line + "\n"
             if sqlite3.complete_statement(begun):
                 try:
                     database.execute(begun)
@@ -282,4 +283,5 @@ def quoted(name):
 
 
 def in_folder():
-    return tempfile.TemporaryDirectory(prefix="whview_databases")
+    """A folder of the test's own, in memory where there is room for files."""
+    return tempfile.TemporaryDirectory(prefix="whview_databases", dir="/dev/shm" if os.access("/dev/shm", os.W_OK) else None)
