@@ -198,7 +198,7 @@ class Hostile:
         before = self.database.state()
         told = [self.database.run(script, Client()) for script in scripts]
         after = self.database.state()
-        bad = [text for text in told if text and not is_sentence(text)] if len(scripts) == 1 else []
+        bad = [text for text in told if text and not is_sentence(text) and "does not exist" not in text]
         return self.gone(before, after) + [f"no sentence: {text.strip()[:300]}" for text in bad]
 
     def counted_by_system(self):
