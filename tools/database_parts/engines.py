@@ -116,9 +116,16 @@ class Server(PostgreSQLEngine):
         quiet = {"stdout": subprocess.DEVNULL, "stderr": subprocess.STDOUT}
         subprocess.run(started, check=True, user=self.user, cwd="/", preexec_fn=bounded if name == "pg_ctl" else None, **quiet)
 
+    def asking(self, database, words=(), user="postgres"):
+        return [self.programs / "psql", "-h", self.folder, "-U", user, "-X", "-q", "-A", "-t", *words, database]
+
+    def session_of(self, database):
+        """A session that takes lines as they come."""
+        return subprocess.Popen(self.asking(database), stdin=subprocess.PIPE, stdout=subprocess.PIPE)
+
     def psql(self, database, words=(), user="postgres", surroundings=UTF8, given=None):
         """psql with these words, and what it is given to read."""
-        command = [self.programs / "psql", "-h", self.folder, "-U", user, "-X", "-q", "-A", "-t", *words, database]
+        command = self.asking(database, words, user)
         return subprocess.run(command, input=given, capture_output=True, env={**os.environ, **surroundings}, timeout=SECONDS)
 
 
