@@ -69,7 +69,7 @@ class DrawnTables:
     def __init__(self, source, database, night):
         self.source, self.database, self.night = source, database, night
         self.is_postgresql = database.engine == "postgresql"
-        self.schema = source.choice(["public"]) if self.is_postgresql else "main"
+        self.schema = source.choice(["public", "public", "warehouse", "Sales"]) if self.is_postgresql else "main"
         self.role = source.choice(["postgres", "clerk"]) if self.is_postgresql else ""
         self.client = self.drawn_client()
         self.beside, self.reasons, self.may, self.touched = [], [], [], []
@@ -212,7 +212,7 @@ class DrawnTables:
         is_summary = bool(view.over) and view.keep is None
         if comes(before, after, form.key, is_summary or v in self.night.plain):
             hidden = is_summary and form.key is None
-            (self.may if hidden else self.reasons).append("~note")
+            (self.may if hidden else self.reasons).append("no default")
 
 
 def named(night, listed):

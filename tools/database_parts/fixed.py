@@ -116,9 +116,9 @@ def other_columns():
             Case("a price changes beside a description, with a unique index", engine, JAM_IS_DEARER, unique, [DESCRIBED], **KEYED, **BESIDE),
             Case("a counted price changes beside a description", engine, JAM_IS_DEARER, described('"#" bigint NOT NULL DEFAULT 1, description text'),
                  [DESCRIBED], counted=("products",), **KEYED, **BESIDE),
-            Case("a product comes without its description", engine, ALE_COMES, own, [DESCRIBED], REFUSED, "description"),
+            Case("a product comes without its description", engine, ALE_COMES, own, [DESCRIBED], REFUSED, "no default"),
             Case("a product comes without what has to be there", engine, ALE_COMES, described("description text NOT NULL DEFAULT ''"), [DESCRIBED], **KEYED, **BESIDE),
-            Case("a price changes where no key tells which", engine, JAM_IS_DEARER, described("description text", PRODUCT), [DESCRIBED], REFUSED, "description"),
+            Case("a price changes where no key tells which", engine, JAM_IS_DEARER, described("description text", PRODUCT), [DESCRIBED], REFUSED, "no default"),
             Case("a column is worked out from others", engine, JAM_IS_DEARER, described("twice bigint GENERATED ALWAYS AS (price * 2) STORED"), **KEYED),
             Case("a product comes beside a column that is worked out", engine, ALE_COMES, described("twice bigint GENERATED ALWAYS AS (price * 2) STORED"), **KEYED),
             Case("a price is worked out by the engine", engine, TEA_GOES, PRICED, ["INSERT INTO products (product) VALUES ('tea'), ('jam');"],
@@ -147,6 +147,7 @@ def numbered():
 
 # ---- triggers and rules
 
+ALE_IS_SOLD = {**ALE_COMES, "lines": [((9, "ale", 1), 1)]}
 
 def trigger(when, table, body, each="FOR EACH ROW", kind="TRIGGER"):
     """A trigger of PostgreSQL."""
@@ -170,11 +171,13 @@ def triggers():
         Case("a trigger puts a second row in", PG, ALE_COMES,
              more=trigger("AFTER INSERT", "products", "IF NEW.price = 220 THEN INSERT INTO products VALUES ('ale', 220); END IF; RETURN NULL;")[:1]
              + ["CREATE TRIGGER meddling AFTER INSERT ON products FOR EACH ROW WHEN (pg_trigger_depth() = 0) EXECUTE FUNCTION meddling();"], **torn),
-        Case("a trigger changes a table that was done", PG, {**TEA_GOES, "lines": [((9, "jam", 1), 1)]},
+        Case("a trigger changes a row that was done", PG, {**ALE_COMES, "lines": [((9, "jam", 1), 1)]},
+             more=trigger("AFTER INSERT", "lines", "UPDATE products SET price = 1 WHERE product = 'ale'; RETURN NULL;"), **torn),
+        Case("a trigger adds a row to a table that was done", PG, {**TEA_GOES, "lines": [((9, "jam", 1), 1)]},
              more=trigger("AFTER INSERT", "lines", "INSERT INTO products VALUES ('rum', 1); RETURN NULL;"), **torn),
-        Case("a trigger keeps a group out", PG, JAM_IS_DEARER, more=trigger("BEFORE INSERT", "by_product", "RETURN NULL;"),
+        Case("a trigger keeps a group out", PG, ALE_IS_SOLD, more=trigger("BEFORE INSERT", "by_product", "RETURN NULL;"),
              wanted=REFUSED, word="refused torn by_product"),
-        Case("a trigger that waits for the end empties a view", PG, TEA_GOES, more=late, wanted=REFUSED, word="refused torn by_product"),
+        Case("a trigger that waits for the end empties a view", PG, JAM_IS_DEARER, more=late, wanted=REFUSED, word="refused torn by_product"),
         Case("a rule does nothing instead", PG, ALE_COMES, more=["CREATE RULE nothing AS ON INSERT TO products DO INSTEAD NOTHING;"], wanted=REFUSED),
         Case("a trigger keeps a book", PG, JAM_IS_DEARER, keyed(), audit, touched=("public.audit",), **KEYED),
         *hidden_rows(),
@@ -211,9 +214,11 @@ def triggers_of_sqlite(torn):
         Case("a trigger keeps a row as it was", LITE, JAM_IS_DEARER, keyed(), made("BEFORE UPDATE ON products", ignored), **torn),
         Case("a trigger changes what comes", LITE, ALE_COMES,
              more=made("AFTER INSERT ON products", "UPDATE products SET price = price + 1 WHERE rowid = NEW.rowid;"), **torn),
-        Case("a trigger changes a table that was done", LITE, {**TEA_GOES, "lines": [((9, "jam", 1), 1)]},
+        Case("a trigger changes a row that was done", LITE, {**ALE_COMES, "lines": [((9, "jam", 1), 1)]},
+             more=made("AFTER INSERT ON lines", "UPDATE products SET price = 1 WHERE product = 'ale';"), **torn),
+        Case("a trigger adds a row to a table that was done", LITE, {**TEA_GOES, "lines": [((9, "jam", 1), 1)]},
              more=made("AFTER INSERT ON lines", "INSERT INTO products VALUES ('rum', 1);"), **torn),
-        Case("a trigger keeps a group out", LITE, JAM_IS_DEARER, more=made("BEFORE INSERT ON by_product", ignored),
+        Case("a trigger keeps a group out", LITE, ALE_IS_SOLD, more=made("BEFORE INSERT ON by_product", ignored),
              wanted=REFUSED, word="refused torn by_product"),
         Case("a trigger keeps a book", LITE, JAM_IS_DEARER, keyed(),
              ["CREATE TABLE audit (told text);", *made("AFTER UPDATE ON products", "INSERT INTO audit VALUES ('changed');")],

@@ -9,7 +9,7 @@ sys.dont_write_bytecode = True
 from database_parts.nights import bag  # noqa: E402
 
 # The words that a night of its own has for a refusal. Whatever else an engine says is no sentence for the reader.
-REFUSAL = re.compile(r"refused [a-z]+ \S|table \S+ does not fit: ")
+REFUSAL = re.compile(r"refused [a-z]+ \S|table \S+ does not fit: |there is no table \S+ in |the isolation is not READ COMMITTED: ")
 
 
 @dataclass
