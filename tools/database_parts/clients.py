@@ -43,6 +43,8 @@ def names():
         found += [
             Case("columns are named true, false and n", engine, SPOKEN_CHANGES, catalogue=WORDS, rows=SPOKEN),
             Case("columns of a counted table are named true, false and n", engine, SPOKEN_CHANGES, catalogue=WORDS, rows=SPOKEN, counted=("a",)),
+            *(Case(f"a table is named {name}", engine, SPOKEN_CHANGES, catalogue=WORDS.replace('"a', f'"{name}'), rows={name: SPOKEN["a"]}, counted=counted)
+              for name in ("new", "OLD", "excluded") for counted in ((), (name,))),
             Case("a table of changes has no count", engine, {}, WITHOUT_COUNT, wanted=REFUSED, word="products~changes does not fit"),
         ]
     return found

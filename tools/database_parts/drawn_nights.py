@@ -15,7 +15,7 @@ from database_parts.nights import Night, written  # noqa: E402
 
 draw_views = tool("try_nights").draw_views
 HARD_VIEWS = ["x" * 63 + "a", "x" * 63 + "b", "x" * 63, "select", "User", "user", "USER", "true", "n", "net", "pg_class", "t1", "pg_authid",
-              "night", "rowid", "ctid", "information_schema", "new", "excluded", "_"]  # fmt: skip
+              "night", "rowid", "ctid", "information_schema", "new", "old", "excluded", "_"]  # fmt: skip
 HARD_COLUMNS = ["Key", "rowid", "xmin", "key", "found", "KEY", "y" * 63 + "a", "y" * 63 + "b", "true", "false", "n", "ctid", "tableoid", "c1",
                 "t1", "net", "null", "oid", "select", "current_user", "count", "_rowid_", "place", "d", "t", "default"]  # fmt: skip
 ENCODINGS = {"": ["UTF8", "UTF8", "LATIN1", "SQL_ASCII"], "latin": ["UTF8", "LATIN1", "SQL_ASCII"], "ascii": ["UTF8", "LATIN1", "SQL_ASCII"]}
