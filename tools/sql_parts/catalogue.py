@@ -9,11 +9,8 @@ sys.dont_write_bytecode = True
 from drawn import Text, Warehouse  # noqa: E402
 from given import Given, parts_of  # noqa: E402
 from machine import broken  # noqa: E402
+from sql_parts.tokens import Unfit  # noqa: E402
 from warehouse_parts.bundle import pack  # noqa: E402
-
-
-class Unfit(Exception):
-    """Why no script can be made."""
 
 
 def text_of(path):

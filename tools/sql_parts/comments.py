@@ -1,5 +1,10 @@
 """What is said of each step: its expression, its predicted work, what it reads and why it stands where it does."""
 
+import sys
+
+sys.dont_write_bytecode = True
+from sql_parts.tokens import comment  # noqa: E402
+
 WHY = {
     "net": "equal rows add up and opposite ones cancel, before anything reads the change",
     "judge": "all base changes are judged before the first expression, so that a refused night has done nothing",
@@ -27,13 +32,17 @@ class Comments:
         state = [sizes[1 if v in self.installed else 0] for v, sizes in enumerate(self.sizes)]
         return sum(self.sizes[o.view][2] if o.is_change else state[o.view] for term in step.terms for o in term)
 
-    def short(self, step):
-        """The comment above a statement."""
+    def told(self, step):
+        """A step with its predicted work."""
         told = self.expression(step)
         if self.sizes and (step.sources or step.kind == "inst"):
             told += f": work {self.rows(step)}"
         self.installed |= {step.view} if step.kind == "inst" else set()
-        return f"-- {told}"
+        return told
+
+    def short(self, step):
+        """The comment above a statement."""
+        return comment(self.told(step))
 
     def reads(self, step):
         """What a step reads, in words."""
@@ -46,4 +55,4 @@ class Comments:
 
     def long(self, step):
         """A step as `--explain` tells it."""
-        return f"{self.short(step).removeprefix('-- ')}\n  reads: {self.reads(step)}\n  why here: {WHY[step.kind]}"
+        return f"{self.told(step)}\n  reads: {self.reads(step)}\n  why here: {WHY[step.kind]}"

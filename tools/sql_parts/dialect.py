@@ -1,53 +1,44 @@
-"""What the engines' words have in common: literals, formulas, predicates."""
+"""What an engine has to say in its own words, and what the two have in common."""
 
 import sys
 
 sys.dont_write_bytecode = True
-from drawn import Place, Text  # noqa: E402
+from sql_parts.tokens import name, sql, word  # noqa: E402
+from sql_parts.written import Writer  # noqa: E402
 
 LEAST, MOST = -(2**63), 2**63 - 1
+COUNT = name("#")
 
 
-def nodes(formula):
-    """The sums, differences and products in an expression, each of which may leave 64 bits."""
-    if not isinstance(formula, list):
-        return []
-    return [formula, *(node for member in formula[1:] for node in nodes(member))]
+def summed(numbers):
+    return [sql("sum({each})", each=each) for each in numbers]
 
 
 class Dialect:
-    """An engine. `column` gives the SQL of a place in the combined row."""
+    """An engine: its names and literals, sums, refusals and changes of rows."""
 
-    name = None
+    engine = None
+    own_schema = None
+    temporary = None
     limit = None
     folds = False
-    row_number = None
+    escapes = False
     own_columns = ()
-    is_count = '"#" > 0'
 
-    def literal(self, text):
-        return "'" + text.replace("'", "''") + "'"
+    def __init__(self, schema=None):
+        self.schema = schema or self.own_schema
 
-    # ---- expressions
+    def written(self, lines):
+        """Each line of a script as its text."""
+        return [Writer(self.escapes).written(each) for each in lines]
 
-    def computed(self, formula, column):
-        """An expression, computed so that no step raises."""
-        match formula:
-            case [sign, left, right]:
-                return f"({self.computed(left, column)} {sign} {self.computed(right, column)})"
-            case Place():
-                return self.cell(column(formula))
-        return self.number(formula)
+    def table(self, said):
+        """A table that stays."""
+        return sql("{schema}.{table}", schema=name(self.schema), table=name(said))
 
-    def plain(self, formula, column):
-        """An expression without arithmetic."""
-        if isinstance(formula, Place):
-            return column(formula)
-        return self.text(formula) if isinstance(formula, Text) else self.whole(formula)
-
-    def value(self, formula, column):
-        """An expression; where it has no value, anything."""
-        return self.kept(formula, column) if nodes(formula) else self.plain(formula, column)
+    def working(self, said):
+        """A table that passes with the night."""
+        return sql("{schema}.{table}", schema=self.temporary, table=name(said))
 
     # ---- sums: an engine that does not add up exactly keeps one in halves, each of which adds up by itself
 
@@ -56,33 +47,12 @@ class Dialect:
 
     def times(self, count, number):
         """The halves of a product."""
-        return self.halves(f"{count} * {number}")
+        return self.halves(sql("{count} * {number}", count=count, number=number))
 
-    def columns_of(self, column):
+    def parts(self, place):
         """The columns that the halves of a sum stand in."""
-        return [column]
+        return [word("s", place)]
 
-    def joined(self, halves):
+    def whole_of(self, halves):
         """The number that halves make; where it leaves 64 bits, it is lost."""
         return halves[0]
-
-    # ---- predicates
-
-    def compared(self, sign, left, right, column):
-        """A comparison, which is false where a side has no value."""
-        if not nodes(left) and not nodes(right):
-            return f"{self.plain(left, column)} {sign} {self.plain(right, column)}"
-        tests = [self.has_value(side, column) for side in (left, right) if nodes(side)]
-        return "(" + " AND ".join([*tests, f"{self.computed(left, column)} {sign} {self.computed(right, column)}"]) + ")"
-
-    def holds(self, formula, column):
-        """A predicate."""
-        match formula:
-            case True:
-                return "TRUE"
-            case ["all" | "any" as kind, *members]:
-                tests = [self.holds(member, column) for member in members]
-                return "(" + (" AND " if kind == "all" else " OR ").join(tests) + ")" if tests else str(kind == "all").upper()
-            case ["not", member]:
-                return f"NOT ({self.holds(member, column)})"
-        return self.compared(*formula, column)

@@ -4,16 +4,16 @@
 class Names:
     """Names of one kind, tables or the columns of a table, each the same whenever it is asked for."""
 
-    def __init__(self, limit, folds, wanted, taken=()):
-        self.limit, self.folds, self.found, self.taken = limit, folds, {}, set(taken)
-        for name in sorted(wanted, key=lambda name: limit is not None and len(name) > limit):
+    def __init__(self, dialect, wanted, taken=()):
+        self.limit, self.folds, self.found, self.taken = dialect.limit, dialect.folds, {}, set(taken)
+        for name in sorted(wanted, key=lambda name: self.limit is not None and len(name) > self.limit):
             self.of(name)
 
     def of(self, name, suffix=""):
-        """The name with a suffix that no view has, in quotes."""
+        """The name with a suffix that no view has."""
         if (name, suffix) not in self.found:
             self.found[name, suffix] = self.free(name, suffix)
-        return '"' + self.found[name, suffix].replace('"', '""') + '"'
+        return self.found[name, suffix]
 
     def free(self, name, suffix):
         """The first of NAME, NAME~2, NAME~3 .. that nothing has."""

@@ -1,100 +1,197 @@
-"""PostgreSQL 15 and later."""
+"""PostgreSQL 15 and later: a night is one block, which is undone as a whole where anything in it fails."""
 
 import sys
 
 sys.dont_write_bytecode = True
-from sql_parts.dialect import LEAST, MOST, Dialect, nodes  # noqa: E402
+from sql_parts.dialect import LEAST, MOST, Dialect  # noqa: E402
+from sql_parts.formulas import both, nodes  # noqa: E402
+from sql_parts.postgresql_checks import Checks  # noqa: E402
+from sql_parts.tokens import END_OF_STATEMENT, body, joined, name, sql, statements, text, word  # noqa: E402
 
-ESCAPES = {"\\": "\\\\", "'": "\\'", "\n": "\\n", "\r": "\\r"}
+LIMITS = sql("{least} AND {most}", least=sql("{n}::numeric", n=text(str(LEAST))), most=sql("{n}::numeric", n=text(str(MOST))))
+VARIABLES = [sql("path pg_catalog.text"), sql("finding pg_catalog.text"), sql("touched pg_catalog.int8")]
+# A block rests on these, whatever a session has set. The functions of triggers may want the path that was set.
+SETTINGS = [
+    sql("path := pg_catalog.current_setting({key})", key=text("search_path")),
+    sql("PERFORM pg_catalog.set_config({key}, {value}, TRUE)", key=text("search_path"), value=text("pg_catalog")),
+    sql(
+        "PERFORM set_config({key}, concat_ws({comma}, {first}, nullif(path, {none}), {last}), TRUE)",
+        key=text("search_path"), comma=text(", "), first=text("pg_catalog"), none=text(""), last=text("pg_temp"),
+    ),
+    *(
+        sql("PERFORM set_config({key}, {value}, TRUE)", key=text(key), value=text(value))
+        for key, value in (("row_security", "off"), ("jit", "off"))
+    ),
+]  # fmt: skip
+ISOLATION = "the isolation is not READ COMMITTED: run the script outside of other transactions"
 
 
 class PostgreSQL(Dialect):
-    name = "postgresql"
+    engine = "postgresql"
+    own_schema = "public"
+    temporary = word("pg_temp")
     limit = 63
-    row_number = "ctid"
+    escapes = True
     own_columns = ("tableoid", "xmin", "cmin", "xmax", "cmax", "ctid")
-    kinds = {"int": "bigint", "text": 'text COLLATE "C"'}
-    free_number = "numeric"
+    kinds = {"int": sql("bigint"), "text": sql("text")}
+    declared = {"int": sql("bigint"), "text": sql("text COLLATE {c}", c=name("C"))}
+    free_number = sql("numeric")
+    count_number = sql("bigint NOT NULL")
+    id_kind, part_kind, place_kind = sql("bigint NOT NULL"), sql("oid"), sql("tid")
+    holds_count = sql("{count} > 0", count=name("#"))
+    head = [r"\set ON_ERROR_STOP on", r"\set ON_ERROR_ROLLBACK off", "SET client_encoding = 'UTF8';"]
+
+    def checks(self, script):
+        return Checks(script)
 
     # ---- literals and expressions
 
-    def text(self, text):
-        return "E'" + "".join(ESCAPES.get(letter, letter) for letter in text) + "'::text COLLATE \"C\""
+    def text(self, said):
+        return sql("{said}::text", said=text(said))
 
     def whole(self, number):
-        return f"'{number}'::bigint"
+        return sql("{said}::bigint", said=text(str(number)))
 
     def number(self, number):
-        return f"'{number}'::numeric"
+        return sql("{said}::numeric", said=text(str(number)))
 
     def cell(self, column):
-        return f"{column}::numeric"
+        return sql("{column}::numeric", column=column)
 
-    def has_value(self, formula, column):
-        """Whether no step leaves 64 bits. It is computed in numeric, so that none raises."""
-        tests = [f"{self.computed(node, column)} BETWEEN {self.number(LEAST)} AND {self.number(MOST)}" for node in nodes(formula)]
-        return " AND ".join(tests)
+    def read(self, column, kind):
+        """A column of the user's, which may be of a narrower type."""
+        return sql("{column}::text", column=column) if kind == "text" else column
 
-    def kept(self, formula, column):
-        return f"CASE WHEN {self.has_value(formula, column)} THEN {self.computed(formula, column)} END"
+    def read_count(self, column):
+        return sql("{column}::bigint", column=column)
+
+    def value_tests(self, formula, computed):
+        """That no step leaves 64 bits. It is computed in numeric, so that none raises."""
+        return [sql("{node} BETWEEN {limits}", node=computed(node), limits=LIMITS) for node in nodes(formula)]
+
+    def kept(self, computed, tests):
+        return sql("CASE WHEN {tests} THEN {computed} END", tests=both(tests), computed=computed)
 
     def summand(self, value):
-        return f"({value})::numeric"
+        return sql("({value})::numeric", value=value)
 
     def is_lost(self, number):
         """Whether a number is no bigint."""
-        return f"NOT {number} BETWEEN {self.number(LEAST)} AND {self.number(MOST)}"
+        return sql("NOT {number} BETWEEN {limits}", number=number, limits=LIMITS)
 
     def inexact(self, _):
         """Sums in numeric are exact."""
         return []
 
-    def net_count(self, _):
-        return "bigint NOT NULL"
+    # ---- statements of a block
 
-    # ---- statements
+    def raised(self, told):
+        return sql("RAISE EXCEPTION USING MESSAGE = {told}", told=told)
 
-    def begin(self, tables):
-        """Writers wait from here on; readers go on with the contents before."""
-        return ["BEGIN ISOLATION LEVEL REPEATABLE READ;", f"LOCK TABLE {', '.join(tables)} IN EXCLUSIVE MODE;"]
+    def where(self, test, statement):
+        """A statement that is carried out where a test holds."""
+        return sql("IF {test} THEN {statement}{end} END IF", test=test, statement=statement, end=END_OF_STATEMENT)
 
-    def end(self, _):
-        return ["COMMIT;"]
+    def refuse(self, told, query):
+        return [self.where(sql("EXISTS ({query})", query=query), self.raised(text(told)))]
 
-    def working(self, table, columns):
-        return f"CREATE TEMPORARY TABLE {table} ({', '.join(columns)}) ON COMMIT DROP;"
+    def refuse_with(self, query):
+        """A refusal with the text that a query gives, where it gives one."""
+        return [sql("finding := ({query})", query=query), self.where(sql("finding IS NOT NULL"), self.raised(word("finding")))]
+
+    def counted(self, told, made):
+        """Statements that compute counts, with a word where one leaves 64 bits."""
+        return [
+            sql(
+                "BEGIN {made} EXCEPTION WHEN numeric_value_out_of_range THEN {raised}{end} END",
+                made=statements(made, 2), raised=self.raised(text(told)), end=END_OF_STATEMENT,
+            )
+        ]  # fmt: skip
+
+    def exact(self, *_):
+        """What leaves 64 bits raised already."""
+        return []
+
+    def touched(self, told, count):
+        """A refusal where the statement before did not touch as many rows as a query says."""
+        test = sql("touched <> ({count})", count=count)
+        return [sql("GET DIAGNOSTICS touched = ROW_COUNT"), self.where(test, self.raised(text(told)))]
+
+    def only_where(self, test, made):
+        """Statements that are carried out where a test holds."""
+        return [sql("IF {test} THEN {made} END IF", test=test, made=statements(made, 2))]
+
+    def planned(self, _, __, statement, told):
+        return self.counted(told, [statement])
+
+    def filling(self, table):
+        """A table that a statement fills."""
+        return table
+
+    def wrong_cells(self, *_):
+        """What stands in a column is of its kind."""
+        return None
 
     def filled(self, table):
         """What follows where a working table has been filled: without statistics nested loops may be planned."""
-        return [f"ANALYZE {table};"]
+        return [sql("ANALYZE {table}", table=table)]
 
-    def block(self, body, declared=""):
-        """Statements with conditions. A column's name means the column, also where PL/pgSQL has a variable of that name."""
-        tag = "night"
-        while f"${tag}$" in body:
-            tag += "_"
-        return f"DO ${tag}$\n#variable_conflict use_column\n{declared}BEGIN {body} END ${tag}$;"
+    # ---- rows, each told by its table and its place
 
-    def refuse(self, told, query):
-        return [self.block(f"IF EXISTS ({query}) THEN RAISE EXCEPTION '{told}'; END IF;")]
+    def here(self, of):
+        return sql("{of}.tableoid, {of}.ctid", of=of)
 
-    def counted(self, told, statements, _=None):
-        """Statements that compute counts, with a word where one leaves 64 bits."""
-        caught = f"EXCEPTION WHEN numeric_value_out_of_range THEN RAISE EXCEPTION '{told}';"
-        return [self.block(f"{statement}\n{caught}") for statement in statements]
+    def at(self):
+        return sql("t.tableoid = g.part AND t.ctid = g.place")
 
-    def misfit(self, told, table, columns):
-        """A word where columns are not as they have to be, with their names."""
-        expected = ", ".join(f"({self.literal(name)}, {self.literal(kind)})" for name, kind in columns)
-        query = (
-            "SELECT string_agg(name || ' ' || kind, ', ') INTO misfits"
-            f" FROM (VALUES {expected}) AS expected (name, kind) WHERE NOT EXISTS (SELECT 1 FROM pg_attribute AS a"
-            f" LEFT JOIN pg_collation AS c ON c.oid = a.attcollation WHERE a.attrelid = to_regclass({self.literal(table)})"
-            " AND a.attname = expected.name AND a.attnotnull AND NOT a.attisdropped"
-            " AND a.atttypid = ANY (CASE expected.kind WHEN 'bigint' THEN '{int2,int4,int8}'::regtype[]"
-            " ELSE '{text,varchar}'::regtype[] END)"
-            " AND coalesce(c.collname IN ('C', 'default') AND c.collisdeterministic, TRUE));"
-        )
-        wanted = f"{told}: it wants %, NOT NULL and of a deterministic collation"
-        body = f"{query} IF misfits IS NOT NULL THEN RAISE EXCEPTION '{wanted}', misfits; END IF;"
-        return [self.block(body, "DECLARE misfits text;\n")]
+    def target(self, said):
+        return self.table(said)
+
+    def delete(self, said, gone):
+        return sql("DELETE FROM {table} AS t USING ({gone}) AS g WHERE {at}", table=self.table(said), gone=gone, at=self.at())
+
+    def update(self, said, sets, rows):
+        return sql("UPDATE {table} AS t SET {sets} FROM ({rows}) AS g WHERE {at}", table=self.table(said), sets=sets, rows=rows, at=self.at())
+
+    def copies(self, net):
+        """Rows of a change beside the numbers up to their counts."""
+        return sql("{net} AS d CROSS JOIN LATERAL generate_series(1::bigint, d.n) AS k", net=net)
+
+    def join(self, operand, test):
+        return sql("JOIN {operand} ON {test}", operand=operand, test=test)
+
+    def index(self, said):
+        return name(said)
+
+    def indexed(self, said):
+        return self.table(said)
+
+    # ---- programs
+
+    def created(self, table, columns):
+        return sql("CREATE TEMPORARY TABLE {table} ({columns}) ON COMMIT DROP", table=table, columns=joined(columns))
+
+    def block(self, made):
+        """Statements as one. A column's name means the column, also where PL/pgSQL has a variable of that name."""
+        begun = sql("\n#variable_conflict use_column\nDECLARE{variables}\nBEGIN", variables=statements(VARIABLES, 1))
+        program = sql("{begun}{made}\nEND{end}", begun=begun, made=statements([*SETTINGS, *made], 1), end=END_OF_STATEMENT)
+        return sql("DO {body}{end}", body=body(program), end=END_OF_STATEMENT)
+
+    def program(self, checked, working, made):
+        """A transaction of one block: what is checked, its working tables, and its statements."""
+        isolated = sql("current_setting({key}) <> {wanted}", key=text("transaction_isolation"), wanted=text("read committed"))
+        tables = [self.created(name(said), columns) for said, columns in working]
+        block = self.block([self.where(isolated, self.raised(text(ISOLATION))), *checked, *tables, *made])
+        begin = sql("BEGIN ISOLATION LEVEL READ COMMITTED READ WRITE{end}", end=END_OF_STATEMENT)
+        return [begin, block, sql("COMMIT{end}", end=END_OF_STATEMENT)]
+
+    def creation(self, made):
+        """A transaction that makes tables and indexes."""
+        return [sql("BEGIN READ WRITE{end}", end=END_OF_STATEMENT), self.block(made), sql("COMMIT{end}", end=END_OF_STATEMENT)]
+
+    def deferred(self):
+        """What may be wrong until the end, and no longer."""
+        return [sql("SET CONSTRAINTS ALL DEFERRED")]
+
+    def settled(self):
+        return [sql("SET CONSTRAINTS ALL IMMEDIATE")]

@@ -14,7 +14,14 @@ sys.dont_write_bytecode = True
 from sql_parts.postgresql import PostgreSQL  # noqa: E402
 from sql_parts.sqlite import SQLite  # noqa: E402
 
+SCHEMA = 'the "house"'
+QUOTED = '"the ""house"""'
 SETTINGS = "-c listen_addresses='' -c fsync=off -c shared_buffers=32MB -c max_connections=20"
+
+
+def texts(dialect, lines):
+    """Lines as text, of which some may be tokens."""
+    return [each if isinstance(each, str) else dialect.written([each])[0] for each in lines]
 
 
 class SQLiteEngine:
@@ -28,7 +35,7 @@ class SQLiteEngine:
     def run(self, lines):
         """What is told where a statement fails, and then nothing is changed."""
         try:
-            self.database.executescript("\n".join(lines))
+            self.database.executescript("\n".join(texts(self.dialect, lines)))
         except sqlite3.Error as told:
             if self.database.in_transaction:
                 self.database.rollback()
@@ -45,10 +52,10 @@ class SQLiteEngine:
 class PostgreSQLEngine:
     """A server over a socket, and in it a schema for each warehouse."""
 
-    dialect = PostgreSQL()
+    dialect = PostgreSQL(SCHEMA)
 
     def __init__(self, programs):
-        self.programs, self.schemas = programs, 0
+        self.programs = programs
 
     def __enter__(self):
         self.folder = Path(tempfile.mkdtemp(prefix="whview_sql"))
@@ -79,7 +86,7 @@ class PostgreSQLEngine:
         return [self.programs / "psql", *words]
 
     def in_schema(self, lines):
-        return "\n".join(["SET client_min_messages = warning;", f"SET search_path = s{self.schemas};", *lines, ""])
+        return "\n".join(["SET client_min_messages = warning;", f"SET search_path = {QUOTED};", *texts(self.dialect, lines), ""])
 
     def psql(self, lines):
         return subprocess.run(self.command(), input=self.in_schema(lines).encode(), capture_output=True)
@@ -92,8 +99,7 @@ class PostgreSQLEngine:
         return found
 
     def fresh(self):
-        self.schemas += 1
-        self.psql([f"DROP SCHEMA IF EXISTS s{self.schemas - 1} CASCADE;", f"CREATE SCHEMA s{self.schemas};"])
+        self.psql([f"DROP SCHEMA IF EXISTS {QUOTED} CASCADE;", f"CREATE SCHEMA {QUOTED};"])
 
     def run(self, lines):
         """What is told where a statement fails, and then nothing is changed."""

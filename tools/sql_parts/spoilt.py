@@ -4,6 +4,7 @@ import sys
 
 sys.dont_write_bytecode = True
 from sql_parts.script import Script  # noqa: E402
+from sql_parts.tokens import number, sql  # noqa: E402
 
 
 class EveryCompReadsTheOldTables(Script):
@@ -18,7 +19,7 @@ class ATermIsLeftOut(Script):
 
 
 class NothingIsJudged(Script):
-    def judge(self, step):
+    def absent(self, v):
         return []
 
 
@@ -28,18 +29,24 @@ class WhatHasNoValueIsTaken(Script):
 
 
 class AFilterIsLeftOut(Script):
-    def conditions(self, view):
-        return super().conditions(view)[:-1] or ["TRUE"]
+    def conditions(self, v, term, first):
+        return [first]
 
 
 class AJoinIsLeftOut(Script):
-    def conditions(self, view):
-        return super().conditions(view)[1:] or ["TRUE"] if view.join else super().conditions(view)
+    def rows(self, v, term):
+        found, first = super().rows(v, term)
+        whole = self.shape.classes
+        self.shape.classes = lambda v: whole(v)[1:]
+        try:
+            return super().rows(v, term)[0], first
+        finally:
+            self.shape.classes = whole
 
 
 class CountsAreNotMultiplied(Script):
     def count(self, term):
-        return super().count(term).partition(" * ")[0]
+        return super().count(term[:1])
 
 
 class ChangesAreNotUsedUp(Script):
@@ -48,20 +55,40 @@ class ChangesAreNotUsedUp(Script):
 
 
 class RowsThatAreThereCountNoMore(Script):
-    def counted_statements(self, v):
-        leaving, _, coming = super().counted_statements(v)
-        return [leaving, "", coming]
+    def recounted(self, v):
+        return []
+
+    def verified(self, v):
+        return []
 
 
 class GroupsThatChangeStay(Script):
-    def summary_inst(self, v):
-        return super().summary_inst(v)[1:]
+    def stayed(self, v):
+        return []
+
+    def verified(self, v):
+        return []
 
 
 class APlainRowLeavesEveryTime(Script):
-    def plain_inst(self, v):
-        leaving, coming = super().plain_inst(v)
-        return [leaving.replace(" WHERE nth <= -change", ""), coming]
+    def placed(self, v, more, test):
+        return super().placed(v, more, test if self.shape.is_counted(v) else sql("d.pair IS NULL AND d.n < 0"))
+
+    def verified(self, v):
+        return []
+
+
+class NoRowLeaves(Script):
+    def left(self, v):
+        return []
+
+    def verified(self, v):
+        return []
+
+
+class AllRowsComeOnce(Script):
+    def net(self, step):
+        return [*super().net(step), sql("UPDATE {net} SET n = {one} WHERE n > {one}", net=self.dialect.filling(self.working(step.view, "net")), one=number(1))]
 
 
 SPOILT = [
@@ -76,4 +103,6 @@ SPOILT = [
     RowsThatAreThereCountNoMore,
     GroupsThatChangeStay,
     APlainRowLeavesEveryTime,
+    NoRowLeaves,
+    AllRowsComeOnce,
 ]

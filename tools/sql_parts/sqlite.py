@@ -1,118 +1,200 @@
-"""SQLite 3.39 and later."""
+"""SQLite 3.39 and later: a night is one statement, which fires a temporary trigger, and is undone as a whole where anything in it fails."""
 
 import sys
 
 sys.dont_write_bytecode = True
 from sql_parts.dialect import Dialect  # noqa: E402
+from sql_parts.sqlite_checks import Checks  # noqa: E402
+from sql_parts.tokens import END_OF_STATEMENT, Sql, joined, name, number, sql, statements, text, word  # noqa: E402
 
 HALF = 2**32
 # The high half of a product may have 2^39 at most, so that only sums of 2^24 of them could leave 64 bits.
 ROOM = 2**24
+INTEGER = text("integer")
+JUDGED, NIGHT = "night~judged", "night~"
+UNJUDGED = "the tables were not judged: run the script from its beginning"
 
 
 class SQLite(Dialect):
     """Integers that leave 64 bits turn into reals there, and what is made of a real never turns back into an integer."""
 
-    name = "sqlite"
+    engine = "sqlite"
+    own_schema = "main"
+    temporary = word("temp")
     folds = True
-    row_number = "rowid"
-    own_columns = ("rowid",)
-    is_count = "\"#\" > 0 AND typeof(\"#\") = 'integer'"
-    kinds = {"int": "INTEGER", "text": "TEXT"}
+    own_columns = ("_rowid_",)
+    kinds = {"int": sql("INTEGER"), "text": sql("TEXT")}
+    declared = kinds
     # Without a type a number stays what it was computed as; a column of integers would turn a real back.
-    free_number = ""
+    free_number = sql("")
+    count_number = sql("NOT NULL")
+    id_kind, part_kind, place_kind = sql("INTEGER PRIMARY KEY"), sql("INTEGER"), sql("INTEGER")
+    holds_count = sql("{count} > 0 AND typeof({count}) = {integer}", count=name("#"), integer=INTEGER)
+    head = []
+
+    def checks(self, script):
+        return Checks(script)
 
     # ---- literals and expressions
 
-    def text(self, text):
-        return self.literal(text)
+    def text(self, said):
+        """A text; the lines of a script end where its statements do, so that a line's end in it is a number."""
+        found, rest = [], said
+        while (at := next((at for at, letter in enumerate(rest) if letter < " "), None)) is not None:
+            found += [text(rest[:at]), sql("char({code})", code=number(ord(rest[at])))]
+            rest = rest[at + 1 :]
+        return sql("({parts})", parts=joined([*found, text(rest)], "||")) if found else text(said)
 
-    def whole(self, number):
-        return str(number)
+    def whole(self, said):
+        return number(said)
 
     number = whole
 
     def cell(self, column):
         return column
 
-    def has_value(self, formula, column):
-        return f"typeof({self.computed(formula, column)}) = 'integer'"
+    def read(self, column, _):
+        return column
 
-    def kept(self, formula, column):
-        return self.computed(formula, column)
+    read_count = cell
 
-    def summand(self, value):
-        return value
+    def value_tests(self, formula, computed):
+        return [sql("typeof({computed}) = {integer}", computed=computed(formula), integer=INTEGER)]
 
-    def is_lost(self, number):
-        return f"typeof({number}) <> 'integer'"
+    def kept(self, computed, _):
+        return computed
+
+    summand = cell
+
+    def is_lost(self, said):
+        return sql("typeof({number}) <> {integer}", number=said, integer=INTEGER)
 
     def inexact(self, columns):
         """Tests for sums of what turned into reals."""
         return [self.is_lost(column) for column in columns]
 
-    def net_count(self, told):
-        """The name of a check is what SQLite tells where it fails."""
-        return f"INTEGER NOT NULL CONSTRAINT \"{told}\" CHECK (typeof(\"#\") = 'integer')"
-
     # ---- sums, which SQLite refuses where they leave 64 bits on the way: those of halves do not
 
-    def halves(self, number):
+    def halves(self, said):
         """Both have the number's sign. The high half of a real is a real."""
-        return [f"{number} / {HALF}", f"{number} % {HALF}"]
+        return [sql("{said} / {half}", said=said, half=number(HALF)), sql("{said} % {half}", said=said, half=number(HALF))]
 
-    def times(self, count, number):
+    def times(self, count, said):
         """A product may leave 64 bits by a byte; one that is larger turns into a real."""
-        high, low = (f"{count} * ({half})" for half in self.halves(number))
-        return [f"({high} + {low} / {HALF}) * {ROOM} / {ROOM}", f"{low} % {HALF}"]
+        high, low = (sql("{count} * ({half})", count=count, half=half) for half in self.halves(said))
+        half, room = number(HALF), number(ROOM)
+        first = sql("({high} + {low} / {half}) * {room} / {room}", high=high, low=low, half=half, room=room)
+        return [first, sql("{low} % {half}", low=low, half=half)]
 
-    def columns_of(self, column):
-        return [column, f'{column[:-1]}~low"']
+    def parts(self, place):
+        return [word("s", place), word("l", place)]
 
-    def joined(self, halves):
+    def whole_of(self, halves):
         """The low half is brought between 0 and 2^32, so that nothing leaves 64 bits, and turns into a real, but what is joined."""
         high, low = halves
-        return f"(({high} + ({low} >> 32)) * {HALF} + ({low} & {HALF - 1}))"
+        return sql("(({high} + ({low} >> 32)) * {half} + ({low} & {most}))", high=high, low=low, half=number(HALF), most=number(HALF - 1))
 
-    # ---- statements
+    # ---- statements of a trigger
 
-    def begin(self, _):
-        return ["BEGIN IMMEDIATE;"]
+    def refuse(self, told, query):
+        """All of the transaction is undone, and a client that goes on finds nothing to commit."""
+        return [sql("SELECT RAISE(ROLLBACK, {told}) WHERE EXISTS ({query})", told=text(told), query=query)]
 
-    def end(self, tables):
-        return [*(f"DROP TABLE {table};" for table in tables), "COMMIT;"]
+    def counted(self, _, made):
+        return made
 
-    def working(self, table, columns):
-        return f"CREATE TEMPORARY TABLE {table} ({', '.join(columns)});"
+    def exact(self, told, query):
+        return self.refuse(told, query)
+
+    def only_where(self, _, made):
+        """The statements find nothing where there is nothing to do."""
+        return made
+
+    def touched(self, told, count):
+        return [sql("SELECT RAISE(ROLLBACK, {told}) WHERE changes() <> ({count})", told=text(told), count=count)]
 
     def filled(self, _):
         return []
 
-    def refuse(self, told, query):
-        """The name of a check is what SQLite tells where it fails."""
+    def planned(self, _, __, statement, ___):
+        return [statement]
+
+    def filling(self, table):
+        """A table that a statement of a trigger fills, which has no schema: temporary tables are found first."""
+        return Sql(table.tokens[-1:])
+
+    def wrong_cells(self, cells, kinds, count):
+        """A test for cells that are of another kind than their columns."""
+        wanted = [*zip(cells, (text("integer" if kind == "int" else "text") for kind in kinds)), (count, INTEGER)]
+        return joined([sql("typeof({cell}) <> {kind}", cell=cell, kind=kind) for cell, kind in wanted], "OR")
+
+    # ---- rows, each told by its place
+
+    def here(self, of):
+        return sql("0, {of}._rowid_", of=of)
+
+    def target(self, said):
+        return name(said)
+
+    def delete(self, said, gone):
+        return sql("DELETE FROM {table} WHERE _rowid_ IN (SELECT g.place FROM ({gone}) AS g)", table=name(said), gone=gone)
+
+    def update(self, said, sets, rows):
+        return sql("UPDATE {table} SET {sets} FROM ({rows}) AS g WHERE {table}._rowid_ = g.place", table=name(said), sets=sets, rows=rows)
+
+    def copies(self, net):
+        """Rows of a change beside the numbers up to their counts."""
+        return sql(
+            "{net} AS d JOIN (WITH RECURSIVE copies (k) AS (SELECT 1 UNION ALL SELECT c.k + 1 FROM copies AS c WHERE c.k <"
+            " (SELECT max(d.n) FROM {net} AS d)) SELECT c.k AS k FROM copies AS c) AS k ON k.k <= d.n",
+            net=net,
+        )
+
+    def join(self, operand, test):
+        """Tables are gone through in the order that they are written in."""
+        return sql("CROSS JOIN {operand} ON {test}", operand=operand, test=test)
+
+    def index(self, said):
+        return sql("{schema}.{index}", schema=name(self.schema), index=name(said))
+
+    def indexed(self, said):
+        return name(said)
+
+    # ---- programs
+
+    def fired(self, said, made):
+        """Statements as one: a trigger, and what fires it."""
+        table, body = name(said), statements(made, 1)
+        trigger = "CREATE TEMPORARY TRIGGER {table} AFTER INSERT ON {table} BEGIN{body}\nEND{end}"
         return [
-            f'CREATE TEMPORARY TABLE "~refused" (found INTEGER CONSTRAINT "{told}" CHECK (found = 0));',
-            f'INSERT INTO "~refused" SELECT EXISTS ({query});',
-            'DROP TABLE "~refused";',
+            sql(trigger, table=table, body=body, end=END_OF_STATEMENT),
+            sql("INSERT INTO {table} VALUES (1){end}", table=self.working(said), end=END_OF_STATEMENT),
         ]
 
-    def counted(self, told, statements, query=None):
-        """Statements that compute counts, behind a query for a count that leaves 64 bits; without one SQLite's own word is told."""
-        return [*(self.refuse(told, query) if query else []), *statements]
-
-    def misfit(self, told, table, columns):
-        """A word where a column is not as it has to be."""
-        wanted = ", ".join(f"{name} {kind}" for name, kind in columns)
-        return self.refuse(f"{told}: it wants {wanted}, NOT NULL and without COLLATE", self.fits(table, columns))
-
-    def fits(self, table, columns):
-        """A query for a column that is not as it has to be, or for a table of other collations."""
-        bare = self.literal(table[1:-1].replace('""', '"'))
-        kinds = {"bigint": "('INTEGER', 'INT', 'BIGINT')", "text": "('TEXT')"}
-        tests = [
-            f"NOT EXISTS (SELECT 1 FROM pragma_table_info({bare}) WHERE name = {self.literal(name)} AND \"notnull\""
-            f" AND upper(type) IN {kinds[kind]})"
-            for name, kind in columns
+    def program(self, checked, working, made):
+        """A transaction between the making of its working tables and their going: a judgement, so that columns are there which the night
+        names, and the night, which does nothing where the judgement did not end well."""
+        tables = [(self.working(said), columns) for said, columns in [*working, *((said, [sql("begun")]) for said in (JUDGED, NIGHT))]]
+        gone = [sql("DROP TABLE IF EXISTS {table}{end}", table=table, end=END_OF_STATEMENT) for table, _ in tables]
+        judged = sql("SELECT RAISE(ROLLBACK, {told}) WHERE NOT EXISTS (SELECT 1 FROM {table})", told=text(UNJUDGED), table=self.working(JUDGED))
+        return [
+            sql("BEGIN IMMEDIATE{end}", end=END_OF_STATEMENT),
+            *gone,
+            *(sql("CREATE TABLE {table} ({columns}){end}", table=table, columns=joined(columns), end=END_OF_STATEMENT) for table, columns in tables),
+            *self.fired(JUDGED, checked),
+            *self.fired(NIGHT, [judged, *made]),
+            *gone,
+            sql("COMMIT{end}", end=END_OF_STATEMENT),
         ]
-        collated = f"EXISTS (SELECT 1 FROM sqlite_schema WHERE type = 'table' AND name = {bare} AND upper(sql) LIKE '%COLLATE%')"
-        return "SELECT 1 WHERE " + " OR ".join([*tests, collated])
+
+    def creation(self, made):
+        """A transaction that makes tables and indexes."""
+        lines = [sql("{made}{end}", made=each, end=END_OF_STATEMENT) for each in made]
+        return [sql("BEGIN IMMEDIATE{end}", end=END_OF_STATEMENT), *lines, sql("COMMIT{end}", end=END_OF_STATEMENT)]
+
+    def deferred(self):
+        return []
+
+    def settled(self):
+        """SQLite looks at foreign keys where a statement ends, and a night is one."""
+        return []

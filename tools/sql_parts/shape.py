@@ -1,0 +1,97 @@
+"""What a script has to know of the views, in no engine's words: which columns they have, what they are over and what is added up."""
+
+import sys
+from typing import NamedTuple
+
+sys.dont_write_bytecode = True
+from sql_parts.formulas import nodes  # noqa: E402
+
+
+class Spot(NamedTuple):
+    """A column of a child, which stands at this place among the children."""
+
+    child: int
+    column: int
+
+
+class Join(NamedTuple):
+    """A child's place in a term's order, and the pairs of columns by which it is joined with the children before it."""
+
+    child: int
+    pairs: tuple
+
+
+class Shape:
+    """The views of a catalogue. `plain` has the base views whose tables have no column of counts."""
+
+    def __init__(self, views, plain=()):
+        self.views, self.plain = views, set(plain)
+
+    def is_summary(self, v):
+        return bool(self.views[v].over) and self.views[v].keep is None
+
+    def is_counted(self, v):
+        """Whether the view's table has a column of counts: a summary has each row once."""
+        return v not in self.plain and not self.is_summary(v)
+
+    def width(self, v):
+        return len(self.views[v].columns)
+
+    def groups(self, v):
+        """How many columns tell what belongs together: a summary's groups, or all."""
+        return len(self.views[v].group) if self.is_summary(v) else self.width(v)
+
+    def sums(self, v):
+        """How many numbers are added up: a summary's count and sums, or the count of a row."""
+        return self.width(v) - self.groups(v) if self.is_summary(v) else 1
+
+    def spot(self, v, place):
+        """The child and the column of a place in a view's combined row."""
+        for child, u in enumerate(self.views[v].over):
+            if place < self.width(u):
+                return Spot(child, place)
+            place -= self.width(u)
+        raise IndexError(place)
+
+    def kept(self, v):
+        """The formulas that are kept, of which a summary has none."""
+        return self.views[v].keep or []
+
+    def checked(self, v):
+        """The formulas that have to have a value in each combined row."""
+        formulas = self.views[v].sums if self.is_summary(v) else self.kept(v)
+        return [formula for formula in formulas if nodes(formula)]
+
+    # ---- joins
+
+    def classes(self, v):
+        """The columns that a join makes equal, class by class."""
+        found = []
+        for pair in self.views[v].join:
+            spots = {self.spot(v, place) for place in pair}
+            near = [each for each in found if each & spots]
+            found = [each for each in found if not each & spots] + [spots.union(*near)]
+        return found
+
+    def order(self, v, term):
+        """The children of a term: first a change, and then those that equalities lead to, changes before tables."""
+        classes, left, found = self.classes(v), list(range(len(term))), []
+        while left:
+            bound = lambda child: sum(  # noqa: E731
+                any(spot.child in found for spot in each) and any(spot.child == child for spot in each) for each in classes
+            )
+            best = max(left, key=lambda child: (min(bound(child), 1), term[child].is_change, bound(child), -child))
+            found.append(best)
+            left.remove(best)
+        return found
+
+    def joins(self, v, term):
+        """The children in their order, each joined by one equality for each class with a column that stands before."""
+        order, classes, found = self.order(v, term), self.classes(v), []
+        for child in order:
+            pairs = []
+            for each in classes:
+                spots = sorted(each, key=lambda spot: (order.index(spot.child), spot.column))
+                pairs += [(spots[0], spot) for spot in spots[1:] if spot.child == child]
+            found.append(Join(child, tuple(pairs)))
+        return found
