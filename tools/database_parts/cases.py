@@ -112,8 +112,14 @@ class Tried:
             script = written("--engine", self.database.engine, *self.night.option(), self.night.folder(folder))
         if script.status:
             return script.told + ("" if not script.text else " Traceback: and a script was written all the same")
+        text = self.written(script.text)
+        self.is_changed = text != script.text
         default = PSQL if self.database.engine == "postgresql" else SHELL
-        return self.database.run(script.text, self.case.client or default)
+        return self.database.run(text, self.case.client or default)
+
+    def written(self, text):
+        """The script that is run: what tools/sql writes."""
+        return text
 
     def mistakes(self):
         """What comes otherwise than it is wanted."""

@@ -116,6 +116,12 @@ class Server(PostgreSQLEngine):
         quiet = {"stdout": subprocess.DEVNULL, "stderr": subprocess.STDOUT}
         subprocess.run(started, check=True, user=self.user, cwd="/", preexec_fn=bounded if name == "pg_ctl" else None, **quiet)
 
+    def seconds(self):
+        """The processor's time that the server and its backends took."""
+        number = (self.folder / "data/postmaster.pid").read_text().split()[0]
+        times = Path(f"/proc/{number}/stat").read_text().rpartition(")")[2].split()[11:15]
+        return sum(map(int, times)) / os.sysconf("SC_CLK_TCK")
+
     def asking(self, database, words=(), user="postgres"):
         return [self.programs / "psql", "-h", self.folder, "-U", user, "-X", "-q", "-A", "-t", *words, database]
 
