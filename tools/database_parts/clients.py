@@ -145,11 +145,11 @@ def encodings():
 
 
 def settings():
-    found = []
-    for name, value in SETTINGS.items():
-        surroundings = {"PGOPTIONS": f"-c {name}={value}", "PGCLIENTENCODING": "UTF8"}
-        client = Client(("-v", "ON_ERROR_STOP=1"), surroundings)
-        found.append(Case(f"a price changes with {name} = {value}", PG, JAM_IS_DEARER, keyed(), client=client))
+    options = " ".join(f"-c {name}={value}" for name, value in SETTINGS.items())
+    client = Client(("-v", "ON_ERROR_STOP=1"), {"PGOPTIONS": options, "PGCLIENTENCODING": "UTF8"})
+    found = [Case("a price changes under settings of all kinds", PG, JAM_IS_DEARER, keyed(), client=client)]
+    serial = Client(("-1", "-v", "ON_ERROR_STOP=1"), {"PGOPTIONS": "-c default_transaction_isolation=serializable", "PGCLIENTENCODING": "UTF8"})
+    found.append(Case("a price changes within a transaction that is SERIALIZABLE", PG, JAM_IS_DEARER, keyed(), client=serial, wanted=EITHER))
     conforming = {"PGOPTIONS": "-c standard_conforming_strings=off", "PGCLIENTENCODING": "UTF8"}
     found.append(Case("texts with backslashes that do not conform", PG, ESCAPED_CHANGES, catalogue=STRINGS, rows=ESCAPED,
                       client=Client(("-v", "ON_ERROR_STOP=1"), conforming)))  # fmt: skip

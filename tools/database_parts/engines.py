@@ -125,14 +125,40 @@ class Server(PostgreSQLEngine):
     def asking(self, database, words=(), user="postgres"):
         return [self.programs / "psql", "-h", self.folder, "-U", user, "-X", "-q", "-A", "-t", *words, database]
 
-    def session_of(self, database):
-        """A session that takes lines as they come."""
-        return subprocess.Popen(self.asking(database), stdin=subprocess.PIPE, stdout=subprocess.PIPE)
-
     def psql(self, database, words=(), user="postgres", surroundings=UTF8, given=None):
         """psql with these words, and what it is given to read."""
         command = self.asking(database, words, user)
         return subprocess.run(command, input=given, capture_output=True, env={**os.environ, **surroundings}, timeout=SECONDS)
+
+
+class Session:
+    """A session of the test's own, which takes lines as they come."""
+
+    END = "that was all"
+
+    def __init__(self, server, database):
+        self.told = server.folder / f"{database} told"
+        with self.told.open("wb") as told:
+            words = server.asking(database, ("-v", "ON_ERROR_STOP=1"))
+            self.client = subprocess.Popen(words, stdin=subprocess.PIPE, stdout=subprocess.PIPE, stderr=told, env={**os.environ, **UTF8})
+        self.asked("SET client_min_messages = warning;")
+
+    def asked(self, text):
+        """What statements print, line by line."""
+        self.client.stdin.write(f"{text}\n\\echo {self.END}\n".encode())
+        self.client.stdin.flush()
+        found = []
+        for line in self.client.stdout:
+            if line == f"{self.END}\n".encode():
+                return found
+            found.append(line.decode().removesuffix("\n"))
+        self.client.wait()
+        raise Broken(self.told.read_text(errors="replace") + "of\n" + text)
+
+    def close(self):
+        self.client.stdin.close()
+        self.client.stdout.close()
+        self.client.wait()
 
 
 class PostgreSQLDatabase:
@@ -143,18 +169,20 @@ class PostgreSQLDatabase:
     def __init__(self, server, name="tried", encoding="UTF8"):
         self.server, self.name, self.encoding = server, name, encoding
         self.schemas, self.schema, self.role = ["public"], "public", "postgres"
-        made = f"CREATE DATABASE {name} ENCODING '{encoding}' LOCALE 'C' TEMPLATE template0;"
-        self.asked(made, "postgres")
+        self.session = Session(server, "postgres")
+        self.asked(f"CREATE DATABASE {name} ENCODING '{encoding}' LOCALE 'C' TEMPLATE template0;")
+        self.session.close()
+        self.session = Session(server, name)
         self.asked(WATCH)
         self.script = server.folder / f"{name}.sql"
 
-    def asked(self, text, database=None):
+    def asked(self, text):
         """What the test's own statements print, line by line."""
-        given = "SET client_min_messages = warning;\n" + text + "\n"
-        ran = self.server.psql(database or self.name, ("-v", "ON_ERROR_STOP=1"), given=given.encode())
-        if ran.returncode:
-            raise Broken(ran.stderr.decode(errors="replace") + "of\n" + text)
-        return ran.stdout.decode().split("\n")[:-1]
+        try:
+            return self.session.asked(text)
+        except (Broken, BrokenPipeError):
+            self.session = Session(self.server, self.name)
+            raise
 
     def fresh(self, schema="public", more=(), role="postgres"):
         """The database with these empty schemas alone."""

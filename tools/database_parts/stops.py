@@ -9,7 +9,7 @@ from time import monotonic, sleep
 
 sys.dont_write_bytecode = True
 from database_parts.cases import SHOP  # noqa: E402
-from database_parts.engines import UTF8, in_folder  # noqa: E402
+from database_parts.engines import UTF8, Session, in_folder  # noqa: E402
 from database_parts.filled import Filled, plainly  # noqa: E402
 from database_parts.judged import Judged  # noqa: E402
 from database_parts.nights import Night, Parsed, written  # noqa: E402
@@ -122,15 +122,13 @@ class Stopped:
     def waited(self):
         """A night that has to wait for a writer of changes: what that one wrote is carried out, or still there."""
         self.fresh()
-        writer = self.database.server.session_of(self.database.name)
-        change = 'INSERT INTO "lines~changes" (id, product, pieces, "#") VALUES (-1, \'product 1\', 5, 1);'
-        writer.stdin.write(f"BEGIN; {change} SELECT 'written';\n".encode())
-        writer.stdin.flush()
-        writer.stdout.readline()
+        writer = Session(self.database.server, self.database.name)
+        writer.asked('BEGIN; INSERT INTO "lines~changes" (id, product, pieces, "#") VALUES (-1, \'product 1\', 5, 1);')
         client = self.begun()
         while client.poll() is None and self.database.asked(WAITING) == ["0"]:
             sleep(0.01)
-        writer.communicate(b"COMMIT;\n", timeout=20)
+        writer.asked("COMMIT;")
+        writer.close()
         status = client.wait(60)
         night = shop(ROWS["postgresql"])
         night.changes[1].append(((-1, "product 1", 5), 1))
