@@ -50,6 +50,7 @@ SYSTEM = {
     "postgresql": ["pg_class", "pg_authid", "pg_proc", "pg_type", "information_schema"],
     "sqlite": ["sqlite_master", "sqlite_sequence", "sqlite_schema", "sqlite_stat1", "sqlite_temp_master"],
 }
+ENGINES_OWN = ("does not exist", "reserved for internal use", "unknown database", "no such table")
 WORDS = {"--create": "made", "--open": "opened", "--night": "night"}
 
 
@@ -58,6 +59,11 @@ class Attack(NamedTuple):
 
     place: str
     text: str
+
+
+def is_understood(told):
+    """Whether a refusal is a sentence, or an engine's about a name that it has not, or has for itself."""
+    return is_sentence(told) or any(words in told for words in ENGINES_OWN)
 
 
 def toml(text):
@@ -150,7 +156,7 @@ class Hostile:
             found += self.unwritten(script) if script.status else []
             scripts += [] if script.status else [script.text]
         if scripts:
-            found += self.harm(scripts)
+            found += self.harm(scripts, is_elsewhere=attack.place == "schema")
         return [f"{self.database.engine}: {attack.text!r} as {attack.place}: {text}" for text in found]
 
     def unwritten(self, script):
@@ -158,8 +164,8 @@ class Hostile:
         found = ["a script was begun"] if script.text else []
         return found + ([f"the refusal is {script.told.strip()[-200:]!r}"] if "Traceback" in script.told or not script.told.strip() else [])
 
-    def harm(self, scripts):
-        """What scripts do beside the night's own tables."""
+    def harm(self, scripts, is_elsewhere):
+        """What scripts do beside the night's own tables, or that they do not run, where their tables are not elsewhere."""
         self.run_scripts += 1
         self.database.fresh()
         self.database.make(["CREATE TABLE canary (sings int);", "INSERT INTO canary VALUES (7);"])
@@ -170,7 +176,8 @@ class Hostile:
         if self.canary.exists():
             self.canary.unlink()
             found.append("the canary's file is there")
-        return found + [f"what was written does not run: {text.strip()[:300]}" for text in told if text]
+        failed = [text for text in told if text and not (is_elsewhere and is_understood(text))]
+        return found + [f"what was written does not run: {text.strip()[:300]}" for text in failed]
 
     def gone(self, before, after):
         """What was there and is not as it was."""
@@ -198,7 +205,7 @@ class Hostile:
         before = self.database.state()
         told = [self.database.run(script, Client()) for script in scripts]
         after = self.database.state()
-        bad = [text for text in told if text and not is_sentence(text) and "does not exist" not in text]
+        bad = [text for text in told if text and not is_understood(text)]
         return self.gone(before, after) + [f"no sentence: {text.strip()[:300]}" for text in bad]
 
     def counted_by_system(self):
@@ -247,10 +254,11 @@ def text_mistakes(database, folder, program, texts):
 
 
 def nothing_mistakes(database, folder):
-    """A text with U+0000 is refused before the first line, and by its name."""
+    """A text with U+0000 is refused before the first line, or stands in the script by its number alone."""
     night = text_night(["a\x00b"])
     script = written("--engine", database.engine, night.folder(folder))
-    if script.status and not script.text and "Traceback" not in script.told:
+    is_refused = script.status and not script.text and "Traceback" not in script.told
+    if is_refused or (script.text and "\x00" not in script.text):
         return []
     return [f"{database.engine}: a text with U+0000: {script.told.strip()[-300:]!r}, and {len(script.text)} letters written"]
 

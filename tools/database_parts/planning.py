@@ -1,4 +1,4 @@
-"""Nights of the largest shapes that whview takes: how long they run, and what memory the engine needs for them."""
+"""Nights of the largest shapes that whview takes: what they take of the processor, and what memory the engine needs."""
 
 import os
 import random
@@ -11,15 +11,15 @@ from typing import NamedTuple
 sys.dont_write_bytecode = True
 from drawn import Place, View  # noqa: E402
 
-from database_parts.engines import in_folder  # noqa: E402
+from database_parts.engines import SECONDS, in_folder  # noqa: E402
 from database_parts.filled import Filled, plainly  # noqa: E402
 from database_parts.judged import Judged  # noqa: E402
 from database_parts.nights import Night, written  # noqa: E402
 
 MOST_SECONDS, MOST_MEMORY = 5.0, 300 << 10
 WIDE = 64
-# psql's own commands: which backend it was, and what memory that one has had at most.
-ASKED = "SELECT pg_backend_pid() AS number \\gset\n\\setenv BACKEND :number\n\\! grep VmHWM /proc/$BACKEND/status\n"
+# psql's own commands: which backend it was, what memory that one has had at most, and what it took of the processor.
+ASKED = "SELECT pg_backend_pid() AS number \\gset\n\\setenv BACKEND :number\n\\! grep VmHWM /proc/$BACKEND/status; cat /proc/$BACKEND/stat\n"
 
 
 class Shape(NamedTuple):
@@ -157,29 +157,27 @@ class Planned:
         return tables
 
     def measured(self, text):
-        """What is told, the seconds, and the most memory in kB."""
+        """What is told, the processor's seconds, and the most memory in kB."""
         return self.of_postgresql(text) if self.database.engine == "postgresql" else self.of_sqlite(text)
 
     def of_postgresql(self, text):
         """psql asks in the end which backend it was, and what its memory was."""
-        limited = {"PGCLIENTENCODING": "UTF8", "PGOPTIONS": "-c statement_timeout=20s"}
-        began = monotonic()
+        limited = {"PGCLIENTENCODING": "UTF8", "PGOPTIONS": f"-c statement_timeout={SECONDS * 900}"}
         self.database.script.write_bytes((text + "\n" + ASKED).encode())
         ran = self.database.server.psql(self.database.name, ("-f", self.database.script), surroundings=limited, given=b"")
-        seconds = monotonic() - began
         memory = re.search(rb"VmHWM:\s*(\d+) kB", ran.stdout)
+        times = ran.stdout.rpartition(b")")[2].split()[11:13]
         told = ran.stderr.decode(errors="replace")
-        return told or None, seconds, int(memory[1]) if memory else 0
+        return told or None, sum(map(int, times)) / os.sysconf("SC_CLK_TCK"), int(memory[1]) if memory else 0
 
     def of_sqlite(self, text):
-        began = monotonic()
         self.database.script.write_bytes(text.encode())
         with self.database.script.open("rb") as given:
             ran = subprocess.Popen(["sqlite3", "-bail", self.database.path], stdin=given, stdout=subprocess.DEVNULL, stderr=subprocess.PIPE)
             told = ran.stderr.read().decode(errors="replace")
             _, status, used = os.wait4(ran.pid, 0)
             ran.returncode = os.waitstatus_to_exitcode(status)
-        return told or None, monotonic() - began, used.ru_maxrss
+        return told or None, used.ru_utime + used.ru_stime, used.ru_maxrss
 
 
 def quick(view, tables):
