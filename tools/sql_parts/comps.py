@@ -109,7 +109,9 @@ class Comps:
         """All terms, and a word where an output has no value."""
         v, pending, found = step.view, self.working(step.view, "pending"), []
         for term in step.terms:
-            found += self.dialect.planned(len(term), len(self.shape.joins(v, term)), self.term_statement(v, term), self.told_large(v))
+            pairs = sum(len(join.pairs) for join in self.shape.joins(v, term))
+            made = self.dialect.planned(len(term), pairs, self.term_statement(v, term), self.told_large(v))
+            found += self.dialect.skipped([self.working(operand.view, "net") for operand in term if operand.is_change], made)
         return [*found, *self.exact(v, pending), *self.dialect.filled(pending)]
 
     def exact(self, v, pending):

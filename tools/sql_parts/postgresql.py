@@ -9,7 +9,9 @@ from sql_parts.postgresql_checks import Checks  # noqa: E402
 from sql_parts.tokens import END_OF_STATEMENT, body, joined, name, sql, statements, text, word  # noqa: E402
 
 LIMITS = sql("{least} AND {most}", least=sql("{n}::numeric", n=text(str(LEAST))), most=sql("{n}::numeric", n=text(str(MOST))))
-VARIABLES = [sql("path pg_catalog.text"), sql("finding pg_catalog.text"), sql("touched pg_catalog.int8")]
+VARIABLES = [sql("{name} pg_catalog.text", name=word(said)) for said in ("path", "finding", "collapsed", "merged")]
+VARIABLES.append(sql("touched pg_catalog.int8"))
+MANY_PAIRS = 12
 # A block rests on these, whatever a session has set. The functions of triggers may want the path that was set.
 SETTINGS = [
     sql("path := pg_catalog.current_setting({key})", key=text("search_path")),
@@ -23,6 +25,10 @@ SETTINGS = [
         for key, value in (("row_security", "off"), ("jit", "off"))
     ),
 ]  # fmt: skip
+SEARCHES = (("join_collapse_limit", "1", word("collapsed")), ("enable_mergejoin", "off", word("merged")))
+KEPT = [sql("{before} := current_setting({key})", key=text(key), before=before) for key, _, before in SEARCHES]
+LIMITED = [sql("PERFORM set_config({key}, {value}, TRUE)", key=text(key), value=text(value)) for key, value, _ in SEARCHES]
+UNLIMITED = [sql("PERFORM set_config({key}, {before}, TRUE)", key=text(key), before=before) for key, _, before in SEARCHES]
 ISOLATION = "the isolation is not READ COMMITTED: run the script outside of other transactions"
 
 
@@ -121,8 +127,16 @@ class PostgreSQL(Dialect):
         """Statements that are carried out where a test holds."""
         return [sql("IF {test} THEN {made} END IF", test=test, made=statements(made, 2))]
 
-    def planned(self, _, __, statement, told):
-        return self.counted(told, [statement])
+    def planned(self, children, pairs, statement, told):
+        """The statement of a term. Where children are joined by many pairs they are joined in the order that is written, since a search
+        for a better one takes longer than the night, and the plan is not kept."""
+        if children < 3 or pairs < MANY_PAIRS:
+            return self.counted(told, [statement])
+        return [*LIMITED, *self.counted(told, [sql("EXECUTE {body}", body=body(statement))]), *UNLIMITED]
+
+    def skipped(self, changes, made):
+        """Statements of a term that are left out where a change is empty."""
+        return self.only_where(joined([sql("EXISTS (SELECT 1 FROM {net} AS d)", net=net) for net in changes], "AND"), made) if changes else made
 
     def filling(self, table):
         """A table that a statement fills."""
@@ -174,7 +188,7 @@ class PostgreSQL(Dialect):
     def block(self, made):
         """Statements as one. A column's name means the column, also where PL/pgSQL has a variable of that name."""
         begun = sql("\n#variable_conflict use_column\nDECLARE{variables}\nBEGIN", variables=statements(VARIABLES, 1))
-        program = sql("{begun}{made}\nEND{end}", begun=begun, made=statements([*SETTINGS, *made], 1), end=END_OF_STATEMENT)
+        program = sql("{begun}{made}\nEND{end}", begun=begun, made=statements([*SETTINGS, *KEPT, *made], 1), end=END_OF_STATEMENT)
         return sql("DO {body}{end}", body=body(program), end=END_OF_STATEMENT)
 
     def program(self, checked, working, made):

@@ -1,6 +1,7 @@
 """Scripts: what is made of a catalogue and a strategy, put together from checks, working tables and the statements of the steps."""
 
 import sys
+from functools import cache
 from typing import NamedTuple
 
 sys.dont_write_bytecode = True
@@ -57,16 +58,17 @@ class Script(Comps, Changes, Insts):
     def kinds(self, v):
         return [kind for _, kind in self.views[v].columns]
 
+    @cache
     def read(self, v, of="t"):
         """The columns of a view's table, as they are read."""
-        return [
-            self.dialect.read(sql("{of}.{column}", of=word(of), column=column), kind) for column, kind in zip(self.users(v), self.kinds(v))
-        ]
+        columns = zip(self.users(v), self.kinds(v))
+        return tuple(self.dialect.read(sql("{of}.{column}", of=word(of), column=column), kind) for column, kind in columns)
 
+    @cache
     def cells(self, v, of=None):
         """The columns of a view's working tables."""
         found = [word("c", place) for place in range(1, self.shape.width(v) + 1)]
-        return [sql("{of}.{column}", of=word(of), column=column) for column in found] if of else found
+        return tuple(sql("{of}.{column}", of=word(of), column=column) if of else column for column in found)
 
     def same(self, v, count=None):
         """Whether a row t of a view's table is the row d of a working table, or of its group."""

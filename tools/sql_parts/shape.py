@@ -26,6 +26,7 @@ class Shape:
 
     def __init__(self, views, plain=()):
         self.views, self.plain = views, set(plain)
+        self.classes = [self.equal(v) for v in range(len(views))]
 
     def is_summary(self, v):
         return bool(self.views[v].over) and self.views[v].keep is None
@@ -64,34 +65,31 @@ class Shape:
 
     # ---- joins
 
-    def classes(self, v):
+    def equal(self, v):
         """The columns that a join makes equal, class by class."""
         found = []
         for pair in self.views[v].join:
             spots = {self.spot(v, place) for place in pair}
             near = [each for each in found if each & spots]
             found = [each for each in found if not each & spots] + [spots.union(*near)]
-        return found
+        return [sorted(each) for each in found]
 
     def order(self, v, term):
         """The children of a term: first a change, and then those that equalities lead to, changes before tables."""
-        classes, left, found = self.classes(v), list(range(len(term))), []
+        classes, left, found = [{spot.child for spot in each} for each in self.classes[v]], list(range(len(term))), []
         while left:
-            bound = lambda child: sum(  # noqa: E731
-                any(spot.child in found for spot in each) and any(spot.child == child for spot in each) for each in classes
-            )
-            best = max(left, key=lambda child: (min(bound(child), 1), term[child].is_change, bound(child), -child))
+            bound = {child: sum(child in each and not each.isdisjoint(found) for each in classes) for child in left}
+            best = max(left, key=lambda child: (min(bound[child], 1), term[child].is_change, bound[child], -child))
             found.append(best)
             left.remove(best)
         return found
 
     def joins(self, v, term):
         """The children in their order, each joined by one equality for each class with a column that stands before."""
-        order, classes, found = self.order(v, term), self.classes(v), []
-        for child in order:
-            pairs = []
-            for each in classes:
-                spots = sorted(each, key=lambda spot: (order.index(spot.child), spot.column))
-                pairs += [(spots[0], spot) for spot in spots[1:] if spot.child == child]
-            found.append(Join(child, tuple(pairs)))
-        return found
+        order = self.order(v, term)
+        pairs = {child: [] for child in order}
+        for each in self.classes[v]:
+            first, *others = sorted(each, key=lambda spot: (order.index(spot.child), spot.column))
+            for spot in others:
+                pairs[spot.child].append((first, spot))
+        return [Join(child, tuple(pairs[child])) for child in order]

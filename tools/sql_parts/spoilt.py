@@ -35,11 +35,10 @@ class AFilterIsLeftOut(Script):
 
 class AJoinIsLeftOut(Script):
     def rows(self, v, term):
-        found, first = super().rows(v, term)
         whole = self.shape.classes
-        self.shape.classes = lambda v: whole(v)[1:]
+        self.shape.classes = [each[1:] for each in whole]
         try:
-            return super().rows(v, term)[0], first
+            return super().rows(v, term)
         finally:
             self.shape.classes = whole
 

@@ -119,6 +119,9 @@ class SQLite(Dialect):
     def planned(self, _, __, statement, ___):
         return [statement]
 
+    def skipped(self, _, made):
+        return made
+
     def filling(self, table):
         """A table that a statement of a trigger fills, which has no schema: temporary tables are found first."""
         return Sql(table.tokens[-1:])

@@ -46,6 +46,21 @@ class Sql:
             self.judge(token)
         object.__setattr__(self, "tokens", tuple(tokens))
 
+    @classmethod
+    def of(cls, parts):
+        """The tokens of parts, each of which is SQL already or a token that was judged."""
+        found = []
+        for part in parts:
+            if isinstance(part, Sql):
+                found += part.tokens
+            elif isinstance(part, Judged):
+                found.append(part.token)
+            else:
+                raise TypeError(f"{part!r} is no SQL")
+        made = object.__new__(cls)
+        object.__setattr__(made, "tokens", tuple(found))
+        return made
+
     def __setattr__(self, *_):
         raise AttributeError("tokens stay as they are made")
 
@@ -69,6 +84,16 @@ class Sql:
             raise Unfit(f"{token.said!r} cannot stand in SQL as a {token.kind}")
 
 
+class Judged:
+    """A token that was judged."""
+
+    __slots__ = ("token",)
+
+    def __init__(self, token):
+        Sql.judge(token)
+        self.token = token
+
+
 END_OF_STATEMENT = Sql([Token(END, ";")])
 
 
@@ -82,21 +107,13 @@ def pieces(template):
             raise Unfit(f"the template {template!r} has {template[at]!r}")
         kind, said, at = piece.lastgroup, piece[0], piece.end()
         if kind != "blank":
-            found.append((kind, said[1:-1] if kind == "hole" else Token({"mark": WORD}.get(kind, kind), said)))
+            found.append((kind, said[1:-1] if kind == "hole" else Judged(Token({"mark": WORD}.get(kind, kind), said))))
     return found
 
 
 def sql(template, **parts):
     """A template whose holes are filled with tokens."""
-    found = []
-    for kind, piece in pieces(template):
-        if kind != "hole":
-            found.append(piece)
-        elif isinstance(parts[piece], Sql):
-            found += parts[piece].tokens
-        else:
-            raise TypeError(f"{piece} is no SQL but {parts[piece]!r}")
-    return Sql(found)
+    return Sql.of(piece if kind != "hole" else parts[piece] for kind, piece in pieces(template))
 
 
 def word(said, number=""):
@@ -105,10 +122,12 @@ def word(said, number=""):
 
 
 def name(said):
+    """A name, in quotes."""
     return Sql([Token(NAME, said)])
 
 
 def text(said):
+    """A text, in quotes."""
     if "\0" in said:
         raise Unfit(f"the text {said!r} has U+0000, which SQL has no texts with: put another letter in its place")
     return Sql([Token(TEXT, said)])
@@ -134,12 +153,10 @@ def line(depth=0):
 
 def joined(parts, between=","):
     """Parts with a word or a mark between them."""
-    found = []
-    for number_of_part, part in enumerate(parts):
-        if not isinstance(part, Sql):
-            raise TypeError(f"{part!r} is no SQL")
-        found += ([Token(WORD, between)] if between and number_of_part else []) + list(part.tokens)
-    return Sql(found)
+    mark, found = word(between) if between else None, []
+    for part in parts:
+        found += [mark, part] if mark and found else [part]
+    return Sql.of(found)
 
 
 def statements(parts, depth=0):
@@ -147,5 +164,5 @@ def statements(parts, depth=0):
     found = []
     for part in parts:
         ends = part.tokens[-1].kind in (COMMENT, END)
-        found += [*line(depth).tokens, *part.tokens, *([] if ends else END_OF_STATEMENT.tokens)]
-    return Sql(found)
+        found += [line(depth), part] if ends else [line(depth), part, END_OF_STATEMENT]
+    return Sql.of(found)
