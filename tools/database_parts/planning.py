@@ -98,17 +98,15 @@ def chained(rows):
     return Shape("a chain of 64 views", views, rows, at_once(views))
 
 
-def shapes():
-    found = []
+def shapes(is_whole):
+    """All shapes, or one of each kind."""
+    kinds = {"in a row": star_pairs, "round one": first_pairs, "of one class": mixed_pairs, "between each two": each_pairs}
+    found = [chained(20)]
     for rows in (0, 40):
-        found.append(six_children(star_pairs(6, 64), f"six children in a row with 64 pairs, {rows} rows", rows))
-        found.append(six_children(first_pairs(6, 64), f"six children round one with 64 pairs, {rows} rows", rows))
-        found.append(six_children(mixed_pairs(6, 64), f"six children with 64 pairs of one class, {rows} rows", rows))
-        found.append(six_children(each_pairs(6, 64), f"six children with 64 pairs between each two, {rows} rows", rows))
+        found += [six_children(kind(6, WIDE), f"six children with 64 pairs {name}, {rows} rows", rows) for name, kind in kinds.items()]
         found.append(many_views(rows)._replace(name=f"64 views, {rows} rows"))
-    found.append(chained(20))
     found.append(six_children([], "six children without pairs, no rows", 0))
-    return found
+    return found if is_whole else [found[0], found[1], found[4], found[7], found[10]]
 
 
 class Planned:
@@ -202,10 +200,10 @@ def extended(rows, table, pair):
             yield row + cells, count * times
 
 
-def planning_mistakes(database, only=None):
+def planning_mistakes(database, is_whole):
     """What each shape does that it should not, and what it took."""
     found, told = [], []
-    for shape in only or shapes():
+    for shape in shapes(is_whole):
         planned = Planned(shape, database)
         wrong = planned.mistakes()
         found += [f"{database.engine}: {shape.name}: {text[:500]}" for text in wrong]

@@ -14,7 +14,7 @@ from database_parts.filled import Filled, plainly  # noqa: E402
 from database_parts.judged import Judged  # noqa: E402
 from database_parts.nights import Night, Parsed, written  # noqa: E402
 
-ROWS = {"postgresql": 8000, "sqlite": 3000}
+ROWS = {"postgresql": 5000, "sqlite": 2000}
 NOBODY = "SELECT count(*) FROM pg_stat_activity WHERE datname = current_database() AND pid <> pg_backend_pid();"
 TERMINATED = "SELECT pg_terminate_backend(pid) FROM pg_stat_activity WHERE datname = current_database() AND pid <> pg_backend_pid();"
 WAITING = "SELECT count(*) FROM pg_stat_activity WHERE datname = current_database() AND wait_event_type = 'Lock';"
