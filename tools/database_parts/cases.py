@@ -61,6 +61,8 @@ class Case:
     role: str = "postgres"
     columns: dict = field(default_factory=dict)
     strategy: list = None
+    times: int = 1
+    never: str = None
 
     def night(self):
         views = Parsed(self.catalogue).views
@@ -119,7 +121,7 @@ class Tried:
 
     def written(self, text):
         """The script that is run: what tools/sql writes."""
-        return text
+        return text * self.case.times
 
     def mistakes(self):
         """What comes otherwise than it is wanted."""
@@ -146,6 +148,8 @@ class Tried:
             found.append(f"it was refused: {told.strip()[:600]}")
         elif self.case.word not in told:
             found.append(f"the refusal does not say {self.case.word!r}: {told.strip()[:600]}")
+        elif self.case.never and self.case.never in told:
+            found.append(f"the refusal says {self.case.never!r}: {told.strip()[:600]}")
         elif not is_sentence(told) and not told.startswith("tools/sql: "):
             found.append(f"the refusal is no sentence: {told.strip()[:600]}")
         return found

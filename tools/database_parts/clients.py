@@ -83,6 +83,26 @@ def clients():
     return found
 
 
+def again():
+    """The script twice in one session: what the first run leaves there is not in the way of the second."""
+    found = []
+    for engine in BOTH:
+        client = Client() if engine == LITE else Client(is_piped=True, is_bare=True)
+        found += [
+            Case("a night and one without changes, in one session", engine, JAM_IS_DEARER, keyed(), client=client, times=2),
+            Case("a night that is refused twice, in one session", engine, ABSENT, wanted=REFUSED, word="refused absent lines", client=client, times=2, never="exists"),
+        ]
+    hidden = "CREATE TEMPORARY TABLE products (product text NOT NULL, price bigint NOT NULL);"
+    found += [
+        Case("a temporary table has a table's name", PG, JAM_IS_DEARER, keyed(), client=Client(("-v", "ON_ERROR_STOP=1", "-c", hidden))),
+        Case("a temporary table has a table's name", LITE, JAM_IS_DEARER, keyed(), client=Client(("-bail", "-cmd", hidden)), wanted=EITHER),
+    ]
+    for pragma in ("reverse_unordered_selects = 1", "recursive_triggers = 1", "case_sensitive_like = 1", "ignore_check_constraints = 1",
+                   "automatic_index = 0", "temp_store = 2", "trusted_schema = 0", "defer_foreign_keys = 1", "count_changes = 1"):  # fmt: skip
+        found.append(Case(f"a price changes under {pragma}", LITE, JAM_IS_DEARER, keyed(), client=Client(("-bail", "-cmd", f"PRAGMA {pragma}"))))
+    return found
+
+
 # ---- encodings and settings
 
 TREES = """
@@ -199,7 +219,7 @@ def limits():
 
 
 def cases():
-    return [*names(), *clients(), *encodings(), *settings(), *limits()]
+    return [*names(), *clients(), *again(), *encodings(), *settings(), *limits()]
 
 
 

@@ -92,6 +92,15 @@ def foreign_keys():
             Case("a product goes before its line, which may be later", engine, BOTH_GO, referring("DEFERRABLE INITIALLY IMMEDIATE"), **KEYED),
             Case("a price changes that NO ACTION refers to", engine, JAM_IS_DEARER, referring(""), **KEYED),
         ]  # fmt: skip
+    keyed_parts = in_parts("LIST (product)", "FOR VALUES IN ('tea')", "DEFAULT", columns=KEY)
+    on_part = [sql.replace("REFERENCES products ", "REFERENCES products_0 ") for sql in ordered("ON DELETE CASCADE", rows="(1, 'tea')")]
+    on_heir = [*MOVED, "ALTER TABLE imported ADD PRIMARY KEY (product);",
+               *(sql.replace("REFERENCES products ", "REFERENCES imported ") for sql in ordered("ON DELETE CASCADE", rows="(2, 'jam')"))]  # fmt: skip
+    found += [
+        Case("a product goes, and a cascade hangs on its part", PG, TEA_GOES, keyed_parts, on_part, REFUSED, "refused cascade products"),
+        Case("a product goes, and a cascade hangs on an heir", PG, {"products": [(("jam", 450), -1)]}, INHERITED, on_heir, REFUSED, "refused cascade products"),
+        Case("a price changes, and a cascade hangs on its part", PG, {"products": [(("tea", 300), -1), (("tea", 310), 1)]}, keyed_parts, on_part, **KEYED),
+    ]
     found.append(Case("a product goes under a cascade that is switched off", LITE, TEA_GOES, keyed(), ordered("ON DELETE CASCADE"), database="unkeyed"))
     return found
 
@@ -164,6 +173,7 @@ def triggers():
     torn = {"wanted": REFUSED, "word": "refused torn products"}
     return [
         Case("a trigger keeps a row", PG, TEA_GOES, more=trigger("BEFORE DELETE", "products", "RETURN NULL;"), **torn),
+        Case("a trigger of a part keeps a row", PG, TEA_GOES, BY_LIST, trigger("BEFORE DELETE", "products_0", "RETURN NULL;"), **torn),
         Case("a trigger keeps a row out", PG, ALE_COMES, more=trigger("BEFORE INSERT", "products", "RETURN NULL;"), **torn),
         Case("a trigger keeps a row as it was", PG, JAM_IS_DEARER, keyed(), trigger("BEFORE UPDATE", "products", "RETURN NULL;"), **torn),
         Case("a trigger changes what comes", PG, ALE_COMES, more=trigger("BEFORE INSERT", "products", "NEW.price := NEW.price + 1; RETURN NEW;"), **torn),

@@ -79,7 +79,8 @@ class Forms:
                 kinds = [*kinds, "smallint"]
             found.append((name, f"{self.source.choice(kinds)} NOT NULL"))
         if self.night.is_counted(v):
-            kind = self.source.choice(KINDS[engine]["int"])
+            kinds = [*KINDS[engine]["int"], *(["smallint"] if engine == "postgresql" and not view.over else [])]
+            kind = self.source.choice(kinds)
             found.append(("#", f"{kind} NOT NULL" + (" DEFAULT 1" if self.chance(0.7) else "")))
         return found
 

@@ -65,7 +65,7 @@ class KeyedDrawer(Drawer):
             return [(row, 1)]
         other = self.row(self.views[v])
         beside = tuple(row[place] if place in self.keys[v] else cell for place, cell in enumerate(other))
-        return [(row, -count), (beside, count)]
+        return [(row, -count), (beside, count if is_plain else self.source.choice([count, 1, 3]))]
 
 
 def net(before, after):
