@@ -28,7 +28,8 @@ class DrawnNight(Night):
         drawer = KeyedDrawer(source)
         draw_views(drawer)
         drawer.draw_keys()
-        if source.random() < 0.3:
+        self.is_hard = source.random() < 0.3
+        if self.is_hard:
             rename(source, drawer.views)
         plain = [v for v, view in enumerate(drawer.views) if not view.over and source.random() < 0.5]
         records, changes = [], []
@@ -100,28 +101,39 @@ class DrawnTables:
     def draw(self, folder):
         """Makes and fills the tables."""
         self.database.fresh(self.schema, ["books"])
-        self.tables = named(self.night, self.made_by_command(folder))
+        is_created = self.night.is_hard or self.source.random() < 0.2
+        self.tables = named(self.night, self.made_by_command(folder)) if is_created else list(map(plainly, self.night.views))
         forms = Forms(self.source, self.database, self.night, self.tables)
         filled = Filled(self.database, self.night, self.tables)
         self.forms = [None if self.source.random() < 0.25 else forms.drawn(v, self.night.key(v)) for v in range(len(self.tables))]
         made, finished = [], []
         for v, form in enumerate(self.forms):
-            if form:
-                made += [f"DROP TABLE {forms.name(self.tables[v].name)};", *forms.made(v, form)]
-                finished += form.filled
-                self.tables[v].others, self.tables[v].key = form.others, form.key
-            made += [] if self.night.views[v].over else [*filled.base_rows(v), *filled.changed(v)]
+            made += self.table(v, form, forms, filled, is_created)
+            finished += form.filled if form else []
         made += self.references(forms) + self.audited(forms)
         self.database.make(made + self.granted())
         self.open(folder, filled)
         self.database.make(finished or ["SELECT 1;"])
         self.judge_forms()
 
+    def table(self, v, form, forms, filled, is_created):
+        """A table in its form, with its rows and changes where it is a base view's."""
+        table, made = self.tables[v], []
+        if form:
+            made += [f"DROP TABLE {forms.name(table.name)};"] if is_created else []
+            made += forms.made(v, form)
+            table.others, table.key = form.others, form.key
+        elif not is_created:
+            made += filled.made(v)
+        if self.night.views[v].over:
+            return made
+        return made + ([] if is_created else filled.made_changes(v)) + filled.base_rows(v) + filled.changed(v)
+
     def open(self, folder, filled):
         """The derived views are filled by --open, or where that may be refused as they have to be."""
         derived = self.night.words.derived
         is_sure = all(form is None or not (form.lacks or form.is_unfit) for form in self.forms)
-        if not is_sure or self.source.random() < 0.3:
+        if not is_sure or self.source.random() < 0.6:
             self.database.make([line for v in derived for line in filled.rows(v, self.night.before[v])] or ["SELECT 1;"])
             return
         script = written(*self.words("--open"), folder)

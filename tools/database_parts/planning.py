@@ -106,7 +106,7 @@ def shapes(is_whole):
         found += [six_children(kind(6, WIDE), f"six children with 64 pairs {name}, {rows} rows", rows) for name, kind in kinds.items()]
         found.append(many_views(rows)._replace(name=f"64 views, {rows} rows"))
     found.append(six_children([], "six children without pairs, no rows", 0))
-    return found if is_whole else [found[0], found[1], found[4], found[7], found[10]]
+    return found if is_whole else [found[0], found[1], found[9], found[10]]
 
 
 class Planned:
