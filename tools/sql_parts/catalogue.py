@@ -3,14 +3,21 @@
 import csv
 import sys
 import tomllib
+from collections import Counter
 from pathlib import Path
+from tempfile import TemporaryDirectory
 
 sys.dont_write_bytecode = True
 from drawn import Text, Warehouse  # noqa: E402
-from given import Given, parts_of  # noqa: E402
+from given import Given, parts_of, words_of  # noqa: E402
 from machine import broken  # noqa: E402
 from sql_parts.tokens import Unfit  # noqa: E402
 from warehouse_parts.bundle import pack  # noqa: E402
+from warehouse_parts.catalogue import Catalogue as LintedCatalogue  # noqa: E402
+
+ONCE = ("@catalogue", "@sizes", "@plan")
+# What is said of keys that the program does not look at.
+UNREAD = ("unknown key", "is not looked at")
 
 
 def text_of(path):
@@ -20,13 +27,30 @@ def text_of(path):
     return given.decode()
 
 
+def judged(text):
+    """The lines of a bundle's catalogue, which has no fault and no key that the program would not look at."""
+    headings = [line.rstrip(" \t\r") for line in text.split("\n") if line.startswith("@") and not line.startswith("@@")]
+    twice = [heading for heading, times in Counter(headings).items() if times > 1 and heading.startswith(ONCE)]
+    if twice or "@catalogue" not in headings:
+        raise Unfit(f"{twice[0]} stands twice" if twice else "there is no catalogue")
+    content = "\n".join(parts_of(text)[0]["catalogue"]) + "\n"
+    with TemporaryDirectory() as folder:
+        (Path(folder) / "catalogue.toml").write_bytes(content.encode())
+        findings = LintedCatalogue(Path(folder)).findings
+    for finding in findings:
+        if not finding.warns or any(words in finding.text for words in UNREAD):
+            raise Unfit(str(finding))
+    return content
+
+
 class Catalogue(Given):
     """The views with their formulas, in which texts stay texts; the strategy; and of each view its sizes, where they are given."""
 
     def __init__(self, text):
+        content = judged(text)
         once, nights = parts_of(text)
         self.views = []
-        for table in tomllib.loads("\n".join(once["catalogue"]))["view"]:
+        for table in tomllib.loads(content)["view"]:
             self.views.append(self.view(table))
         self.names = {view.name: v for v, view in enumerate(self.views)}
         self.words = Warehouse(self.views)
@@ -42,7 +66,19 @@ class Catalogue(Given):
         lines = night.get("strategy")
         if lines is None and "plan" in once:
             lines = [line for line in once["plan"] if line.split(" ")[0] in ("comp", "inst")]
-        return None if lines is None else self.strategy(lines)
+        return None if lines is None else [self.expression(*numbered) for numbered in enumerate(lines, 1) if words_of([numbered[1]])]
+
+    def expression(self, number, line):
+        """An expression of a strategy, as its view and its sources."""
+        words = words_of([line])[0]
+        comp = words[0] == "comp" and len(words) > 3 and words[2] == "from"
+        if not comp and not (words[0] == "inst" and len(words) == 2):
+            raise Unfit(f"strategy.txt:{number}: {line!r} is no expression; it is 'comp V from U ..' or 'inst V'")
+        named = [words[1], *words[3:]]
+        if unknown := [name for name in named if name not in self.names]:
+            raise Unfit(f"strategy.txt:{number}: there is no view {unknown[0]!r}")
+        numbers = [self.names[name] for name in named]
+        return numbers[0], tuple(numbers[1:]) or None
 
     def sizes_of(self, lines):
         """Of each view how many rows it has before and after, and how many change; None where no sizes are given."""
@@ -64,5 +100,5 @@ def read(path):
     """The catalogue at a path."""
     try:
         return Catalogue(text_of(path))
-    except (ValueError, KeyError, IndexError, TypeError, csv.Error) as fault:
+    except (ValueError, KeyError, IndexError, TypeError, RecursionError, csv.Error) as fault:
         raise Unfit(f"{path} cannot be read ({fault!r}): `whview check` and `whview night` name the fault") from fault

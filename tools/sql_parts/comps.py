@@ -89,7 +89,12 @@ class Comps:
         rows, first = self.rows(v, term)
         tests = [test for test in self.conditions(v, term, first) if test != ALWAYS]
         where = sql("WHERE {tests}", tests=both(tests)) if tests else sql("")
-        return sql("SELECT {shown} FROM {rows} {where}", shown=joined(shown), rows=rows, where=where)
+        apart = self.dialect.apart(len(term), self.pairs(v, term))
+        return sql("SELECT {shown} FROM {rows} {where} {apart}", shown=joined(shown), rows=rows, where=where, apart=apart)
+
+    def pairs(self, v, term):
+        """How many equalities join the children of a term."""
+        return sum(len(join.pairs) for join in self.shape.joins(v, term))
 
     def term_statement(self, v, term):
         groups, sums = self.cells(v)[: self.shape.groups(v)], range(2, self.shape.sums(v) + 1)
@@ -109,8 +114,7 @@ class Comps:
         """All terms, and a word where an output has no value."""
         v, pending, found = step.view, self.working(step.view, "pending"), []
         for term in step.terms:
-            pairs = sum(len(join.pairs) for join in self.shape.joins(v, term))
-            made = self.dialect.planned(len(term), pairs, self.term_statement(v, term), self.told_large(v))
+            made = self.dialect.planned(len(term), self.pairs(v, term), self.term_statement(v, term), self.told_large(v))
             found += self.dialect.skipped([self.working(operand.view, "net") for operand in term if operand.is_change], made)
         return [*found, *self.exact(v, pending), *self.dialect.filled(pending)]
 

@@ -40,6 +40,17 @@ class Dialect:
         """A table that passes with the night."""
         return sql("{schema}.{table}", schema=self.temporary, table=name(said))
 
+    # ---- what an engine does not take, of which it says so; PostgreSQL takes all that the formats do
+
+    def judge_table(self, said):
+        """Refuses a name that the engine has for itself."""
+
+    def judge_test(self, deep):
+        """Refuses a predicate of so many operators within each other."""
+
+    def judge_expression(self, held):
+        """Refuses an expression of whose beginning so many tokens are remembered."""
+
     # ---- sums: an engine that does not add up exactly keeps one in halves, each of which adds up by itself
 
     def halves(self, number):

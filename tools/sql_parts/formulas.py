@@ -25,6 +25,14 @@ class Test(NamedTuple):
         return 0 if self.how is None else 1 + max((each.height for each in self.said), default=0)
 
 
+    @property
+    def deep(self):
+        """How many operators stand within each other, as it is written."""
+        if self.how is None:
+            return 1 + sum(token.said == "(" for token in self.said.tokens)
+        return max(each.deep for each in self.said) + min(len(self.said), ROW * len(self.said).bit_length())
+
+
 def one(said):
     return Test(None, said)
 
@@ -65,8 +73,14 @@ def nodes(formula):
     return [formula, *(node for member in formula[1:] for node in nodes(member))]
 
 
-def depth(formula):
-    return 1 + max(map(depth, formula[1:])) if isinstance(formula, list) else 0
+def held(formula):
+    """How many tokens a parser remembers at most: a bracket, and to the right of a sign what stands before it too."""
+    if not isinstance(formula, list):
+        return 0
+    left, right = held(formula[1]), held(formula[2])
+    if formula[0] in "+*" and right > left:
+        left, right = right, left
+    return max(1 + left, 3 + right)
 
 
 class Formulas:
@@ -84,7 +98,7 @@ class Formulas:
         if not isinstance(formula, list):
             return self.dialect.number(formula)
         sign, left, right = formula
-        if sign in "+*" and depth(right) > depth(left):
+        if sign in "+*" and held(right) > held(left):
             left, right = right, left
         return sql("({left} {sign} {right})", left=self.computed(left), sign=word(sign), right=self.computed(right))
 
@@ -96,6 +110,7 @@ class Formulas:
 
     def tests(self, formula):
         """What holds where an expression has a value."""
+        self.dialect.judge_expression(held(formula))
         return self.dialect.value_tests(formula, self.computed) if nodes(formula) else []
 
     def value(self, formula):
@@ -129,6 +144,7 @@ class Formulas:
     def holds(self, formula):
         """A predicate without brackets that stands beside other tests, all of which have to hold."""
         test = self.test(formula)
+        self.dialect.judge_test(test.deep)
         return bracketed(written(test)) if test.how == "OR" else written(test)
 
 

@@ -130,9 +130,17 @@ class PostgreSQL(Dialect):
     def planned(self, children, pairs, statement, told):
         """The statement of a term. Where children are joined by many pairs they are joined in the order that is written, since a search
         for a better one takes longer than the night, and the plan is not kept."""
-        if children < 3 or pairs < MANY_PAIRS:
+        if not self.is_wide(children, pairs):
             return self.counted(told, [statement])
         return [*LIMITED, *self.counted(told, [sql("EXECUTE {body}", body=body(statement))]), *UNLIMITED]
+
+    def is_wide(self, children, pairs):
+        """Whether planning a term by PostgreSQL's own ways takes longer than carrying it out."""
+        return children > 2 and pairs >= MANY_PAIRS
+
+    def apart(self, children, pairs):
+        """What keeps the adding up apart from the joins, whose equal columns it would be compared with one by one."""
+        return sql("OFFSET 0") if self.is_wide(children, pairs) else sql("")
 
     def skipped(self, changes, made):
         """Statements of a term that are left out where a change is empty."""

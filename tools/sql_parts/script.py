@@ -31,6 +31,8 @@ class Script(Comps, Changes, Insts):
     def __init__(self, catalogue, dialect, plain=()):
         self.views, self.words, self.dialect = catalogue.views, catalogue.words, dialect
         self.shape, self.steps = Shape(self.views, plain), Steps(self.views)
+        for view in self.views:
+            dialect.judge_table(view.name)
         self.tables = Names(dialect, [view.name for view in self.views])
         self.columns = [Names(dialect, [said for said, _ in view.columns], dialect.own_columns) for view in self.views]
         self.checked = dialect.checks(self)
@@ -117,16 +119,22 @@ class Script(Comps, Changes, Insts):
         return found
 
     def indexes(self):
-        """An index for each column that a join asks for."""
-        found = {}
+        """An index for the columns by which a table is joined with another one."""
+        found = []
+        for u, tables in enumerate(self.indexed()):
+            for at, columns in enumerate(tables, 1):
+                index, table = self.dialect.index(self.said(u, f"~{at}")), self.dialect.indexed(self.said(u))
+                listed = joined([self.users(u)[column] for column in columns])
+                found.append(sql("CREATE INDEX {index} ON {table} ({columns})", index=index, table=table, columns=listed))
+        return found
+
+    def indexed(self):
+        """Of each view the lists of columns by which another view is joined with it, each once."""
+        found = [{} for _ in self.views]
         for v, view in enumerate(self.views):
-            for spot in (self.shape.spot(v, place) for pair in view.join for place in pair):
-                u, column = view.over[spot.child], spot.column
-                index = self.dialect.index(self.said(u, f"~{column + 1}"))
-                found[u, column] = sql(
-                    "CREATE INDEX {index} ON {table} ({column})", index=index, table=self.dialect.indexed(self.said(u)), column=self.users(u)[column]
-                )
-        return list(found.values())
+            for (u, _), columns in self.shape.partners(v).items():
+                found[view.over[u]][tuple(sorted(columns)[:WIDEST_INDEX])] = True
+        return found
 
     def working_tables(self):
         """The tables that pass with a night: of each view its change and where its rows stand, and of a derived one what its Comps make."""

@@ -74,6 +74,15 @@ class Shape:
             found = [each for each in found if not each & spots] + [spots.union(*near)]
         return [sorted(each) for each in found]
 
+    def partners(self, v):
+        """Of each child and another one the columns of the first by which they are joined."""
+        found = {}
+        for pair in self.views[v].join:
+            left, right = (self.spot(v, place) for place in pair)
+            for one, other in ((left, right), (right, left)):
+                found.setdefault((one.child, other.child), set()).add(one.column)
+        return found
+
     def order(self, v, term):
         """The children of a term: first a change, and then those that equalities lead to, changes before tables."""
         classes, left, found = [{spot.child for spot in each} for each in self.classes[v]], list(range(len(term))), []

@@ -5,12 +5,14 @@ import sys
 sys.dont_write_bytecode = True
 from sql_parts.dialect import Dialect  # noqa: E402
 from sql_parts.sqlite_checks import Checks  # noqa: E402
-from sql_parts.tokens import END_OF_STATEMENT, Sql, joined, name, number, sql, statements, text, word  # noqa: E402
+from sql_parts.tokens import END_OF_STATEMENT, Sql, Unfit, joined, name, number, sql, statements, text, word  # noqa: E402
 
 HALF = 2**32
 # The high half of a product may have 2^39 at most, so that only sums of 2^24 of them could leave 64 bits.
 ROOM = 2**24
 INTEGER = text("integer")
+# What is left of SQLite's limits beside the statements round a formula.
+DEEPEST_TEST, MOST_HELD = 900, 66
 JUDGED, NIGHT = "night~judged", "night~"
 UNJUDGED = "the tables were not judged: run the script from its beginning"
 
@@ -35,15 +37,28 @@ class SQLite(Dialect):
     def checks(self, script):
         return Checks(script)
 
+    def judge_table(self, said):
+        """Refuses a name that SQLite or a trigger has for itself."""
+        if said.lower().startswith("sqlite_") or said.lower() in ("new", "old"):
+            raise Unfit(f"SQLite has the name {said} for itself: give the view another one")
+
+    def judge_test(self, deep):
+        if deep > DEEPEST_TEST:
+            raise Unfit(f"a predicate is {deep} operators deep in SQL, and SQLite takes 1000 (SQLITE_MAX_EXPR_DEPTH): part it into two views")
+
+    def judge_expression(self, held):
+        if held > MOST_HELD:
+            raise Unfit("an expression nests too deep for SQLite's parser, whose stack has 100 places (YYSTACKDEPTH): part it into two views")
+
     # ---- literals and expressions
 
     def text(self, said):
         """A text; the lines of a script end where its statements do, so that a line's end in it is a number."""
-        found, rest = [], said
+        whole, found, rest = text(said), [], said
         while (at := next((at for at, letter in enumerate(rest) if letter < " "), None)) is not None:
             found += [text(rest[:at]), sql("char({code})", code=number(ord(rest[at])))]
             rest = rest[at + 1 :]
-        return sql("({parts})", parts=joined([*found, text(rest)], "||")) if found else text(said)
+        return sql("({parts})", parts=joined([*found, text(rest)], "||")) if found else whole
 
     def whole(self, said):
         return number(said)
@@ -118,6 +133,9 @@ class SQLite(Dialect):
 
     def planned(self, _, __, statement, ___):
         return [statement]
+
+    def apart(self, *_):
+        return sql("")
 
     def skipped(self, _, made):
         return made
