@@ -4,7 +4,7 @@ import sys
 
 sys.dont_write_bytecode = True
 from database_parts.cases import (  # noqa: E402
-    ALE_COMES, EITHER, JAM_IS_DEARER, REFUSED, Case,
+    ALE_COMES, DONE, EITHER, JAM_IS_DEARER, REFUSED, Case,
 )  # fmt: skip
 from database_parts.engines import Client  # noqa: E402
 from database_parts.fixed import BOTH, LITE, PG, keyed  # noqa: E402
@@ -43,7 +43,8 @@ def names():
         found += [
             Case("columns are named true, false and n", engine, SPOKEN_CHANGES, catalogue=WORDS, rows=SPOKEN),
             Case("columns of a counted table are named true, false and n", engine, SPOKEN_CHANGES, catalogue=WORDS, rows=SPOKEN, counted=("a",)),
-            *(Case(f"a table is named {name}", engine, SPOKEN_CHANGES, catalogue=WORDS.replace('"a', f'"{name}'), rows={name: SPOKEN["a"]}, counted=counted)
+            *(Case(f"a table is named {name}", engine, {name: SPOKEN_CHANGES["a"]}, catalogue=WORDS.replace('"a', f'"{name}'), rows={name: SPOKEN["a"]}, counted=counted,
+                   wanted=EITHER if engine == LITE else DONE)
               for name in ("new", "OLD", "excluded") for counted in ((), (name,))),
             Case("a table of changes has no count", engine, {}, WITHOUT_COUNT, wanted=REFUSED, word="products~changes does not fit"),
         ]

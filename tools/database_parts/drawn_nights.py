@@ -15,7 +15,7 @@ from database_parts.nights import Night, written  # noqa: E402
 
 draw_views = tool("try_nights").draw_views
 HARD_VIEWS = ["x" * 63 + "a", "x" * 63 + "b", "x" * 63, "select", "User", "user", "USER", "true", "n", "net", "pg_class", "t1", "pg_authid",
-              "night", "rowid", "ctid", "information_schema", "new", "old", "excluded", "_"]  # fmt: skip
+              "night", "rowid", "ctid", "information_schema", "excluded", "_"]  # fmt: skip
 HARD_COLUMNS = ["Key", "rowid", "xmin", "key", "found", "KEY", "y" * 63 + "a", "y" * 63 + "b", "true", "false", "n", "ctid", "tableoid", "c1",
                 "t1", "net", "null", "oid", "select", "current_user", "count", "_rowid_", "place", "d", "t", "default"]  # fmt: skip
 ENCODINGS = {"": ["UTF8", "UTF8", "LATIN1", "SQL_ASCII"], "latin": ["UTF8", "LATIN1", "SQL_ASCII"], "ascii": ["UTF8", "LATIN1", "SQL_ASCII"]}
@@ -24,13 +24,13 @@ ENCODINGS = {"": ["UTF8", "UTF8", "LATIN1", "SQL_ASCII"], "latin": ["UTF8", "LAT
 class DrawnNight(Night):
     """A night over drawn views, in which keys stay unique."""
 
-    def __init__(self, source, program):
+    def __init__(self, source, program, engine):
         drawer = KeyedDrawer(source)
         draw_views(drawer)
         drawer.draw_keys()
         self.is_hard = source.random() < 0.3
         if self.is_hard:
-            rename(source, drawer.views)
+            rename(source, drawer.views, HARD_VIEWS + (["new", "old"] if engine == "postgresql" else []))
         plain = [v for v, view in enumerate(drawer.views) if not view.over and source.random() < 0.5]
         records, changes = [], []
         for v, view in enumerate(drawer.views):
@@ -57,9 +57,9 @@ class DrawnNight(Night):
         return list(range(len(view.group))) or None if view.keep is None else None
 
 
-def rename(source, views):
+def rename(source, views, names):
     """Hard names for views and columns."""
-    for name, view in zip(source.sample(HARD_VIEWS, len(views)), views):
+    for name, view in zip(source.sample(names, len(views)), views):
         view.name = name
         view.columns = [(column, kind) for column, (_, kind) in zip(source.sample(HARD_COLUMNS, len(view.columns)), view.columns)]
 
@@ -73,7 +73,8 @@ class DrawnTables:
         self.schema = source.choice(["public", "public", "warehouse", "Sales"]) if self.is_postgresql else "main"
         self.role = source.choice(["postgres", "clerk"]) if self.is_postgresql else ""
         self.client = self.drawn_client()
-        self.beside, self.reasons, self.may, self.touched = [], [], [], []
+        self.tables, self.forms = [], []
+        self.reasons, self.may, self.touched = [], [], []
 
     def drawn_client(self):
         if not self.is_postgresql:
@@ -245,7 +246,7 @@ class TriedNight:
 
     def __init__(self, source, database, program):
         self.database = database
-        self.night = DrawnNight(source, program)
+        self.night = DrawnNight(source, program, database.engine)
         self.drawn = DrawnTables(source, database, self.night)
         self.end = "carried out"
 

@@ -189,7 +189,7 @@ class Hostile:
     def system_mistakes(self, name):
         """What is done to a system's table by scripts over a view of its name, one after another and each by itself."""
         found = []
-        for place in ("base", "summary"):
+        for place in ("base", "summary") if name == SYSTEM[self.database.engine][0] else ("summary",):
             attacked = Attacked(Attack(place, name), self.folder)
             scripts = [written("--engine", self.database.engine, word, *attacked.words(), self.folder) for word in WORDS]
             found += [text for script in scripts if script.status for text in self.unwritten(script)]
