@@ -90,6 +90,23 @@ class Insts:
         )  # fmt: skip
         return self.dialect.refuse(self.told_torn(v), query)
 
+    def written_and_removed(self, v):
+        """How many rows an Inst writes, and how many rows as they were it removes: a row that changes is both."""
+        net = self.working(v, "net")
+        if self.shape.is_counted(v):
+            stays = "WHEN d.pair IS NOT NULL AND d.n {sign} 0 OR d.was > 0 AND d.was + d.n > 0 THEN 1"
+            numbers = [
+                sql("CASE WHEN {alone} THEN 1 " + stays + " ELSE 0 END", alone=alone, sign=word(sign)) for alone, sign in ((COMES, ">"), (LEAVES, "<"))
+            ]
+        else:
+            numbers = [sql("CASE WHEN d.n > 0 THEN d.n ELSE 0 END"), sql("CASE WHEN d.n < 0 THEN - d.n ELSE 0 END")]
+        return [sql("(SELECT coalesce(sum({number}), 0) FROM {net} AS d)", number=number, net=net) for number in numbers]
+
+    def untouched(self, v):
+        """No other rows of a table were touched than those of its change."""
+        told = f"refused torn {self.views[v].name}: a trigger or a foreign key changed rows of it that are in no change"
+        return self.checked.untouched(v, told, *self.written_and_removed(v))
+
     # ---- opening
 
     def cleared(self, v):

@@ -199,7 +199,7 @@ class PostgreSQL(Dialect):
         program = sql("{begun}{made}\nEND{end}", begun=begun, made=statements([*SETTINGS, *KEPT, *made], 1), end=END_OF_STATEMENT)
         return sql("DO {body}{end}", body=body(program), end=END_OF_STATEMENT)
 
-    def program(self, checked, working, made):
+    def program(self, checked, working, made, _=None):
         """A transaction of one block: what is checked, its working tables, and its statements."""
         isolated = sql("current_setting({key}) <> {wanted}", key=text("transaction_isolation"), wanted=text("read committed"))
         tables = [self.created(name(said), columns) for said, columns in working]

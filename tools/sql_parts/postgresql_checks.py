@@ -15,7 +15,13 @@ KNOWN = {
     "night~keys": "view int, place int",
     "night~referred": "view int, place int, told text, by_delete boolean, by_update boolean",
     "night~spare": "view int, told text",
+    "night~touched": "view int, written bigint, removed bigint",
 }
+# How many rows of each table this transaction wrote, and how many it removed, where the server counts.
+TOUCHED = (
+    "SELECT p.number, sum(pg_stat_get_xact_tuples_inserted(p.relation) + pg_stat_get_xact_tuples_updated(p.relation)),"
+    " sum(pg_stat_get_xact_tuples_deleted(p.relation) + pg_stat_get_xact_tuples_updated(p.relation)) FROM {parts} AS p GROUP BY p.number"
+)
 KINDS = {"int": "bigint", "text": "text", "count": "bigint"}
 
 
@@ -101,6 +107,7 @@ class Checks:
             self.keys(),
             self.spare(),
             self.referred(),
+            self.query("INSERT INTO {touched} " + TOUCHED),
         ]
 
     def keys(self):
@@ -190,6 +197,21 @@ class Checks:
                 "SELECT format({told}, {view}::text, min(s.told)) FROM {spare} AS s WHERE s.view = {v} AND EXISTS ({coming}) HAVING count(*) > 0",
                 told=text(told), view=text(self.script.views[v].name), v=number(v), coming=coming,
             )
+        )  # fmt: skip
+
+    def watchers(self):
+        """The server counts by itself."""
+        return {}
+
+    def untouched(self, v, told, written, removed):
+        """A refusal where other rows were written or removed than these numbers of them."""
+        return self.dialect.refuse(
+            told,
+            self.query(
+                "SELECT 1 FROM {touched} AS b JOIN (" + TOUCHED + ") AS a (view, written, removed) ON a.view = b.view WHERE b.view = {v}"
+                " AND (a.written - b.written <> {written} OR a.removed - b.removed <> {removed}) AND current_setting({key}) = {on}",
+                v=number(v), written=written, removed=removed, key=text("track_counts"), on=text("on"),
+            ),
         )  # fmt: skip
 
     def cascades(self, v, gone, moved):

@@ -157,11 +157,11 @@ class Script(Comps, Changes, Insts):
         """A transaction of all this."""
         locked = [self.table(v) for v in range(len(self.views))] + [self.table(v, "~changes") for v in self.steps.base()]
         working = self.checked.working_tables() + self.working_tables()
-        return self.dialect.program(self.checked.statements(locked), working, before + self.carried(steps, comment) + after)
+        return self.dialect.program(self.checked.statements(locked), working, before + self.carried(steps, comment) + after, self.checked.watchers())
 
     def night(self, strategy, comment):
         numbers = range(len(self.views))
-        ended = self.emptied() + self.dialect.settled() + [each for v in numbers for each in self.verified(v)]
+        ended = self.emptied() + self.dialect.settled() + [each for v in numbers for each in [*self.verified(v), *self.untouched(v)]]
         return self.whole([], self.steps.night(strategy), ended, comment)
 
     def open(self, comment):

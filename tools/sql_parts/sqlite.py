@@ -192,21 +192,29 @@ class SQLite(Dialect):
             sql("INSERT INTO {table} VALUES (1){end}", table=self.working(said), end=END_OF_STATEMENT),
         ]
 
-    def program(self, checked, working, made):
+    def program(self, checked, working, made, watchers=None):
         """A transaction between the making of its working tables and their going: a judgement, so that columns are there which the night
         names, and the night, which does nothing where the judgement did not end well."""
         tables = [(self.working(said), columns) for said, columns in [*working, *((said, [sql("begun")]) for said in (JUDGED, NIGHT))]]
-        gone = [sql("DROP TABLE IF EXISTS {table}{end}", table=table, end=END_OF_STATEMENT) for table, _ in tables]
+        gone = [self.dropped("TRIGGER", self.working(said)) for said in watchers or ()]
+        gone += [self.dropped("TABLE", table) for table, _ in tables]
         judged = sql("SELECT RAISE(ROLLBACK, {told}) WHERE NOT EXISTS (SELECT 1 FROM {table})", told=text(UNJUDGED), table=self.working(JUDGED))
         return [
             sql("BEGIN IMMEDIATE{end}", end=END_OF_STATEMENT),
             *gone,
             *(sql("CREATE TABLE {table} ({columns}){end}", table=table, columns=joined(columns), end=END_OF_STATEMENT) for table, columns in tables),
             *self.fired(JUDGED, checked),
+            *(
+                sql("CREATE TEMPORARY TRIGGER {said} {watcher}{end}", said=name(said), watcher=watcher, end=END_OF_STATEMENT)
+                for said, watcher in (watchers or {}).items()
+            ),
             *self.fired(NIGHT, [judged, *made]),
             *gone,
             sql("COMMIT{end}", end=END_OF_STATEMENT),
         ]
+
+    def dropped(self, kind, said):
+        return sql("DROP {kind} IF EXISTS {said}{end}", kind=word(kind), said=said, end=END_OF_STATEMENT)
 
     def creation(self, made):
         """A transaction that makes tables and indexes."""

@@ -4,7 +4,7 @@ import sys
 
 sys.dont_write_bytecode = True
 from sql_parts.formulas import bracketed  # noqa: E402
-from sql_parts.tokens import joined, name, number, sql, text  # noqa: E402
+from sql_parts.tokens import END_OF_STATEMENT, joined, name, number, sql, text, word  # noqa: E402
 
 KNOWN = {
     "night~names": "view, said COLLATE NOCASE",
@@ -12,7 +12,10 @@ KNOWN = {
     "night~keys": "view, place",
     "night~referred": "view, place, by_delete, by_update",
     "night~spare": "view",
+    "night~touched": "view INTEGER PRIMARY KEY, written, removed",
 }
+# What is counted where a row of a table is touched, by whoever does it.
+COUNTED = (("INSERT", "written = written + 1"), ("UPDATE", "written = written + 1, removed = removed + 1"), ("DELETE", "removed = removed + 1"))
 # A column's kind by its affinity, and whether it can be NULL: a primary key of one INTEGER column is the row's number.
 INT, CHAR, CLOB, TEXT = (f"instr(upper(x.type), {{{said}}}) > 0" for said in ("int", "char", "clob", "text"))
 NUMBERED = "x.pk = 1 AND upper(x.type) = {integer} AND (SELECT count(*) FROM pragma_table_xinfo({table}, {schema}) AS y WHERE y.pk > 0) = 1"
@@ -94,7 +97,9 @@ class Checks:
             names.append(sql("({v}, {said})", v=number(v), said=text(expected.said)))
             for place, (said, _) in enumerate(expected.columns, 1):
                 columns.append(sql("({v}, {place}, {said})", v=number(v), place=number(place), said=text(said)))
-        return [*self.filled("night~names", names), *self.filled("night~columns", columns)]
+        counts = [sql("({v}, 0, 0)", v=number(v)) for v in range(len(self.script.views))]
+        filled = {"night~names": names, "night~columns": columns, "night~touched": counts}
+        return [each for said, rows in filled.items() for each in self.filled(said, rows)]
 
     def keys(self, v):
         """The primary key of a base table, or else its least unique index, if all columns are in the catalogue, and not all of these."""
@@ -134,6 +139,24 @@ class Checks:
             " FROM pragma_table_xinfo(n.said, {schema}) AS x WHERE x.pk = f.seq + 1))"
             " WHERE (f.on_delete IN ({acts}) OR f.on_update IN ({acts})) AND (SELECT p.foreign_keys FROM pragma_foreign_keys AS p) = 1",
             target=name("night~referred"), acts=acts, kind=text("table"), table_name=name("table"), to_name=name("to"),
+        )  # fmt: skip
+
+    def watchers(self):
+        """The triggers that count what rows of a table are touched, by their names."""
+        found = {}
+        for v, view in enumerate(self.script.views):
+            for event, counts in COUNTED:
+                found[f"night~{event.lower()}{v}"] = sql(
+                    "AFTER {event} ON {table} BEGIN UPDATE {touched} SET " + counts + " WHERE view = {v}{end} END",
+                    event=word(event), table=self.script.table(v), touched=name("night~touched"), v=number(v), end=END_OF_STATEMENT,
+                )
+        return found
+
+    def untouched(self, v, told, written, removed):
+        """A refusal where other rows were written or removed than these numbers of them."""
+        return self.refuse(
+            told, "SELECT 1 FROM {touched} AS b WHERE b.view = {v} AND (b.written <> {written} OR b.removed <> {removed})",
+            v=number(v), written=written, removed=removed,
         )  # fmt: skip
 
     # ---- what steps ask
