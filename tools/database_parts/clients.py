@@ -42,8 +42,10 @@ def names():
     for engine in BOTH:
         found += [
             Case("columns are named true, false and n", engine, SPOKEN_CHANGES, catalogue=WORDS, rows=SPOKEN),
-            Case("columns of a counted table are named true, false and n", engine, SPOKEN_CHANGES, catalogue=WORDS, rows=SPOKEN, counted=("a",)),
-            *(Case(f"a table is named {name}", engine, {name: SPOKEN_CHANGES["a"]}, catalogue=WORDS.replace('"a', f'"{name}'), rows={name: SPOKEN["a"]}, counted=counted,
+            Case("columns of a counted table are named true, false and n", engine, SPOKEN_CHANGES, catalogue=WORDS, rows=SPOKEN,
+                 counted=("a",)),
+            *(Case(f"a table is named {name}", engine, {name: SPOKEN_CHANGES["a"]}, catalogue=WORDS.replace('"a', f'"{name}'),
+                rows={name: SPOKEN["a"]}, counted=counted,
                    wanted=EITHER if engine == LITE else DONE)
               for name in ("new", "OLD", "excluded") for counted in ((), (name,))),
             Case("a table of changes has no count", engine, {}, WITHOUT_COUNT, wanted=REFUSED, word="products~changes does not fit"),
@@ -79,7 +81,8 @@ def clients():
     found = []
     for engine in BOTH:
         for name, client in CLIENTS[engine].items():
-            found.append(Case(f"{name}, and a night that is refused", engine, ABSENT, wanted=REFUSED, word="refused absent lines", client=client))
+            found.append(Case(f"{name}, and a night that is refused", engine, ABSENT, wanted=REFUSED, word="refused absent lines",
+                client=client))
             found.append(Case(f"{name}, and a price that changes", engine, JAM_IS_DEARER, keyed(), client=client))
     return found
 
@@ -91,7 +94,8 @@ def again():
         client = Client() if engine == LITE else Client(is_piped=True, is_bare=True)
         found += [
             Case("a night and one without changes, in one session", engine, JAM_IS_DEARER, keyed(), client=client, times=2),
-            Case("a night that is refused twice, in one session", engine, ABSENT, wanted=REFUSED, word="refused absent lines", client=client, times=2, never="exists"),
+            Case("a night that is refused twice, in one session", engine, ABSENT, wanted=REFUSED, word="refused absent lines",
+                 client=client, times=2, never="exists"),
         ]
     hidden = "CREATE TEMPORARY TABLE products (product text NOT NULL, price bigint NOT NULL);"
     found += [
@@ -99,8 +103,10 @@ def again():
         Case("a temporary table has a table's name", LITE, JAM_IS_DEARER, keyed(), client=Client(("-bail", "-cmd", hidden)), wanted=EITHER),
     ]
     for pragma in ("reverse_unordered_selects = 1", "recursive_triggers = 1", "case_sensitive_like = 1", "ignore_check_constraints = 1",
-                   "automatic_index = 0", "temp_store = 2", "trusted_schema = 0", "defer_foreign_keys = 1", "count_changes = 1"):  # fmt: skip
-        found.append(Case(f"a price changes under {pragma}", LITE, JAM_IS_DEARER, keyed(), client=Client(("-bail", "-cmd", f"PRAGMA {pragma}"))))
+                   "automatic_index = 0", "temp_store = 2", "trusted_schema = 0", "defer_foreign_keys = 1",
+                   "count_changes = 1"):  # fmt: skip
+        found.append(Case(f"a price changes under {pragma}", LITE, JAM_IS_DEARER, keyed(), client=Client(("-bail", "-cmd",
+            f"PRAGMA {pragma}"))))
     return found
 
 
@@ -169,8 +175,10 @@ def settings():
     options = " ".join(f"-c {name}={value}" for name, value in SETTINGS.items())
     client = Client(("-v", "ON_ERROR_STOP=1"), {"PGOPTIONS": options, "PGCLIENTENCODING": "UTF8"})
     found = [Case("a price changes under settings of all kinds", PG, JAM_IS_DEARER, keyed(), client=client)]
-    serial = Client(("-1", "-v", "ON_ERROR_STOP=1"), {"PGOPTIONS": "-c default_transaction_isolation=serializable", "PGCLIENTENCODING": "UTF8"})
-    found.append(Case("a price changes within a transaction that is SERIALIZABLE", PG, JAM_IS_DEARER, keyed(), client=serial, wanted=EITHER))
+    serial = Client(("-1", "-v", "ON_ERROR_STOP=1"), {"PGOPTIONS": "-c default_transaction_isolation=serializable",
+        "PGCLIENTENCODING": "UTF8"})
+    found.append(Case("a price changes within a transaction that is SERIALIZABLE", PG, JAM_IS_DEARER, keyed(), client=serial,
+        wanted=EITHER))
     conforming = {"PGOPTIONS": "-c standard_conforming_strings=off", "PGCLIENTENCODING": "UTF8"}
     found.append(Case("texts with backslashes that do not conform", PG, ESCAPED_CHANGES, catalogue=STRINGS, rows=ESCAPED,
                       client=Client(("-v", "ON_ERROR_STOP=1"), conforming)))  # fmt: skip

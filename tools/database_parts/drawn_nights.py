@@ -16,9 +16,11 @@ from database_parts.nights import Night, written  # noqa: E402
 draw_views = tool("try_nights").draw_views
 HARD_VIEWS = ["x" * 63 + "a", "x" * 63 + "b", "x" * 63, "select", "User", "user", "USER", "true", "n", "net", "pg_class", "t1", "pg_authid",
               "night", "rowid", "ctid", "information_schema", "excluded", "_"]  # fmt: skip
-HARD_COLUMNS = ["Key", "rowid", "xmin", "key", "found", "KEY", "y" * 63 + "a", "y" * 63 + "b", "true", "false", "n", "ctid", "tableoid", "c1",
+HARD_COLUMNS = ["Key", "rowid", "xmin", "key", "found", "KEY", "y" * 63 + "a", "y" * 63 + "b", "true", "false", "n", "ctid", "tableoid",
+    "c1",
                 "t1", "net", "null", "oid", "select", "current_user", "count", "_rowid_", "place", "d", "t", "default"]  # fmt: skip
-ENCODINGS = {"": ["UTF8", "UTF8", "LATIN1", "SQL_ASCII"], "latin": ["UTF8", "LATIN1", "SQL_ASCII"], "ascii": ["UTF8", "LATIN1", "SQL_ASCII"]}
+ENCODINGS = {"": ["UTF8", "UTF8", "LATIN1", "SQL_ASCII"], "latin": ["UTF8", "LATIN1", "SQL_ASCII"], "ascii": ["UTF8", "LATIN1",
+    "SQL_ASCII"]}
 
 
 class DrawnNight(Night):
@@ -202,9 +204,9 @@ class DrawnTables:
         if not self.is_postgresql:
             happening = self.source.choice(["INSERT", "DELETE", "UPDATE"])
             return made + [f"CREATE TRIGGER {name} AFTER {happening} ON {forms.on(v)} BEGIN INSERT INTO {book} VALUES ('done'); END;"]
-        function = f"books.{name}"
+        function, told = f"books.{name}", f"INSERT INTO {book} VALUES (TG_OP);"
         return made + [
-            f"CREATE FUNCTION {function}() RETURNS trigger LANGUAGE plpgsql AS $$ BEGIN INSERT INTO {book} VALUES (TG_OP); RETURN NULL; END $$;",
+            f"CREATE FUNCTION {function}() RETURNS trigger LANGUAGE plpgsql AS $$ BEGIN {told} RETURN NULL; END $$;",
             f"CREATE TRIGGER {name} AFTER INSERT OR UPDATE OR DELETE ON {forms.on(v)} FOR EACH ROW EXECUTE FUNCTION {function}();",
         ]
 

@@ -206,8 +206,10 @@ class PostgreSQLDatabase:
         """The names and columns of the schema's tables, in the order in which they were made."""
         columns = "json_agg(a.attname ORDER BY a.attnum)"
         tables = "FROM pg_class AS c JOIN pg_attribute AS a ON a.attrelid = c.oid AND a.attnum > 0"
-        chosen = f"WHERE c.relnamespace = '{quoted(self.schema)}'::regnamespace AND c.relkind = 'r' GROUP BY c.oid, c.relname ORDER BY c.oid"
-        return [tuple(json.loads(line)) for line in self.asked(f"SELECT json_build_array(c.relname, {columns}) {tables} {chosen};")]
+        chosen = f"WHERE c.relnamespace = '{quoted(self.schema)}'::regnamespace AND c.relkind = 'r'"
+        ordered = "GROUP BY c.oid, c.relname ORDER BY c.oid"
+        asked = f"SELECT json_build_array(c.relname, {columns}) {tables} {chosen} {ordered};"
+        return [tuple(json.loads(line)) for line in self.asked(asked)]
 
     def named(self, name):
         """A table's name as a state has it."""

@@ -37,7 +37,8 @@ class Filled:
 
     def columns(self, v, count):
         kinds = KINDS[self.database.engine]
-        declared = [f"{quoted(name)} {kinds[kind]} NOT NULL" for name, (_, kind) in zip(self.tables[v].columns, self.night.views[v].columns)]
+        declared = [f"{quoted(name)} {kinds[kind]} NOT NULL" for name, (_, kind) in zip(self.tables[v].columns,
+            self.night.views[v].columns)]
         return declared + ([f'"#" {kinds["int"]} NOT NULL{count}'] if count is not None else [])
 
     def made(self, v):

@@ -69,8 +69,8 @@ def keyed(key=KEY):
 
 def referring(action):
     """Lines of the catalogue that refer to products."""
-    lines = f"CREATE TABLE lines (id bigint NOT NULL, product text NOT NULL REFERENCES products (product) {action}, pieces bigint NOT NULL);"
-    return {**keyed(), "lines": [lines]}
+    reference = f"REFERENCES products (product) {action}"
+    return {**keyed(), "lines": [f"CREATE TABLE lines (id bigint NOT NULL, product text NOT NULL {reference}, pieces bigint NOT NULL);"]}
 
 
 def ordered(action, null="NOT NULL", rows="(1, 'tea'), (2, 'jam')"):
@@ -84,30 +84,39 @@ def foreign_keys():
         found += [
             Case("a price changes under ON DELETE CASCADE", engine, JAM_IS_DEARER, referring("ON DELETE CASCADE"), **KEYED),
             Case("a price changes, and order lines refer to it", engine, JAM_IS_DEARER, keyed(), ordered("ON DELETE CASCADE"), **KEYED),
-            Case("a product goes under ON DELETE CASCADE", engine, TEA_GOES, keyed(), ordered("ON DELETE CASCADE"), REFUSED, "refused cascade products"),
-            Case("a key changes under ON UPDATE CASCADE", engine, LEFT_AND_COME, keyed(), ordered("ON UPDATE CASCADE ON DELETE CASCADE"), REFUSED, "refused cascade products"),
-            Case("a product goes under ON DELETE SET NULL", engine, TEA_GOES, keyed(), ordered("ON DELETE SET NULL", ""), REFUSED, "refused cascade products"),
-            Case("a product goes under ON DELETE SET DEFAULT", engine, TEA_GOES, keyed(), ordered("ON DELETE SET DEFAULT", "DEFAULT 'jam'"), REFUSED, "refused cascade products"),
+            Case("a product goes under ON DELETE CASCADE", engine, TEA_GOES, keyed(), ordered("ON DELETE CASCADE"), REFUSED,
+                 "refused cascade products"),
+            Case("a key changes under ON UPDATE CASCADE", engine, LEFT_AND_COME, keyed(), ordered("ON UPDATE CASCADE ON DELETE CASCADE"),
+                 REFUSED, "refused cascade products"),
+            Case("a product goes under ON DELETE SET NULL", engine, TEA_GOES, keyed(), ordered("ON DELETE SET NULL", ""), REFUSED,
+                 "refused cascade products"),
+            Case("a product goes under ON DELETE SET DEFAULT", engine, TEA_GOES, keyed(), ordered("ON DELETE SET DEFAULT",
+                 "DEFAULT 'jam'"), REFUSED, "refused cascade products"),
             Case("a product goes that nothing refers to", engine, TEA_GOES, keyed(), ordered("", rows="(2, 'jam')"), **KEYED),
-            Case("a product goes before its line, which may be later", engine, BOTH_GO, referring("DEFERRABLE INITIALLY IMMEDIATE"), **KEYED),
+            Case("a product goes before its line, which may be later", engine, BOTH_GO, referring("DEFERRABLE INITIALLY IMMEDIATE"),
+                 **KEYED),
             Case("a price changes that NO ACTION refers to", engine, JAM_IS_DEARER, referring(""), **KEYED),
         ]  # fmt: skip
     keyed_parts = in_parts("LIST (product)", "FOR VALUES IN ('tea')", "DEFAULT", columns=KEY)
     on_part = [sql.replace("REFERENCES products ", "REFERENCES products_0 ") for sql in ordered("ON DELETE CASCADE", rows="(1, 'tea')")]
     on_heir = [*MOVED, "ALTER TABLE imported ADD PRIMARY KEY (product);",
-               *(sql.replace("REFERENCES products ", "REFERENCES imported ") for sql in ordered("ON DELETE CASCADE", rows="(2, 'jam')"))]  # fmt: skip
+               *(sql.replace("REFERENCES products ", "REFERENCES imported ") for sql in ordered("ON DELETE CASCADE",
+                   rows="(2, 'jam')"))]  # fmt: skip
     found += [
         Case("a product goes, and a cascade hangs on its part", PG, TEA_GOES, keyed_parts, on_part, REFUSED, "refused cascade products"),
-        Case("a product goes, and a cascade hangs on an heir", PG, {"products": [(("jam", 450), -1)]}, INHERITED, on_heir, REFUSED, "refused cascade products"),
-        Case("a price changes, and a cascade hangs on its part", PG, {"products": [(("tea", 300), -1), (("tea", 310), 1)]}, keyed_parts, on_part, **KEYED),
+        Case("a product goes, and a cascade hangs on an heir", PG, {"products": [(("jam", 450), -1)]}, INHERITED, on_heir, REFUSED,
+             "refused cascade products"),
+        Case("a price changes, and a cascade hangs on its part", PG, {"products": [(("tea", 300), -1), (("tea", 310), 1)]}, keyed_parts,
+             on_part, **KEYED),
     ]
-    found.append(Case("a product goes under a cascade that is switched off", LITE, TEA_GOES, keyed(), ordered("ON DELETE CASCADE"), database="unkeyed"))
+    found.append(Case("a product goes under a cascade that is switched off", LITE, TEA_GOES, keyed(), ordered("ON DELETE CASCADE"),
+        database="unkeyed"))
     return found
 
 
 # ---- columns that the catalogue does not have
 
-DESCRIBED = "UPDATE products SET description = 'green' WHERE product = 'tea'; UPDATE products SET description = 'plum' WHERE product = 'jam';"
+DESCRIBED = "UPDATE products SET description = CASE product WHEN 'tea' THEN 'green' ELSE 'plum' END;"
 BESIDE = {"others": {"products": ["description"]}}
 
 
@@ -119,18 +128,26 @@ def other_columns():
     found = []
     for engine in BOTH:
         own = described("description text")
-        unique = {"products": [f"CREATE TABLE products ({PRODUCT}, description text);", "CREATE UNIQUE INDEX by_name ON products (product);"]}
+        unique = {"products": [f"CREATE TABLE products ({PRODUCT}, description text);",
+            "CREATE UNIQUE INDEX by_name ON products (product);"]}
         found += [
             Case("a price changes beside a description", engine, JAM_IS_DEARER, own, [DESCRIBED], **KEYED, **BESIDE),
-            Case("a price changes beside a description, with a unique index", engine, JAM_IS_DEARER, unique, [DESCRIBED], **KEYED, **BESIDE),
-            Case("a counted price changes beside a description", engine, JAM_IS_DEARER, described('"#" bigint NOT NULL DEFAULT 1, description text'),
+            Case("a price changes beside a description, with a unique index", engine, JAM_IS_DEARER, unique, [DESCRIBED], **KEYED,
+                 **BESIDE),
+            Case("a counted price changes beside a description", engine, JAM_IS_DEARER,
+                 described('"#" bigint NOT NULL DEFAULT 1, description text'),
                  [DESCRIBED], counted=("products",), **KEYED, **BESIDE),
             Case("a product comes without its description", engine, ALE_COMES, own, [DESCRIBED], REFUSED, "no default"),
-            Case("a product comes without what has to be there", engine, ALE_COMES, described("description text NOT NULL DEFAULT ''"), [DESCRIBED], **KEYED, **BESIDE),
-            Case("a price changes where no key tells which", engine, JAM_IS_DEARER, described("description text", PRODUCT), [DESCRIBED], REFUSED, "no default"),
-            Case("a column is worked out from others", engine, JAM_IS_DEARER, described("twice bigint GENERATED ALWAYS AS (price * 2) STORED"), **KEYED),
-            Case("a product comes beside a column that is worked out", engine, ALE_COMES, described("twice bigint GENERATED ALWAYS AS (price * 2) STORED"), **KEYED),
-            Case("a price is worked out by the engine", engine, TEA_GOES, PRICED, ["INSERT INTO products (product) VALUES ('tea'), ('jam');"],
+            Case("a product comes without what has to be there", engine, ALE_COMES, described("description text NOT NULL DEFAULT ''"),
+                 [DESCRIBED], **KEYED, **BESIDE),
+            Case("a price changes where no key tells which", engine, JAM_IS_DEARER, described("description text", PRODUCT), [DESCRIBED],
+                 REFUSED, "no default"),
+            Case("a column is worked out from others", engine, JAM_IS_DEARER,
+                 described("twice bigint GENERATED ALWAYS AS (price * 2) STORED"), **KEYED),
+            Case("a product comes beside a column that is worked out", engine, ALE_COMES,
+                 described("twice bigint GENERATED ALWAYS AS (price * 2) STORED"), **KEYED),
+            Case("a price is worked out by the engine", engine, TEA_GOES, PRICED,
+                 ["INSERT INTO products (product) VALUES ('tea'), ('jam');"],
                  REFUSED, "products does not fit", rows={"lines": LINES, "products": []}),
         ]  # fmt: skip
     return found + numbered()
@@ -141,8 +158,8 @@ PRICED = {"products": ["CREATE TABLE products (product text NOT NULL, price bigi
 
 def numbered():
     """Columns that the engine numbers."""
-    beside = "CREATE TABLE products (row_number bigint GENERATED ALWAYS AS IDENTITY PRIMARY KEY, product text NOT NULL, price bigint NOT NULL);"
-    serial = "CREATE TABLE products (row_number serial, product text NOT NULL, price bigint NOT NULL);"
+    beside = f"CREATE TABLE products (row_number bigint GENERATED ALWAYS AS IDENTITY PRIMARY KEY, {PRODUCT});"
+    serial = f"CREATE TABLE products (row_number serial, {PRODUCT});"
     lines = {"lines": ["CREATE TABLE lines (id bigint PRIMARY KEY, product text NOT NULL, pieces bigint NOT NULL);"]}
     always, by_default = ([f"ALTER TABLE lines ALTER id ADD GENERATED {how} AS IDENTITY;"] for how in ("ALWAYS", "BY DEFAULT"))
     comes = {"lines": [((7, "tea", 5), 1)]}
@@ -169,26 +186,31 @@ def trigger(when, table, body, each="FOR EACH ROW", kind="TRIGGER"):
 def triggers():
     late = trigger("AFTER INSERT OR UPDATE OR DELETE", "products", "DELETE FROM by_product; RETURN NULL;",
                    "DEFERRABLE INITIALLY DEFERRED FOR EACH ROW", "CONSTRAINT TRIGGER")  # fmt: skip
-    audit = ["CREATE TABLE audit (told text);", *trigger("AFTER INSERT OR UPDATE OR DELETE", "products", "INSERT INTO audit VALUES (TG_OP); RETURN NULL;")]
+    audit = ["CREATE TABLE audit (told text);", *trigger("AFTER INSERT OR UPDATE OR DELETE", "products",
+        "INSERT INTO audit VALUES (TG_OP); RETURN NULL;")]
     torn = {"wanted": REFUSED, "word": "refused torn products"}
     return [
         Case("a trigger keeps a row", PG, TEA_GOES, more=trigger("BEFORE DELETE", "products", "RETURN NULL;"), **torn),
         Case("a trigger of a part keeps a row", PG, TEA_GOES, BY_LIST, trigger("BEFORE DELETE", "products_0", "RETURN NULL;"), **torn),
         Case("a trigger keeps a row out", PG, ALE_COMES, more=trigger("BEFORE INSERT", "products", "RETURN NULL;"), **torn),
         Case("a trigger keeps a row as it was", PG, JAM_IS_DEARER, keyed(), trigger("BEFORE UPDATE", "products", "RETURN NULL;"), **torn),
-        Case("a trigger changes what comes", PG, ALE_COMES, more=trigger("BEFORE INSERT", "products", "NEW.price := NEW.price + 1; RETURN NEW;"), **torn),
-        Case("a trigger changes what is changed", PG, JAM_IS_DEARER, keyed(), trigger("BEFORE UPDATE", "products", "NEW.price := 1; RETURN NEW;"), **torn),
+        Case("a trigger changes what comes", PG, ALE_COMES, more=trigger("BEFORE INSERT", "products",
+             "NEW.price := NEW.price + 1; RETURN NEW;"), **torn),
+        Case("a trigger changes what is changed", PG, JAM_IS_DEARER, keyed(), trigger("BEFORE UPDATE", "products",
+             "NEW.price := 1; RETURN NEW;"), **torn),
         Case("a trigger puts a second row in", PG, ALE_COMES,
-             more=trigger("AFTER INSERT", "products", "IF NEW.price = 220 THEN INSERT INTO products VALUES ('ale', 220); END IF; RETURN NULL;")[:1]
-             + ["CREATE TRIGGER meddling AFTER INSERT ON products FOR EACH ROW WHEN (pg_trigger_depth() = 0) EXECUTE FUNCTION meddling();"], **torn),
+             more=trigger("AFTER INSERT", "products", "INSERT INTO products VALUES ('ale', 220); RETURN NULL;",
+                          "FOR EACH ROW WHEN (pg_trigger_depth() = 0)"), **torn),
         Case("a trigger changes a row that was done", PG, {**ALE_COMES, "lines": [((9, "jam", 1), 1)]},
              more=trigger("AFTER INSERT", "lines", "UPDATE products SET price = 1 WHERE product = 'ale'; RETURN NULL;"), **torn),
         Case("a trigger adds a row to a table that was done", PG, {**TEA_GOES, "lines": [((9, "jam", 1), 1)]},
              more=trigger("AFTER INSERT", "lines", "INSERT INTO products VALUES ('rum', 1); RETURN NULL;"), **torn),
         Case("a trigger keeps a group out", PG, ALE_IS_SOLD, more=trigger("BEFORE INSERT", "by_product", "RETURN NULL;"),
              wanted=REFUSED, word="refused torn by_product"),
-        Case("a trigger that waits for the end empties a view", PG, JAM_IS_DEARER, more=late, wanted=REFUSED, word="refused torn by_product"),
-        Case("a rule does nothing instead", PG, ALE_COMES, more=["CREATE RULE nothing AS ON INSERT TO products DO INSTEAD NOTHING;"], wanted=REFUSED),
+        Case("a trigger that waits for the end empties a view", PG, JAM_IS_DEARER, more=late, wanted=REFUSED,
+             word="refused torn by_product"),
+        Case("a rule does nothing instead", PG, ALE_COMES, more=["CREATE RULE nothing AS ON INSERT TO products DO INSTEAD NOTHING;"],
+             wanted=REFUSED),
         Case("a trigger keeps a book", PG, JAM_IS_DEARER, keyed(), audit, touched=("public.audit",), **KEYED),
         *hidden_rows(),
         *triggers_of_sqlite(torn),
@@ -249,19 +271,22 @@ def typed(product="text NOT NULL", price="bigint NOT NULL", end="", rest=""):
 
 def types():
     found = [
-        Case(f"a column is {own}", PG, {"products": [((product, price), 1)]}, typed(**{column: f"{own} NOT NULL"}), wanted=REFUSED, word="products does not fit")
+        Case(f"a column is {own}", PG, {"products": [((product, price), 1)]}, typed(**{column: f"{own} NOT NULL"}), wanted=REFUSED,
+             word="products does not fit")
         for column, own, product, price in (
             ("product", "varchar(5)", "jam  " + "  ", 1), ("product", "char(5)", "ale", 1), ("product", '"char"', "a", 1),
             ("price", "numeric(6,2)", "ale", 1), ("price", "numeric", "ale", 1), ("price", "real", "ale", 1),
         )
     ]  # fmt: skip
-    loose = {"products~changes": ['CREATE TABLE "products~changes" (product varchar(5) NOT NULL, price bigint NOT NULL, "#" bigint NOT NULL);']}
+    changes = '"products~changes" (product varchar(5) NOT NULL, price bigint NOT NULL, "#" bigint NOT NULL)'
+    loose = {"products~changes": [f"CREATE TABLE {changes};"]}
     domain = ["CREATE DOMAIN small AS text CHECK (length(VALUE) < 5);", *typed("small NOT NULL")["products"]]
     found += [
         Case("a column is of a domain", PG, TEA_GOES, {"products": domain}, wanted=REFUSED, word="products does not fit"),
         Case("a column of the changes is varchar(5)", PG, {"products": []}, loose, wanted=REFUSED, word="products~changes does not fit"),
         Case("columns are varchar and int4", PG, JAM_IS_DEARER, typed("varchar NOT NULL", "int NOT NULL")),
-        Case("columns are int2 and of another order", PG, JAM_IS_DEARER, {"products": ["CREATE TABLE products (price smallint NOT NULL, product text NOT NULL);"]}),
+        Case("columns are int2 and of another order", PG, JAM_IS_DEARER,
+             {"products": ["CREATE TABLE products (price smallint NOT NULL, product text NOT NULL);"]}),
         Case("counts of 32 bits multiply to more", PG, {"lines": [((1, "tea", 2), 70000)]}, COUNTS_OF_32, counted=("products", "lines"),
              rows={"products": [(("tea", 300), 70000)], "lines": [((1, "tea", 2), 70000)]}),
     ]  # fmt: skip

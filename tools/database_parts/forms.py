@@ -5,6 +5,7 @@ from dataclasses import dataclass, field
 
 sys.dont_write_bytecode = True
 from database_parts.engines import quoted  # noqa: E402
+from database_parts.filled import KINDS as PLAIN_KINDS  # noqa: E402
 from database_parts.filled import literal  # noqa: E402
 
 # A column of others: its name, its declaration, and whether a row that comes has to go without it.
@@ -15,13 +16,12 @@ KINDS = {
     "sqlite": {"int": ["INTEGER", "INT", "BIGINT"], "text": ["TEXT", "VARCHAR(80)", "CLOB"]},
     "strict": {"int": ["INTEGER", "INT"], "text": ["TEXT"]},
 }
-PLAIN_KINDS = {"postgresql": {"int": "bigint", "text": "text"}, "sqlite": {"int": "INTEGER", "text": "TEXT"}}
 
 
 @dataclass
 class Form:
-    """A table as it is drawn: its columns as declared, by name and declaration; its key and what else stands behind its columns; how it is parted; what
-    is said after it is made and after it is filled; and which columns are others'."""
+    """A table as it is drawn: its columns by name and declaration; its key and what else stands behind them; how it is parted; what is
+    said after it is made and after it is filled; and which columns are others'."""
 
     columns: list
     constraint: str = ""
@@ -207,7 +207,8 @@ class Forms:
         if form.parts == "sub" and bound == "DEFAULT":
             made = [f"CREATE TABLE {part} PARTITION OF {table} DEFAULT PARTITION BY HASH ({quoted(form.parted_by)});"]
             subs = [self.name(f"{v} part {number} {sub}") for sub in range(2)]
-            return made + [f"CREATE TABLE {sub} PARTITION OF {part} FOR VALUES WITH (MODULUS 2, REMAINDER {n});" for n, sub in enumerate(subs)]
+            return made + [f"CREATE TABLE {sub} PARTITION OF {part} FOR VALUES WITH (MODULUS 2, REMAINDER {n});" for n,
+                sub in enumerate(subs)]
         return [f"CREATE TABLE {part} PARTITION OF {table} {bound};"]
 
     def dropped(self, table):

@@ -39,11 +39,16 @@ KINDS = {"key": "int", "word": "text"}
 OPTIONS = ("plain", "counted", "schema", "expression", "source", "size", "kind", "reference")
 
 PIECES = [
-    "'", "''", '"', '""', "\\", "\\'", "\\\\", "$$", "$night$", "$", "--", "/*", "*/", ";", "\n", "\r", "\r\n", "\x00", "\u2028", "\u2029", "\x85", "\x0b",
-    "\x1a", "\x7f", "\ufeff", "%", "%s", "{", "}", "{0}", "<", ":canary", ":'canary'", ':"canary"', ":{?canary}", "`touch CANARY`", "\n\\! touch CANARY\n",
-    "\n\\o CANARY\n", "\\! touch CANARY", "\n.shell touch CANARY\n", "\n\\q\n", "\n\\set ON_ERROR_STOP off\n", "'; DROP TABLE canary; --", '"; DROP TABLE canary; --',
-    "$night$; DROP TABLE canary; --", "\n; DROP TABLE canary;\n", "*/ DROP TABLE canary; /*", "'); DELETE FROM canary; --", "E'\\''", "U&\"\\0041\"", "\n@strategy\n",
-    "\n\nCOMMIT;\n", "END; COMMIT;", " ", ".", "#", "~net", "a", "A", "n", "true", "1", "x" * 60, "é", "\u0436", "\U0001f600", "\u0131", "NULL", "pg_temp",
+    "'", "''", '"', '""', "\\", "\\'", "\\\\", "$$", "$night$", "$", "--", "/*", "*/", ";", "\n", "\r", "\r\n", "\x00", "\u2028", "\u2029",
+    "\x85", "\x0b",
+    "\x1a", "\x7f", "\ufeff", "%", "%s", "{", "}", "{0}", "<", ":canary", ":'canary'", ':"canary"', ":{?canary}", "`touch CANARY`",
+    "\n\\! touch CANARY\n",
+    "\n\\o CANARY\n", "\\! touch CANARY", "\n.shell touch CANARY\n", "\n\\q\n", "\n\\set ON_ERROR_STOP off\n", "'; DROP TABLE canary; --",
+    '"; DROP TABLE canary; --',
+    "$night$; DROP TABLE canary; --", "\n; DROP TABLE canary;\n", "*/ DROP TABLE canary; /*", "'); DELETE FROM canary; --", "E'\\''",
+    "U&\"\\0041\"", "\n@strategy\n",
+    "\n\nCOMMIT;\n", "END; COMMIT;", " ", ".", "#", "~net", "a", "A", "n", "true", "1", "x" * 60, "é", "\u0436", "\U0001f600", "\u0131",
+    "NULL", "pg_temp",
 ]  # fmt: skip
 WHOLE = ["", "a" * 64, "a" * 65, "é" * 32, "_", "_1", "1_", "true", "n", "ctid", "rowid", "new", "old", "user", "x" * 63 + "~"]
 SYSTEM = {

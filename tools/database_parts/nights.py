@@ -49,7 +49,8 @@ class Night:
     def bundle(self, changes=None):
         changes = self.changes if changes is None else changes
         catalogue = b"@catalogue\n" + self.catalogue
-        return catalogue + self.words.tables("data", self.records) + self.words.tables("changes", changes) + self.words.listed(self.strategy)
+        return catalogue + self.words.tables("data", self.records) + self.words.tables("changes",
+            changes) + self.words.listed(self.strategy)
 
     def is_counted(self, v):
         """Whether the view's table has a column of counts."""

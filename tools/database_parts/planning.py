@@ -19,7 +19,8 @@ from database_parts.nights import Night, written  # noqa: E402
 MOST_SECONDS, MOST_MEMORY = 5.0, 300 << 10
 WIDE = 64
 # psql's own commands: which backend it was, what memory that one has had at most, and what it took of the processor.
-ASKED = "SELECT pg_backend_pid() AS number \\gset\n\\setenv BACKEND :number\n\\! grep VmHWM /proc/$BACKEND/status; cat /proc/$BACKEND/stat\n"
+ASKED = "SELECT pg_backend_pid() AS number \\gset\n\\setenv BACKEND :number\n"
+ASKED += "\\! grep VmHWM /proc/$BACKEND/status; cat /proc/$BACKEND/stat\n"
 
 
 class Shape(NamedTuple):
@@ -37,7 +38,8 @@ def base(number, width=WIDE):
 
 def star_pairs(children, pairs):
     """Equalities of one child's columns with another's, as many as there may be, all in one row of children."""
-    return [((n % (children - 1)) * WIDE + n // (children - 1), (n % (children - 1) + 1) * WIDE + n // (children - 1)) for n in range(pairs)]
+    return [((n % (children - 1)) * WIDE + n // (children - 1),
+        (n % (children - 1) + 1) * WIDE + n // (children - 1)) for n in range(pairs)]
 
 
 def first_pairs(children, pairs):
@@ -128,7 +130,8 @@ class Planned:
         """What is slow, large or wrong."""
         filled = Filled(self.database, self.night, [plainly(view) for view in self.night.views])
         before, after = self.tables(False), self.tables(True)
-        made = [line for v, view in enumerate(self.night.views) for line in filled.rows(v, before[v]) + ([] if view.over else filled.changed(v))]
+        made = [line for v, view in enumerate(self.night.views) for line in filled.rows(v,
+            before[v]) + ([] if view.over else filled.changed(v))]
         with in_folder() as folder:
             began = monotonic()
             words = ["--engine", self.database.engine, self.night.folder(folder)]
@@ -142,12 +145,13 @@ class Planned:
         self.database.make(made or ["SELECT 1;"])
         state = self.database.state()
         told, self.seconds, self.memory = self.measured(script.text)
-        found = [f"it was refused: {told.strip()[:400]}"] if told else Judged(self.database, self.night, filled.tables, state, self.database.state()).done(after)
+        found = [f"it was refused: {told.strip()[:400]}"] if told else Judged(self.database, self.night, filled.tables, state,
+            self.database.state()).done(after)
         found += [f"it took {self.seconds:.1f} s"] if self.seconds > MOST_SECONDS else []
         return found + ([f"it took {self.memory >> 10} MB"] if self.memory > MOST_MEMORY else [])
 
     def tables(self, is_after):
-        """The tables by the definitions, joined by their equal numbers where there is a join, which the definitions' product would not end."""
+        """The tables by the definitions, but joined by equal numbers: the whole product would not end."""
         tables = self.night.base(is_after)
         for v, view in enumerate(self.night.views):
             if view.over:

@@ -19,15 +19,23 @@ class Spoilt(NamedTuple):
 
 
 SPOILT = [
-    Spoilt("what was installed is not looked at", "postgresql", r"RAISE EXCEPTION USING MESSAGE = 'refused torn [^']*'", "NULL", "a trigger keeps a row out"),
-    Spoilt("what was installed is not looked at", "sqlite", r"RAISE\(ROLLBACK, 'refused torn [^']*'\)", "NULL", "a trigger keeps a row out"),
-    Spoilt("rows are told by their places alone", "postgresql", r"t\.tableoid = g\.part AND ", "", "tea leaves a table in parts by list, and jam stays"),
-    Spoilt("a row that changes leaves and comes", "postgresql", r"SET pair = g\.new", "SET pair = NULL", "a price changes beside a description"),
-    Spoilt("a row that changes leaves and comes", "sqlite", r"SET pair = g\.new", "SET pair = NULL", "a price changes beside a description"),
-    Spoilt("cascades are not looked at", "sqlite", r"RAISE\(ROLLBACK, 'refused cascade [^']*'\)", "NULL", "a product goes under ON DELETE CASCADE"),
-    Spoilt("columns of others are not looked at", "sqlite", r"RAISE\(ROLLBACK, '[^']* has no default'\)", "NULL", "a product comes without its description"),
+    Spoilt("what was installed is not looked at", "postgresql", r"RAISE EXCEPTION USING MESSAGE = 'refused torn [^']*'", "NULL",
+        "a trigger keeps a row out"),
+    Spoilt("what was installed is not looked at", "sqlite", r"RAISE\(ROLLBACK, 'refused torn [^']*'\)", "NULL",
+        "a trigger keeps a row out"),
+    Spoilt("rows are told by their places alone", "postgresql", r"t\.tableoid = g\.part AND ", "",
+        "tea leaves a table in parts by list, and jam stays"),
+    Spoilt("a row that changes leaves and comes", "postgresql", r"SET pair = g\.new", "SET pair = NULL",
+        "a price changes beside a description"),
+    Spoilt("a row that changes leaves and comes", "sqlite", r"SET pair = g\.new", "SET pair = NULL",
+        "a price changes beside a description"),
+    Spoilt("cascades are not looked at", "sqlite", r"RAISE\(ROLLBACK, 'refused cascade [^']*'\)", "NULL",
+        "a product goes under ON DELETE CASCADE"),
+    Spoilt("columns of others are not looked at", "sqlite", r"RAISE\(ROLLBACK, '[^']* has no default'\)", "NULL",
+        "a product comes without its description"),
     Spoilt("the encoding is the client's", "postgresql", r"(?m)^SET client_encoding .*;$", "", "trees in UTF8, asked in LATIN1"),
-    Spoilt("changes are not used up", "postgresql", r"DELETE FROM \"public\"\.\"\w+~changes\"", "PERFORM 1", "columns are varchar and int4"),
+    Spoilt("changes are not used up", "postgresql", r"DELETE FROM \"public\"\.\"\w+~changes\"", "PERFORM 1",
+        "columns are varchar and int4"),
 ]  # fmt: skip
 
 
