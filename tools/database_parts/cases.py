@@ -59,8 +59,6 @@ class Case:
     touched: tuple = ()
     database: str = ""
     role: str = "postgres"
-    columns: dict = field(default_factory=dict)
-    strategy: list = None
     times: int = 1
     never: str = None
 
@@ -70,8 +68,7 @@ class Case:
         records = [[counted_row(row) for row in self.rows.get(view.name, [])] for view in views]
         changes = [self.changes.get(view.name, []) for view in views]
         plain = [v for v in base if views[v].name not in self.counted]
-        strategy = self.strategy and [(v, sources) for v, sources in self.strategy]
-        found = Night(views, records, changes, strategy, plain)
+        found = Night(views, records, changes, plain=plain)
         found.text = self.catalogue
         return found
 
@@ -79,7 +76,6 @@ class Case:
         found = [plainly(view) for view in night.views]
         for table in found:
             table.others, table.key = self.others.get(table.name, []), self.keys.get(table.name)
-            table.columns = self.columns.get(table.name, table.columns)
         return found
 
 

@@ -4,7 +4,7 @@ import sys
 
 sys.dont_write_bytecode = True
 from database_parts.cases import (  # noqa: E402
-    ALE_COMES, EITHER, JAM_IS_DEARER, LINES, REFUSED, ROWS, TEA_GOES, Case,
+    ALE_COMES, EITHER, JAM_IS_DEARER, LINES, REFUSED, TEA_GOES, Case,
 )  # fmt: skip
 
 PG, LITE = "postgresql", "sqlite"
@@ -319,8 +319,43 @@ def types_of_sqlite():
     ]  # fmt: skip
 
 
+# ---- tables of changes
+
+CHANGES = 'product text NOT NULL, price bigint NOT NULL, "#" bigint NOT NULL'
+CHANGED = """INSERT INTO "products~changes" (product, price, "#") VALUES ('ale', 220, 1);"""
+
+
+def changes():
+    """Tables of changes of forms of their own, and such that are not emptied."""
+    table = '"products~changes"'
+    kept = trigger("BEFORE DELETE", table, "RETURN NULL;")
+    back = trigger("AFTER DELETE", table, 'INSERT INTO "products~changes" SELECT OLD.*; RETURN NULL;')
+    parts = ["CREATE TABLE \"products~changes\" (" + CHANGES + ") PARTITION BY LIST (product);",
+             'CREATE TABLE changes_1 PARTITION OF "products~changes" DEFAULT;', CHANGED]  # fmt: skip
+    refused = {"wanted": REFUSED, "word": "refused torn products"}
+    found = [
+        Case("a trigger keeps the changes", PG, ALE_COMES, more=kept, **refused),
+        Case("a trigger puts the changes back", PG, ALE_COMES, more=back, **refused),
+        Case("changes stand in parts", PG, ALE_COMES, {"products~changes": parts}),
+        Case("a trigger keeps the changes", LITE, ALE_COMES,
+             more=[f"CREATE TRIGGER meddling BEFORE DELETE ON {table} BEGIN SELECT RAISE(IGNORE); END;"], **refused),
+        Case("a trigger puts the changes back", LITE, ALE_COMES,
+             more=[f"CREATE TRIGGER meddling AFTER DELETE ON {table} BEGIN INSERT INTO {table} VALUES (OLD.product, OLD.price, 1); END;"],
+                 **refused),
+    ]  # fmt: skip
+    for engine in BOTH:
+        more = [f"CREATE TABLE {table} (who text DEFAULT 'me', {CHANGES}, told text);", CHANGED]
+        key = [f'CREATE TABLE products ({PRODUCT}, "#" bigint NOT NULL DEFAULT 1, PRIMARY KEY (product, price, "#"));']
+        found += [
+            Case("changes have columns of others", engine, ALE_COMES, {"products~changes": more}),
+            Case("counts belong to the key", engine, {"products": [(("tea", 300), 1), (("jam", 450), -1)]}, {"products": key},
+                 counted=("products",)),
+        ]
+    return found
+
+
 def cases():
-    return [*partitions(), *foreign_keys(), *other_columns(), *triggers(), *types()]
+    return [*changes(), *partitions(), *foreign_keys(), *other_columns(), *triggers(), *types()]
 
 
 

@@ -34,8 +34,6 @@ sum = [[<sum>, <joined.kept>]]
 """
 NAMES = {name: name for name in ("base", "key", "word", "other", "number", "joined", "kept", "said", "summary", "group", "sum")}
 NAMES |= {"count": "counted", "filter": "none", "text": "said"}
-TEXTS = ("filter", "text")
-KINDS = {"key": "int", "word": "text"}
 OPTIONS = ("plain", "counted", "schema", "expression", "source", "size", "kind", "reference")
 
 PIECES = [
