@@ -3,7 +3,7 @@
 import sys
 
 sys.dont_write_bytecode = True
-from sql_parts.tokens import COMMENT, END, LINE, NAME, TEXT, WORD  # noqa: E402
+from sql_parts.tokens import COMMENT, END, LINE, WORD  # noqa: E402
 
 CLOSE_BEFORE, CLOSE_AFTER = frozenset(",).::];["), frozenset("(.::[")
 ESCAPES = {"\\": "\\\\", "'": "\\'", "\n": "\\n", "\r": "\\r"}
