@@ -44,11 +44,11 @@ class SQLite(Dialect):
 
     def judge_test(self, deep):
         if deep > DEEPEST_TEST:
-            raise Unfit(f"a predicate is {deep} operators deep in SQL, and SQLite takes 1000 (SQLITE_MAX_EXPR_DEPTH): part it into two views")
+            raise Unfit(f"a predicate is {deep} operators deep, and SQLite takes 1000 (SQLITE_MAX_EXPR_DEPTH): part it into two views")
 
     def judge_expression(self, held):
         if held > MOST_HELD:
-            raise Unfit("an expression nests too deep for SQLite's parser, whose stack has 100 places (YYSTACKDEPTH): part it into two views")
+            raise Unfit("an expression nests too deep for SQLite's parser, whose stack has 100 places (YYSTACKDEPTH): part it in two")
 
     # ---- literals and expressions
 
@@ -171,8 +171,8 @@ class SQLite(Dialect):
             net=net,
         )
 
-    def join(self, operand, test):
-        """Tables are gone through in the order that they are written in."""
+    def found_in(self, operand, test):
+        """Rows that are looked up one by one: tables are gone through in the order that they are written in."""
         return sql("CROSS JOIN {operand} ON {test}", operand=operand, test=test)
 
     def index(self, said):
