@@ -73,7 +73,7 @@ class Changes:
             "INSERT INTO {filling} (id, part, place, held, nth) SELECT d.id, {here}, {held}, row_number() OVER (PARTITION BY d.id)"
             " FROM {net} AS d {table}",
             filling=self.dialect.filling(found), here=self.dialect.here(word("t")), held=held, net=net,
-            table=self.dialect.join(sql("{table} AS t", table=self.table(v)), self.same(v)),
+            table=self.dialect.found_in(sql("{table} AS t", table=self.table(v)), self.same(v)),
         )  # fmt: skip
         return [insert, *self.dialect.filled(found), *self.twice(v), *self.counted_before(v)]
 

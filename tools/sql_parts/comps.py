@@ -59,7 +59,7 @@ class Comps:
             if first is None:
                 found, first = over, test
             else:
-                found = sql("{found} {join}", found=found, join=self.dialect.join(over, test))
+                found = sql("{found} JOIN {over} ON {test}", found=found, over=over, test=test)
         return found, first
 
     def conditions(self, v, term, first):

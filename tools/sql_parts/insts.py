@@ -12,10 +12,11 @@ class Insts:
     """The statements that put a change into its view's table."""
 
     def inst(self, step):
-        """A view's change is put into its table."""
+        """A view's change is put into its table. Whether it stands there is looked at once, when all is installed: by then no row was touched
+        by anybody else, so that what is right there was right all the time."""
         v = step.view
         judged = [*self.spared(v), *self.cascades(v)] if self.views[v].over else []
-        return [*judged, *self.left(v), *self.stayed(v), *self.recounted(v), *self.came(v), *self.verified(v)]
+        return [*judged, *self.left(v), *self.stayed(v), *self.recounted(v), *self.came(v)]
 
     def told_torn(self, v):
         return f"refused torn {self.views[v].name}: a trigger, a rule or another writer changed what was installed"

@@ -179,7 +179,8 @@ class PostgreSQL(Dialect):
         """Rows of a change beside the numbers up to their counts."""
         return sql("{net} AS d CROSS JOIN LATERAL generate_series(1::bigint, d.n) AS k", net=net)
 
-    def join(self, operand, test):
+    def found_in(self, operand, test):
+        """Rows that are looked up, by whatever way is shortest."""
         return sql("JOIN {operand} ON {test}", operand=operand, test=test)
 
     def index(self, said):

@@ -112,7 +112,7 @@ class PostgreSQLEngine:
 
     def contents(self, asked):
         """Each table's rows."""
-        return [json.loads(line) for line in self.psql(self.questions(asked)).stdout.decode().splitlines()]
+        return [json.loads(line) for line in self.psql(self.questions(asked)).stdout.decode().split("\n")[:-1]]
 
 
 def installed():

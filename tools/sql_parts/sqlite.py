@@ -171,8 +171,8 @@ class SQLite(Dialect):
             net=net,
         )
 
-    def join(self, operand, test):
-        """Tables are gone through in the order that they are written in."""
+    def found_in(self, operand, test):
+        """Rows that are looked up one by one: tables are gone through in the order that they are written in."""
         return sql("CROSS JOIN {operand} ON {test}", operand=operand, test=test)
 
     def index(self, said):
