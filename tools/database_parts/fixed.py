@@ -233,7 +233,8 @@ def stamped():
     return [
         Case("a trigger stamps what comes and changes", PG, change, stamp, before),
         Case("a trigger stamps afterwards", PG, change, stamp, trigger("AFTER INSERT", "products", after + " RETURN NULL;"), EITHER),
-        Case("a trigger stamps afterwards", LITE, change, stamp, [f"CREATE TRIGGER meddling AFTER INSERT ON products BEGIN {after} END;"], EITHER),
+        Case("a trigger stamps afterwards", LITE, change, stamp, [f"CREATE TRIGGER meddling AFTER INSERT ON products BEGIN {after} END;"],
+             EITHER),
     ]
 
 
