@@ -42,10 +42,12 @@ class Changes:
         """The change of a view whose rows are told by their cells: of those these counts, added up."""
         net, count = self.working(v, "net"), self.dialect.whole_of(summed(halves))
         insert = sql(
-            "INSERT INTO {net} (id, {columns}, n) SELECT row_number() OVER (), {cells}, {count} FROM {rows} GROUP BY {cells} HAVING {count} <> 0",
+            "INSERT INTO {net} (id, {columns}, n) SELECT row_number() OVER (), {cells}, {count} FROM {rows} GROUP BY {cells}"
+            " HAVING {count} <> 0",
             net=self.dialect.filling(net), columns=joined(self.cells(v)), cells=joined(cells), count=count, rows=rows,
         )  # fmt: skip
-        lost = self.dialect.exact(self.told_large(v), sql("SELECT 1 FROM {net} AS d WHERE {lost}", net=net, lost=self.dialect.is_lost(sql("d.n"))))
+        too_large = sql("SELECT 1 FROM {net} AS d WHERE {lost}", net=net, lost=self.dialect.is_lost(sql("d.n")))
+        lost = self.dialect.exact(self.told_large(v), too_large)
         return [*self.dialect.counted(self.told_large(v), [insert]), *lost, *self.dialect.filled(net)]
 
     def judge(self, step):
@@ -60,7 +62,8 @@ class Changes:
 
     def large(self, v):
         """A count that would leave 64 bits."""
-        query = sql("SELECT 1 FROM {net} AS d WHERE d.n > 0 AND d.n > {most} - d.was", net=self.working(v, "net"), most=self.dialect.whole(MOST))
+        net, most = self.working(v, "net"), self.dialect.whole(MOST)
+        query = sql("SELECT 1 FROM {net} AS d WHERE d.n > 0 AND d.n > {most} - d.was", net=net, most=most)
         return self.dialect.refuse(self.told_large(v), query) if self.shape.is_counted(v) else []
 
     # ---- places
@@ -152,7 +155,8 @@ class Changes:
             [sql("WHEN {place} THEN o.{cell} <> w.{cell}", place=number(at), cell=cell) for at, cell in enumerate(self.cells(v), 1)], ""
         )
         moved = sql(
-            "SELECT 1 FROM {net} AS o JOIN {net} AS w ON w.id = o.pair WHERE o.n < 0 AND CASE r.place {changed} END", net=net, changed=changed
+            "SELECT 1 FROM {net} AS o JOIN {net} AS w ON w.id = o.pair WHERE o.n < 0 AND CASE r.place {changed} END",
+            net=net, changed=changed,
         )
         return self.checked.cascades(v, gone, moved)
 
@@ -198,7 +202,8 @@ class Changes:
         after = [self.after(column, place) for place, column in enumerate(read, 1)]
         columns = [*self.cells(v)[:groups], *self.summed_columns(v, "o"), *self.summed_columns(v, "a")]
         insert = sql(
-            "INSERT INTO {filling} (id, part, place, {columns}) SELECT row_number() OVER (), {here}, {shown} FROM {folded} AS d LEFT {table}",
+            "INSERT INTO {filling} (id, part, place, {columns}) SELECT row_number() OVER (), {here}, {shown}"
+            " FROM {folded} AS d LEFT {table}",
             filling=self.dialect.filling(beside), columns=joined(columns), here=self.dialect.here(word("t")), folded=folded,
             shown=joined([*self.cells(v, "d")[:groups], *read, *after]),
             table=sql("JOIN {table} AS t ON {same}", table=self.table(v), same=self.same(v, groups)),
@@ -238,7 +243,8 @@ class Changes:
                 )
             )  # fmt: skip
         places = sql(
-            "INSERT INTO {filling} (id, part, place, held, nth) SELECT b.id * 2, b.part, b.place, 1, 1 FROM {beside} AS b WHERE b.place IS NOT NULL",
+            "INSERT INTO {filling} (id, part, place, held, nth) SELECT b.id * 2, b.part, b.place, 1, 1 FROM {beside} AS b"
+            " WHERE b.place IS NOT NULL",
             filling=self.dialect.filling(self.working(v, "found")), beside=beside,
         )  # fmt: skip
         return [*found, places, *self.dialect.filled(net), *self.dialect.filled(self.working(v, "found"))]

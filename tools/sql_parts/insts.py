@@ -12,8 +12,8 @@ class Insts:
     """The statements that put a change into its view's table."""
 
     def inst(self, step):
-        """A view's change is put into its table. Whether it stands there is looked at once, when all is installed: by then no row was touched
-        by anybody else, so that what is right there was right all the time."""
+        """A view's change is put into its table. Whether it stands there is looked at once, when all is installed: by then no row was
+        touched by anybody else, so that what is right there was right all the time."""
         v = step.view
         judged = [*self.spared(v), *self.cascades(v)] if self.views[v].over else []
         return [*judged, *self.left(v), *self.stayed(v), *self.recounted(v), *self.came(v)]
@@ -47,7 +47,8 @@ class Insts:
         if self.shape.is_counted(v):
             columns, cells, shown = [*columns, COUNT], [*cells, word("n")], [*shown, sql("w.n")]
         rows = sql(
-            "SELECT f.part, f.place, {shown} FROM {found} AS f JOIN {net} AS o ON o.id = f.id JOIN {net} AS w ON w.id = o.pair WHERE o.n < 0",
+            "SELECT f.part, f.place, {shown} FROM {found} AS f JOIN {net} AS o ON o.id = f.id JOIN {net} AS w ON w.id = o.pair"
+            " WHERE o.n < 0",
             shown=joined(shown), found=found, net=net,
         )  # fmt: skip
         sets = joined([sql("{column} = g.{cell}", column=column, cell=cell) for column, cell in zip(columns, cells)])
@@ -86,7 +87,8 @@ class Insts:
         once = sql("CASE WHEN t.{column} IS NULL THEN 0 ELSE 1 END", column=self.users(v)[0])
         held = self.dialect.read_count(sql("t.{count}", count=COUNT)) if counted else once
         query = sql(
-            "SELECT 1 FROM {net} AS d LEFT JOIN {table} AS t ON {same} GROUP BY d.id, d.was, d.n HAVING coalesce(sum({held}), 0) <> d.was + d.n",
+            "SELECT 1 FROM {net} AS d LEFT JOIN {table} AS t ON {same} GROUP BY d.id, d.was, d.n"
+            " HAVING coalesce(sum({held}), 0) <> d.was + d.n",
             net=self.working(v, "net"), table=self.table(v), same=self.same(v), held=held,
         )  # fmt: skip
         return self.dialect.refuse(self.told_torn(v), query)

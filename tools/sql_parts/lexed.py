@@ -1,4 +1,4 @@
-"""A lexer of each engine's own rules, which knows nothing of how scripts are written: what it reads has to be the tokens that were meant."""
+"""A lexer of each engine's own rules, which knows nothing of how scripts are written: it has to read the tokens that were meant."""
 
 import re
 import sys
@@ -8,7 +8,8 @@ from sql_parts.tokens import BODY, LINE, NUMBER, WORD  # noqa: E402
 
 COMMON = r"""(?P<blank>[ \n]+)|(?P<comment>--[^\n]*)|(?P<name>"(?:[^"]|"")+")|(?P<number>[0-9]+)|(?P<end>;)"""
 MARK = r"""(?P<word>[A-Za-z_][A-Za-z0-9_]*|::|:=|\|\||<=|>=|<>|>>|[(),.*=<>+\-/%&\[\]#])"""
-OF_POSTGRESQL = r"""|(?P<body>\$(?P<tag>[A-Za-z_]*)\$(?P<inner>.*?)\$(?P=tag)\$)|(?P<escaped>E'(?:[^'\\]|\\.)*')|(?P<text>'(?:[^']|'')*')|"""
+OF_POSTGRESQL = r"""|(?P<body>\$(?P<tag>[A-Za-z_]*)\$(?P<inner>.*?)\$(?P=tag)\$)|(?P<escaped>E'(?:[^'\\]|\\.)*')"""
+OF_POSTGRESQL += r"""|(?P<text>'(?:[^']|'')*')|"""
 OF_SQLITE = r"""|(?P<text>'(?:[^']|'')*')|"""
 RULES = {
     "postgresql": re.compile(COMMON + OF_POSTGRESQL + MARK, re.DOTALL),

@@ -81,7 +81,8 @@ class Checks:
         other = "table %s does not fit: it is no ordinary or partitioned table"
         kinds = sql("({r}, {p})", r=text("r"), p=text("p"))
         wrong = self.query(
-            "SELECT format({sentence}, w.told) " + there + "c.relkind NOT IN {kinds} ORDER BY w.number LIMIT 1", sentence=text(other), kinds=kinds
+            "SELECT format({sentence}, w.told) " + there + "c.relkind NOT IN {kinds} ORDER BY w.number LIMIT 1",
+            sentence=text(other), kinds=kinds,
         )
         return [*self.dialect.refuse_with(found), *self.dialect.refuse_with(wrong)]
 
@@ -97,7 +98,8 @@ class Checks:
                 " JOIN pg_namespace AS s ON s.oid = c.relnamespace AND s.nspname = {schema}"
             ),
             self.query(
-                "INSERT INTO {parts} WITH RECURSIVE below (number, told, relation) AS (SELECT t.number, t.told, t.relation FROM {tables} AS t"
+                "INSERT INTO {parts} WITH RECURSIVE below (number, told, relation) AS (SELECT t.number, t.told, t.relation"
+                " FROM {tables} AS t"
                 " UNION SELECT b.number, b.told, i.inhrelid FROM below AS b JOIN pg_inherits AS i ON i.inhparent = b.relation)"
                 " SELECT b.number, b.told, b.relation FROM below AS b"
             ),
@@ -111,7 +113,7 @@ class Checks:
         ]
 
     def keys(self):
-        """Of each base table the primary key, or else the least unique index, if all its columns are in the catalogue, and not all of these."""
+        """Of each base table the primary key, or else the least unique index, if all its columns are in the catalogue, not all of it."""
         return self.query(
             "INSERT INTO {keys} SELECT b.number, w.place FROM (SELECT DISTINCT ON (t.number) t.number, i.indrelid, i.indkey, i.indnkeyatts"
             " FROM {tables} AS t JOIN pg_index AS i ON i.indrelid = t.relation WHERE t.role = {base} AND i.indisunique AND i.indisvalid"
@@ -194,7 +196,8 @@ class Checks:
         told = "table %s does not fit: a row comes, and the column %s, which the catalogue has not, has no default"
         return self.dialect.refuse_with(
             self.query(
-                "SELECT format({told}, {view}::text, min(s.told)) FROM {spare} AS s WHERE s.view = {v} AND EXISTS ({coming}) HAVING count(*) > 0",
+                "SELECT format({told}, {view}::text, min(s.told)) FROM {spare} AS s WHERE s.view = {v} AND EXISTS ({coming})"
+                " HAVING count(*) > 0",
                 told=text(told), view=text(self.script.views[v].name), v=number(v), coming=coming,
             )
         )  # fmt: skip
@@ -219,7 +222,8 @@ class Checks:
         told = "refused cascade %s: the foreign key %s to it would delete or change other rows; make it NO ACTION"
         return self.dialect.refuse_with(
             self.query(
-                "SELECT format({told}, {view}::text, min(r.told)) FROM {referred} AS r WHERE r.view = {v} AND ((r.by_delete AND EXISTS ({gone}))"
+                "SELECT format({told}, {view}::text, min(r.told)) FROM {referred} AS r WHERE r.view = {v}"
+                " AND ((r.by_delete AND EXISTS ({gone}))"
                 " OR (r.by_update AND EXISTS ({moved}))) HAVING count(*) > 0",
                 told=text(told), view=text(self.script.views[v].name), v=number(v), gone=gone, moved=moved,
             )

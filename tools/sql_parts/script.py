@@ -85,7 +85,8 @@ class Script(Comps, Changes, Insts):
         for v, view in enumerate(self.views):
             columns = [(self.columns[v].of(said), kind) for said, kind in view.columns]
             counted = [*columns, ("#", "count")]
-            found.append(Expected("derived" if view.over else "base", view.name, self.said(v), counted if self.shape.is_counted(v) else columns))
+            role, columns = "derived" if view.over else "base", counted if self.shape.is_counted(v) else columns
+            found.append(Expected(role, view.name, self.said(v), columns))
         for v in self.steps.base():
             columns = [(self.columns[v].of(said), kind) for said, kind in self.views[v].columns]
             found.append(Expected("changes", f"{self.views[v].name}~changes", self.said(v, "~changes"), [*columns, ("#", "count")]))
@@ -157,7 +158,8 @@ class Script(Comps, Changes, Insts):
         """A transaction of all this."""
         locked = [self.table(v) for v in range(len(self.views))] + [self.table(v, "~changes") for v in self.steps.base()]
         working = self.checked.working_tables() + self.working_tables()
-        return self.dialect.program(self.checked.statements(locked), working, before + self.carried(steps, comment) + after, self.checked.watchers())
+        made = before + self.carried(steps, comment) + after
+        return self.dialect.program(self.checked.statements(locked), working, made, self.checked.watchers())
 
     def night(self, strategy, comment):
         numbers = range(len(self.views))

@@ -87,7 +87,8 @@ class NoRowLeaves(Script):
 
 class AllRowsComeOnce(Script):
     def net(self, step):
-        return [*super().net(step), sql("UPDATE {net} SET n = {one} WHERE n > {one}", net=self.dialect.filling(self.working(step.view, "net")), one=number(1))]
+        net = self.dialect.filling(self.working(step.view, "net"))
+        return [*super().net(step), sql("UPDATE {net} SET n = {one} WHERE n > {one}", net=net, one=number(1))]
 
 
 SPOILT = [

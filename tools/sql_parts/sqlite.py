@@ -44,11 +44,11 @@ class SQLite(Dialect):
 
     def judge_test(self, deep):
         if deep > DEEPEST_TEST:
-            raise Unfit(f"a predicate is {deep} operators deep in SQL, and SQLite takes 1000 (SQLITE_MAX_EXPR_DEPTH): part it into two views")
+            raise Unfit(f"a predicate is {deep} operators deep, and SQLite takes 1000 (SQLITE_MAX_EXPR_DEPTH): part it into two views")
 
     def judge_expression(self, held):
         if held > MOST_HELD:
-            raise Unfit("an expression nests too deep for SQLite's parser, whose stack has 100 places (YYSTACKDEPTH): part it into two views")
+            raise Unfit("an expression nests too deep for SQLite's parser, whose stack has 100 places (YYSTACKDEPTH): part it in two")
 
     # ---- literals and expressions
 

@@ -15,7 +15,8 @@ KNOWN = {
     "night~touched": "view INTEGER PRIMARY KEY, written, removed",
 }
 # What is counted where a row of a table is touched, by whoever does it.
-COUNTED = (("INSERT", "written = written + 1"), ("UPDATE", "written = written + 1, removed = removed + 1"), ("DELETE", "removed = removed + 1"))
+WRITTEN, REMOVED = "written = written + 1", "removed = removed + 1"
+COUNTED = (("INSERT", WRITTEN), ("UPDATE", f"{WRITTEN}, {REMOVED}"), ("DELETE", REMOVED))
 # A column's kind by its affinity, and whether it can be NULL: a primary key of one INTEGER column is the row's number.
 INT, CHAR, CLOB, TEXT = (f"instr(upper(x.type), {{{said}}}) > 0" for said in ("int", "char", "clob", "text"))
 NUMBERED = "x.pk = 1 AND upper(x.type) = {integer} AND (SELECT count(*) FROM pragma_table_xinfo({table}, {schema}) AS y WHERE y.pk > 0) = 1"
@@ -130,7 +131,7 @@ class Checks:
         )  # fmt: skip
 
     def referred(self):
-        """Foreign keys to the tables that change other rows where a row goes or its key changes, column by column, where they are in force."""
+        """Foreign keys in force that change other rows where a row of a table goes or its key changes, column by column."""
         acts = joined([text(said) for said in ("CASCADE", "SET NULL", "SET DEFAULT")])
         return self.query(
             "INSERT INTO {target} SELECT n.view, c.place, f.on_delete IN ({acts}), f.on_update IN ({acts}) FROM {names} AS n"
@@ -168,6 +169,7 @@ class Checks:
     def cascades(self, v, gone, moved):
         told = f"refused cascade {self.script.views[v].name}: a foreign key to it would delete or change other rows; make it NO ACTION"
         return self.refuse(
-            told, "SELECT 1 FROM {referred} AS r WHERE r.view = {v} AND ((r.by_delete AND EXISTS ({gone})) OR (r.by_update AND EXISTS ({moved})))",
+            told,
+            "SELECT 1 FROM {referred} AS r WHERE r.view = {v} AND ((r.by_delete AND EXISTS ({gone})) OR (r.by_update AND EXISTS ({moved})))",
             v=number(v), gone=gone, moved=moved,
         )  # fmt: skip

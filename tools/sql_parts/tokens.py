@@ -1,4 +1,4 @@
-"""SQL as tokens: a script is made of words, quoted names, quoted texts, numbers and comments, and there is no way for other text into it."""
+"""SQL as tokens: a script is made of words, quoted names, quoted texts, numbers and comments, and no other text comes into it."""
 
 import re
 import sys

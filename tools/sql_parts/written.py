@@ -3,12 +3,12 @@
 import sys
 
 sys.dont_write_bytecode = True
-from sql_parts.tokens import COMMENT, END, LINE, NAME, TEXT, WORD  # noqa: E402
+from sql_parts.tokens import COMMENT, END, LINE, WORD  # noqa: E402
 
 CLOSE_BEFORE, CLOSE_AFTER = frozenset(",).::];["), frozenset("(.::[")
 ESCAPES = {"\\": "\\\\", "'": "\\'", "\n": "\\n", "\r": "\\r"}
 # Words before a bracket that call nothing.
-APART = frozenset("AND AS BY EXISTS FROM IF IN INSERT INTO JOIN NOT ON OR OVER SELECT UNION ALL VALUES WHEN WHERE THEN ELSE SET CHECK HAVING KEY".split())
+APART = frozenset("AND AS BY CHECK ELSE EXISTS FROM HAVING IN JOIN NOT ON OR OVER SELECT SET THEN USING VALUES WHEN WHERE".split())
 
 
 class Writer:
