@@ -9,7 +9,7 @@ from sql_parts.postgresql_checks import Checks  # noqa: E402
 from sql_parts.tokens import END_OF_STATEMENT, body, joined, name, sql, statements, text, word  # noqa: E402
 
 LIMITS = sql("{least} AND {most}", least=sql("{n}::numeric", n=text(str(LEAST))), most=sql("{n}::numeric", n=text(str(MOST))))
-VARIABLES = [sql("{name} pg_catalog.text", name=word(said)) for said in ("path", "finding", "collapsed", "merged")]
+VARIABLES = [sql("{name} pg_catalog.text", name=word(said)) for said in ("path", "finding", "collapsed", "merged", "nested")]
 VARIABLES.append(sql("touched pg_catalog.int8"))
 MANY_PAIRS = 12
 # A block rests on these, whatever a session has set. The functions of triggers may want the path that was set.
@@ -25,7 +25,12 @@ SETTINGS = [
         for key, value in (("row_security", "off"), ("jit", "off"))
     ),
 ]  # fmt: skip
-SEARCHES = (("join_collapse_limit", "1", word("collapsed")), ("enable_mergejoin", "off", word("merged")))
+# Of many equalities PostgreSQL supposes that hardly a row passes, and would go through changes that have no index again and again.
+SEARCHES = (
+    ("join_collapse_limit", "1", word("collapsed")),
+    ("enable_mergejoin", "off", word("merged")),
+    ("enable_nestloop", "off", word("nested")),
+)
 KEPT = [sql("{before} := current_setting({key})", key=text(key), before=before) for key, _, before in SEARCHES]
 LIMITED = [sql("PERFORM set_config({key}, {value}, TRUE)", key=text(key), value=text(value)) for key, value, _ in SEARCHES]
 UNLIMITED = [sql("PERFORM set_config({key}, {before}, TRUE)", key=text(key), before=before) for key, _, before in SEARCHES]
