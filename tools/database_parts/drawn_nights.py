@@ -108,7 +108,7 @@ class DrawnTables:
         self.tables = named(self.night, self.made_by_command(folder)) if is_created else list(map(plainly, self.night.views))
         forms = Forms(self.source, self.database, self.night, self.tables)
         filled = Filled(self.database, self.night, self.tables)
-        self.forms = [None if self.source.random() < 0.25 else forms.drawn(v, self.night.key(v)) for v in range(len(self.tables))]
+        self.forms = [None if self.source.random() < 0.25 else forms.drawn(v, self.key(v)) for v in range(len(self.tables))]
         made, finished = [], []
         for v, form in enumerate(self.forms):
             made += self.table(v, form, forms, filled, is_created)
@@ -118,6 +118,10 @@ class DrawnTables:
         self.open(folder, filled)
         self.database.make(finished or ["SELECT 1;"])
         self.judge_forms()
+
+    def key(self, v):
+        """The key that a view's table is given: a summary's groups may be none."""
+        return None if self.night.views[v].over and self.source.random() < 0.3 else self.night.key(v)
 
     def table(self, v, form, forms, filled, is_created):
         """A table in its form, with its rows and changes where it is a base view's."""

@@ -34,6 +34,11 @@ GROUPS = in_parts(
     "LIST (product)", "FOR VALUES IN ('tea')", "DEFAULT",
     columns="product text NOT NULL, n bigint NOT NULL, cost bigint NOT NULL", table="by_product",
 )  # fmt: skip
+BY_COST = in_parts(
+    "RANGE (cost)", "FOR VALUES FROM (MINVALUE) TO (2000)", "FOR VALUES FROM (2000) TO (MAXVALUE)",
+    columns="product text NOT NULL, n bigint NOT NULL, cost bigint NOT NULL", table="by_product",
+)  # fmt: skip
+JAM_IS_CHEAPER = {"products": [(("jam", 450), -1), (("jam", 300), 1)]}
 SALES = in_parts(
     "LIST (product)", "FOR VALUES IN ('tea')", "DEFAULT",
     columns='id bigint NOT NULL, product text NOT NULL, cost bigint NOT NULL, "#" bigint NOT NULL', table="sales",
@@ -50,6 +55,7 @@ def partitions():
         Case("jam leaves the heir of a table", PG, {"products": [(("jam", 450), -1)]}, INHERITED, MOVED),
         Case("tea leaves a counted table in parts", PG, TEA_GOES, COUNTED, counted=("products",)),
         Case("a group of a summary in parts changes", PG, JAM_IS_DEARER, GROUPS),
+        Case("a sum moves a group to another part", PG, JAM_IS_CHEAPER, BY_COST),
         Case("a joined view in parts changes", PG, JAM_IS_DEARER, SALES),
         Case("a price moves a row to another part", PG, {"products": [(("tea", 300), -1), (("tea", 500), 1)]}, BY_RANGE),
     ]
@@ -212,9 +218,24 @@ def triggers():
         Case("a rule does nothing instead", PG, ALE_COMES, more=["CREATE RULE nothing AS ON INSERT TO products DO INSTEAD NOTHING;"],
              wanted=REFUSED),
         Case("a trigger keeps a book", PG, JAM_IS_DEARER, keyed(), audit, touched=("public.audit",), **KEYED),
+        *stamped(),
         *hidden_rows(),
         *triggers_of_sqlite(torn),
     ]  # fmt: skip
+
+
+def stamped():
+    """Triggers that write into a column of others."""
+    stamp = described("stamp text DEFAULT ''")
+    change = {"products": [*JAM_IS_DEARER["products"], *ALE_COMES["products"]]}
+    before = trigger("BEFORE INSERT OR UPDATE", "products", "NEW.stamp := TG_OP; RETURN NEW;")
+    after = "UPDATE products SET stamp = 'done' WHERE product = NEW.product;"
+    return [
+        Case("a trigger stamps what comes and changes", PG, change, stamp, before),
+        Case("a trigger stamps afterwards", PG, change, stamp, trigger("AFTER INSERT", "products", after + " RETURN NULL;"), EITHER),
+        Case("a trigger stamps afterwards", LITE, change, stamp, [f"CREATE TRIGGER meddling AFTER INSERT ON products BEGIN {after} END;"],
+             EITHER),
+    ]
 
 
 def hidden_rows():

@@ -187,7 +187,7 @@ class Forms:
             made = [f"CREATE TABLE {table} ({columns}) {form.behind};"]
             heir = self.name(f"{v} heir")
             made += [f"CREATE TABLE {heir} () INHERITS ({table});"] if form.parts else []
-            form.filled[:0] = self.moved(v, form, table, heir) if form.parts else []
+            form.filled[:0] = self.moved(form, table, heir) if form.parts else []
             return made + form.after + self.dropped(table)
         by = {"sub": "LIST"}.get(form.parts, form.parts.upper())
         made = [f"CREATE TABLE {table} ({columns}) PARTITION BY {by} ({quoted(form.parted_by)});", *self.dropped(table)]
@@ -195,7 +195,7 @@ class Forms:
             made += self.made_part(v, form, table, number, bound)
         return made + form.after
 
-    def moved(self, v, form, table, heir):
+    def moved(self, form, table, heir):
         """Some rows of a table go to its heir."""
         test = f"{quoted(form.parted_by)} <> {'0' if form.parted_kind == 'int' else literal('oak')}"
         names = [name for name, declared in form.columns if "GENERATED" not in declared]

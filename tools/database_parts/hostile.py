@@ -53,6 +53,8 @@ SYSTEM = {
     "postgresql": ["pg_class", "pg_authid", "pg_proc", "pg_type", "information_schema"],
     "sqlite": ["sqlite_master", "sqlite_sequence", "sqlite_schema", "sqlite_stat1", "sqlite_temp_master"],
 }
+# What TOML or UTF-8 refuses, and U+0000, which no engine has texts with.
+NO_TEXTS = [b"a\\u0000b", b"\\ud800", b"\\udfff\\ud800", b"\\U00110000", b"\xff", b"\xed\xa0\x80", b"\xc0\x80", b"\x00", b"\x1b"]
 ENGINES_OWN = ("does not exist", "reserved for internal use", "unknown database", "no such table")
 WORDS = {"--create": "made", "--open": "opened", "--night": "night"}
 
@@ -256,14 +258,17 @@ def text_mistakes(database, folder, program, texts):
     return [f"{database.engine}: {text}" for text in Judged(database, night, filled.tables, state, database.state()).done(after)]
 
 
-def nothing_mistakes(database, folder):
-    """A text with U+0000 is refused before the first line, or stands in the script by its number alone."""
-    night = text_night(["a\x00b"])
-    script = written("--engine", database.engine, night.folder(folder))
-    is_refused = script.status and not script.text and "Traceback" not in script.told
-    if is_refused or (script.text and "\x00" not in script.text):
-        return []
-    return [f"{database.engine}: a text with U+0000: {script.told.strip()[-300:]!r}, and {len(script.text)} letters written"]
+def no_text_mistakes(database, folder):
+    """What is made of texts that are none: each is refused before the first line."""
+    found = []
+    for raw in NO_TEXTS:
+        night = text_night(["MARK"])
+        path = night.folder(folder)
+        (path / "catalogue.toml").write_bytes(night.catalogue.replace(b"MARK", raw))
+        script = written("--engine", database.engine, path)
+        if not script.status or script.text or "Traceback" in script.told:
+            found.append(f"{database.engine}: {raw!r} in a text: {script.told.strip()[-300:]!r}, and {len(script.text)} letters written")
+    return found
 
 
 def hostile_mistakes(database, program, count, seed):
@@ -274,7 +279,7 @@ def hostile_mistakes(database, program, count, seed):
         texts = legal_texts(hostile.canary)
         for start in range(0, len(texts), 60):
             found += text_mistakes(database, folder, program, texts[start : start + 60])
-        found += nothing_mistakes(database, folder)
+        found += no_text_mistakes(database, folder)
     with in_folder() as folder:
         hostile = Hostile(database, folder)
         for attack in attacks(seed, count, hostile.canary):

@@ -4,6 +4,7 @@ import csv
 import io
 import subprocess
 import sys
+import tomllib
 from collections import Counter
 from contextlib import redirect_stderr, redirect_stdout
 from pathlib import Path
@@ -11,8 +12,6 @@ from typing import NamedTuple
 from unittest import mock
 
 sys.dont_write_bytecode = True
-import tomllib  # noqa: E402
-
 from drawn import Text, Warehouse, added  # noqa: E402
 from examples import tool  # noqa: E402
 from given import Given  # noqa: E402

@@ -77,6 +77,16 @@ def six_children(pairs, name, rows):
     return Shape(name, views, rows, at_once(views))
 
 
+def narrow_children(rows):
+    """Six children of few columns and many rows, each joined with the next by ten equalities."""
+    width = 12
+    pairs = [(child * width + column, (child + 1) * width + column) for child in range(5) for column in range(10)]
+    keep = [Place(place) for place in range(0, 6 * width, 6)]
+    views = [base(number, width) for number in range(6)]
+    views.append(View("wide", [(f"k{n}", "int") for n in range(len(keep))], range(6), pairs, True, keep))
+    return Shape(f"six narrow children with 50 pairs, {rows} rows", views, rows, at_once(views))
+
+
 def many_views(rows):
     """Two base views and 62 over them: joins of three, and summaries over joins."""
     views = [base(0, 8), base(1, 8), base(2, 8)]
@@ -107,7 +117,7 @@ def shapes(is_whole):
     for rows in (0, 40):
         found += [six_children(kind(6, WIDE), f"six children with 64 pairs {name}, {rows} rows", rows) for name, kind in kinds.items()]
         found.append(many_views(rows)._replace(name=f"64 views, {rows} rows"))
-    found.append(six_children([], "six children without pairs, no rows", 0))
+    found += [six_children([], "six children without pairs, no rows", 0), narrow_children(2000)]
     return found if is_whole else [found[0], found[1], found[9], found[10]]
 
 
