@@ -35,9 +35,11 @@ class Start:
     histories: list
     options: tuple = COMMIT
     statuses: tuple = (0,)
+    # A file that somebody still writes; tables of views that are new; how many versions are to stay.
     written: str = ""
     added: dict = None
     keep: int = 0
+    # Whether data/ can be read while there is no version, and whether nothing was stopped in the folder before.
     whole: bool = True
     fresh: bool = True
 
