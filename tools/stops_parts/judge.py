@@ -90,9 +90,7 @@ class Judge:
 
     def is_stopped(self):
         """Whether a night has left something that the next one has to finish or undo."""
-        there = versions(self.folder)
-        behind = bool(there) and current(self.folder) != max(there)
-        return behind or any((self.folder / "versions").glob("*.part"))
+        return self.is_behind() or any((self.folder / "versions").glob("*.part"))
 
     def kept(self):
         """Versions that were there are byte for byte as they were, or gone where nights prune."""
@@ -130,8 +128,14 @@ class Judge:
         demand(told.status == 0 or told.told.strip(), f"nothing is said of status {told.status}")
 
     def is_as_before(self):
-        """Whether the tables are those that the night began with."""
-        return current(self.folder) == self.was or self.was is None and base_tables(state(self.folder)) == base_tables(self.start.folder)
+        """Whether the tables are those that the night began with, and no version is there that counts from the next night on."""
+        as_before = self.was is None and base_tables(state(self.folder)) == base_tables(self.start.folder)
+        return (current(self.folder) == self.was or as_before) and not self.is_behind()
+
+    def is_behind(self):
+        """Whether there is a newer version than the one that a reader is sent to."""
+        there = versions(self.folder)
+        return bool(there) and current(self.folder) != max(there)
 
     def undone(self, given):
         """The folder is as before the night: its version, and its changes with what came since."""

@@ -10,7 +10,7 @@ COLUMNS = BASES | {
     "daily_by_product": ["day", "product", "lines", "pieces", "cost"],
     "daily_by_region": ["day", "region", "lines", "cost"],
 }
-STEPS, OLD_CHANGES_ARE_AWAY, CHANGES_ARE_EMPTY = 10, 4, 5
+STEPS, OLD_CHANGES_ARE_AWAY = 10, 4
 
 
 def write_tables(folder, tables):

@@ -45,7 +45,8 @@ class Children:
 
     def status(self, pid):
         """The status of one that has ended, below 0 where a signal ended it."""
-        return os.waitstatus_to_exitcode(self.ended.pop(pid, None) or os.waitpid(pid, 0)[1])
+        status = self.ended.pop(pid) if pid in self.ended else os.waitpid(pid, 0)[1]
+        return os.waitstatus_to_exitcode(status)
 
 
 def serve():

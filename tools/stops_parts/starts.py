@@ -1,5 +1,6 @@
 """The folders that the nights begin with, and what is known of each: its first tables, the changes given, how a night ends."""
 
+import re
 import shutil
 import subprocess
 from collections import Counter
@@ -13,6 +14,7 @@ from stops_parts.shop import SHOP, Hand, base_tables
 COMMIT = ("--commit",)
 LEAVING = [(-1, ("4", "jam", "2"))]
 WRONG = (("no such", "1"), ("wrong", "1.5"))
+NOT_LOOKED_AT = re.compile(r"^(data/[a-z]+\.csv):.* move it away$", re.MULTILINE)
 STORES = {"stores": Counter({("High Street",): 1, ("Quay",): 1})}
 
 
@@ -33,9 +35,11 @@ class Start:
     histories: list
     options: tuple = COMMIT
     statuses: tuple = (0,)
+    # A file that somebody still writes; tables of views that are new; how many versions are to stay.
     written: str = ""
     added: dict = None
     keep: int = 0
+    # Whether data/ can be read while there is no version, and whether nothing was stopped in the folder before.
     whole: bool = True
     fresh: bool = True
 
@@ -162,14 +166,21 @@ class Starts:
         self.start("file still written", written, statuses=(6,), written="changes/orders.csv")
 
 
-def mended(folder, given):
-    """Takes the rows that a night is sent back for out of the changes, as an operator does."""
+def mended(folder, given, told):
+    """Does what an operator does where a night is sent back: tables that are not looked at go away, and so do rows that are wrong."""
+    for name in NOT_LOOKED_AT.findall(told):
+        (folder / name).unlink()
     for path in sorted((folder / "changes").glob("products*.csv")):
-        lines = path.read_text().splitlines(keepends=True)
-        right = [line for line in lines if not line.rstrip().endswith(tuple(",".join(cells) for cells in WRONG))]
-        if right != lines:
-            coming = folder.parent / f"{folder.name}.coming"
-            coming.write_text("".join(right))
-            coming.rename(path)
+        without_wrong_rows(path)
     for change in [change for change in given if change.cells in WRONG]:
         del given[change]
+
+
+def without_wrong_rows(path):
+    """Puts a file without the rows that are wrong in the place of one that has some."""
+    lines = path.read_text().splitlines(keepends=True)
+    right = [line for line in lines if not line.rstrip().endswith(tuple(",".join(cells) for cells in WRONG))]
+    if right != lines:
+        coming = path.parents[2] / f"{path.parents[1].name}.coming"
+        coming.write_text("".join(right))
+        coming.rename(path)

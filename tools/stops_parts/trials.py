@@ -89,7 +89,7 @@ class Room:
                 return self.judge.done(self.hand.given)
             if told.status == STOPPED and STOPPED in self.start.statuses and 0 in self.start.statuses:
                 return self.untouched()
-            mended(self.folder, self.hand.given)
+            mended(self.folder, self.hand.given, told.told)
         raise Wrong(f"no night goes through: {told.status}, {told.told}")
 
     def untouched(self):
