@@ -17,6 +17,9 @@ LONGEST = 900
 def begun(asked):
     """Becomes a command, stopped where that is asked for, so that somebody can follow it from its beginning."""
     os.setpgid(0, 0)
+    # Where a shell has this run in the background, SIGINT would be passed over.
+    for number in (signal.SIGINT, signal.SIGTERM, signal.SIGHUP):
+        signal.signal(number, signal.SIG_DFL)
     for handle, name, ways in ((0, os.devnull, os.O_RDONLY), (1, asked["printed"], os.O_WRONLY), (2, asked["told"], os.O_WRONLY)):
         os.dup2(os.open(name, ways | os.O_CREAT, 0o600), handle)
     os.closerange(3, 16)

@@ -11,6 +11,13 @@ from pathlib import Path
 
 from .shop import SHOP, TOOLS, Shop, contents
 
+
+def heeds_signals():
+    """A test that runs in the background of a shell has SIGINT passed over, and so would all that it starts."""
+    for number in (signal.SIGINT, signal.SIGTERM, signal.SIGHUP):
+        signal.signal(number, signal.SIG_DFL)
+
+
 NEXT = b"#,id,day,region\n1,8,Thursday,south\n"
 
 
@@ -43,7 +50,7 @@ class Kept(Shop):
 
     def begun(self, *words):
         command = [sys.executable, TOOLS / "warehouse", "night", self.folder, *words, "--program", self.program]
-        return subprocess.Popen(command, stdout=subprocess.PIPE, stderr=subprocess.PIPE, text=True)
+        return subprocess.Popen(command, stdout=subprocess.PIPE, stderr=subprocess.PIPE, text=True, preexec_fn=heeds_signals)
 
     @contextmanager
     def under_way(self, *words):
