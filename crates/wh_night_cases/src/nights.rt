@@ -3,7 +3,6 @@
 mod calls;
 mod carried;
 mod closures;
-mod counted;
 mod drawn;
 mod groups;
 mod indexed;

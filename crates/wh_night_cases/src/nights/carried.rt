@@ -3,8 +3,7 @@
 use std::alloc::Global;
 use std::test::Fail;
 use wh_dag::Catalog;
-use wh_formula::{RowTest, RowValue};
-use wh_given::catalogs::{joined, one_way};
+use wh_given::catalogs::{Cell, Every, joined, one_way};
 use wh_given::tables::{bag, two_bags};
 use wh_maint::are_bags;
 use wh_night::{Carried, CarryFault, are_fit, carry};
@@ -26,9 +25,9 @@ fn changes(alloc: Global, of_a: &[(&[i64], i64)]) -> Result<Vec<Bag>, Fail> {
 }
 
 /// Carries the list out from these tables, with these changes. None where they are not what a night asks for.
-pub(crate) fn carried<F: RowTest, G: RowValue>(
+fn carried(
     alloc: Global,
-    catalog: &Catalog<F, G>,
+    catalog: &Catalog<Every, Cell>,
     tables: &[Bag],
     changes: &[Bag],
     list: Strategy,
