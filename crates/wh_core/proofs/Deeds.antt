@@ -47,7 +47,7 @@ pub data AreDeeds (s : Setup) : Log → Type 0 where
   one_more : (log : Log) (d : Deed) → AreDeeds s log → IsDeed s log d → AreDeeds s (d ∷ log)
 
 -- what is not refused was ruled by what comes after the refusal
-through : (b : Bool) (c : Cause) (rest : Ruling) (r : Reply) → ((other : Cause) → r ≢ reply.Refused other) → IsRuled (unless b c rest) r → (b ≡ false) × IsRuled rest r
+pub through : (b : Bool) (c : Cause) (rest : Ruling) (r : Reply) → ((other : Cause) → r ≢ reply.Refused other) → IsRuled (unless b c rest) r → (b ≡ false) × IsRuled rest r
 through true c rest r accepted h = absurd (accepted c h)
 through false c rest r accepted h = (refl, h)
 
@@ -56,12 +56,12 @@ carried n places said r accepted h = ⊎_elim (λ k. ⊎_elim (λ p. p) (λ f. a
 
 started : (n : Night) (places : List ℕ) (said r : Reply) → ((other : Cause) → r ≢ reply.Refused other) → IsRuled (Starts n places said) r → AreAllowed n × ArePassedAt n places
 started n places said r accepted h =
-    ⊎_elim (λ k. ⊎_elim (λ c. ⊎_elim (λ p. (k.0, p.0)) (λ f. absurd (accepted _ f.2)) c) (λ e. absurd (accepted _ e)) k.1) (λ f. absurd (accepted _ f.2)) h
+    ⊎_elim (λ k. ⊎_elim (λ c. ⊎_elim (λ p. (k.0, p.0)) (λ f. absurd (accepted _ f.2)) c) (λ e. absurd (accepted _ e)) k.1) (λ f. ⊎_elim (λ e. absurd (accepted _ e)) (λ m. absurd (accepted _ m.1)) f.2) h
 
 taken : (said r : Reply) → ((other : Cause) → r ≢ reply.Refused other) → IsRuled (Takes said) r → r ≡ said
 taken said r accepted h = ⊎_elim (λ e. e) (λ m. absurd (accepted _ m)) h
 
-not_false : (b : Bool) → not b ≡ false → b ≡ true
+pub not_false : (b : Bool) → not b ≡ false → b ≡ true
 not_false true e = refl
 not_false false e = sym e
 

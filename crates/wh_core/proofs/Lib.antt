@@ -15,3 +15,5 @@ pub mod Steps
 pub mod Moves
 pub mod Seats
 pub mod Wholes
+pub mod Headline
+pub mod Told

@@ -17,7 +17,7 @@ use Rattle.wh_core.specs.declared.reply.Cause.TheVariants as cause
 use Rattle.wh_core.specs.declared.reply.Reply.{Reply}
 use Rattle.wh_core.specs.declared.reply.Reply.TheVariants as reply
 use Rattle.wh_core.specs.Laws.{AreOne, RepliesAreOne}
-use Rattle.wh_core.specs.Replies.{AreAllowed, IsCarried, IsMemory, IsRuled, Ruling, Says, Takes, Carries, Starts, cause_of, ruling}
+use Rattle.wh_core.specs.Replies.{AreAllowed, IsCarried, IsLarge, IsMemory, IsRuled, Ruling, Says, Takes, Carries, Starts, cause_of, ruling}
 
 -- ---- reasons
 
@@ -137,11 +137,19 @@ ruled_one (Starts n places said) r o a b =
     (λ c. ⊎_elim (λ d. carries_one n places said r o c.1 d.1) (λ g. absurd (lacking g.0 c.0 g.1)) b)
     (λ f. ⊎_elim
     (λ d. absurd (lacking f.0 d.0 f.1))
-    (λ g. refused_as r o f.0 g.0 (one_cause n.catalog n.changes _ _ f.1.reason g.1.reason f.0 g.0 f.1.first g.1.first f.1.answer g.1.answer) f.2 g.2) b)
+    (λ g. told f.0 g.0 f.1 g.1 f.2 g.2) b)
     a
   where
     lacking : (f : MaintFault) → AreAllowed n → IsBaseFault n.catalog n.tables n.changes f → ⊥
     lacking f allowed refused = refused.first.stands (allowed refused.reason refused.first.asked)
+
+    told : (f g : MaintFault) → IsBaseFault n.catalog n.tables n.changes f → IsBaseFault n.catalog n.tables n.changes g
+        → (r ≡ reply.Refused (cause_of f)) ⊎ (IsLarge f × IsMemory r) → (o ≡ reply.Refused (cause_of g)) ⊎ (IsLarge g × IsMemory o) → AreOne r o
+    told f g x y h k =
+        ⊎_elim
+        (λ e. ⊎_elim (λ d. refused_as r o f g (one_cause n.catalog n.changes _ _ x.reason y.reason f g x.first y.first x.answer y.answer) e d) (λ m. inr (inr m.1)) k)
+        (λ m. inr (inl m.1))
+        h
 
 pub replies_are_one : RepliesAreOne
 replies_are_one s log event r o a b = ruled_one (ruling s log event) r o a b

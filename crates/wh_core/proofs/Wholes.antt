@@ -57,7 +57,7 @@ module _ (s : Setup) (log : Log) (m : Machine) (h : Stands s log m) where
       onward (is_open log) cause.NightOpen _ _ o
       (onward (nat_le (length s.nights) (nights_begun log)) cause.NoNight _ _ (le_false (length s.nights) (nights_begun log) l)
       (onward (number (versions s log) + 1 == 2 ^ 64) cause.LastVersion _ _ (not_equal (number (versions s log) + 1) (2 ^ 64) few)
-      (⊎_elim (λ k. inl (k.1, inr (ap (λ f. reply.Refused (cause_of f)) k.0))) (λ b. inr (f, b, refl)) why)))
+      (⊎_elim (λ k. inl (k.1, inr (ap (λ f. reply.Refused (cause_of f)) k.0))) (λ b. inr (f, b, inl refl)) why)))
 
 -- the given night of this number
 module _ (nights : List (Vec Bag Global × Judged)) (n : ℕ) (given : Vec Bag Global × Judged) (l : n < length nights) (is : given ≡ slice_index_or nights n given) where

@@ -13,17 +13,24 @@ use Rattle.wh_maint.specs.Comp.{bag_at}
 use Rattle.wh_maint.specs.Contents.{AreContents, AreContentsOf}
 use Rattle.wh_maint.specs.Definition.{graph_of}
 use Rattle.wh_maint.specs.Laws.{changed}
+use Rattle.wh_maint.specs.declared.fault.MaintFault.{MaintFault}
+use Rattle.wh_row.specs.Weigh.{Counted}
 use Rattle.wh_night.specs.NightList.{IsBeginning, IsCutNight, IsNightList}
+use Rattle.wh_night.specs.Refused.{IsBaseFault}
 use Rattle.wh_store.specs.Operations.{Operation, Commits}
 use Rattle.wh_store.specs.Pages.{Shown}
 use Rattle.wh_store.specs.Versions.{is_well_formed, number, table_of, version, versions_of}
-use Rattle.wh_course.specs.Night.{Night}
+use Rattle.wh_course.specs.Night.{Night, IsFaultAt, IsPassedAt}
 use Rattle.wh_course.specs.Legs.{Turn, In_wave, At_page, Over}
 use Rattle.wh_core.specs.Log.{Deed, Log, Began, Drew, Finished, Paged_in, Committed, Gave_up, Sat_down, Turned, Left, SessionOf, holding, is_open, logged, nights_begun, pages, session}
-use Rattle.wh_core.specs.Nights.{GivenNight, Setup, night, night_from, published, turn, versions}
+use Rattle.wh_core.specs.Nights.{GivenNight, Setup, next_night, night, night_from, published, turn, versions}
 use Rattle.wh_core.specs.declared.event.Event.{Event}
+use Rattle.wh_core.specs.declared.event.Event.TheVariants.{Begin, Done, PageIn}
+use Rattle.wh_core.specs.declared.reply.Cause.{Cause}
+use Rattle.wh_core.specs.declared.reply.Cause.TheVariants as cause
 use Rattle.wh_core.specs.declared.reply.Reply.{Reply}
-use Rattle.wh_core.specs.Replies.{IsLegalLog, IsMemory, IsReply, IsRunFrom}
+use Rattle.wh_core.specs.declared.reply.Reply.TheVariants as reply
+use Rattle.wh_core.specs.Replies.{IsLegalLog, IsMemory, IsReply, IsRunFrom, cause_of}
 
 -- ---- what a machine is given
 
@@ -176,7 +183,7 @@ WorkersDoTheirJobs =
 -- the pages before this one that it goes on from: none where the last of them was the view's last page
 abbrev pub goes_on_from : List Shown → List Shown
 goes_on_from [] = []
-goes_on_from (page ∷ pages) = if page.last then [] else page ∷ pages
+goes_on_from (page ∷ earlier) = if page.last then [] else page ∷ earlier
 
 -- of one desk: the pages that it has read of a view one after another, the latest first, since it sat down, read another view, or came to
 -- the view's last page
@@ -208,6 +215,48 @@ AreOne r other = (r ≡ other) ⊎ (IsMemory r ⊎ IsMemory other)
 -- after what was done an event has one reply, memory aside
 abbrev pub RepliesAreOne : Type 0
 RepliesAreOne = (s : Setup) (log : Log) (event : Event) (r other : Reply) → IsReply s log event r → IsReply s log event other → AreOne r other
+
+-- ---- refusals for what a night's expressions come to
+
+-- these are the causes: a number of rows too large, a formula without a value, a base change that takes away what is not there
+abbrev pub is_of_rows : Cause → Bool
+is_of_rows cause.Large = true
+is_of_rows cause.Range = true
+is_of_rows cause.Absent = true
+is_of_rows why = false
+
+-- a place of the list stands before what is in turn: before a wave, up to the Inst whose page it is, or anywhere where nothing more is
+abbrev pub IsBefore : Night → Turn → ℕ → Type 0
+IsBefore n (In_wave first jobs drawn) place = place < first
+IsBefore n (At_page inst view rows) place = place ≤ inst
+IsBefore n Over place = place < length n.list
+
+-- the expression at this place is refused so, and those before that one are passed
+pub record IsRefusedAfter (n : Night) (earlier place : ℕ) (fault : MaintFault) : Type 0 where
+  pub passed : (p : ℕ) → p < earlier → IsPassedAt n p
+  pub refused : IsFaultAt n place fault
+
+-- Which event is refused for a fault of carrying out: a Begin for a base change, or for an expression that stands before the first turn;
+-- a Done for its own job, or, as the last of its wave, for an expression behind the wave and before the turn that would come; and the last
+-- PageIn of an Inst for an expression behind the Inst and before the turn that would come. No other event is
+pub data IsToldInTurn (s : Setup) (log : Log) (fault : MaintFault) : Event → Type 0 where
+  of_base : IsBaseFault (next_night s log).catalog (next_night s log).tables (next_night s log).changes fault → IsToldInTurn s log fault Begin
+  before_first : (place : ℕ) → IsBefore (next_night s log) (turn s (Began ∷ log)) place → IsRefusedAfter (next_night s log) place place fault
+      → IsToldInTurn s log fault Begin
+  of_job : (worker first jobs drawn job : ℕ) → turn s log ≡ In_wave first jobs drawn → holding log worker ≡ Some job
+      → IsRefusedAfter (night s log) first (first + job) fault → IsToldInTurn s log fault (Done worker)
+  after_wave : (worker first jobs drawn place : ℕ) → turn s log ≡ In_wave first jobs drawn → first + jobs ≤ place
+      → IsBefore (night s log) (turn s (Finished worker ∷ log)) place → IsRefusedAfter (night s log) place place fault
+      → IsToldInTurn s log fault (Done worker)
+  after_inst : (inst view : ℕ) (rows : Counted) (place : ℕ) → turn s log ≡ At_page inst view rows → inst < place
+      → IsBefore (night s log) (turn s (Paged_in ∷ log)) place → IsRefusedAfter (night s log) place place fault
+      → IsToldInTurn s log fault PageIn
+
+-- so it is of every event of a legal run that is refused for such a cause
+abbrev pub RefusalsAreToldInTurn : Type 0
+RefusalsAreToldInTurn =
+    (s : Setup) (log : Log) (event : Event) (why : Cause) → IsLegalLog s log → IsReply s log event (reply.Refused why) → is_of_rows why ≡ true
+    → (fault : MaintFault) × (cause_of fault ≡ why) × IsToldInTurn s log fault event
 
 -- ---- runs
 

@@ -19,8 +19,7 @@ use Rattle.wh_core.specs.Log.{Bookmark, Log, SessionOf, draws, ends, holding, is
 use Rattle.wh_core.specs.Nights.{Setup, next_night, night, turn, versions}
 
 -- How an event is answered: by this reply and no other; by it, unless memory is refused; or the event carries out the expressions of a
--- night at these places, in this order, and is answered so where each of them is passed; a Begin tests the night's base changes first, and
--- takes memory only after them
+-- night at these places, in this order, and is answered so where each of them is passed; a Begin tests the night's base changes first
 pub data Ruling : Type 0 where
   Says : Reply → Ruling
   Takes : Reply → Ruling
@@ -127,6 +126,10 @@ cause_of fault.Memory = cause.Memory
 abbrev pub IsMemory : Reply → Type 0
 IsMemory r = r ≡ reply.Refused cause.Memory
 
+-- a number of rows leaves its range
+abbrev pub IsLarge : MaintFault → Type 0
+IsLarge f = (v : ℕ) × (f ≡ fault.Large v)
+
 -- the expressions at these places are all passed and the reply is this one, or it is the first refusal among them
 abbrev pub IsCarried : Night → List ℕ → Reply → Reply → Type 0
 IsCarried n places said r = (ArePassedAt n places × (r ≡ said)) ⊎ ((f : MaintFault) × IsFirstFaultOf n places f × (r ≡ reply.Refused (cause_of f)))
@@ -135,13 +138,15 @@ IsCarried n places said r = (ArePassedAt n places × (r ≡ said)) ⊎ ((f : Mai
 abbrev pub AreAllowed : Night → Type 0
 AreAllowed n = AreAllowedBelow n.catalog n.tables n.changes (length n.catalog.views.children)
 
--- the reply is as it is ruled
+-- The reply is as it is ruled. A Begin is refused for memory where the base changes are allowed, or where one of them is too large: to find
+-- that out may take memory
 abbrev pub IsRuled : Ruling → Reply → Type 0
 IsRuled (Says said) r = r ≡ said
 IsRuled (Takes said) r = (r ≡ said) ⊎ IsMemory r
 IsRuled (Carries n places said) r = IsCarried n places said r ⊎ IsMemory r
 IsRuled (Starts n places said) r =
-    (AreAllowed n × (IsCarried n places said r ⊎ IsMemory r)) ⊎ ((f : MaintFault) × IsBaseFault n.catalog n.tables n.changes f × (r ≡ reply.Refused (cause_of f)))
+    (AreAllowed n × (IsCarried n places said r ⊎ IsMemory r))
+    ⊎ ((f : MaintFault) × IsBaseFault n.catalog n.tables n.changes f × ((r ≡ reply.Refused (cause_of f)) ⊎ (IsLarge f × IsMemory r)))
 
 abbrev pub IsReply : Setup → Log → Event → Reply → Type 0
 IsReply s log event r = IsRuled (ruling s log event) r

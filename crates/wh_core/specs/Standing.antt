@@ -75,7 +75,7 @@ pub record Stands (s : Setup) (log : Log) (m : Machine) : Type 0 where
 
 -- a night as it is given in code
 abbrev pub given_of : Vec Bag Global × Judged → GivenNight
-given_of night = record { changes = night.0.items; list = night.1.list }
+given_of pair = record { changes = pair.0.items; list = pair.1.list }
 
 abbrev pub nights_of : List (Vec Bag Global × Judged) → List GivenNight
 nights_of nights = map given_of nights

@@ -1,6 +1,7 @@
 //! What holds of every legal run, for proofs: these functions do nothing.
 
-ghost use Rattle.wh_core.specs.Laws.{CommitsMakeContents, JobsAreDrawnOnce, PublishedAreNights, PublishedAreWellFormed, RepliesAreOne, RunsLeaveLegalLogs, SessionsReadTables, VersionsAreContents, WorkersDoTheirJobs};
+ghost use Rattle.wh_core.specs.Headline.{RunsComeTrue};
+ghost use Rattle.wh_core.specs.Laws.{CommitsMakeContents, JobsAreDrawnOnce, PublishedAreNights, PublishedAreWellFormed, RefusalsAreToldInTurn, RepliesAreOne, RunsLeaveLegalLogs, SessionsReadTables, VersionsAreContents, WorkersDoTheirJobs};
 
 use wh_night::passed_expressions_have_values;
 use wh_store::{pages_join_law, versions_stay_law};
@@ -29,6 +30,14 @@ pub fn workers_do_their_jobs()
 /// refusal for memory.
 pub fn replies_are_one()
     ensures { RepliesAreOne }
+{}
+
+/// An event is refused for a number of rows, for a formula without a value or for rows that a base change takes away and are
+/// not there only where it is its turn: a Begin, for a base change or for an expression before the first turn; a Done, for its
+/// own job or, as the last of its wave, for an expression between the wave and the next turn; and the last PageIn of an Inst,
+/// for one between the Inst and the next turn. All expressions before that one are passed, of a job all before its wave.
+pub fn refusals_are_told_in_turn()
+    ensures { RefusalsAreToldInTurn }
 {}
 
 /// What is done in a run from a legal log on is a legal log again.
@@ -62,5 +71,15 @@ pub fn versions_are_contents()
 pub fn commits_make_contents()
     ensures { CommitsMakeContents }
 {
+    versions_stay_law();
+}
+
+/// What a legal run of events comes to, from the contents of a base and by correct strategies: each night that ends makes one
+/// version, a commit that of the views' definitions over the new base, and a night that is given up the one before it again;
+/// and each page is the next one of the session's version.
+pub fn runs_come_true()
+    ensures { RunsComeTrue }
+{
+    pages_join_law();
     versions_stay_law();
 }

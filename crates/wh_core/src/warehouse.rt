@@ -3,6 +3,7 @@
 ghost use Rattle.std.specs.Prelude.{◌≡◌, ◌≤◌, length, slice_get, Some, [], List, IfOk, OnErr};
 ghost use Rattle.wh_dag.specs.Catalog.{IsCatalog};
 ghost use Rattle.wh_maint.specs.Asked.{AreBags};
+ghost use Rattle.wh_core.specs.Headline.{ComesTrue};
 ghost use Rattle.wh_core.specs.Laws.{IsSetup, log_after};
 ghost use Rattle.wh_core.specs.Log.{Log, logged};
 ghost use Rattle.wh_core.specs.Nights.{Setup};
@@ -10,7 +11,7 @@ ghost use Rattle.wh_core.specs.Replies.{IsLegalRun, IsReply};
 ghost use Rattle.wh_core.specs.Standing.{AreJudged, IsFresh, IsStanding, StandsWith, nights_of};
 
 use crate::event::Event;
-use crate::laws::versions_are_contents;
+use crate::laws::{runs_come_true, versions_are_contents};
 use crate::machine::Machine;
 use crate::reply::{Cause, Reply, cause_of};
 use std::alloc::{AllocError, Global};
@@ -118,6 +119,7 @@ impl<F: RowTest + Drop, G: RowValue + Drop> Core<F, G> {
     pub fn run(&mut self, events: &[Event]) -> Result<Vec<Reply>, AllocError>
         requires { IsFresh self.old }
         ensures replies { IfOk result (λ replies. (s : Setup) → IsSetup s → StandsWith s [] self.old → IsLegalRun s events.now replies.items × StandsWith s (log_after [] events.now replies.items) self.new) }
+        ensures comes_true { IfOk result (λ replies. (s : Setup) → IsSetup s → StandsWith s [] self.old → ComesTrue s events.now replies.items) }
         ensures err { OnErr result (self.new ≡ self.old) }
     {
         let mut replies = Vec::new(self.alloc);
@@ -128,6 +130,7 @@ impl<F: RowTest + Drop, G: RowValue + Drop> Core<F, G> {
                 unreachable!()
             };
         }
+        runs_come_true();
         Ok(replies)
     }
 }

@@ -9,10 +9,11 @@ use Rattle.wh_core.specs.Log.{Committed, Deed, Log, logged}
 use Rattle.wh_core.specs.Nights.{Setup, night, versions}
 use Rattle.wh_core.specs.Replies.{IsLegalLog, more, nothing}
 use Rattle.wh_core.proofs.Deeds.{IsDeed, leaves}
+use Rattle.wh_core.proofs.Headline.{stays_later}
 use Rattle.wh_core.proofs.Runs.{leave_legal}
-use Rattle.wh_core.proofs.Sessions.{read_tables, version_stays}
+use Rattle.wh_core.proofs.Sessions.{read_tables}
 use Rattle.wh_core.proofs.Sound.{commits_make_contents, versions_are_contents}
-use Rattle.wh_headline.specs.Interleavings.{AreNewViews, ComesTrue, HoweverStepsInterleave, MakesNewViews}
+use Rattle.wh_headline.specs.Interleavings.{AreNewViews, HoweverStepsInterleave, MakesNewViews}
 
 -- what stood before a deed of a legal log is a legal log, at which the deed could be done
 deed_in : (s : Setup) (log : Log) → IsLegalLog s log → (after before : Log) (d : Deed) → log ≡ after ++ d ∷ before → IsLegalLog s before × IsDeed s before d
@@ -33,14 +34,6 @@ deed_in s _ (more log event r legal reply) after before d e =
     split sooner (y ∷ later) x same deed =
         let rest : log ≡ later ++ d ∷ before = cc in
         sooner later rest
-
--- a version that is there stays as it is, whatever is done then
-stays_later : VersionsStay → (s : Setup) (after log : Log) (k : ℕ) → k ≤ number (versions s log) → (k ≤ number (versions s (after ++ log))) × (version (versions s (after ++ log)) k ≡ version (versions s log) k)
-stays_later stay s [] log k l = (l, refl)
-stays_later stay s (d ∷ after) log k l =
-    let sooner = stays_later stay s after log k l in
-    let now = version_stays stay s d (after ++ log) k sooner.0 in
-    (now.0, now.1 ∙ sooner.1)
 
 -- the newest contents are those of the current version
 newest_is : (v : Versions) → version v (number v) ≡ v.newest

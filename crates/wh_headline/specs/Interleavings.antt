@@ -1,4 +1,4 @@
--- What nights and readers come to, whatever the order of their steps.
+-- What a legal run leaves, in the machine's own words, whatever the order of its steps.
 use Rattle.std.specs.Prelude.{◌≡◌, ℕ, ◌≤◌, List, [], ◌∷◌, ◌++◌, Some}
 use Rattle.wh_maint.specs.Comp.{bag_at}
 use Rattle.wh_maint.specs.Contents.{AreContents, AreContentsOf}
@@ -25,11 +25,11 @@ pub record MakesNewViews (s : Setup) (log before : Log) : Type 0 where
 
 -- what was done comes to this: each commit made the new views of its night, every version is the contents of a base, and each session that
 -- is open has read of each view, up to a last page, the whole table in its version
-pub record ComesTrue (s : Setup) (log : Log) : Type 0 where
+pub record IsSoundLog (s : Setup) (log : Log) : Type 0 where
   pub commits : (after before : Log) → log ≡ after ++ Committed ∷ before → MakesNewViews s log before
   pub versions_are : (k : ℕ) → k ≤ number (versions s log) → AreContents (graph_of s.catalog) (bag_at (version (versions s log) k))
   pub sessions : (desk view : ℕ) (of : SessionOf) → session log desk ≡ Some of → ReadsTable s log of view (pages_read log desk view)
 
 -- so it is of every list of events and every legal run of it
 abbrev pub HoweverStepsInterleave : Type 0
-HoweverStepsInterleave = (s : Setup) (events : List Event) (replies : List Reply) → IsSetup s → IsLegalRun s events replies → ComesTrue s (log_after [] events replies)
+HoweverStepsInterleave = (s : Setup) (events : List Event) (replies : List Reply) → IsSetup s → IsLegalRun s events replies → IsSoundLog s (log_after [] events replies)

@@ -6,6 +6,7 @@ use Rattle.std.proofs.lemmas.List.Elements.{All-append, All-cons, All-nil}
 use Rattle.std.proofs.lemmas.Option.{none-some, same_Some}
 use Rattle.std.specs.List.{list_any}
 use Rattle.std.specs.declared.alloc.Global.{Global}
+use Rattle.wh_core.specs.Headline.{ComesTrue}
 use Rattle.wh_core.specs.Laws.{IsGivenNight, IsSetup}
 use Rattle.wh_core.specs.Nights.{GivenNight as NightOfMachine, Setup}
 use Rattle.wh_core.specs.Replies.{IsLegalRun}
@@ -169,12 +170,15 @@ pub told_replayed : (cat : CatalogOf) (opening : Opening) (nights : List GivenNi
     → (tables : List Bag) (of : List NightOfMachine) (replies : List Reply) (text : List ℕ) → AreCorrect cat.views.children nights
     → length tables ≡ length cat.views.children → ((v : ℕ) → bag_at tables v ≡ contents (graph_of cat) (bag_at opening.tables) v)
     → HaveContentsBelow (graph_of cat) (bag_at opening.tables) (length cat.views.children) → of ≡ map night_of_machine nights
-    → IsLegalRun (machine_of cat schedule tables of) (map (event_of (length cat.views.children)) schedule.events) replies → list_any is_memory replies ≡ false
+    → IsSetup (machine_of cat schedule tables of) → IsLegalRun (machine_of cat schedule tables of) (map (event_of (length cat.views.children)) schedule.events) replies
+    → ComesTrue (machine_of cat schedule tables of) (map (event_of (length cat.views.children)) schedule.events) replies → list_any is_memory replies ≡ false
     → text ≡ replies_text replies → IsReplayTold (over cat opening nights schedule) text 0
-told_replayed cat opening nights schedule shown tables of replies text ok each opened valued same legal told printed =
+told_replayed cat opening nights schedule shown tables of replies text ok each opened valued same is legal comes told printed =
     let events = map (event_of (length cat.views.children)) schedule.events in
     replayed tables replies ok
     (opened_by cat.views opening tables (subst (AreOpenedBy opening tables) shown (record { each = each; opened = opened; valued = valued })))
-    (subst (λ (k : CatalogOf). IsLegalRun (machine_of k schedule tables (map night_of_machine nights)) events replies) shown
-    (subst (λ ns. IsLegalRun (machine_of cat schedule tables ns) events replies) same legal))
+    (moved IsSetup is) (moved (λ s. IsLegalRun s events replies) legal) (moved (λ s. ComesTrue s events replies) comes)
     told printed refl
+  where
+    moved : (P : Setup → Type 0) → P (machine_of cat schedule tables of) → P (machine_of (catalog_of cat.views opening.views) schedule tables (map night_of_machine nights))
+    moved P p = subst (λ (k : CatalogOf). P (machine_of k schedule tables (map night_of_machine nights))) shown (subst (λ ns. P (machine_of cat schedule tables ns)) same p)

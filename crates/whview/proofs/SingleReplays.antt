@@ -93,14 +93,14 @@ one_told : (r : Replay) (text other : List ℕ) (status ended : ℕ) → IsShape
 one_told r text other status ended is (broken rule place f t s) (broken rule' place' f' t' s') =
     record { texts = t ∙ broken_night r.shape.children is r.nights rule rule' place place' f f' ∙ sym t'; statuses = s ∙ sym s' }
 one_told r text other status ended is (broken rule place f t s) (no_contents fault' ok' h' t' s') = absurd (none_broken r.shape.children is r.nights rule place f ok')
-one_told r text other status ended is (broken rule place f t s) (replayed tables' replies' ok' o' run' m' t' s') = absurd (none_broken r.shape.children is r.nights rule place f ok')
+one_told r text other status ended is (broken rule place f t s) (replayed tables' replies' ok' o' fits' run' comes' m' t' s') = absurd (none_broken r.shape.children is r.nights rule place f ok')
 one_told r text other status ended is (no_contents fault ok h t s) (broken rule' place' f' t' s') = absurd (none_broken r.shape.children is r.nights rule' place' f' ok)
 one_told r text other status ended is (no_contents fault ok h t s) (no_contents fault' ok' h' t' s') =
     record { texts = t ∙ ap (refused_text r.shape.names) (one_lack (graph_over r.shape r.opening) (bag_at r.opening.tables) fault fault' h h') ∙ sym t'; statuses = s ∙ sym s' }
-one_told r text other status ended is (no_contents fault ok h t s) (replayed tables' replies' ok' o' run' m' t' s') = absurd (never_opened r.shape r.opening fault tables' h o')
-one_told r text other status ended is (replayed tables replies ok o run m t s) (broken rule' place' f' t' s') = absurd (none_broken r.shape.children is r.nights rule' place' f' ok)
-one_told r text other status ended is (replayed tables replies ok o run m t s) (no_contents fault' ok' h' t' s') = absurd (never_opened r.shape r.opening fault' tables h' o)
-one_told r text other status ended is (replayed tables replies ok o run m t s) (replayed tables' replies' ok' o' run' m' t' s') =
+one_told r text other status ended is (no_contents fault ok h t s) (replayed tables' replies' ok' o' fits' run' comes' m' t' s') = absurd (never_opened r.shape r.opening fault tables' h o')
+one_told r text other status ended is (replayed tables replies ok o fits run comes m t s) (broken rule' place' f' t' s') = absurd (none_broken r.shape.children is r.nights rule' place' f' ok)
+one_told r text other status ended is (replayed tables replies ok o fits run comes m t s) (no_contents fault' ok' h' t' s') = absurd (never_opened r.shape r.opening fault' tables h' o)
+one_told r text other status ended is (replayed tables replies ok o fits run comes m t s) (replayed tables' replies' ok' o' fits' run' comes' m' t' s') =
     let opened : tables' ≡ tables = same_opening r.shape r.opening tables' tables o' o in
     let again = subst (λ ts. IsRunFrom (setup_of r ts) [] (events_of r) replies') opened run' in
     record { texts = t ∙ ap replies_text (one_run (setup_of r tables) [] (events_of r) replies replies' run again m m') ∙ sym t'; statuses = s ∙ sym s' }

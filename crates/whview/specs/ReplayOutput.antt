@@ -4,6 +4,8 @@ use Rattle.std.specs.List.{list_any}
 use Rattle.wh_dag.specs.Catalog.{CatalogOf}
 use Rattle.wh_row.specs.Bag.{Bag}
 use Rattle.wh_catalogue_text.specs.ReadCatalog.{catalog_of}
+use Rattle.wh_core.specs.Headline.{ComesTrue}
+use Rattle.wh_core.specs.Laws.{IsSetup}
 use Rattle.wh_core.specs.Nights.{GivenNight as NightOfMachine, Setup}
 use Rattle.wh_core.specs.Replies.{IsLegalRun}
 use Rattle.wh_core.specs.declared.event.Event.{Event}
@@ -84,14 +86,15 @@ abbrev pub is_memory : Reply → Bool
 is_memory (reply.Refused cause.Memory) = true
 is_memory _ = false
 
--- What is printed of a replay, and the status. Its replies are those of a legal run from the contents of the base that was read;
--- want of memory is told as such and is none of these.
+-- What is printed of a replay, and the status. Its replies are those of a legal run from the contents of the base that was read, of a
+-- machine that fits together, and come to what they say; want of memory is told as such and is none of these.
 pub data IsReplayTold (r : Replay) (text : List ℕ) (status : ℕ) : Type 0 where
   broken : (rule : Rule) (place : ℕ) → IsFirstBrokenNight r.shape.children r.nights rule place → text ≡ broken_text rule place → status ≡ 1 → IsReplayTold r text status
   no_contents : (fault : MaintFault) → AreCorrect r.shape.children r.nights → HasNoContents (graph_of (catalog_of r.shape r.opening.views)) (bag_at r.opening.tables) fault
       → text ≡ refused_text r.shape.names fault → status ≡ 1 → IsReplayTold r text status
   replayed : (tables : List Bag) (replies : List Reply) → AreCorrect r.shape.children r.nights → AreOpened r.shape r.opening tables
-      → IsLegalRun (setup_of r tables) (events_of r) replies → list_any is_memory replies ≡ false
+      → IsSetup (setup_of r tables) → IsLegalRun (setup_of r tables) (events_of r) replies → ComesTrue (setup_of r tables) (events_of r) replies
+      → list_any is_memory replies ≡ false
       → text ≡ replies_text replies → status ≡ 0 → IsReplayTold r text status
 
 -- what `replay` prints for a bundle's bytes, and the status

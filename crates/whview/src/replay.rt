@@ -4,6 +4,8 @@ ghost use Rattle.std.specs.Prelude.{◌≡◌, IsTrue, IfErr, IfOk, OnOk, false,
 ghost use Rattle.std.specs.List.{list_any};
 ghost use Rattle.wh_catalogue_text.specs.Definitions.{shown_view};
 ghost use Rattle.wh_catalogue_text.specs.ReadCatalog.{catalog_of};
+ghost use Rattle.wh_core.specs.Headline.{ComesTrue};
+ghost use Rattle.wh_core.specs.Laws.{IsSetup};
 ghost use Rattle.wh_core.specs.Replies.{IsLegalRun};
 ghost use Rattle.wh_core.specs.Standing.{AreJudged, nights_of};
 ghost use Rattle.wh_formula.specs.Expr.{fits as fits_expr};
@@ -114,6 +116,9 @@ fn replies_to<F: RowTest + Drop, G: RowValue + Drop>(
     requires ready { IsReady catalog tables.items (nights_of nights.items) }
     requires judged { AreJudged catalog nights.items }
     ensures legal { IfOk result (λ replies. IsLegalRun (machine_of catalog schedule.now tables.items (nights_of nights.items))
+        (map (event_of (length catalog.views.children)) schedule.now.events) replies.items) }
+    ensures setup { IfOk result (λ replies. IsSetup (machine_of catalog schedule.now tables.items (nights_of nights.items))) }
+    ensures comes_true { IfOk result (λ replies. ComesTrue (machine_of catalog schedule.now tables.items (nights_of nights.items))
         (map (event_of (length catalog.views.children)) schedule.now.events) replies.items) }
     ensures told { IfOk result (λ replies. list_any is_memory replies.items ≡ false) }
 {

@@ -13,12 +13,13 @@ ghost use Rattle.wh_core.specs.Standing.{AreJudged, IsFresh, given_of, nights_of
 use std::alloc::Global;
 use std::process::Abort;
 use std::test::Fail;
-use wh_core::Core;
+use wh_core::{Core, Event, Reply};
 use wh_dag::{Catalog, Definition, Output, Shape};
 use wh_formula::{Combiner, Expr, Filter, Pred};
 use wh_given::catalogs::{Cell, Every, over_one};
 use wh_given::shapes::shaped;
 use wh_given::tables::bags;
+use wh_headline::carry_out;
 use wh_maint::{are_bags, opening_contents};
 use wh_row::Bag;
 use wh_strategy::{Correct, Expression, Sources, Strategy, check};
@@ -230,4 +231,46 @@ fn core_of(
     assert!(rt; keys >= 1 && keys <= 256);
     let core = Core::new(alloc, catalog, tables, nights, desks, workers, keys)?;
     Ok(core)
+}
+
+/// The replies to these events, by one call, over the contents of this base: of a alone, or of a and v.
+pub(crate) fn carried(
+    rt: &impl Abort,
+    alloc: Global,
+    base: Lists<'_>,
+    changes: &[Lists<'_>],
+    places: Places,
+    events: &[Event],
+) -> Result<Vec<Reply>, Fail> {
+    let catalog = catalog_over(rt, alloc, base.len())?;
+    let nights = nights(rt, alloc, &catalog, changes)?;
+    let tables = opened(rt, alloc, &catalog, bags(alloc, base)?)?;
+    replies_to(rt, alloc, catalog, tables, nights, places, events)
+}
+
+fn replies_to(
+    rt: &impl Abort,
+    alloc: Global,
+    catalog: Catalog<Every, Cell>,
+    tables: Vec<Bag>,
+    nights: Vec<(Vec<Bag>, Correct)>,
+    places: Places,
+    events: &[Event],
+) -> Result<Vec<Reply>, Fail>
+    requires bags { AreBags catalog tables.items }
+    requires contents { AreContents (graph_of catalog) (bag_at tables.items) }
+    requires given { (n : ℕ) (given : GivenNight) → slice_get (nights_of nights.items) n ≡ Some given → IsGivenNight catalog given }
+    requires judged { AreJudged catalog nights.items }
+{
+    let _shape = catalog.shape();
+    let Places {
+        desks,
+        workers,
+        keys,
+    } = places;
+    assert!(rt; keys >= 1 && keys <= 256);
+    let replies = carry_out(
+        alloc, catalog, tables, nights, desks, workers, keys, events,
+    )?;
+    Ok(replies)
 }

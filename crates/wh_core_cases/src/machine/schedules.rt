@@ -64,16 +64,27 @@ pub(crate) fn assert_run(
 ) -> Result<(), Fail>
     requires { IsFresh core.old }
 {
+    let events = events_of(alloc, schedule)?;
+    let replies = core.run(&events)?;
+    assert_said(rt, &replies, schedule);
+    Ok(())
+}
+
+/// The events of a schedule.
+pub(crate) fn events_of(alloc: Global, schedule: Schedule) -> Result<Vec<Event>, Fail> {
     let mut events = Vec::new(alloc);
     for (event, _) in schedule {
         events.push(*event)?;
     }
-    let replies = core.run(&events)?;
+    Ok(events)
+}
+
+/// Asserts that the replies are those of the schedule.
+pub(crate) fn assert_said(rt: &impl Abort, replies: &[Reply], schedule: Schedule) {
     assert_eq!(rt; replies.len(), schedule.len());
     for (place, (_, said)) in schedule.iter().enumerate() {
         assert!(rt; is_said(&replies[place], said), "event {place}");
     }
-    Ok(())
 }
 
 /// Takes the events of the schedule one by one, and asserts that they are answered as it says.

@@ -2,8 +2,8 @@
 ghost use Rattle.std.specs.Prelude.{IfOk};
 ghost use Rattle.wh_core.specs.Standing.{IsFresh};
 
-use crate::machine::given::{Lists, Places, machine};
-use crate::machine::schedules::{Said, Schedule, assert_run, assert_steps};
+use crate::machine::given::{Lists, Places, carried, machine};
+use crate::machine::schedules::{Said, Schedule, assert_run, assert_said, assert_steps, events_of};
 use std::alloc::Global;
 use std::process::Abort;
 use std::test::Fail;
@@ -47,6 +47,21 @@ fn replay_two_nights(rt: HostRuntime) -> Result<(), Fail> {
     };
     let mut core = two_nights(&rt, rt.alloc(), places)?;
     assert_run(&rt, rt.alloc(), &mut core, &TWO_NIGHTS)
+}
+
+#[test]
+fn two_nights_are_carried_out_by_one_call(rt: HostRuntime) -> Result<(), Fail> {
+    let places = Places {
+        desks: 2,
+        workers: 1,
+        keys: 256,
+    };
+    let alloc = rt.alloc();
+    let events = events_of(alloc, &TWO_NIGHTS)?;
+    let base: Lists<'_> = &[&[(&[1], 1)], &[]];
+    let replies = carried(&rt, alloc, base, &A_CHANGE_AND_NONE, places, &events)?;
+    assert_said(&rt, &replies, &TWO_NIGHTS);
+    Ok(())
 }
 
 static GIVE_UP: [(Event, Said); 12] = [

@@ -46,4 +46,4 @@ returns g c =
     c.in-Ok-opening_contents.tables.items (nights_of c.in-Ok.nights.items) c.in_ok-replies.replies.items c.in_ok-text.text.items
     (subst (λ (v : Views). AreCorrect v.children (map shown_given c.args.nights.items)) c.shape.ensures.views c.in-Ok.ensures.correct)
     c.in-Ok-opening_contents.ensures.bags.each c.in-Ok-opening_contents.ensures.contents c.in-Ok-opening_contents.ensures.valued c.in-Ok.ensures.nights
-    c.in_ok-replies.ensures.legal c.in_ok-replies.ensures.told (c.in_ok-text.ensures ∙ ap replies_text c.deref.ensures.value)
+    c.in_ok-replies.ensures.setup c.in_ok-replies.ensures.legal c.in_ok-replies.ensures.comes_true c.in_ok-replies.ensures.told (c.in_ok-text.ensures ∙ ap replies_text c.deref.ensures.value)

@@ -23,6 +23,11 @@ nothing_more : (s : Setup) (log : Log) → IsRunFrom s log [] []
 unfolding IsRunFrom
 nothing_more s log = tt
 
+-- where no event is left, the replies so far are those of the whole
+whole_run : (s : Setup) (log : Log) (events : List Event) (replies : List Reply) (k : ℕ) → drop k events ≡ [] → ((rest : List Reply) → IsRunFrom s log (drop k events) rest → IsLegalRun s events (replies ++ rest))
+    → IsLegalRun s events replies
+whole_run s log events replies k none each = subst (IsLegalRun s events) (append-nil replies) (each [] (subst (λ es. IsRunFrom s log es []) (sym none) (nothing_more s log)))
+
 pub loop-event-preserved : goal.loop-event-preserved
 loop-event-preserved g c = record {
   standing = c.step-reply.ensures.stands;
@@ -51,6 +56,13 @@ returns-clause-replies g c = λ s is h.
     let events : List Event = c.args.events.now in
     let none : drop c.loop-event.event-index events ≡ [] = drop_all c.loop-event.event-index events (omega arith) in
     let whole = append-nil c.loop-event.replies.items in (
-      subst (IsLegalRun s events) whole (i.2 [] (subst (λ es. IsRunFrom s i.0 es []) (sym none) (nothing_more s i.0))),
+      whole_run s i.0 events c.loop-event.replies.items c.loop-event.event-index none i.2,
       subst (λ log. StandsWith s log c.loop-event.self) (sym (ap (log_after [] events) (sym whole) ∙ i.3 [] ∙ ap (λ es. log_after i.0 es []) none)) i.1,
     )
+
+pub returns-clause-comes_true : goal.returns-clause-comes_true
+returns-clause-comes_true g c = λ s is h.
+    let i = c.loop-event.invariant.far s is h in
+    let events : List Event = c.args.events.now in
+    let none : drop c.loop-event.event-index events ≡ [] = drop_all c.loop-event.event-index events (omega arith) in
+    c.runs_come_true.ensures s events c.loop-event.replies.items is (whole_run s i.0 events c.loop-event.replies.items c.loop-event.event-index none i.2)

@@ -1,0 +1,87 @@
+-- What a list of events comes to with its replies, whatever the order of workers', readers' and the writer's steps: which contents each
+-- version has, and what readers see of them.
+use Rattle.std.specs.Prelude.{◌≡◌, ◌⊎◌, ℕ, ◌+◌, ◌<◌, ◌≤◌, List, [], ◌∷◌, length, reverse, slice_get, take, Option, Some, None, true}
+use Rattle.std.specs.List.{flat_map}
+use Rattle.wh_row.specs.Bag.{written}
+use Rattle.wh_maint.specs.Comp.{bag_at}
+use Rattle.wh_maint.specs.Contents.{AreContents, AreContentsOf}
+use Rattle.wh_maint.specs.Definition.{graph_of}
+use Rattle.wh_maint.specs.Laws.{changed}
+use Rattle.wh_store.specs.Pages.{Contents, Shown, page_of}
+use Rattle.wh_store.specs.Versions.{kept_count, table_in}
+use Rattle.wh_core.specs.declared.event.Event.{Event}
+use Rattle.wh_core.specs.declared.event.Event.TheVariants.{Commit, GiveUp, Open, Read}
+use Rattle.wh_core.specs.declared.reply.Reply.{Reply}
+use Rattle.wh_core.specs.declared.reply.Reply.TheVariants as reply
+use Rattle.wh_core.specs.Log.{Deed, Log, Began, Committed, Gave_up, SessionOf, is_open, session}
+use Rattle.wh_core.specs.Nights.{GivenNight, Setup}
+use Rattle.wh_core.specs.Laws.{IsSetup, log_after, pages_read}
+use Rattle.wh_core.specs.Replies.{IsLegalRun, IsMemory, goes_on}
+
+-- how many nights have ended. Each of them made a version, so this is the current version's number, and the open night's, from 0
+abbrev pub nights_ended : Log → ℕ
+nights_ended [] = 0
+nights_ended (Committed ∷ log) = nights_ended log + 1
+nights_ended (Gave_up ∷ log) = nights_ended log + 1
+nights_ended (d ∷ log) = nights_ended log
+
+-- what was done before the event at this place
+abbrev pub done_before : List Event → List Reply → ℕ → Log
+done_before events replies place = log_after [] (take place events) (take place replies)
+
+-- the event at this place is this one, and has this reply
+abbrev pub IsAnswered : List Event → List Reply → ℕ → Event → Reply → Type 0
+IsAnswered events replies place event r = (slice_get events place ≡ Some event) × (slice_get replies place ≡ Some r)
+
+-- night n, from 0, carries version n over to version n + 1: every view is its definition over the base with the night's changes
+abbrev pub CarriesOver : Setup → (ℕ → Contents) → ℕ → Type 0
+CarriesOver s made n =
+    (given : GivenNight) × (slice_get s.nights n ≡ Some given)
+    × AreContentsOf (graph_of s.catalog) (changed (bag_at (made n)) (bag_at given.changes)) (bag_at (made (n + 1)))
+
+-- this version can be read: it is one of the last of which the contents are kept, one less while a night is open
+abbrev pub IsReadable : Setup → Log → ℕ → Type 0
+IsReadable s log v = (v ≤ nights_ended log) × (nights_ended log < v + kept_count s.versions (is_open log))
+
+-- the page that a session reads next of a view, at most so many rows, where versions have these contents
+abbrev pub next_page : (ℕ → Contents) → SessionOf → ℕ → ℕ → Shown
+next_page made of view limit = page_of (table_in (made of.version) view) (goes_on view of.bookmark) limit
+
+-- a page that a desk is shown is the next one of its session, whose version can be read
+abbrev pub IsNextPage : Setup → (ℕ → Contents) → Log → (desk view limit : ℕ) → Shown → Type 0
+IsNextPage s made log desk view limit page =
+    (of : SessionOf) × (session log desk ≡ Some of) × IsReadable s log of.version × (page ≡ next_page made of view limit)
+
+-- There are contents of each version, so that: version 0 has the opening contents, and every version up to the current one is the contents
+-- of a base
+pub record ComesTrue (s : Setup) (events : List Event) (replies : List Reply) : Type 0 where
+  pub made : ℕ → Contents
+  pub each : length replies ≡ length events
+  pub opening : made 0 ≡ s.opening
+  pub versions : (k : ℕ) → k ≤ nights_ended (log_after [] events replies) → AreContents (graph_of s.catalog) (bag_at (made k))
+  -- a commit makes the next version, of the night's changes
+  pub commits : (place k : ℕ) → IsAnswered events replies place Commit (reply.Version k)
+      → (k ≡ nights_ended (done_before events replies place) + 1) × CarriesOver s made (nights_ended (done_before events replies place))
+  -- a night that is given up makes the next version too, which has the contents of the one before it
+  pub give_ups : (place k : ℕ) → IsAnswered events replies place GiveUp (reply.Version k)
+      → (k ≡ nights_ended (done_before events replies place) + 1) × (made k ≡ made (nights_ended (done_before events replies place)))
+  -- a session is of the version that is current when it is opened
+  pub sessions : (place desk v : ℕ) → IsAnswered events replies place (Open desk) (reply.Session v) → v ≡ nights_ended (done_before events replies place)
+  -- each single page is of the session's version, whatever was made since
+  pub pages : (place desk view limit : ℕ) (page : Shown) → IsAnswered events replies place (Read desk view limit) (reply.Page page)
+      → IsNextPage s made (done_before events replies place) desk view limit page
+  -- no reader is refused a session, or waits for it
+  pub opened : (place desk : ℕ) (r : Reply) → IsAnswered events replies place (Open desk) r → desk < s.desks
+      → session (done_before events replies place) desk ≡ None → r ≡ reply.Session (nights_ended (done_before events replies place))
+  -- nor a page of a view that is there, of a version that can be read, but for want of memory
+  pub unexpired : (place desk view limit : ℕ) (of : SessionOf) (r : Reply) → IsAnswered events replies place (Read desk view limit) r → desk < s.desks
+      → session (done_before events replies place) desk ≡ Some of → IsReadable s (done_before events replies place) of.version
+      → view < length s.catalog.views.children → 1 ≤ limit → limit ≤ 256 → (r ≡ reply.Page (next_page made of view limit)) ⊎ IsMemory r
+  -- the pages that a session has read of a view, up to a last page, are the view's whole table in the session's version
+  pub whole : (place desk view : ℕ) (of : SessionOf) (page : Shown) (pages : List Shown) → session (done_before events replies place) desk ≡ Some of
+      → pages_read (done_before events replies place) desk view ≡ page ∷ pages → page.last ≡ true
+      → flat_map (λ p. p.rows) (reverse (page ∷ pages)) ≡ written (table_in (made of.version) view)
+
+-- so it is of every legal run
+abbrev pub RunsComeTrue : Type 0
+RunsComeTrue = (s : Setup) (events : List Event) (replies : List Reply) → IsSetup s → IsLegalRun s events replies → ComesTrue s events replies
