@@ -1,5 +1,5 @@
 -- What a legal run comes to.
-use Rattle.std.proofs.Common.{◌≡◌, refl, sym, ap, ◌∙◌, subst, ℕ, zero, suc, ◌+◌, ◌-◌, ◌<◌, ◌≤◌, List, [], ◌∷◌, ◌++◌, length, Bool, true, false, not, arith, Option, Some, None, ◌⊎◌, ⊎_elim, inl, inr}
+use Rattle.std.proofs.Common.{◌≡◌, refl, sym, ap, ◌∙◌, subst, ℕ, zero, suc, ◌+◌, ◌-◌, ◌<◌, ◌≤◌, ◌^◌, List, [], ◌∷◌, ◌++◌, length, Bool, true, false, not, arith, Option, Some, None, ◌⊎◌, ⊎_elim, inl, inr}
 use Rattle.std.specs.Prelude.{◌==◌, ◌&&◌, ◌||◌, is_none, is_some, nat_le, nat_lt, reverse, slice_get, slice_index_or, take}
 use Rattle.std.specs.List.{flat_map}
 use Rattle.std.proofs.lemmas.Bool.{false≢true}
@@ -14,18 +14,19 @@ use Rattle.wh_store.specs.Laws.{PagesJoin, VersionsStay}
 use Rattle.wh_store.specs.Operations.{Opens, Commits, Gives_up}
 use Rattle.wh_store.specs.Pages.{Contents, Shown, page_of}
 use Rattle.wh_store.specs.Versions.{Versions, is_active, is_unexpired, kept_count, number, opened, table_in, table_of, version, versions_from}
+use Rattle.wh_course.specs.Night.{Night}
 use Rattle.wh_course.specs.Legs.{Turn, In_wave, At_page, Over}
 use Rattle.wh_core.specs.declared.event.Event.{Event}
-use Rattle.wh_core.specs.declared.event.Event.TheVariants.{Commit, GiveUp, Open, Read}
+use Rattle.wh_core.specs.declared.event.Event.TheVariants.{Begin, Take, Done, PageIn, Commit, GiveUp, Open, Read, Close}
 use Rattle.wh_core.specs.declared.reply.Cause.{Cause}
 use Rattle.wh_core.specs.declared.reply.Cause.TheVariants as cause
 use Rattle.wh_core.specs.declared.reply.Reply.{Reply}
 use Rattle.wh_core.specs.declared.reply.Reply.TheVariants as reply
-use Rattle.wh_core.specs.Headline.{CarriesOver, ComesTrue, IsAnswered, IsNextPage, IsReadable, RunsComeTrue, done_before, next_page, nights_ended}
+use Rattle.wh_core.specs.Headline.{CarriesOver, ComesTrue, IsAnswered, IsNextPage, IsReadable, RunsComeTrue, done_before, is_reply_to, next_page, nights_ended}
 use Rattle.wh_core.specs.Laws.{IsSetup, log_after, pages_read}
-use Rattle.wh_core.specs.Log.{Deed, Log, Began, Drew, Finished, Paged_in, Committed, Gave_up, Sat_down, Turned, Left, SessionOf, is_open, logged, nights_begun, session}
-use Rattle.wh_core.specs.Nights.{GivenNight, Setup, page_in_turn, published, turn, versions}
-use Rattle.wh_core.specs.Replies.{IsLegalLog, IsLegalRun, IsMemory, IsReply, IsRuled, IsRunFrom, Ruling, Takes, commit_ruling, goes_on, more, nothing, read_ruling, unless}
+use Rattle.wh_core.specs.Log.{Deed, Log, Began, Drew, Finished, Paged_in, Committed, Gave_up, Sat_down, Turned, Left, SessionOf, holding, is_open, logged, nights_begun, session}
+use Rattle.wh_core.specs.Nights.{GivenNight, Setup, night, page_in_turn, published, turn, versions}
+use Rattle.wh_core.specs.Replies.{IsCarried, IsLegalLog, IsLegalRun, IsMemory, IsReply, IsRuled, IsRunFrom, Ruling, Says, Takes, Carries, Starts, cause_of, commit_ruling, done_by, goes_on, more, nothing, page_ruling, read_ruling, ruling, take_ruling, unless}
 use Rattle.wh_core.proofs.Deeds.{AreDeeds, deeds_of, leaves, none, not_false, one_more, through}
 use Rattle.wh_core.proofs.Moves.{active-open}
 use Rattle.wh_core.proofs.Runs.{leave_legal}
@@ -66,7 +67,7 @@ as_many s log (event ∷ events) [] run = absurd run
 
 -- the event at a place has its reply
 record IsStep (s : Setup) (log : Log) (events : List Event) (replies : List Reply) (i : ℕ) (event : Event) (r : Reply) : Type 0 where
-  reply : IsReply s (cut_at log events replies i) event r
+  ruled : IsReply s (cut_at log events replies i) event r
   next : cut_at log events replies (suc i) ≡ logged (cut_at log events replies i) event r
 
 step_at : (s : Setup) (log : Log) (events : List Event) (replies : List Reply) → IsRunFrom s log events replies → (i : ℕ) (event : Event) (r : Reply)
@@ -77,10 +78,10 @@ step_at s log (e ∷ events) [] run i event r there said = absurd run
 step_at s log (e ∷ events) (q ∷ replies) run zero event r there said =
     let a : e ≡ event = cc in
     let b : q ≡ r = cc in
-    record { reply = subst (λ x. IsReply s log x r) a (subst (IsReply s log e) b run.0); next = λ i. logged log (a i) (b i) }
+    record { ruled = subst (λ x. IsReply s log x r) a (subst (IsReply s log e) b run.0); next = λ i. logged log (a i) (b i) }
 step_at s log (e ∷ events) (q ∷ replies) run (suc i) event r there said =
     let later = step_at s (logged log e q) events replies run.1 i event r there said in
-    record { reply = later.reply; next = later.next }
+    record { ruled = later.ruled; next = later.next }
 
 later_than : (s : Setup) (log : Log) (events : List Event) (replies : List Reply) → IsRunFrom s log events replies → (later : Log) × (log_after log events replies ≡ later ++ log)
 unfolding IsRunFrom
@@ -201,6 +202,106 @@ read_so s log view limit page (Some of) h =
     let c = through ((limit == 0) || nat_lt 256 limit) _ _ (reply.Page page) accepted b.1 in
     (of, refl, not_false _ a.0, taken_page _ page c.1)
 
+-- a refusal has this, and so has what a ruling says
+abbrev AllSay : (Reply → Type 0) → Ruling → Type 0
+AllSay P (Says said) = P said
+AllSay P (Takes said) = P said
+AllSay P (Carries n places said) = P said
+AllSay P (Starts n places said) = P said
+
+module _ (P : Reply → Type 0) (refused : (c : Cause) → P (reply.Refused c)) where
+  carried_say : (n : Night) (places : List ℕ) (said r : Reply) → P said → IsCarried n places said r ⊎ IsMemory r → P r
+  carried_say n places said r p h =
+      ⊎_elim
+      (λ c. ⊎_elim (λ d. subst P (sym d.1) p) (λ f. subst P (sym f.2) (refused (cause_of f.0))) c)
+      (λ m. subst P (sym m) (refused cause.Memory))
+      h
+
+  ruled_say : (ruling : Ruling) (r : Reply) → AllSay P ruling → IsRuled ruling r → P r
+  ruled_say (Says said) r p h = subst P (sym h) p
+  ruled_say (Takes said) r p h = ⊎_elim (λ e. subst P (sym e) p) (λ m. subst P (sym m) (refused cause.Memory)) h
+  ruled_say (Carries n places said) r p h = carried_say n places said r p h
+  ruled_say (Starts n places said) r p h =
+      ⊎_elim
+      (λ k. carried_say n places said r p k.1)
+      (λ f. ⊎_elim (λ e. subst P (sym e) (refused (cause_of f.0))) (λ m. subst P (sym m.1) (refused cause.Memory)) f.2)
+      h
+
+  unless_say : (b : Bool) (c : Cause) (rest : Ruling) → AllSay P rest → AllSay P (unless b c rest)
+  unless_say true c rest p = refused c
+  unless_say false c rest p = p
+
+-- what an event is ruled to be answered is its own reply, or a refusal
+abbrev Owns : Event → Reply → Type 0
+Owns event r = is_reply_to event r ≡ true
+
+take_own : (w : ℕ) (t : Turn) → AllSay (Owns (Take w)) (take_ruling t)
+take_own w (In_wave place jobs drawn) = unless_say (Owns (Take w)) (λ c. refl) (nat_le jobs drawn) cause.NoJob _ refl
+take_own w (At_page place view rows) = refl
+take_own w Over = refl
+
+done_own : (w : ℕ) (n : Night) (now next : Turn) (held : Option ℕ) → AllSay (Owns (Done w)) (done_by n now next held)
+done_own w n now next None = refl
+done_own w n (In_wave place jobs drawn) next (Some job) = refl
+done_own w n (At_page place view rows) next (Some job) = refl
+done_own w n Over next (Some job) = refl
+
+page_own : (n : Night) (now next : Turn) → AllSay (Owns PageIn) (page_ruling n now next)
+page_own n (In_wave place jobs drawn) next = refl
+page_own n (At_page place view rows) next = refl
+page_own n Over next = refl
+
+commit_own : (next : ℕ) (t : Turn) → AllSay (Owns Commit) (commit_ruling next t)
+commit_own next (In_wave place jobs drawn) = refl
+commit_own next (At_page place view rows) = refl
+commit_own next Over = refl
+
+read_own : (d view limit kept : ℕ) (v : Versions) (o : Option SessionOf) → AllSay (Owns (Read d view limit)) (read_ruling kept v view limit o)
+read_own d view limit kept v None = refl
+read_own d view limit kept v (Some of) =
+    let P : Reply → Type 0 = Owns (Read d view limit) in
+    unless_say P (λ c. refl) (not (is_unexpired kept v of.version)) _ _
+    (unless_say P (λ c. refl) (nat_le (length (version v of.version)) view) _ _
+    (unless_say P (λ c. refl) ((limit == 0) || nat_lt 256 limit) _ _ refl))
+
+rulings_own : (s : Setup) (log : Log) (event : Event) → AllSay (Owns event) (ruling s log event)
+rulings_own s log Begin =
+    unless_say (Owns Begin) (λ c. refl) (is_open log) _ _
+    (unless_say (Owns Begin) (λ c. refl) (nat_le (length s.nights) (nights_begun log)) _ _
+    (unless_say (Owns Begin) (λ c. refl) (number (versions s log) + 1 == 2 ^ 64) _ _ refl))
+rulings_own s log (Take w) =
+    unless_say (Owns (Take w)) (λ c. refl) (nat_le s.workers w) _ _
+    (unless_say (Owns (Take w)) (λ c. refl) (not (is_open log)) _ _
+    (unless_say (Owns (Take w)) (λ c. refl) (is_some (holding log w)) _ _ (take_own w (turn s log))))
+rulings_own s log (Done w) =
+    unless_say (Owns (Done w)) (λ c. refl) (nat_le s.workers w) _ _
+    (unless_say (Owns (Done w)) (λ c. refl) (not (is_open log)) _ _ (done_own w (night s log) (turn s log) _ (holding log w)))
+rulings_own s log PageIn = unless_say (Owns PageIn) (λ c. refl) (not (is_open log)) _ _ (page_own (night s log) (turn s log) _)
+rulings_own s log Commit = unless_say (Owns Commit) (λ c. refl) (not (is_open log)) _ _ (commit_own (number (versions s log) + 1) (turn s log))
+rulings_own s log GiveUp = unless_say (Owns GiveUp) (λ c. refl) (not (is_open log)) _ _ refl
+rulings_own s log (Open d) =
+    unless_say (Owns (Open d)) (λ c. refl) (nat_le s.desks d) _ _
+    (unless_say (Owns (Open d)) (λ c. refl) (is_some (session log d)) _ _ refl)
+rulings_own s log (Read d view limit) =
+    unless_say (Owns (Read d view limit)) (λ c. refl) (nat_le s.desks d) _ _ (read_own d view limit s.versions (versions s log) (session log d))
+rulings_own s log (Close d) =
+    unless_say (Owns (Close d)) (λ c. refl) (nat_le s.desks d) _ _
+    (unless_say (Owns (Close d)) (λ c. refl) (is_none (session log d)) _ _ refl)
+
+refused_own : (event : Event) (c : Cause) → Owns event (reply.Refused c)
+refused_own Begin c = refl
+refused_own (Take w) c = refl
+refused_own (Done w) c = refl
+refused_own PageIn c = refl
+refused_own Commit c = refl
+refused_own GiveUp c = refl
+refused_own (Open d) c = refl
+refused_own (Read d view limit) c = refl
+refused_own (Close d) c = refl
+
+own_reply : (s : Setup) (log : Log) (event : Event) (r : Reply) → IsReply s log event r → is_reply_to event r ≡ true
+own_reply s log event r h = ruled_say (Owns event) (refused_own event) (ruling s log event) r (rulings_own s log event) h
+
 -- ---- a legal run
 
 contents_moved : (g : ViewGraph) (a b : Contents) (c d : List Bag) (x y : Contents) → a ≡ b → c ≡ d → x ≡ y
@@ -229,7 +330,7 @@ module _ (join : PagesJoin) (stay : VersionsStay) (s : Setup) (events : List Eve
       ap (λ log. version (versions s log) k) later.1 ∙ (stays_later stay s later.0 (at i) k l).1
 
   newest_made : (i : ℕ) → made (nights_ended (at i)) ≡ (versions s (at i)).newest
-  newest_made i = ap made (ended_is s (at i)) ∙ made_is i (number (versions s (at i))) (omega arith) ∙ number-newest (versions s (at i))
+  newest_made i = ap (λ k. version (versions s end) k) (ended_is s (at i)) ∙ made_is i (number (versions s (at i))) (omega arith) ∙ number-newest (versions s (at i))
 
   readable_version : (i k : ℕ) → k ≤ nights_ended (at i) → version (versions s (at i)) k ≡ made k
   readable_version i k l = sym (made_is i k (subst (λ n. k ≤ n) (ended_is s (at i)) l))
@@ -247,7 +348,7 @@ module _ (join : PagesJoin) (stay : VersionsStay) (s : Setup) (events : List Eve
   commit_made : (i k : ℕ) → IsAnswered events replies i Commit (reply.Version k) → (k ≡ nights_ended (at i) + 1) × CarriesOver s made (nights_ended (at i))
   commit_made i k there =
       let step = step_at s [] events replies run i Commit (reply.Version k) there.0 there.1 in
-      let open_night = through (not (is_open (at i))) cause.NoNight _ (reply.Version k) (λ c e. cc) step.reply in
+      let open_night = through (not (is_open (at i))) cause.NoNight _ (reply.Version k) (λ c e. cc) step.ruled in
       let opened : is_open (at i) ≡ true = not_false _ open_night.0 in
       let over = commit_so (number (versions s (at i)) + 1) k (turn s (at i)) open_night.1 in
       let deeds = deeds_of s (at i) (legal i) in
@@ -258,30 +359,32 @@ module _ (join : PagesJoin) (stay : VersionsStay) (s : Setup) (events : List Eve
       let nobody : GivenNight = record { changes = []; list = [] } in
       let new : made (n + 1) ≡ (versions s (Committed ∷ at i)).newest = subst (λ l. made (nights_ended l) ≡ (versions s l).newest) step.next (newest_made (suc i)) in (
         over.1 ∙ ap (λ m. m + 1) (sym (ended_is s (at i))),
-        slice_index_or s.nights n nobody,
-        given_at s.nights n nobody (omega (arith, begun, few)),
-        contents_moved (graph_of s.catalog) (versions s (at i)).newest (made n)
-            (slice_index_or s.nights (nights_begun (at i) - 1) nobody).changes (slice_index_or s.nights n nobody).changes
-            (versions s (Committed ∷ at i)).newest (made (n + 1)) (sym (newest_made i)) (ap (λ m. (slice_index_or s.nights m nobody).changes) last) (sym new)
-            (commits_make_contents stay s (at i) is (legal i) opened over.0),
+        (
+          slice_index_or s.nights n nobody,
+          given_at s.nights n nobody (omega (arith, begun, few)),
+          contents_moved (graph_of s.catalog) (versions s (at i)).newest (made n)
+              (slice_index_or s.nights (nights_begun (at i) - 1) nobody).changes (slice_index_or s.nights n nobody).changes
+              (versions s (Committed ∷ at i)).newest (made (n + 1)) (sym (newest_made i)) (ap (λ m. (slice_index_or s.nights m nobody).changes) last) (sym new)
+              (commits_make_contents stay s (at i) is (legal i) opened over.0),
+        ),
       )
 
   give_up_made : (i k : ℕ) → IsAnswered events replies i GiveUp (reply.Version k) → (k ≡ nights_ended (at i) + 1) × (made k ≡ made (nights_ended (at i)))
   unfolding published
   give_up_made i k there =
       let step = step_at s [] events replies run i GiveUp (reply.Version k) there.0 there.1 in
-      let open_night = through (not (is_open (at i))) cause.NoNight _ (reply.Version k) (λ c e. cc) step.reply in
+      let open_night = through (not (is_open (at i))) cause.NoNight _ (reply.Version k) (λ c e. cc) step.ruled in
       let number_is : k ≡ nights_ended (at i) + 1 = taken_version (number (versions s (at i)) + 1) k open_night.1 ∙ ap (λ m. m + 1) (sym (ended_is s (at i))) in
       let new : made (nights_ended (at i) + 1) ≡ (versions s (Gave_up ∷ at i)).newest = subst (λ l. made (nights_ended l) ≡ (versions s l).newest) step.next (newest_made (suc i)) in
       let same : (versions s (Gave_up ∷ at i)).newest ≡ (versions s (at i)).newest =
       ap (λ (v : Versions). v.newest) (versions_from-append (opened s.opening) (published s (at i)) (Gives_up ∷ [])) in
-      (number_is, ap made number_is ∙ new ∙ same ∙ sym (newest_made i))
+      (number_is, ap (λ k. version (versions s end) k) number_is ∙ new ∙ same ∙ sym (newest_made i))
 
   session_made : (i desk v : ℕ) → IsAnswered events replies i (Open desk) (reply.Session v) → v ≡ nights_ended (at i)
   session_made i desk v there =
       let step = step_at s [] events replies run i (Open desk) (reply.Session v) there.0 there.1 in
       let accepted : (other : Cause) → ¬ (reply.Session v ≡ reply.Refused other) = λ c e. cc in
-      let a = through (nat_le s.desks desk) cause.NoDesk _ (reply.Session v) accepted step.reply in
+      let a = through (nat_le s.desks desk) cause.NoDesk _ (reply.Session v) accepted step.ruled in
       let b = through (is_some (session (at i) desk)) cause.SessionOpen _ (reply.Session v) accepted a.1 in
       let same : v ≡ number (versions s (at i)) = cc in
       same ∙ sym (ended_is s (at i))
@@ -303,7 +406,7 @@ module _ (join : PagesJoin) (stay : VersionsStay) (s : Setup) (events : List Eve
   page_made : (i desk view limit : ℕ) (page : Shown) → IsAnswered events replies i (Read desk view limit) (reply.Page page) → IsNextPage s made (at i) desk view limit page
   page_made i desk view limit page there =
       let step = step_at s [] events replies run i (Read desk view limit) (reply.Page page) there.0 there.1 in
-      let a = through (nat_le s.desks desk) cause.NoDesk _ (reply.Page page) (λ c e. cc) step.reply in
+      let a = through (nat_le s.desks desk) cause.NoDesk _ (reply.Page page) (λ c e. cc) step.ruled in
       let read = read_so s (at i) view limit page (session (at i) desk) a.1 in
       let kept = readable i read.0.version read.2 in
       (read.0, read.1, kept, read.3 ∙ shown_made i read.0 view limit kept.0)
@@ -311,7 +414,7 @@ module _ (join : PagesJoin) (stay : VersionsStay) (s : Setup) (events : List Eve
   is_opened : (i desk : ℕ) (r : Reply) → IsAnswered events replies i (Open desk) r → desk < s.desks → session (at i) desk ≡ None → r ≡ reply.Session (nights_ended (at i))
   is_opened i desk r there l no_session =
       let step = step_at s [] events replies run i (Open desk) r there.0 there.1 in
-      let a = skip (nat_le s.desks desk) cause.NoDesk _ r (le_false s.desks desk l) step.reply in
+      let a = skip (nat_le s.desks desk) cause.NoDesk _ r (le_false s.desks desk l) step.ruled in
       let b = skip (is_some (session (at i) desk)) cause.SessionOpen _ r (ap is_some no_session) a in
       b ∙ ap reply.Session (sym (ended_is s (at i)))
 
@@ -319,7 +422,7 @@ module _ (join : PagesJoin) (stay : VersionsStay) (s : Setup) (events : List Eve
       → IsReadable s (at i) of.version → view < length s.catalog.views.children → 1 ≤ limit → limit ≤ 256 → (r ≡ reply.Page (next_page made of view limit)) ⊎ IsMemory r
   is_shown i desk view limit of r there l sits kept in_view some few =
       let step = step_at s [] events replies run i (Read desk view limit) r there.0 there.1 in
-      let a = skip (nat_le s.desks desk) cause.NoDesk _ r (le_false s.desks desk l) step.reply in
+      let a = skip (nat_le s.desks desk) cause.NoDesk _ r (le_false s.desks desk l) step.ruled in
       let b = subst (λ o. IsRuled (read_ruling s.versions (versions s (at i)) view limit o) r) sits a in
       let c = skip (not (is_unexpired s.versions (versions s (at i)) of.version)) _ _ r (ap not (alive i of.version kept)) b in
       let bags = (versions_are_contents stay s (at i) of.version is (legal i) (subst (λ n. of.version ≤ n) (ended_is s (at i)) kept.0)).1.each in
@@ -332,6 +435,7 @@ module _ (join : PagesJoin) (stay : VersionsStay) (s : Setup) (events : List Eve
   comes_true = record {
     made = made;
     each = as_many s [] events replies run;
+    own = λ i event r there. own_reply s (at i) event r (step_at s [] events replies run i event r there.0 there.1).ruled;
     opening = opening_made;
     versions = versions_made;
     commits = commit_made;

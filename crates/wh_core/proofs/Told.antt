@@ -21,6 +21,7 @@ use Rattle.wh_core.specs.Laws.{IsBefore, IsRefusedAfter, IsToldInTurn, RefusalsA
 use Rattle.wh_core.specs.Log.{Log, Began, Finished, Paged_in, SessionOf, draws, ends, holding, is_open, nights_begun, pages, session}
 use Rattle.wh_core.specs.Nights.{Setup, next_night, night, published, turn, versions}
 use Rattle.wh_core.specs.Replies.{AreAllowed, IsCarried, IsLegalLog, IsMemory, IsReply, IsRuled, Ruling, Says, Takes, Carries, Starts, cause_of, commit_ruling, done_by, goes_on, page_ruling, read_ruling, take_ruling, unless}
+use Rattle.wh_core.specs.Standing.{IsWithin}
 use Rattle.wh_core.proofs.Deeds.{deeds_of, not_false}
 use Rattle.wh_core.proofs.Underway.{IsAt, Underway, all-head, all-tail, all_below, head_or, night-began, night-paged, now, start_of, underway, wave_legs, wave_place, wave_turn}
 
@@ -80,14 +81,17 @@ one_or_later n x xs f first = by first.earlier first.place first.later first.spl
     by (y ∷ earlier) p later e passed refused =
         let here : y ≡ x = cc in
         let rest : xs ≡ earlier ++ p ∷ later = cc in
-        inr (subst (IsPassedAt n) here (all-head (IsPassedAt n) y earlier passed), record {
-          earlier = earlier;
-          place = p;
-          later = later;
-          split = rest;
-          passed = all-tail (IsPassedAt n) y earlier passed;
-          refused = refused;
-        })
+        inr (
+          subst (IsPassedAt n) here (all-head (IsPassedAt n) y earlier passed),
+          record {
+            earlier = earlier;
+            place = p;
+            later = later;
+            split = rest;
+            passed = all-tail (IsPassedAt n) y earlier passed;
+            refused = refused;
+          },
+        )
 
 before_turn : (n : Night) (t : Turn) (p : ℕ) → p < reach n t → IsBefore n t p
 before_turn n (In_wave first jobs drawn) p l = l
@@ -131,13 +135,10 @@ module _ (s : Setup) (log : Log) (why : Cause) (is : is_of_rows why ≡ true) wh
       let b = onwards (nat_le (length s.nights) (nights_begun log)) cause.NoNight _ why is refl a.1 in
       let c = onwards (number (versions s log) + 1 == 2 ^ 64) cause.LastVersion _ why is refl b.1 in
       ⊎_elim
-      (λ k. ⊎_elim (λ carried. of_first (carried_fault n _ reply.Begun why (λ e. cc) carried)) (λ m. absurd (not_other why cause.Memory is refl m)) k.1)
+      (λ k. ⊎_elim (λ carried. of_first (carried_fault (next_night s log) _ reply.Begun why (λ e. cc) carried)) (λ m. absurd (not_other why cause.Memory is refl m)) k.1)
       (λ f. ⊎_elim (λ e. (f.0, named (cause_of f.0) e, of_base f.1)) (λ m. absurd (not_other why cause.Memory is refl m.1)) f.2)
       c.1
     where
-      n : Night
-      n = next_night s log
-
       named : (c : Cause) → reply.Refused why ≡ reply.Refused c → c ≡ why
       named c e = cc
 
@@ -249,7 +250,6 @@ module _ (s : Setup) (log : Log) (why : Cause) (is : is_of_rows why ≡ true) wh
         (f.0, f.2, own_or_after w job first jobs drawn at e f.0 f.1)
 
     page_told_at : (t : Turn) → turn s log ≡ t → IsRuled (page_ruling n t (turn_of (legs_of n) (draws log) (ends log) (pages log + 1))) (reply.Refused why) → Told s log PageIn why
-    unfolding published
     page_told_at (In_wave first jobs drawn) at h = absurd (not_other why cause.NotReady is refl h)
     page_told_at Over at h = absurd (not_other why cause.NotReady is refl h)
     page_told_at (At_page inst view rows) at h =

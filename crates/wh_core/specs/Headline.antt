@@ -1,6 +1,6 @@
 -- What a list of events comes to with its replies, whatever the order of workers', readers' and the writer's steps: which contents each
 -- version has, and what readers see of them.
-use Rattle.std.specs.Prelude.{◌≡◌, ◌⊎◌, ℕ, ◌+◌, ◌<◌, ◌≤◌, List, [], ◌∷◌, length, reverse, slice_get, take, Option, Some, None, true}
+use Rattle.std.specs.Prelude.{◌≡◌, ◌⊎◌, ℕ, ◌+◌, ◌<◌, ◌≤◌, List, [], ◌∷◌, length, reverse, slice_get, take, Option, Some, None, Bool, true, false}
 use Rattle.std.specs.List.{flat_map}
 use Rattle.wh_row.specs.Bag.{written}
 use Rattle.wh_maint.specs.Comp.{bag_at}
@@ -10,7 +10,7 @@ use Rattle.wh_maint.specs.Laws.{changed}
 use Rattle.wh_store.specs.Pages.{Contents, Shown, page_of}
 use Rattle.wh_store.specs.Versions.{kept_count, table_in}
 use Rattle.wh_core.specs.declared.event.Event.{Event}
-use Rattle.wh_core.specs.declared.event.Event.TheVariants.{Commit, GiveUp, Open, Read}
+use Rattle.wh_core.specs.declared.event.Event.TheVariants.{Begin, Take, Done, PageIn, Commit, GiveUp, Open, Read, Close}
 use Rattle.wh_core.specs.declared.reply.Reply.{Reply}
 use Rattle.wh_core.specs.declared.reply.Reply.TheVariants as reply
 use Rattle.wh_core.specs.Log.{Deed, Log, Began, Committed, Gave_up, SessionOf, is_open, session}
@@ -33,6 +33,20 @@ done_before events replies place = log_after [] (take place events) (take place 
 abbrev pub IsAnswered : List Event → List Reply → ℕ → Event → Reply → Type 0
 IsAnswered events replies place event r = (slice_get events place ≡ Some event) × (slice_get replies place ≡ Some r)
 
+-- the reply is a refusal, or one that answers such an event
+abbrev pub is_reply_to : Event → Reply → Bool
+is_reply_to event (reply.Refused why) = true
+is_reply_to Begin reply.Begun = true
+is_reply_to (Take worker) (reply.Job n) = true
+is_reply_to (Done worker) reply.Done = true
+is_reply_to PageIn (reply.Paged n) = true
+is_reply_to Commit (reply.Version v) = true
+is_reply_to GiveUp (reply.Version v) = true
+is_reply_to (Open desk) (reply.Session v) = true
+is_reply_to (Read desk view limit) (reply.Page page) = true
+is_reply_to (Close desk) reply.Closed = true
+is_reply_to event r = false
+
 -- night n, from 0, carries version n over to version n + 1: every view is its definition over the base with the night's changes
 abbrev pub CarriesOver : Setup → (ℕ → Contents) → ℕ → Type 0
 CarriesOver s made n =
@@ -52,11 +66,12 @@ abbrev pub IsNextPage : Setup → (ℕ → Contents) → Log → (desk view limi
 IsNextPage s made log desk view limit page =
     (of : SessionOf) × (session log desk ≡ Some of) × IsReadable s log of.version × (page ≡ next_page made of view limit)
 
--- There are contents of each version, so that: version 0 has the opening contents, and every version up to the current one is the contents
+-- Each event has one reply, its own or a refusal, and there are contents of each version, so that: version 0 has the opening contents, and every version up to the current one is the contents
 -- of a base
 pub record ComesTrue (s : Setup) (events : List Event) (replies : List Reply) : Type 0 where
   pub made : ℕ → Contents
   pub each : length replies ≡ length events
+  pub own : (place : ℕ) (event : Event) (r : Reply) → IsAnswered events replies place event r → is_reply_to event r ≡ true
   pub opening : made 0 ≡ s.opening
   pub versions : (k : ℕ) → k ≤ nights_ended (log_after [] events replies) → AreContents (graph_of s.catalog) (bag_at (made k))
   -- a commit makes the next version, of the night's changes

@@ -15,8 +15,8 @@ mod warehouse;
 pub use event::Event;
 pub use laws::{
     commits_make_contents, jobs_are_drawn_once, published_are_nights, published_are_well_formed,
-    refusals_are_told_in_turn, replies_are_one, runs_come_true, runs_leave_legal_logs, sessions_read_tables,
-    versions_are_contents, workers_do_their_jobs,
+    refusals_are_told_in_turn, replies_are_one, runs_come_true, runs_leave_legal_logs,
+    sessions_read_tables, versions_are_contents, workers_do_their_jobs,
 };
 pub use reply::{Cause, Reply};
 pub use warehouse::Core;

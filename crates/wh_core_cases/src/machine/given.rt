@@ -269,8 +269,6 @@ fn replies_to(
         keys,
     } = places;
     assert!(rt; keys >= 1 && keys <= 256);
-    let replies = carry_out(
-        alloc, catalog, tables, nights, desks, workers, keys, events,
-    )?;
+    let replies = carry_out(alloc, catalog, tables, nights, desks, workers, keys, events)?;
     Ok(replies)
 }
