@@ -100,20 +100,20 @@ before_turn n Over p l = l
 
 -- ---- rulings
 
--- a refusal for such a cause is no other one
+-- a refusal for such a cause is none for another
 not_other : (why other : Cause) → is_of_rows why ≡ true → is_of_rows other ≡ false → ¬ (reply.Refused why ≡ reply.Refused other)
-not_other why other is no e = let same : why ≡ other = cc in false≢true (sym no ∙ ap is_of_rows (sym same) ∙ is)
+not_other why other is apart e = let same : why ≡ other = cc in false≢true (sym apart ∙ ap is_of_rows (sym same) ∙ is)
 
 onwards : (b : Bool) (c : Cause) (rest : Ruling) (why : Cause) → is_of_rows why ≡ true → is_of_rows c ≡ false → IsRuled (unless b c rest) (reply.Refused why) → (b ≡ false) × IsRuled rest (reply.Refused why)
-onwards true c rest why is no h = absurd (not_other why c is no h)
-onwards false c rest why is no h = (refl, h)
+onwards true c rest why is apart h = absurd (not_other why c is apart h)
+onwards false c rest why is apart h = (refl, h)
 
 -- an event that carries out expressions is refused so for the first fault among them
 carried_fault : (n : Night) (places : List ℕ) (said : Reply) (why : Cause) → ¬ (reply.Refused why ≡ said) → IsCarried n places said (reply.Refused why)
     → (f : MaintFault) × IsFirstFaultOf n places f × (cause_of f ≡ why)
-carried_fault n places said why no h =
+carried_fault n places said why apart h =
     ⊎_elim
-    (λ p. absurd (no p.1))
+    (λ p. absurd (apart p.1))
     (λ f. (f.0, f.1, (let same : cause_of f.0 ≡ why = named (cause_of f.0) f.2 in same)))
     h
   where
@@ -122,7 +122,7 @@ carried_fault n places said why no h =
 
 carries_fault : (n : Night) (places : List ℕ) (said : Reply) (why : Cause) → is_of_rows why ≡ true → ¬ (reply.Refused why ≡ said) → IsRuled (Carries n places said) (reply.Refused why)
     → (f : MaintFault) × IsFirstFaultOf n places f × (cause_of f ≡ why)
-carries_fault n places said why is no h = ⊎_elim (λ c. carried_fault n places said why no c) (λ m. absurd (not_other why cause.Memory is refl m)) h
+carries_fault n places said why is apart h = ⊎_elim (λ c. carried_fault n places said why apart c) (λ m. absurd (not_other why cause.Memory is refl m)) h
 
 -- what the law says of one refusal
 abbrev Told : Setup → Log → Event → Cause → Type 0
@@ -288,7 +288,7 @@ module _ (s : Setup) (log : Log) (why : Cause) (is : is_of_rows why ≡ true) wh
       absurd (no_commit (number (versions s log) + 1) (turn s log) b.1)
 
   no_taking : (said : Reply) → ¬ (reply.Refused why ≡ said) → ¬ (IsRuled (Takes said) (reply.Refused why))
-  no_taking said no h = ⊎_elim no (λ m. not_other why cause.Memory is refl m) h
+  no_taking said apart h = ⊎_elim apart (λ m. not_other why cause.Memory is refl m) h
 
   give_up_told : IsReply s log GiveUp (reply.Refused why) → Told s log GiveUp why
   give_up_told h =
