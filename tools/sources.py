@@ -9,7 +9,10 @@ UNREAD = re.compile(
     r"//[^\n]*|/\*.*?\*/|b?r(#+)\".*?\"\1|b?\"(?:\\.|[^\"\\])*\"|b?'(?:\\(?:x\w\w|u\{\w+\}|.)|[^\\'\n])'", re.DOTALL
 )
 CLAUSE = re.compile(r"\b(?P<kind>ensures|requires)(?:\s+(?P<name>\w+))?\s*$")
-HEAD = re.compile(r"(?P<given>\bpub(?:\([^)]*\))?\s+)?(?:(?:const|unsafe|async)\s+)*\b(?P<kind>fn|struct|enum|trait|impl|mod|type|const|static)\b\s*(?P<name>\w*)")
+HEAD = re.compile(
+    r"(?P<given>\bpub(?:\([^)]*\))?\s+)?(?:(?:const|unsafe|async)\s+)*"
+    r"\b(?P<kind>fn|struct|enum|trait|impl|mod|type|const|static)\b\s*(?P<name>\w*)"
+)
 GIVEN_ON = re.compile(r"^\s*pub use ([^;]+);", re.MULTILINE)
 GIVEN_MODULE = re.compile(r"^\s*pub mod (\w+);", re.MULTILINE)
 TYPES = ("struct", "enum", "trait", "type")
@@ -41,9 +44,10 @@ class Item:
 
     @property
     def is_law(self):
-        """Whether it says something and does nothing: it answers nothing, and has no argument that it could change."""
-        changes = any(each.startswith("&mut ") or each == "self" for each in self.arguments)
-        return self.kind == "fn" and bool(self.clauses) and not self.answers and not changes and "&mut" not in self.head.partition("ensures")[0]
+        """Whether it says something and does nothing: it answers nothing, and is given nothing that it could change."""
+        given = self.head.partition("ensures")[0]
+        changes = "&mut" in given or "self" in self.arguments
+        return self.kind == "fn" and bool(self.clauses) and not self.answers and not changes
 
 
 class File:
@@ -98,7 +102,7 @@ def items(file, at, end, of="", by=""):
 
 
 def item(file, begun, opened, end, clauses, of, by):
-    """The item whose head stands from one place to a second, and which ends at a third; the items within it, where it is a block of them."""
+    """The item whose head stands from one place to a second, and which ends at a third; where it is a block of items, those within it."""
     head = HEAD.search(without_attributes(file.bare[begun:opened]))
     if not head or "cfg(test)" in file.text[begun:opened]:
         return
