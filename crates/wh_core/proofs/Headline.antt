@@ -23,8 +23,8 @@ use Rattle.wh_core.specs.declared.reply.Cause.TheVariants as cause
 use Rattle.wh_core.specs.declared.reply.Reply.{Reply}
 use Rattle.wh_core.specs.declared.reply.Reply.TheVariants as reply
 use Rattle.wh_core.specs.Headline.{CarriesOver, ComesTrue, IsAnswered, IsNextPage, IsReadable, RunsComeTrue, done_before, is_reply_to, next_page, nights_ended}
-use Rattle.wh_core.specs.Laws.{IsSetup, log_after, pages_read}
-use Rattle.wh_core.specs.Log.{Deed, Log, Began, Drew, Finished, Paged_in, Committed, Gave_up, Sat_down, Turned, Left, SessionOf, holding, is_open, logged, nights_begun, session}
+use Rattle.wh_core.specs.Laws.{IsSetup, log_after}
+use Rattle.wh_core.specs.Log.{Log, Began, Drew, Finished, Paged_in, Committed, Gave_up, Sat_down, Turned, Left, SessionOf, holding, is_open, logged, nights_begun, session}
 use Rattle.wh_core.specs.Nights.{GivenNight, Setup, night, page_in_turn, published, turn, versions}
 use Rattle.wh_core.specs.Replies.{IsCarried, IsLegalLog, IsLegalRun, IsMemory, IsReply, IsRuled, IsRunFrom, Ruling, Says, Takes, Carries, Starts, cause_of, commit_ruling, done_by, goes_on, more, nothing, page_ruling, read_ruling, ruling, take_ruling, unless}
 use Rattle.wh_core.proofs.Deeds.{AreDeeds, deeds_of, leaves, none, not_false, one_more, through}

@@ -1,14 +1,12 @@
 -- Which events are refused for what the expressions of a night come to.
-use Rattle.std.proofs.Common.{◌≡◌, ◌≢◌, refl, sym, ap, ◌∙◌, subst, ℕ, zero, suc, ◌+◌, ◌-◌, ◌<◌, ◌≤◌, ◌^◌, List, [], ◌∷◌, ◌++◌, length, Bool, true, false, not, arith, Option, Some, None, ◌⊎◌, ⊎_elim, inl, inr}
+use Rattle.std.proofs.Common.{◌≡◌, refl, sym, ap, ◌∙◌, subst, ℕ, zero, suc, ◌+◌, ◌-◌, ◌<◌, ◌≤◌, ◌^◌, List, [], ◌∷◌, ◌++◌, length, Bool, true, false, not, arith, Option, Some, None, ◌⊎◌, ⊎_elim, inl, inr}
 use Rattle.std.specs.Prelude.{◌==◌, ◌||◌, is_none, is_some, nat_le, nat_lt}
 use Rattle.std.specs.List.{All, range_with_len}
 use Rattle.std.proofs.lemmas.Bool.{cases_lt, false≢true}
 use Rattle.wh_dag.specs.Shape.{Distinct, has}
-use Rattle.wh_row.specs.Weigh.{Counted}
 use Rattle.wh_maint.specs.declared.fault.MaintFault.{MaintFault}
-use Rattle.wh_night.specs.Refused.{IsBaseFault}
-use Rattle.wh_store.specs.Pages.{Shown, page_of}
-use Rattle.wh_store.specs.Versions.{Versions, is_active, is_unexpired, number, table_of, version}
+use Rattle.wh_store.specs.Pages.{page_of}
+use Rattle.wh_store.specs.Versions.{is_active, is_unexpired, number, table_of, version}
 use Rattle.wh_course.specs.Night.{Night, ArePassedAt, IsFaultAt, IsFirstFaultOf, IsPassedAt, places_from}
 use Rattle.wh_course.specs.Legs.{Leg, Wave, Turn, In_wave, At_page, Over, legs_of, reach, turn_of}
 use Rattle.wh_core.specs.declared.event.Event.{Event}
@@ -17,13 +15,13 @@ use Rattle.wh_core.specs.declared.reply.Cause.{Cause}
 use Rattle.wh_core.specs.declared.reply.Cause.TheVariants as cause
 use Rattle.wh_core.specs.declared.reply.Reply.{Reply}
 use Rattle.wh_core.specs.declared.reply.Reply.TheVariants as reply
-use Rattle.wh_core.specs.Laws.{IsBefore, IsRefusedAfter, IsToldInTurn, RefusalsAreToldInTurn, after_inst, after_wave, before_first, is_of_rows, of_base, of_job}
-use Rattle.wh_core.specs.Log.{Log, Began, Finished, Paged_in, SessionOf, draws, ends, holding, is_open, nights_begun, pages, session}
+use Rattle.wh_core.specs.Laws.{IsBefore, IsToldInTurn, RefusalsAreToldInTurn, after_inst, after_wave, before_first, is_of_rows, of_base, of_job}
+use Rattle.wh_core.specs.Log.{Log, SessionOf, draws, ends, holding, is_open, nights_begun, pages, session}
 use Rattle.wh_core.specs.Nights.{Setup, next_night, night, published, turn, versions}
-use Rattle.wh_core.specs.Replies.{AreAllowed, IsCarried, IsLegalLog, IsMemory, IsReply, IsRuled, Ruling, Says, Takes, Carries, Starts, cause_of, commit_ruling, done_by, goes_on, page_ruling, read_ruling, take_ruling, unless}
+use Rattle.wh_core.specs.Replies.{IsCarried, IsLegalLog, IsReply, IsRuled, Ruling, Says, Takes, Carries, cause_of, commit_ruling, done_by, goes_on, page_ruling, read_ruling, take_ruling, unless}
 use Rattle.wh_core.specs.Standing.{IsWithin}
 use Rattle.wh_core.proofs.Deeds.{deeds_of, not_false}
-use Rattle.wh_core.proofs.Underway.{IsAt, Underway, all-head, all-tail, all_below, head_or, night-began, night-paged, now, start_of, underway, wave_legs, wave_place, wave_turn}
+use Rattle.wh_core.proofs.Underway.{Underway, all-head, all-tail, all_below, head_or, night-began, night-paged, now, start_of, underway, wave_legs, wave_place, wave_turn}
 
 -- ---- places
 

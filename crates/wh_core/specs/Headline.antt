@@ -1,6 +1,6 @@
 -- What a list of events comes to with its replies, whatever the order of workers', readers' and the writer's steps: which contents each
 -- version has, and what readers see of them.
-use Rattle.std.specs.Prelude.{◌≡◌, ◌⊎◌, ℕ, ◌+◌, ◌<◌, ◌≤◌, List, [], ◌∷◌, length, reverse, slice_get, take, Option, Some, None, Bool, true, false}
+use Rattle.std.specs.Prelude.{◌≡◌, ◌⊎◌, ℕ, ◌+◌, ◌<◌, ◌≤◌, List, [], ◌∷◌, length, reverse, slice_get, take, Some, None, Bool, true, false}
 use Rattle.std.specs.List.{flat_map}
 use Rattle.wh_row.specs.Bag.{written}
 use Rattle.wh_maint.specs.Comp.{bag_at}
@@ -13,7 +13,7 @@ use Rattle.wh_core.specs.declared.event.Event.{Event}
 use Rattle.wh_core.specs.declared.event.Event.TheVariants.{Begin, Take, Done, PageIn, Commit, GiveUp, Open, Read, Close}
 use Rattle.wh_core.specs.declared.reply.Reply.{Reply}
 use Rattle.wh_core.specs.declared.reply.Reply.TheVariants as reply
-use Rattle.wh_core.specs.Log.{Deed, Log, Began, Committed, Gave_up, SessionOf, is_open, session}
+use Rattle.wh_core.specs.Log.{Log, Committed, Gave_up, SessionOf, is_open, session}
 use Rattle.wh_core.specs.Nights.{GivenNight, Setup}
 use Rattle.wh_core.specs.Laws.{IsSetup, log_after, pages_read}
 use Rattle.wh_core.specs.Replies.{IsLegalRun, IsMemory, goes_on}
