@@ -1,5 +1,5 @@
 -- What callers see of a desk, and how it is answered.
-use Rattle.std.specs.Prelude.{◌≡◌, ◌≢◌, ◌<◌, ◌≤◌, ℕ, false, Bool, IsTrue, List, length, Option, Some, None, refl}
+use Rattle.std.specs.Prelude.{◌≡◌, ◌≢◌, ◌<◌, ◌≤◌, ℕ, false, Bool, IsTrue, List, [], length, Option, Some, None, refl}
 use Rattle.std.specs.Coded.{Coded, code_by, coded×, coded_ℕ, coded_option}
 use mathlib.Core.List.{IsPrefix}
 use Rattle.left_right.specs.Sides.{view}
@@ -101,6 +101,10 @@ NotRead s t view SessionOpen = ⊥
 NotRead s t view (Expired of current active) = (v : ℕ) × Stays s t v × NoPage t v view (Expired of current active)
 NotRead s t view NoView = (v : ℕ) × Stays s t v × NoPage t v view NoView
 NotRead s t view Memory = (v : ℕ) × Stays s t v
+
+-- the page of a view in the session's version has a row
+abbrev pub ShowsRows : Sitting → ℕ → Option Row → ℕ → Type 0
+ShowsRows t view after limit = (v : ℕ) × (t.session ≡ Some v) × ((page_of (table_of (versions_seen t) v view) after limit).rows ≢ [])
 
 -- a version of a list that a desk saw has the same contents in each list that goes on from it
 abbrev pub SeenVersionsStay : Type 0

@@ -7,7 +7,7 @@ ghost use Rattle.wh_store.specs.Versions.{number};
 ghost use Rattle.wh_publish.specs.Ledgers.{versions_in};
 ghost use Rattle.wh_desk.specs.Known.{Begins};
 ghost use Rattle.wh_desk.specs.Rules.{IsCopy};
-ghost use Rattle.wh_desk.specs.Desks.{sitting, sitting_of, Knows, IsDesk, Grows, IsPage, NoPage, OpensAt, NotOpened, Reads, NotRead};
+ghost use Rattle.wh_desk.specs.Desks.{sitting, sitting_of, Knows, IsDesk, Grows, IsPage, NoPage, OpensAt, NotOpened, Reads, NotRead, ShowsRows};
 
 use crate::chair::{Chair, DeskFault};
 use crate::history::Told;
@@ -64,7 +64,8 @@ fn read(
     requires copy { IsCopy kept.now }
     requires least { 1 ≤ limit }
     requires most { limit ≤ 256 }
-    ensures { MatchResult result (λ page. IsPage (sitting kept.now.front (Some version)) version view (option_map (λ row. row.now) after.entry) limit page) (NoPage (sitting kept.now.front (Some version)) version view) }
+    ensures answer { MatchResult result (λ page. IsPage (sitting kept.now.front (Some version)) version view (option_map (λ row. row.now) after.entry) limit page) (NoPage (sitting kept.now.front (Some version)) version view) }
+    ensures memory { result ≡ Err DeskFault.Memory → ShowsRows (sitting kept.now.front (Some version)) view (option_map (λ row. row.now) after.entry) limit }
 {
     told_law();
     let store = &kept.store;
@@ -144,6 +145,7 @@ fn page_at(
     requires most { limit ≤ 256 }
     ensures desk { IsDesk result.0 }
     ensures answer { MatchResult result.1 (Reads (sitting_of chair) (sitting_of result.0) view (option_map (λ row. row.now) after.entry) limit) (NotRead (sitting_of chair) (sitting_of result.0) view) }
+    ensures memory { result.1 ≡ Err DeskFault.Memory → ShowsRows (sitting_of result.0) view (option_map (λ row. row.now) after.entry) limit }
 {
     let Chair {
         reader,
@@ -203,6 +205,7 @@ impl Desk {
     }
 
     /// A page of a view in the session's version: its first rows after this one, or from its beginning, at most `limit`, which is 1 to 256.
+    /// Memory is wanted for its rows alone.
     #[tactic(auto, using(crate::proofs::Growing::reads_grow))]
     pub fn page(
         &mut self,
@@ -214,6 +217,7 @@ impl Desk {
         requires most { limit ≤ 256 }
         ensures grows { Grows self.old self.new }
         ensures answer { MatchResult result (Reads self.old self.new view (option_map (λ row. row.now) after.entry) limit) (NotRead self.old self.new view) }
+        ensures memory { result ≡ Err DeskFault.Memory → ShowsRows self.new view (option_map (λ row. row.now) after.entry) limit }
     {
         replace_with(
             &mut self.chair,

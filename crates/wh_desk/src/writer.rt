@@ -1,6 +1,7 @@
 //! The writer of a warehouse.
 
-ghost use Rattle.std.specs.Prelude.{◌≡◌, ◌≤◌, ◌<◌, [], ◌∷◌, ◌++◌, None, Some, Ok, Err, drop, length, is_some, IfOk, IfErr, OnOk, IsTrue, MatchOption, MatchResult};
+ghost use Rattle.std.specs.Prelude.{◌≡◌, ◌≢◌, ◌≤◌, ◌<◌, [], ◌∷◌, ◌++◌, None, Some, Ok, Err, drop, length, is_some, IfOk, IfErr, OnOk, OnErr, IsTrue, MatchOption, MatchResult};
+ghost use Rattle.wh_row.specs.Bag.{empty};
 ghost use Rattle.wh_store.specs.Operations.{operation};
 ghost use Rattle.wh_store.specs.Refusals.{refusal};
 ghost use Rattle.wh_store.specs.Versions.{is_active, is_well_formed, number, table_in};
@@ -322,10 +323,11 @@ impl Writer {
         self.inner.raw.published().store.current_tables().len()
     }
 
-    /// The table of a view in the current version.
+    /// The table of a view in the current version. Memory is wanted for its rows alone.
     pub fn table(&self, view: usize) -> Result<Bag, AllocError>
         requires { view < length (versions_in self.now.ledger.of self.now.ledger.list).newest }
-        ensures { IfOk result (λ table. table ≡ table_in (versions_in self.now.ledger.of self.now.ledger.list).newest view) }
+        ensures table { IfOk result (λ table. table ≡ table_in (versions_in self.now.ledger.of self.now.ledger.list).newest view) }
+        ensures memory { OnErr result (table_in (versions_in self.now.ledger.of self.now.ledger.list).newest view ≢ empty) }
     {
         told_law();
         self.inner.raw.published().store.table(view)

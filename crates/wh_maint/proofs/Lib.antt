@@ -8,6 +8,7 @@ pub mod Differences
 mod DoneGroups
 mod Examples
 mod FirstAbsent
+mod FirstFaults
 pub mod FitTables
 mod FitTests
 pub mod Folds
@@ -17,6 +18,7 @@ pub mod FromScratch
 pub mod GroupChanges
 mod KeyedRows
 mod Lacking
+mod LargeTables
 mod Laying
 mod LostRows
 mod MadeRows

@@ -22,4 +22,5 @@ pub mod SummaryLaws
 pub mod Terms
 pub mod Value
 pub mod View
+pub mod Wants
 pub mod Width

@@ -127,6 +127,9 @@ fn add_change(
         ≡ count_of change.old q +ℤ count_in (row_after sums pending.now.columns old.entry group.now ++ negated (row_before old.entry)) q) }
     ensures sums { OnOk result (AfterFits sums pending.now.columns old.entry group.now) }
     ensures range { result ≡ Err RowFault.Range → ¬ (AfterFits sums pending.now.columns old.entry group.now) }
+
+    // Range comes before Memory.
+    ensures memory { result ≡ Err RowFault.Memory → AfterFits sums pending.now.columns old.entry group.now }
 {
     match add_new(alloc, pending, sums, old, group, change) {
         Ok(()) => match take_old(old, change) {
@@ -153,6 +156,9 @@ fn add_new(
     ensures change { OnOk result ((q : List ℤ) → count_of change.new q ≡ count_in (row_after sums pending.now.columns old.entry group.now) q +ℤ count_of change.old q) }
     ensures sums { OnOk result (AfterFits sums pending.now.columns old.entry group.now) }
     ensures range { result ≡ Err RowFault.Range → ¬ (AfterFits sums pending.now.columns old.entry group.now) }
+
+    // Range comes before Memory.
+    ensures memory { result ≡ Err RowFault.Memory → AfterFits sums pending.now.columns old.entry group.now }
 {
     match new_row(alloc, pending, sums, old, group) {
         Ok(Some(row)) => match add_times(change, row.as_slice(), 1) {
@@ -206,6 +212,9 @@ fn new_row(
     ensures row { IfOk result (λ row. made_row row ≡ row_after sums pending.now.columns old.entry group.now) }
     ensures sums { OnOk result (AfterFits sums pending.now.columns old.entry group.now) }
     ensures range { result ≡ Err RowFault.Range → ¬ (AfterFits sums pending.now.columns old.entry group.now) }
+
+    // Range comes before Memory.
+    ensures memory { result ≡ Err RowFault.Memory → AfterFits sums pending.now.columns old.entry group.now }
 {
     let Some(count) = new_cell(pending, sums, old, group, 0) else {
         unreachable!();
@@ -219,7 +228,7 @@ fn new_row(
     }
 }
 
-/// The group, its new count and its new sums.
+/// The group, its new count and its new sums. Where a sum leaves i64, that is the answer, also where memory is refused.
 fn with_cells(
     alloc: Global,
     pending: &Pending,
@@ -233,23 +242,37 @@ fn with_cells(
     requires count { count ≡ cell_after sums pending.now.columns old group.now 0 }
     ensures row { IfOk result (λ row. row.items ≡ group.now ++ map (cell_after sums pending.now.columns old.entry group.now) (range_with_len 0 (suc sums))) }
     ensures sums { OnOk result ((j : ℕ) → j < sums → FitsSigned w64 (cell_after sums pending.now.columns old.entry group.now (suc j))) }
-    ensures range { result ≡ Err RowFault.Range → ¬ ((j : ℕ) → j < sums → FitsSigned w64 (cell_after sums pending.now.columns old.entry group.now (suc j))) }
+    ensures range { (result ≡ Err RowFault.Range) ↔ ¬ ((j : ℕ) → j < sums → FitsSigned w64 (cell_after sums pending.now.columns old.entry group.now (suc j))) }
 {
     let Ok(mut row) = Row::from_slice(alloc, group) else {
-        return Err(RowFault::Memory);
+        return Err(first_fault(pending, sums, old, group));
     };
     let Ok(()) = row.push(count) else {
-        return Err(RowFault::Memory);
+        return Err(first_fault(pending, sums, old, group));
     };
     for number in 0..sums {
         let Some(sum) = new_cell(pending, sums, old, group, number + 1) else {
             return Err(RowFault::Range);
         };
         let Ok(()) = row.push(sum) else {
-            return Err(RowFault::Memory);
+            return Err(first_fault(pending, sums, old, group));
         };
     }
     Ok(row)
+}
+
+/// Why a group has no new row where memory was refused: one of its new sums leaves i64, or else it is that.
+fn first_fault(pending: &Pending, sums: usize, old: Option<&[i64]>, group: &[i64]) -> RowFault
+    requires columns { length pending.now.columns ≡ suc sums }
+    requires wide { IsWide sums old }
+    ensures { (result ≡ RowFault.Range) ↔ ¬ ((j : ℕ) → j < sums → FitsSigned w64 (cell_after sums pending.now.columns old.entry group.now (suc j))) }
+{
+    for number in 0..sums {
+        let Some(_) = new_cell(pending, sums, old, group, number + 1) else {
+            return RowFault::Range;
+        };
+    }
+    RowFault::Memory
 }
 
 /// The group's new count, in column 0, or the new sum of a later column, where it fits i64.

@@ -111,6 +111,10 @@ lacking_none : {T : Type 0} (o : Option T) → lacking o None ≡ None
 lacking_none None = refl
 lacking_none (Some v) = refl
 
+either_some : {T : Type 0} (o t : Option T) → o ≢ None → either o t ≢ None
+either_some None t h = absurd (h refl)
+either_some (Some v) t h = λ z. let bad : Some v ≡ None = z in cc
+
 -- ---- values that are combined in place, row by row
 
 pub record IsBringing {T : Type 0} (allowed : T → T → Option T → Type 0) (old other now rest : List (Row × T)) : Type 0 where
@@ -172,7 +176,11 @@ module _ {T : Type 0} (allowed : T → T → Option T → Type 0) (old other : L
       ] refl;
     }
 
-    -- a row of both gets what the two values give
+    -- a row of both is there still
+    pub bringing_there : found e.0 old ≢ None → found e.0 now ≢ None
+    bringing_there some = λ z. either_some (found e.0 old) (found e.0 other) some (sym (is.left e.0 some_first).0 ∙ z)
+
+    -- and gets what the two values give
     pub bringing_changed : (new : List (Row × T)) → found e.0 old ≢ None
         → ((v : T) → found e.0 now ≡ Some v → (o : Option T) × allowed v e.1 o × ((q : Row) → found q new ≡ cond (is_row q e.0) o (found q now)))
         → IsBringing allowed old other new rest

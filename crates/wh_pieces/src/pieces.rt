@@ -281,15 +281,13 @@ impl<T: Copy + Drop> Pieces<T> {
     /// Combines the value at a row that is here with another. Where that gives none, the row is removed.
     pub(crate) fn combine_at<F: Fn(T, T) -> Option<T>>(&mut self, row: &[i64], more: T, combine: &F)
         requires callable { F.IsAlwaysCallable combine.now }
+        requires there { found row.now self.old ≢ None }
         ensures { (v : T) → found row.now self.old ≡ Some v → (o : Option T) × (F.post combine.now v more o)
             × ((q : List ℤ) → found q self.new ≡ cond (is_row q row.now) o (found q self.old)) }
     {
-        if self.pieces.is_empty() {
-            return;
-        }
         let nth = find_piece(&self.pieces, row);
         let Ok(here) = self.pieces[nth].find(row) else {
-            return;
+            unreachable!()
         };
         match combine(self.pieces[nth].get(here).1, more) {
             Some(sum) => self.pieces[nth].set(here, sum),

@@ -1,6 +1,6 @@
 //! A tree of decisions on the couples, explored in preorder only where it must be.
 
-ghost use Rattle.std.specs.Prelude.{◌≡◌, ◌+◌, ◌++◌, ◌∷◌, ◌^◌, ◌≤◌, ℕ, List, [], length, IfOk, IfErr, OnOk, MatchOption};
+ghost use Rattle.std.specs.Prelude.{◌≡◌, ◌+◌, ◌++◌, ◌∷◌, ◌^◌, ◌≤◌, ℕ, List, [], length, Err, IfOk, IfErr, OnOk, MatchOption};
 ghost use Rattle.wh_dag.specs.Shape.{IsShape};
 ghost use Rattle.wh_dag.specs.Siblings.{couples_of};
 ghost use Rattle.wh_strategy.specs.Sizes.{Size, sizes_of};
@@ -176,6 +176,9 @@ impl<'a> Search<'a> {
         ensures nodes { IfOk result (λ _. length self.new.nodes.items + 1 ≤ length self.old.nodes.items + 2 ^ (left + 1)) }
         ensures explored { IfOk result (λ _. IsExplored shape.now.children (sizes_of sizes.now) costs.comp costs.inst self.new.best (left + 1) self.old.draft.decided self.old.nodes.items self.new.nodes.items) }
         ensures err { IfErr result (IsStopped budget (length self.old.nodes.items + 2 ^ (left + 1)) self.new.best) }
+
+        // A budget that is spent is told before memory is wanted.
+        ensures spent { budget ≤ length self.old.nodes.items → result ≡ Err (PruneFault.Budget budget self.old.best) }
     {
         let opened = self.nodes.len() as u64;
         if budget <= opened {

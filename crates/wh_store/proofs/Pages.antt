@@ -1,5 +1,5 @@
 -- Rows after a row, and pages of them.
-use Rattle.std.proofs.Common.{◌≡◌, refl, ap, ℕ, [], ◌∷◌, length, take, IfOk, Result, subst, Option, None}
+use Rattle.std.proofs.Common.{◌≡◌, ◌≢◌, refl, ap, ℕ, [], ◌∷◌, length, take, IfOk, OnErr, Result, subst, Option, None}
 use Rattle.std.specs.Prelude.{nat_le, filter}
 use Rattle.std.specs.declared.alloc.AllocError.{AllocError}
 use Rattle.wh_row.specs.Bag.{Bag}
@@ -21,4 +21,11 @@ pub page_is : (r : Result Shown AllocError) (table : Bag) (after : Option Row) (
     → IfOk r (λ page. page ≡ first_of rows limit) → IfOk r (λ page. page ≡ page_of table after limit)
 page_is r table after limit rows e h =
     let P : Counted → Type 0 = λ es. IfOk r (λ page. page ≡ first_of es limit) in
+    subst P e h
+
+-- and where memory is refused for them, the page has some
+pub page_lacks : (r : Result Shown AllocError) (table : Bag) (after : Option Row) (limit : ℕ) (rows : Counted) → rows ≡ rows_after table after
+    → OnErr r (take limit rows ≢ []) → OnErr r ((page_of table after limit).rows ≢ [])
+page_lacks r table after limit rows e h =
+    let P : Counted → Type 0 = λ es. OnErr r (take limit es ≢ []) in
     subst P e h

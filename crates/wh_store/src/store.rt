@@ -262,7 +262,7 @@ impl Store {
     }
 
     /// A page of a view in a version that sessions can be read of: its first rows after this one, or from its beginning, at
-    /// most `limit`, which is 1 to 256.
+    /// most `limit`, which is 1 to 256. Memory is wanted for its rows alone.
     pub fn visible(
         &self,
         version: u64,
@@ -276,6 +276,7 @@ impl Store {
         requires most { limit ≤ 256 }
         ensures page { IfOk result (λ page. page ≡ page_of (table_in (kept_version self.now version) view) (option_map (λ row. row.now) after.entry) limit) }
         ensures of_list { IfOk result (λ page. (opening : Contents) (ops : List Operation) → Shows self.now opening ops → page ≡ page_of (table_of (versions_of opening ops) version view) (option_map (λ row. row.now) after.entry) limit) }
+        ensures memory { OnErr result ((page_of (table_in (kept_version self.now version) view) (option_map (λ row. row.now) after.entry) limit).rows ≢ []) }
     {
         page_of(self.alloc, &self.tables(version)[view], after, limit)
     }
@@ -289,11 +290,12 @@ impl Store {
         self.held[newest].as_slice()
     }
 
-    /// The table of a view in the current version.
+    /// The table of a view in the current version. Memory is wanted for its rows alone.
     pub fn table(&self, view: usize) -> Result<Bag, AllocError>
         requires { view < length (current self.now) }
         ensures table { IfOk result (λ table. table ≡ table_in (current self.now) view) }
         ensures of_list { IfOk result (λ table. (opening : Contents) (ops : List Operation) → Shows self.now opening ops → table ≡ table_in (versions_of opening ops).newest view) }
+        ensures memory { OnErr result (table_in (current self.now) view ≢ empty) }
     {
         let place = if self.active { 1 } else { 0 };
         match self.held[place][view].copy(self.alloc) {

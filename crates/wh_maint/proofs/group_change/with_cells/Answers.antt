@@ -1,6 +1,7 @@
 use Rattle.std.proofs.Common.{rules, ◌≡◌, ℕ, suc, ◌+◌, ap, subst, ◌∙◌, ◌++◌, [], ◌∷◌, ℤ, FitsSigned, to_z-of_z, arith}
 use mir.Syntax.{w64}
 use Rattle.wh_maint.specs.Finishing.{cell_after}
+use Rattle.wh_maint.proofs.FirstFaults.{err_where}
 use Rattle.wh_maint.proofs.MadeRows.{next_cells, next_fits}
 use Rattle.wh_maint.proofs.group_change.with_cells.Goals as goal
 
@@ -16,3 +17,6 @@ loop-number-preserved c =
           (c.in-Ok-push-2.ensures.items ∙ ap (λ z. c.loop-number.row.items ++ z ∷ []) (to_z-of_z fits)) is (ap suc next);
       fit = next_fits f n (subst (FitsSigned w64) is fits) c.loop-number.invariant.fit;
     }
+
+pub returns-in_default-push-2-clause-range : goal.returns-in_default-push-2-clause-range
+returns-in_default-push-2-clause-range c = err_where c.first_fault-in_default-push-2.result _ c.first_fault-in_default-push-2.ensures

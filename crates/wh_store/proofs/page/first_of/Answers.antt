@@ -21,7 +21,7 @@ last_told shows (Some x) rest next es limit false is told step =
     let many : limit < length es = omega (arith, length-drop limit es) in
     grind (arith, nat_tests)
 
-pub returns : goal.returns
-returns c =
+pub returns-clause-page : goal.returns-clause-page
+returns-clause-page c =
     let last = last_told lent c.next.result c.in_ok-rows.rest _ c.args.rows c.args.limit c.is_none-last.result c.in_ok-rows.ensures.rest c.is_none-last.ensures c.next.ensures.steps in
     λ i. record { rows = c.in_ok-rows.ensures.first i; last = last i }

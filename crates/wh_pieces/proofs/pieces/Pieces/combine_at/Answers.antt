@@ -13,15 +13,15 @@ find-requires g c =
     let at = c.find_piece-nth.ensures in
     subst (λ (x : List (Row × g.row.T.Denot)). AreRisingRows x) (sym (piece_read ls nth c.index.result.now at.within c.index.ensures)) (rising-nth ls nth at.within c.self.invariant.pieces.rising)
 
-pub returns-in_default : goal.returns-in_default
-returns-in_default g c = λ v h.
+pub unreachable-requires : goal.unreachable-requires
+unreachable-requires g c =
     let ls = c.self.inside.pieces.items in
     let nth = c.find_piece-nth.result in
     let at = c.find_piece-nth.ensures in
     let row = c.args.row.now in
     let place = c.in_default.field-0 in
     let gap = subst (λ (x : List (Row × g.row.T.Denot)). IsGapFor row x place) (piece_read ls nth c.index.result.now at.within c.index.ensures) c.in_default.ensures in
-    absurd (let bad : None ≡ Some v = sym (ap (found row) (sym c.self.view_is) ∙ found_nowhere row ls nth place at gap c.self.invariant.pieces.rising) ∙ h in cc)
+    c.requires.there (sym (ap (found row) c.self.view_is) ∙ found_nowhere row ls nth place at gap c.self.invariant.pieces.rising)
 
 pub invariant_of-self : goal.invariant_of-self
 invariant_of-self g c =

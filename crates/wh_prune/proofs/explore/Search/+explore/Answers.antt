@@ -14,6 +14,14 @@ returns-then-budget-opened-clause-err t c =
     let within : length c.args.self.now.nodes.items ≤ c.args.budget = c.requires.budget in
     (omega arith, refl, omega arith)
 
+pub returns-then-budget-opened-clause-spent : goal.returns-then-budget-opened-clause-spent
+returns-then-budget-opened-clause-spent t c = λ _.
+    let full : c.args.budget ≤ c.len-opened.result = c.if-budget-opened.true in
+    let len : c.len-opened.result ≡ length c.args.self.now.nodes.items = search rules in
+    let within : length c.args.self.now.nodes.items ≤ c.args.budget = c.requires.budget in
+    let opened : c.len-opened.result ≡ c.args.budget = omega arith in
+    cc
+
 pub returns-in_default-clause-nodes : goal.returns-in_default-clause-nodes
 returns-in_default-clause-nodes t c =
     let some = some_power c.args.left in
