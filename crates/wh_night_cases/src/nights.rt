@@ -3,6 +3,7 @@
 mod calls;
 mod carried;
 mod closures;
+mod counted;
 mod drawn;
 mod groups;
 mod indexed;

@@ -3,7 +3,8 @@
 use std::alloc::Global;
 use std::test::Fail;
 use wh_dag::Catalog;
-use wh_given::catalogs::{Cell, Every, joined, one_way};
+use wh_formula::{RowTest, RowValue};
+use wh_given::catalogs::{joined, one_way};
 use wh_given::tables::{bag, two_bags};
 use wh_maint::are_bags;
 use wh_night::{Carried, CarryFault, are_fit, carry};
@@ -25,9 +26,9 @@ fn changes(alloc: Global, of_a: &[(&[i64], i64)]) -> Result<Vec<Bag>, Fail> {
 }
 
 /// Carries the list out from these tables, with these changes. None where they are not what a night asks for.
-fn carried(
+pub(crate) fn carried<F: RowTest, G: RowValue>(
     alloc: Global,
-    catalog: &Catalog<Every, Cell>,
+    catalog: &Catalog<F, G>,
     tables: &[Bag],
     changes: &[Bag],
     list: Strategy,

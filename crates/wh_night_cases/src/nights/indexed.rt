@@ -10,7 +10,7 @@ use wh_maint::{Index, Pending, Wants};
 use wh_row::Bag;
 
 /// a holds (k, k mod 10) for k from 0 to 3999, each so often.
-fn of_a(alloc: Global, times: i64) -> Result<Bag, Fail> {
+pub(crate) fn of_a(alloc: Global, times: i64) -> Result<Bag, Fail> {
     let mut rows = Bag::new(alloc);
     for k in 0..4000_i64 {
         rows.add(&[k, k % 10], times)?;
@@ -19,7 +19,7 @@ fn of_a(alloc: Global, times: i64) -> Result<Bag, Fail> {
 }
 
 /// b holds (j, j + 100) for j from 0 to 9.
-fn of_b(alloc: Global) -> Result<Bag, Fail> {
+pub(crate) fn of_b(alloc: Global) -> Result<Bag, Fail> {
     let mut rows = Bag::new(alloc);
     for j in 0..10_i64 {
         rows.add(&[j, j + 100], 1)?;
@@ -28,7 +28,7 @@ fn of_b(alloc: Global) -> Result<Bag, Fail> {
 }
 
 /// These rows of a, those of b, and a view without rows.
-fn tables(alloc: Global, a: Bag, b: Bag) -> Result<Vec<Bag>, Fail> {
+pub(crate) fn tables(alloc: Global, a: Bag, b: Bag) -> Result<Vec<Bag>, Fail> {
     let mut tables = Vec::new(alloc);
     tables.push(a)?;
     tables.push(b)?;
