@@ -32,8 +32,10 @@ pub struct Core<F: RowTest, G: RowValue> {
 }
 
 impl<F: RowTest + Drop, G: RowValue + Drop> Core<F, G> {
-    /// A machine that has done nothing yet, over these tables. A night is the changes of the base views and a strategy that
-    /// was judged over this catalogue's shape. There are 1 to 16 desks and as many workers, and a page has 1 to 256 rows.
+    /// A machine that has done nothing yet, over these tables: the contents of a base, as `opening_contents` gives them, and from
+    /// such contents `carry` and a published night. That tables are fit (`are_fit`) does not suffice. A night is the changes of the
+    /// base views and a strategy that was judged over this catalogue's shape. There are 1 to 16 desks and as many workers, and a page
+    /// has 1 to 256 rows.
     pub fn new(
         alloc: Global,
         catalog: Catalog<F, G>,

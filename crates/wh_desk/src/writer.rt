@@ -312,9 +312,11 @@ impl Writer {
         self.inner.held.is_some() || self.inner.raw.has_pending_operations()
     }
 
-    /// How many views there are.
+    /// How many views there are: every version has a table for each.
+    #[tactic(auto, using(wh_publish::proofs::Views::newest_tables))]
     pub fn views(&self) -> usize
-        ensures { result ≡ length (versions_in self.now.ledger.of self.now.ledger.list).newest }
+        ensures opening { result ≡ length self.now.ledger.of.opening }
+        ensures newest { result ≡ length (versions_in self.now.ledger.of self.now.ledger.list).newest }
     {
         told_law();
         self.inner.raw.published().store.current_tables().len()
@@ -369,6 +371,10 @@ impl Publish for Writer {
 
     fn held(&self) -> bool {
         Writer::held(self)
+    }
+
+    fn views(&self) -> usize {
+        Writer::views(self)
     }
 
     fn table(&self, view: usize) -> Result<Bag, AllocError> {

@@ -1,9 +1,9 @@
 -- Where nothing is held and no night is open.
-use Rattle.std.proofs.Common.{◌≡◌, ap, sym, List, Option, Some, None, Bool, true, false}
-use Rattle.std.specs.Prelude.{is_some, IsTrue}
+use Rattle.std.proofs.Common.{◌≡◌, ap, sym, List, Option, Some, None, false}
+use Rattle.std.specs.Prelude.{is_some}
 use Rattle.wh_store.specs.Operations.{Operation}
 use Rattle.wh_store.specs.Versions.{is_active}
-use Rattle.wh_publish.specs.Ledgers.{Ledger, Warehouse, closed, is_busy, ledger, versions_in}
+use Rattle.wh_publish.specs.Ledgers.{Ledger, Warehouse, closed, ledger, versions_in}
 use Rattle.wh_publish.specs.Faults.{Ends, ended}
 use Rattle.wh_publish.specs.declared.ended.Ended.TheVariants.{NoneOpen}
 

@@ -1,5 +1,5 @@
 -- Why an operation is not published, what a refusal leaves, and how a night ends.
-use Rattle.std.specs.Prelude.{◌≡◌, ◌⊎◌, ℕ, Bool, true, false, IsTrue, List, Option, Some, None, option_map, is_some, if◌then◌else◌, Result, Ok, Err}
+use Rattle.std.specs.Prelude.{◌≡◌, ◌⊎◌, ℕ, Bool, true, false, IsTrue, Option, Some, None, option_map, is_some, if◌then◌else◌, Result, Ok, Err}
 use Rattle.wh_store.specs.Operations.{Operation, Opens, Writes, Commits, Gives_up}
 use Rattle.wh_store.specs.Refusals.{refusal}
 use Rattle.wh_store.specs.declared.fault.StoreFault.{StoreFault}

@@ -1,6 +1,6 @@
 -- What has been published of a warehouse, and what waits to be.
-use Rattle.std.specs.Prelude.{ℕ, List, [], ◌∷◌, ◌++◌, Option, Some, None, is_some, Bool, true, false, ◌||◌, if◌then◌else◌}
-use Rattle.wh_store.specs.Operations.{Operation, Opens, Writes, Commits, Gives_up}
+use Rattle.std.specs.Prelude.{ℕ, List, [], ◌∷◌, ◌++◌, Option, Some, None, is_some, Bool, true, false, ◌||◌}
+use Rattle.wh_store.specs.Operations.{Operation, Gives_up}
 use Rattle.wh_store.specs.Pages.{Contents}
 use Rattle.wh_store.specs.Versions.{Versions, is_active, versions_of}
 use Rattle.wh_store.specs.Windows.{Window, window}

@@ -48,6 +48,11 @@ pub trait Publish {
     fn held(&self) -> bool
         ensures { result ≡ is_some (kept self.now).held };
 
+    /// How many views there are: every version has a table for each.
+    fn views(&self) -> usize
+        ensures opening { result ≡ length (kept self.now).of.opening }
+        ensures newest { result ≡ length (versions_in (kept self.now).of (kept self.now).list).newest };
+
     /// The table of a view in the current version.
     fn table(&self, view: usize) -> Result<Bag, AllocError>
         requires nothing_held { (kept self.now).held ≡ None }

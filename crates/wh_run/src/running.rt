@@ -277,6 +277,9 @@ fn run<P: Publish, F: RowTest, G: RowValue, T: Gate + Sync, R: Threads + Wait + 
 /// fit, as the contents of a base are (`are_fit` tests it). There is a change for each view; those of derived views are not
 /// read. The strategy was judged over this catalogue's shape (`is_of` tests it). Readers go on meanwhile.
 ///
+/// [`Publish::views`] says how many views are published, and [`current_tables`] hands out their tables to be tested. The contents of
+/// a base are fit without a test: `opening_contents` gives them, and from them `carry` and each night.
+///
 /// First Held, NightOpen and LastVersion are tested, then the base changes, view by view: Absent, then Large. Then the
 /// night begins. Before a wave the derived views that its jobs are from are finished, by rising number; then its jobs are
 /// computed, and then added to what is pending, in the order of the strategy. At the Inst of a derived view that is not

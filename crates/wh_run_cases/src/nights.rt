@@ -7,4 +7,5 @@ mod published;
 mod refusing;
 mod run;
 mod telling;
+mod tested;
 mod warehouse;

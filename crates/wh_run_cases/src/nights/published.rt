@@ -2,6 +2,7 @@
 
 use crate::nights::refusing::{Refusals, Refusing};
 use crate::nights::run::has_rows;
+use crate::nights::tested::tested_night;
 use crate::nights::warehouse::{changes, one_worker, opening, store_of};
 use std::alloc::{AllocError, Global};
 use std::process::Abort;
@@ -9,7 +10,7 @@ use std::sync::Wait;
 use std::test::Fail;
 use std::thread::Threads;
 use wh_dag::Catalog;
-use wh_given::catalogs::{Cell, Every, joined, one_way};
+use wh_given::catalogs::{Cell, Every, joined, one_way, summed};
 use wh_maint::are_bags;
 use wh_night::{Report, are_fit};
 use wh_publish::{Ended, Publish};
@@ -224,4 +225,23 @@ fn a_night_whose_commit_is_held(rt: HostRuntime) -> Result<(), Fail> {
 #[test]
 fn a_night_that_nothing_refuses(rt: HostRuntime) -> Result<(), Fail> {
     assert_night(&rt, rt.alloc(), at(0, false, 0), Ok(1), &NIGHT)
+}
+
+// Of two catalogues, one has the three views that are published and one has two.
+#[test]
+fn a_night_that_is_tested_first(rt: HostRuntime) -> Result<(), Fail> {
+    let alloc = rt.alloc();
+    let (setting, mut writer) = set(alloc, at(0, false, 0))?;
+    let Setting {
+        catalog,
+        changes,
+        correct,
+    } = &setting;
+    let other = summed(alloc)?;
+    let writer = &mut writer;
+    let night = tested_night(&rt, alloc, writer, &other, changes, correct, one_worker())?;
+    assert!(rt; night.is_none());
+    let night = tested_night(&rt, alloc, writer, catalog, changes, correct, one_worker())?;
+    assert!(rt; night.is_some_and(|night| told(&night) == Ok(1)));
+    Ok(())
 }

@@ -189,6 +189,11 @@ impl Publish for Refusing {
         self.held.is_some()
     }
 
+    #[tactic(auto, using(wh_publish::proofs::Views::newest_tables))]
+    fn views(&self) -> usize {
+        self.journal.tables().len()
+    }
+
     fn table(&self, view: usize) -> Result<Bag, AllocError> {
         self.journal.table(view)
     }

@@ -2,6 +2,7 @@
 
 ghost use Rattle.std.specs.Prelude.{◌≤◌};
 
+use crate::nights::tested::tested_night;
 use std::alloc::Global;
 use std::sync::Wait;
 use std::test::Fail;
@@ -13,7 +14,7 @@ use wh_given::tables::{bag, two_bags};
 use wh_maint::are_bags;
 use wh_night::{Report, are_fit};
 use wh_row::Bag;
-use wh_run::{Left, NightFault, NoGate, Options, night};
+use wh_run::{Left, NightFault, Options};
 use wh_store::Store;
 use wh_strategy::{Correct, check};
 
@@ -44,13 +45,7 @@ fn over_writer<R: Threads + Wait + Sync>(
 ) -> Result<Option<Answer>, Fail>
     requires { (1 ≤ workers) × (workers ≤ 16) }
 {
-    if !correct.is_of(catalog.shape())
-        || !are_bags(catalog, &tables)
-        || !are_bags(catalog, changes)
-    {
-        return Ok(None);
-    }
-    if !are_fit(alloc, catalog, &tables)? {
+    if !are_bags(catalog, &tables) || !are_fit(alloc, catalog, &tables)? {
         return Ok(None);
     }
     let store = Store::new(alloc, tables)?;
@@ -61,19 +56,13 @@ fn over_writer<R: Threads + Wait + Sync>(
         workers,
         page_keys: 256,
     };
-    let night = night(
-        rt,
-        alloc,
-        &mut writer,
-        catalog,
-        changes,
-        correct,
-        options,
-        &NoGate,
-    );
+    let night = tested_night(rt, alloc, &mut writer, catalog, changes, correct, options);
     let table = table_of(&writer);
     writer.end(rt);
-    Ok(Some(Answer { night, table }))
+    match night? {
+        Some(night) => Ok(Some(Answer { night, table })),
+        None => Ok(None),
+    }
 }
 
 /// Carries the one-way strategy out from these opening rows of v, with this change of a, and b -(10,5) +(10,6), with one worker.
