@@ -7,3 +7,5 @@
 mod machine;
 #[cfg(test)]
 mod served;
+#[cfg(test)]
+mod watched;

@@ -8,18 +8,26 @@ use wh_given::catalogs::{joined, one_way};
 use wh_given::tables::{bag, two_bags};
 use wh_maint::are_bags;
 use wh_night::{CarryFault, are_fit};
-use wh_readers::{Served, serve_night};
+use wh_readers::{NoWatch, Readers, Served, Watch, serve_night};
 use wh_row::Bag;
 use wh_run::Options;
 use wh_strategy::check;
 
-/// The night over a(x,y) with (1,10) and (2,10), b(y,z) with (10,5) and v, which joins them, beside so many readers; a changes
+/// So many readers, of which nothing is told.
+fn unwatched(count: usize) -> Readers<'static, NoWatch> {
+    Readers {
+        count,
+        watch: &NoWatch,
+    }
+}
+
+/// The night over a(x,y) with (1,10) and (2,10), b(y,z) with (10,5) and v, which joins them, beside these readers; a changes
 /// so, and b by -(10,5) +(10,6). None where it is not what a night asks for.
-fn served<R: Threads + Wait + Sync>(
+pub(crate) fn served<W: Watch + Sync, R: Threads + Wait + Sync>(
     rt: &R,
     alloc: Global,
     change: &[(&[i64], i64)],
-    readers: usize,
+    readers: Readers<'_, W>,
 ) -> Result<Option<Result<Served, CarryFault>>, Fail> {
     let mut tables = two_bags(alloc, &[(&[1, 10], 1), (&[2, 10], 1)], &[(&[10, 5], 1)])?;
     tables.push(bag(alloc, &[(&[1, 5], 1), (&[2, 5], 1)])?)?;
@@ -32,7 +40,7 @@ fn served<R: Threads + Wait + Sync>(
     if !correct.is_of(catalog.shape())
         || !are_bags(&catalog, &tables)
         || !are_bags(&catalog, &changes)
-        || readers > 16
+        || readers.count > 16
     {
         return Ok(None);
     }
@@ -49,7 +57,7 @@ fn served<R: Threads + Wait + Sync>(
 }
 
 /// Whether each of so many readers was given the five rows of before, and v then has (1,6) and (3,6).
-fn is_served(answer: &Option<Result<Served, CarryFault>>, readers: usize) -> bool {
+pub(crate) fn is_served(answer: &Option<Result<Served, CarryFault>>, readers: usize) -> bool {
     let Some(Ok(served)) = answer else {
         return false;
     };
@@ -69,7 +77,8 @@ fn is_served(answer: &Option<Result<Served, CarryFault>>, readers: usize) -> boo
 #[test]
 fn night_with_readers(rt: HostRuntime) -> Result<(), Fail> {
     for readers in [0, 2, 16] {
-        let answer = served(&rt, rt.alloc(), &[(&[2, 10], -1), (&[3, 10], 1)], readers)?;
+        let change: [(&[i64], i64); 2] = [(&[2, 10], -1), (&[3, 10], 1)];
+        let answer = served(&rt, rt.alloc(), &change, unwatched(readers))?;
         assert!(rt; is_served(&answer, readers));
     }
     Ok(())
@@ -77,7 +86,7 @@ fn night_with_readers(rt: HostRuntime) -> Result<(), Fail> {
 
 #[test]
 fn absent_row_with_readers(rt: HostRuntime) -> Result<(), Fail> {
-    let answer = served(&rt, rt.alloc(), &[(&[9, 9], -1)], 2)?;
+    let answer = served(&rt, rt.alloc(), &[(&[9, 9], -1)], unwatched(2))?;
     let refused = match &answer {
         Some(Err(fault)) => fault.fault.number() == 4 && !fault.started,
         _ => false,

@@ -222,6 +222,13 @@ impl Desk {
         )
     }
 
+    /// The version of the session that is open, if one is.
+    pub fn session(&self) -> Option<u64>
+        ensures { result ≡ self.now.session }
+    {
+        self.chair.session
+    }
+
     /// Ends the session, where one is open.
     pub fn close(&mut self) -> Result<(), DeskFault>
         ensures closed { self.new ≡ record self.old { session = None } }

@@ -5,6 +5,8 @@
 mod laws;
 mod reading;
 mod serving;
+mod watch;
 
 pub use laws::{desks_answer_as_the_machine, told_pages_are_of_contents};
-pub use serving::{Served, serve_night};
+pub use serving::{Readers, Served, serve_night};
+pub use watch::{NoWatch, Watch};

@@ -10,6 +10,7 @@ ghost use Rattle.wh_store.specs.Versions.{table_in};
 ghost use Rattle.wh_publish.specs.Ledgers.{Warehouse};
 ghost use Rattle.wh_readers.specs.Serving.{IsReady, rows_of};
 
+use crate::watch::Watch;
 use std::alloc::Global;
 use std::thread::{Threads, join};
 use wh_desk::Desk;
@@ -103,6 +104,24 @@ fn rows_in_all(alloc: Global, desk: Desk, views: usize) -> Option<usize>
     Some(rows)
 }
 
+/// The same, and the watch is told as the reader of this number begins, and as it ends.
+fn read_watched<W: Watch>(
+    alloc: Global,
+    desk: Desk,
+    views: usize,
+    reader: usize,
+    watch: &W,
+) -> Option<usize>
+    requires { IsReady views desk }
+    ensures { IfSome result (λ n. n ≡ rows_of desk.of.opening) }
+{
+    let version = desk.session()?;
+    watch.entered(reader, version);
+    let rows = rows_in_all(alloc, desk, views);
+    watch.left(reader);
+    rows
+}
+
 /// What all readers were given, with one more.
 fn with_one(all: Option<Vec<usize>>, rows: Option<usize>) -> Option<Vec<usize>>
     ensures { IfSome result (λ both. (one : ℕ) × (others : List ℕ) × (rows ≡ Some one) × (option_map (λ v. v.items) all ≡ Some others) × (both.items ≡ others ++ one ∷ [])) }
@@ -116,11 +135,12 @@ fn with_one(all: Option<Vec<usize>>, rows: Option<usize>) -> Option<Vec<usize>>
 
 /// Has each desk go through all views: starts the last one, and then the others beside it. Answers how many distinct rows each
 /// was given.
-pub(crate) fn read_each<R: Threads + Sync>(
+pub(crate) fn read_each<W: Watch + Sync, R: Threads + Sync>(
     rt: &R,
     alloc: Global,
     desks: Vec<Desk>,
     views: usize,
+    watch: &W,
 ) -> Option<Vec<usize>>
     requires { All (IsReady views) desks.items }
     ensures { (of : Warehouse) → All (λ d. d.of ≡ of) desks.items → IfSome result (λ rows. rows.items ≡ replicate (length desks.items) (rows_of of.opening)) }
@@ -129,16 +149,17 @@ pub(crate) fn read_each<R: Threads + Sync>(
     let Some(desk) = desks.pop() else {
         return Some(Vec::new(alloc));
     };
+    let reader = desks.len();
     let (rows, all) = join(
         rt,
         move || -> Option<usize>
             requires { IsReady views desk }
             ensures { IfSome result (λ n. n ≡ rows_of desk.of.opening) }
-        { rows_in_all(alloc, desk, views) },
+        { read_watched(alloc, desk, views, reader, watch) },
         move || -> Option<Vec<usize>>
-            requires { IsSync R.row × All (IsReady views) desks.items }
+            requires { IsSync R.row × IsSync W.row × All (IsReady views) desks.items }
             ensures { (of : Warehouse) → All (λ d. d.of ≡ of) desks.items → IfSome result (λ rows. rows.items ≡ replicate (length desks.items) (rows_of of.opening)) }
-        { read_each(rt, alloc, desks, views) },
+        { read_each(rt, alloc, desks, views, watch) },
     );
     with_one(all, rows)
 }

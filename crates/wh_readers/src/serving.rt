@@ -21,6 +21,7 @@ ghost use Rattle.wh_store.specs.Windows.{Shows, current};
 ghost use Rattle.wh_readers.specs.Serving.{CanRun, IsReady, IsRun, IsSeated, IsServed, newly, rows_of};
 
 use crate::reading::read_each;
+use crate::watch::Watch;
 use std::alloc::Global;
 use std::sync::Wait;
 use std::thread::{Threads, join_mut};
@@ -30,9 +31,18 @@ use wh_formula::{RowTest, RowValue};
 use wh_maint::MaintFault;
 use wh_night::{Carried, CarryFault, Report};
 use wh_row::Bag;
-use wh_run::{Left, NightCause, NightFault, NoGate, Options, current_tables, night, night_alone};
+use wh_run::{Left, NightCause, NightFault, Options, current_tables, night, night_alone};
 use wh_store::Store;
 use wh_strategy::Correct;
+
+/// Who reads beside a night.
+#[derive(Drop)]
+pub struct Readers<'w, W> {
+    /// How many readers there are, 0 to 16, each in a thread of its own where one can be started.
+    pub count: usize,
+    /// Is told of each reader, and of each job of the night.
+    pub watch: &'w W,
+}
 
 /// What a night made while readers were served.
 #[derive(Drop)]
@@ -58,8 +68,8 @@ fn sit_down(desks: &mut Vec<Desk>) -> bool
     true
 }
 
-/// Runs a night while desks go through all views, each in a thread of its own where one can be started.
-fn beside_readers<F: RowTest, G: RowValue, R: Threads + Wait + Sync>(
+/// Runs a night while desks go through all views, each in a thread of its own where one can be started, and else after the night.
+fn beside_readers<F: RowTest, G: RowValue, W: Watch + Sync, R: Threads + Wait + Sync>(
     rt: &R,
     alloc: Global,
     writer: &mut Writer,
@@ -69,6 +79,7 @@ fn beside_readers<F: RowTest, G: RowValue, R: Threads + Wait + Sync>(
     changes: &[Bag],
     correct: &Correct,
     options: Options,
+    watch: &W,
 ) -> (Option<Vec<usize>>, Result<Report, NightFault>)
     requires seated { All (IsReady views) desks.old.items }
     requires same { All (λ d. d.of ≡ writer.old.ledger.of) desks.old.items }
@@ -77,28 +88,22 @@ fn beside_readers<F: RowTest, G: RowValue, R: Threads + Wait + Sync>(
     ensures night { IsRun catalog.now correct.now.list writer.old.ledger changes.now options.page_keys result.1 writer.new.ledger }
 {
     if desks.is_empty() {
-        let night = night(
-            rt, alloc, writer, catalog, changes, correct, options, &NoGate,
-        );
+        let night = night(rt, alloc, writer, catalog, changes, correct, options, watch);
         return (Some(Vec::new(alloc)), night);
     }
     join_mut(
         rt,
         &mut || -> Option<Vec<usize>>
-            requires { IsSync R.row × All (IsReady views) desks.now.items }
+            requires { IsSync R.row × IsSync W.row × All (IsReady views) desks.now.items }
             ensures { (of : Warehouse) → All (λ d. d.of ≡ of) desks.entry.now.items → IfSome result (λ rows. rows.items ≡ replicate (length desks.entry.now.items) (rows_of of.opening)) }
         {
             let seated = std::mem::replace(desks, Vec::new(alloc));
-            read_each(rt, alloc, seated, views)
+            read_each(rt, alloc, seated, views, watch)
         },
         &mut || -> Result<Report, NightFault>
             requires { CanRun catalog.now correct.now writer.now.ledger changes.now options }
             ensures { IsRun catalog.entry.now correct.entry.now.list writer.entry.now.ledger changes.entry.now options.page_keys result writer.exit.now.ledger }
-        {
-            night(
-                rt, alloc, writer, catalog, changes, correct, options, &NoGate,
-            )
-        },
+        { night(rt, alloc, writer, catalog, changes, correct, options, watch) },
     )
 }
 
@@ -162,7 +167,7 @@ fn answer_of(
 }
 
 /// A night without readers, over the tables as they lie.
-fn serve_none<F: RowTest, G: RowValue, R: Threads + Sync>(
+fn serve_none<F: RowTest, G: RowValue, W: Watch + Sync, R: Threads + Sync>(
     rt: &R,
     alloc: Global,
     catalog: &Catalog<F, G>,
@@ -170,6 +175,7 @@ fn serve_none<F: RowTest, G: RowValue, R: Threads + Sync>(
     changes: &[Bag],
     correct: &Correct,
     options: Options,
+    watch: &W,
 ) -> Result<Served, CarryFault>
     requires judged { correct.now.children ≡ catalog.now.views.children }
     requires tables { AreBags catalog.now tables.items }
@@ -199,7 +205,7 @@ fn serve_none<F: RowTest, G: RowValue, R: Threads + Sync>(
         changes,
         correct,
         options.workers,
-        &NoGate,
+        watch,
     ) {
         Ok(Carried { tables, report }) => Ok(Served {
             tables,
@@ -211,7 +217,7 @@ fn serve_none<F: RowTest, G: RowValue, R: Threads + Sync>(
 }
 
 /// A night beside one reader at least.
-fn serve_some<F: RowTest, G: RowValue, R: Threads + Wait + Sync>(
+fn serve_some<F: RowTest, G: RowValue, W: Watch + Sync, R: Threads + Wait + Sync>(
     rt: &R,
     alloc: Global,
     catalog: &Catalog<F, G>,
@@ -220,6 +226,7 @@ fn serve_some<F: RowTest, G: RowValue, R: Threads + Wait + Sync>(
     correct: &Correct,
     options: Options,
     readers: usize,
+    watch: &W,
 ) -> Result<Served, CarryFault>
     requires new { Shows store (current store) [] }
     requires limit { store.limit ≡ 2 }
@@ -249,6 +256,7 @@ fn serve_some<F: RowTest, G: RowValue, R: Threads + Wait + Sync>(
         changes,
         correct,
         options,
+        watch,
     );
     let answer = answer_of(alloc, &writer, views, night, rows);
     writer.end(rt);
@@ -259,10 +267,11 @@ fn serve_some<F: RowTest, G: RowValue, R: Threads + Wait + Sync>(
 /// contents of a base are (`are_fit` tests it). There is a change for each view; those of derived views are not read. The
 /// strategy was judged over this catalogue's shape (`is_of` tests it).
 ///
-/// Each reader opens its session before the night begins, and reads each view once, in pages of 256 rows. The night goes wave by
-/// wave and is refused as [`wh_run::night`] refuses it; want of memory is also told where a reader was not answered. Where there are
-/// no readers the tables are changed where they lie, and none is copied.
-pub fn serve_night<F: RowTest, G: RowValue, R: Threads + Wait + Sync>(
+/// Each reader opens its session before the night begins, and reads each view once, in pages of 256 rows. The watch is told before
+/// a reader's first page and after its last, and of each job as a [`wh_run::Gate`] is; readers for which no thread can be started
+/// read after the night. The night goes wave by wave and is refused as [`wh_run::night`] refuses it; want of memory is also told
+/// where a reader was not answered. Where there are no readers the tables are changed where they lie, and none is copied.
+pub fn serve_night<F: RowTest, G: RowValue, W: Watch + Sync, R: Threads + Wait + Sync>(
     rt: &R,
     alloc: Global,
     catalog: &Catalog<F, G>,
@@ -270,7 +279,7 @@ pub fn serve_night<F: RowTest, G: RowValue, R: Threads + Wait + Sync>(
     changes: &[Bag],
     correct: &Correct,
     options: Options,
-    readers: usize,
+    readers: Readers<'_, W>,
 ) -> Result<Served, CarryFault>
     requires judged { correct.now.children ≡ catalog.now.views.children }
     requires tables { AreBags catalog.now tables.items }
@@ -280,7 +289,7 @@ pub fn serve_night<F: RowTest, G: RowValue, R: Threads + Wait + Sync>(
     requires few { options.workers ≤ 16 }
     requires least { 1 ≤ options.page_keys }
     requires most { options.page_keys ≤ 256 }
-    requires readers { readers ≤ 16 }
+    requires readers { readers.count ≤ 16 }
     ensures bags { IfOk result (λ s. AreBags catalog.now s.tables.items) }
     ensures tables { IfOk result (λ s. (v : ℕ) → v < length catalog.now.views.children
         → bag_at s.tables.items v ≡ tables_after (graph_of catalog.now) (bag_at changes.now) correct.now.list (bag_at tables.items) v) }
@@ -291,19 +300,20 @@ pub fn serve_night<F: RowTest, G: RowValue, R: Threads + Wait + Sync>(
         (tables_after (graph_of catalog.now) (bag_at changes.now) correct.now.list (bag_at tables.items)) s.report.steps.items) }
     ensures allowed { OnOk result (AreAllowedBelow catalog.now (bag_at tables.items) (bag_at changes.now) (length catalog.now.views.children)) }
     ensures passed { OnOk result (ArePassedBelow catalog.now correct.now.list (bag_at tables.items) (bag_at changes.now) (length correct.now.list)) }
-    ensures rows { IfOk result (λ s. s.rows.items ≡ replicate readers (rows_of tables.items)) }
+    ensures rows { IfOk result (λ s. s.rows.items ≡ replicate readers.entry.count (rows_of tables.items)) }
     ensures refused { IfErr result (λ f. (f.fault ≡ Memory)
         ⊎ IsRefusedSo (night_over catalog.now correct.now.list tables.items changes.now options.page_keys) (left_of f.started) f.fault) }
 {
     // Makes known that the strategy keeps the rules.
     let _ = correct.strategy();
-    if readers == 0 {
-        return serve_none(rt, alloc, catalog, tables, changes, correct, options);
+    let Readers { count, watch } = readers;
+    if count == 0 {
+        return serve_none(rt, alloc, catalog, tables, changes, correct, options, watch);
     }
     let Ok(store) = Store::new(alloc, tables) else {
         return Err(want_of_memory());
     };
     serve_some(
-        rt, alloc, catalog, store, changes, correct, options, readers,
+        rt, alloc, catalog, store, changes, correct, options, count, watch,
     )
 }

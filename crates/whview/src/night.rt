@@ -27,7 +27,7 @@ use wh_formula::{Expr, Native, Pred, RowTest, RowValue};
 use wh_load::{Dict, GivenNight, LoadFault, NightInput, Opening, WrittenView, read_night};
 use wh_maint::{MaintFault, opening_contents};
 use wh_night::CarryFault;
-use wh_readers::{Served, serve_night};
+use wh_readers::{NoWatch, Readers, Served, serve_night};
 use wh_run::Options;
 use wh_strategy::{CheckFault, Rule, check};
 
@@ -121,15 +121,12 @@ fn decide<F: RowTest, G: RowValue, R: Threads + Wait + Sync>(
         workers: how.workers,
         page_keys: how.page_keys,
     };
+    let readers = Readers {
+        count: how.readers,
+        watch: &NoWatch,
+    };
     let served = serve_night(
-        rt,
-        alloc,
-        catalog,
-        tables,
-        &changes,
-        &correct,
-        options,
-        how.readers,
+        rt, alloc, catalog, tables, &changes, &correct, options, readers,
     );
     match served {
         Ok(carried) => Ok(Outcome::Carried {

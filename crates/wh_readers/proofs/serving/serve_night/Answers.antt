@@ -113,7 +113,7 @@ returns-clause-passed g c =
 
 pub returns-clause-rows : goal.returns-clause-rows
 returns-clause-rows g c =
-    subst (λ us. IfOk c.serve_some.result (λ s. s.rows.items ≡ replicate c.args.readers (rows_of us))) c.in-Ok.ensures.current c.serve_some.ensures.rows
+    subst (λ us. IfOk c.serve_some.result (λ s. s.rows.items ≡ replicate c.args.readers.count (rows_of us))) c.in-Ok.ensures.current c.serve_some.ensures.rows
 
 pub returns-clause-refused : goal.returns-clause-refused
 returns-clause-refused g c =
