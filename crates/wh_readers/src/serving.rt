@@ -300,7 +300,7 @@ pub fn serve_night<F: RowTest, G: RowValue, W: Watch + Sync, R: Threads + Wait +
         (tables_after (graph_of catalog.now) (bag_at changes.now) correct.now.list (bag_at tables.items)) s.report.steps.items) }
     ensures allowed { OnOk result (AreAllowedBelow catalog.now (bag_at tables.items) (bag_at changes.now) (length catalog.now.views.children)) }
     ensures passed { OnOk result (ArePassedBelow catalog.now correct.now.list (bag_at tables.items) (bag_at changes.now) (length correct.now.list)) }
-    ensures rows { IfOk result (λ s. s.rows.items ≡ replicate readers.count (rows_of tables.items)) }
+    ensures rows { IfOk result (λ s. s.rows.items ≡ replicate readers.entry.count (rows_of tables.items)) }
     ensures refused { IfErr result (λ f. (f.fault ≡ Memory)
         ⊎ IsRefusedSo (night_over catalog.now correct.now.list tables.items changes.now options.page_keys) (left_of f.started) f.fault) }
 {

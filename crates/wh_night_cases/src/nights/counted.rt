@@ -9,6 +9,7 @@ use std::test::Fail;
 use wh_dag::{Catalog, Output};
 use wh_formula::{Combiner, Expr, Filter, Pred, RowTest, RowValue};
 use wh_given::catalogs::{catalog, one_way, over_two};
+use wh_night::{Carried, CarryFault};
 use wh_row::Bag;
 
 /// Every row passes, and each is counted.
@@ -72,24 +73,40 @@ fn opened(alloc: Global) -> Result<Vec<Bag>, Fail> {
     Ok(opened)
 }
 
-/// How many rows v has after a night with this change of a, which counts in `calls` how often it calls v's closures. None where it is
-/// refused.
-fn rows_after(alloc: Global, calls: &AtomicUsize, of_a: Bag) -> Result<Option<u128>, Fail> {
-    let catalog = counted(alloc, calls)?;
+/// How many rows v has where the night was carried out.
+fn rows_of_v(night: &Option<Result<Carried, CarryFault>>) -> Option<u128> {
+    match night {
+        Some(Ok(carried)) => match carried.tables.as_slice() {
+            [_a, _b, v] => Some(v.total()),
+            _ => None,
+        },
+        _ => None,
+    }
+}
+
+/// How many rows v has after a night with this change of a. None where it is refused.
+fn rows_after<F: RowTest, G: RowValue>(
+    alloc: Global,
+    catalog: &Catalog<F, G>,
+    of_a: Bag,
+) -> Result<Option<u128>, Fail> {
     let changes = tables(alloc, of_a, Bag::new(alloc))?;
     let opened = opened(alloc)?;
-    let night = carried(alloc, &catalog, &opened, &changes, one_way(alloc)?)?;
-    match night {
-        Some(Ok(night)) if night.tables.len() == 3 => Ok(Some(night.tables[2].total())),
-        _ => Ok(None),
-    }
+    let night = carried(alloc, catalog, &opened, &changes, one_way(alloc)?)?;
+    Ok(rows_of_v(&night))
+}
+
+/// The same of a night that counts in `calls` how often it calls v's closures.
+fn rows_counted(alloc: Global, calls: &AtomicUsize, of_a: Bag) -> Result<Option<u128>, Fail> {
+    let catalog = counted(alloc, calls)?;
+    rows_after(alloc, &catalog, of_a)
 }
 
 #[test]
 fn a_night_without_changes_calls_no_closure(rt: HostRuntime) -> Result<(), Fail> {
     let alloc = rt.alloc();
     let calls = AtomicUsize::new(0);
-    let rows = rows_after(alloc, &calls, Bag::new(alloc))?;
+    let rows = rows_counted(alloc, &calls, Bag::new(alloc))?;
     assert_eq!(&rt; rows, Some(4000));
     assert_eq!(&rt; calls.load(Ordering::SeqCst), 0);
     Ok(())
@@ -102,7 +119,7 @@ fn a_row_that_leaves_calls_few_closures(rt: HostRuntime) -> Result<(), Fail> {
     let calls = AtomicUsize::new(0);
     let mut of_a = Bag::new(alloc);
     of_a.add(&[0, 0], -1)?;
-    let rows = rows_after(alloc, &calls, of_a)?;
+    let rows = rows_counted(alloc, &calls, of_a)?;
     assert_eq!(&rt; rows, Some(3999));
     let calls = calls.load(Ordering::SeqCst);
     assert!(&rt; calls >= 1 && calls <= 100);
