@@ -15,3 +15,4 @@ pub mod Steps
 pub mod Moves
 pub mod Seats
 pub mod Wholes
+pub mod Accepts
