@@ -11,9 +11,9 @@ use wh_desk::{Writer, open_warehouse};
 use wh_given::catalogs::{Cell, Every, joined, one_way};
 use wh_given::tables::{bag, two_bags};
 use wh_maint::are_bags;
-use wh_night::{Report, are_fit};
+use wh_night::Report;
 use wh_row::Bag;
-use wh_run::{Left, NightFault, NoGate, Options, night};
+use wh_run::{Left, NightFault, NoGate, Options, are_fit_for, night};
 use wh_store::Store;
 use wh_strategy::{Correct, check};
 
@@ -50,7 +50,7 @@ fn over_writer<R: Threads + Wait + Sync>(
     {
         return Ok(None);
     }
-    if !are_fit(alloc, catalog, &tables)? {
+    if !are_fit_for(alloc, catalog, &tables, changes, correct)? {
         return Ok(None);
     }
     let store = Store::new(alloc, tables)?;
