@@ -17,3 +17,4 @@ pub mod Seats
 pub mod Wholes
 pub mod Headline
 pub mod Told
+pub mod Accepts

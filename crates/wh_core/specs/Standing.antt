@@ -73,6 +73,13 @@ pub record Stands (s : Setup) (log : Log) (m : Machine) : Type 0 where
   pub holders : (w : ℕ) → w < s.workers → slice_get m.holders.items w ≡ Some (holding log w)
   pub night : is_open log ≡ true → GoesOn (night s log) (draws log) (ends log) (pages log) (drop m.place m.course.parts.items) m.course.stop m.drawn m.ended
 
+-- some legal run leaves it so
+pub record IsRunning (m : Machine) : Type 0 where
+  pub setup : Setup
+  pub log : Log
+  pub is_setup : IsSetup setup
+  pub stands : Stands setup log m
+
 -- a night as it is given in code
 abbrev pub given_of : Vec Bag Global × Judged → GivenNight
 given_of pair = record { changes = pair.0.items; list = pair.1.list }
@@ -92,7 +99,7 @@ pub record StandsWith {F G : Type 0} (s : Setup) (log : Log) (core : Core F G) :
   pub keys : core.keys ≡ s.keys
   pub stands : Stands s log core.machine
 
--- some legal run leaves it so
+-- some legal run leaves a machine so with its catalogue and nights
 pub record IsStanding {F G : Type 0} (core : Core F G) : Type 0 where
   pub setup : Setup
   pub log : Log

@@ -1,26 +1,29 @@
 //! What a machine keeps beside its catalogue, and the events that need no more.
 
-ghost use Rattle.std.specs.Prelude.{◌≡◌, ◌≢◌, ◌⊎◌, ◌<◌, ◌==◌, ◌||◌, not, nat_lt, ◌+◌, ◌^◌, ℕ, length, false, drop, replicate, slice_get, [], ◌∷◌, None, Some, IfOk, MatchOption};
+ghost use Rattle.std.specs.Prelude.{◌≡◌, ◌≢◌, ◌⊎◌, ◌<◌, ◌==◌, ◌||◌, not, nat_lt, ◌+◌, ◌^◌, ℕ, length, false, drop, replicate, slice_get, List, [], ◌∷◌, ◌++◌, None, Some, IfOk, OnErr, OnOk, MatchOption};
 ghost use Rattle.wh_row.specs.Weigh.{Counted};
 ghost use Rattle.wh_store.specs.Kept.{AreTables};
-ghost use Rattle.wh_store.specs.Operations.{Writes, operation};
+ghost use Rattle.wh_store.specs.Operations.{Operation, Opens, Writes, operation};
+ghost use Rattle.wh_store.specs.Pages.{Contents};
+ghost use Rattle.wh_store.specs.Refusals.{refusal};
 ghost use Rattle.wh_store.specs.Versions.{number};
-ghost use Rattle.wh_store.specs.Windows.{current};
+ghost use Rattle.wh_store.specs.Windows.{Shows, applied, current};
 ghost use Rattle.wh_course.specs.Legs.{legs_of};
 ghost use Rattle.wh_course.specs.Course.{AreParts};
 ghost use Rattle.wh_core.specs.Log.{Log, is_open, logged, nights_begun};
 ghost use Rattle.wh_core.specs.Nights.{Setup, next_night, versions};
 ghost use Rattle.wh_core.specs.Replies.{AreAllowed, IsReply};
-ghost use Rattle.wh_core.specs.Standing.{Stands, page_in, wave_in};
+ghost use Rattle.wh_core.specs.Standing.{IsRunning, Stands, page_in, wave_in};
 
 use crate::event::Event;
+use crate::laws::published_are_well_formed;
 use crate::reply::{Cause, Reply, cause_of};
 use crate::session::{Seat, goes_on, mark_after};
 use std::alloc::{AllocError, Global};
 use wh_course::{Course, Part};
 use wh_maint::MaintFault;
 use wh_row::Bag;
-use wh_store::{MAX_KEYS, Op, Store};
+use wh_store::{MAX_KEYS, Op, Store, StoreFault, well_formed_law};
 
 /// The versions, the sessions of the desks, the jobs of the workers, how many nights have begun, and of the night that
 /// began last what becomes of it, which part of it is in turn, and how many jobs of that part are drawn and done.
@@ -286,6 +289,7 @@ impl Machine {
     }
 
     pub(crate) fn page_in(&mut self) -> Reply
+        requires { IsRunning self.old }
         ensures { (s : Setup) (log : Log) → Stands s log self.old → Stands s (logged log Event.PageIn result) self.new × IsReply s log Event.PageIn result }
     {
         if !self.store.is_active() {
@@ -297,8 +301,10 @@ impl Machine {
         if let Some(fault) = hindrance(&self.course, self.place + 1) {
             return Reply::Refused(cause_of(fault));
         }
+        published_are_well_formed();
+        well_formed_law();
         let rows = rows_of(op);
-        let Ok(()) = self.store.apply(op) else {
+        let Ok(()) = apply_next(&mut self.store, op) else {
             return Reply::Refused(Cause::Memory);
         };
         self.turn_over();
@@ -327,7 +333,7 @@ impl Machine {
         if !self.store.is_active() {
             return Reply::Refused(Cause::NoNight);
         }
-        let Ok(()) = self.store.apply(&Op::GiveUp) else {
+        let Ok(()) = apply_next(&mut self.store, &Op::GiveUp) else {
             return Reply::Refused(Cause::Memory);
         };
         free_all(&mut self.holders);
@@ -337,6 +343,7 @@ impl Machine {
     /// Begins the next night, of which this becomes.
     pub(crate) fn start(&mut self, course: Course) -> Reply
         requires begun { self.old.begun < 2 ^ 63 }
+        requires free { refusal self.old.store Opens ≡ None }
         ensures { (s : Setup) (log : Log) → Stands s log self.old → is_open log ≡ false → nights_begun log < length s.nights → number (versions s log) + 1 ≢ 2 ^ 64
             → AreAllowed (next_night s log) → AreParts (next_night s log) 0 (legs_of (next_night s log)) course.parts.items course.stop
             → Stands s (logged log Event.Begin result) self.new × IsReply s log Event.Begin result }
@@ -344,7 +351,7 @@ impl Machine {
         if let Some(fault) = hindrance(&course, 0) {
             return Reply::Refused(cause_of(fault));
         }
-        let Ok(()) = self.store.apply(&Op::Begin) else {
+        let Ok(()) = apply_next(&mut self.store, &Op::Begin) else {
             return Reply::Refused(Cause::Memory);
         };
         free_all(&mut self.holders);
@@ -354,6 +361,20 @@ impl Machine {
         self.drawn = 0;
         self.ended = 0;
         Reply::Begun
+    }
+}
+
+/// Applies an operation that may come, so that want of memory is the one refusal.
+fn apply_next(store: &mut Store, op: &Op) -> Result<(), AllocError>
+    requires { refusal store.old (operation op.now) ≡ None }
+    ensures shows { OnOk result ((opening : Contents) (ops : List Operation) → Shows store.old opening ops → Shows store.new opening (ops ++ operation op.now ∷ [])) }
+    ensures ok { OnOk result (store.new ≡ applied store.old (operation op.now)) }
+    ensures err { OnErr result (store.new ≡ store.old) }
+{
+    match store.apply(op) {
+        Ok(()) => Ok(()),
+        Err(StoreFault::Memory) => Err(AllocError),
+        Err(_) => unreachable!(),
     }
 }
 

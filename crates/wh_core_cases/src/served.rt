@@ -7,10 +7,10 @@ use std::thread::Threads;
 use wh_given::catalogs::{joined, one_way};
 use wh_given::tables::{bag, two_bags};
 use wh_maint::are_bags;
-use wh_night::{CarryFault, are_fit};
+use wh_night::CarryFault;
 use wh_readers::{NoWatch, Readers, Served, Watch, serve_night};
 use wh_row::Bag;
-use wh_run::Options;
+use wh_run::{Options, are_fit_for};
 use wh_strategy::check;
 
 /// So many readers, of which nothing is told.
@@ -44,7 +44,7 @@ pub(crate) fn served<W: Watch + Sync, R: Threads + Wait + Sync>(
     {
         return Ok(None);
     }
-    if !are_fit(alloc, &catalog, &tables)? {
+    if !are_fit_for(alloc, &catalog, &tables, &changes, &correct)? {
         return Ok(None);
     }
     let options = Options {

@@ -14,7 +14,7 @@ use Rattle.wh_store.specs.Pages.{Contents}
 use Rattle.wh_store.specs.Versions.{number}
 use Rattle.wh_publish.specs.Faults.{publish_refusal}
 use Rattle.wh_publish.specs.Ledgers.{Ledger, Warehouse, ledger, versions_in}
-use Rattle.wh_night.specs.Fit.{AreFitTables}
+use Rattle.wh_night.specs.Fit.{AreFitFor}
 use Rattle.wh_night.specs.NightLaws.{HaveTables}
 use Rattle.wh_night.specs.Refused.{ArePassedBelow}
 use Rattle.wh_night.specs.Steps.{AreSteps}
@@ -49,7 +49,7 @@ pub record CanRun (catalog : CatalogOf) (correct : Judged) (l : Ledger) (changes
   pub free : publish_refusal l Opens ≡ None
   pub wide : AreBags catalog (newest_in l)
   pub wide_changes : AreBags catalog changes
-  pub fit : AreFitTables catalog (newest_in l)
+  pub fit : AreFitFor (graph_of catalog) (bag_at changes) correct.list (bag_at (newest_in l))
   pub some : 1 ≤ options.workers
   pub few : options.workers ≤ 16
   pub least : 1 ≤ options.page_keys

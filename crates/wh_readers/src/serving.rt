@@ -10,7 +10,7 @@ ghost use Rattle.wh_maint.specs.Definition.{graph_of};
 ghost use Rattle.wh_maint.specs.Laws.{changed};
 ghost use Rattle.wh_maint.specs.declared.fault.MaintFault.TheVariants.{Memory};
 ghost use Rattle.wh_night.specs.Carry.{tables_after};
-ghost use Rattle.wh_night.specs.Fit.{AreFitTables};
+ghost use Rattle.wh_night.specs.Fit.{AreFitFor, AreFitTables};
 ghost use Rattle.wh_night.specs.Refused.{AreAllowedBelow, ArePassedBelow};
 ghost use Rattle.wh_night.specs.Steps.{AreSteps};
 ghost use Rattle.wh_course.specs.Night.{Night};
@@ -263,9 +263,9 @@ fn serve_some<F: RowTest, G: RowValue, W: Watch + Sync, R: Threads + Wait + Sync
     answer
 }
 
-/// Runs a night over a new warehouse of these tables while readers go through them: one bag for each view, each fit, as the
-/// contents of a base are (`are_fit` tests it). There is a change for each view; those of derived views are not read. The
-/// strategy was judged over this catalogue's shape (`is_of` tests it).
+/// Runs a night over a new warehouse of these tables while readers go through them: one bag for each view, fit for the night, as
+/// the contents of a base are for every night (`are_fit_for` tests it). There is a change for each view; those of derived views are
+/// not read. The strategy was judged over this catalogue's shape (`is_of` tests it).
 ///
 /// Each reader opens its session before the night begins, and reads each view once, in pages of 256 rows. The watch is told before
 /// a reader's first page and after its last, and of each job as a [`wh_run::Gate`] is; readers for which no thread can be started
@@ -284,7 +284,7 @@ pub fn serve_night<F: RowTest, G: RowValue, W: Watch + Sync, R: Threads + Wait +
     requires judged { correct.now.children ≡ catalog.now.views.children }
     requires tables { AreBags catalog.now tables.items }
     requires changes { AreBags catalog.now changes.now }
-    requires fit { AreFitTables catalog.now tables.items }
+    requires fit { AreFitFor (graph_of catalog.now) (bag_at changes.now) correct.now.list (bag_at tables.items) }
     requires some { 1 ≤ options.workers }
     requires few { options.workers ≤ 16 }
     requires least { 1 ≤ options.page_keys }

@@ -1,9 +1,11 @@
 -- How a night ends, by its commit or a give-up.
-use Rattle.std.proofs.Common.{◌≡◌, ⊎_elim, refl, sym, ap, subst, ◌∙◌, List, [], ◌∷◌, ◌++◌, length, Option, Some, None, Bool, true, false, arith}
+use Rattle.std.proofs.Common.{◌≡◌, ◌⊎◌, inl, inr, ⊎_elim, refl, sym, ap, subst, ◌∙◌, List, [], ◌∷◌, ◌++◌, length, Option, Some, None, Bool, true, false, arith}
 use Rattle.std.specs.Prelude.{option_map, is_some, IsTrue}
 use Rattle.std.specs.List.{list_all}
 use Rattle.std.proofs.lemmas.Bool.{and_parts, false≢true}
-use Rattle.std.proofs.lemmas.List.{append_assoc}
+use Rattle.std.proofs.lemmas.List.{append-nil, append_assoc}
+use Rattle.wh_maint.specs.declared.fault.MaintFault.{MaintFault}
+use Rattle.wh_maint.specs.declared.fault.MaintFault.TheVariants.{Memory}
 use Rattle.wh_store.specs.Operations.{Operation, Opens, Writes, Commits, Gives_up}
 use Rattle.wh_store.specs.Pages.{Contents}
 use Rattle.wh_store.specs.Versions.{Versions, after, is_active, versions_from, versions_of, written_over}
@@ -11,10 +13,13 @@ use Rattle.wh_publish.specs.Ledgers.{Ledger, closed, gone_out, is_busy, ledger, 
 use Rattle.wh_publish.specs.Faults.{Ends, EndsLater}
 use Rattle.wh_publish.specs.declared.ended.Ended.{Ended}
 use Rattle.wh_course.specs.Night.{Night}
-use Rattle.wh_run.specs.Tonight.{Begin_it, IsCut, IsDone, IsNext, IsOpen, goes_out, nothing, put, commit, give_up}
-use Rattle.wh_run.specs.Underway.{IsPut, IsUnderway, WaitsToCommit, out_below}
+use Rattle.wh_run.specs.Causes.{cause_of}
+use Rattle.wh_run.specs.declared.cause.NightCause.{NightCause}
+use Rattle.wh_run.specs.Refusals.{AreAllowed}
+use Rattle.wh_run.specs.Tonight.{Begin_it, HasStopped, IsCut, IsDone, IsOpen, IsRefusedThere, goes_out, nothing, out_below, put, commit, give_up}
+use Rattle.wh_run.specs.Underway.{IsPut, IsStopped, WaitsToCommit}
 use Rattle.wh_run.proofs.Outs.{held_behind}
-use Rattle.wh_run.proofs.Puts.{Opens_it, begins_at, begins_open, begins_shorter, is_write, whole_out}
+use Rattle.wh_run.proofs.Puts.{Opens_it, begins_at, begins_open, begins_shorter, front_begins, is_write, whole_out}
 
 pub versions_append : (v : Versions) (a b : List Operation) → versions_from v (a ++ b) ≡ versions_from (versions_from v a) b
 versions_append v [] b = refl
@@ -28,9 +33,12 @@ stays v c (Writes view rows ∷ puts) e h = stays (after v (Writes view rows)) (
 stays v c (Commits ∷ puts) e h = absurd (false≢true (and_parts false (list_all is_write puts) h).0)
 stays v c (Gives_up ∷ puts) e h = absurd (false≢true (and_parts false (list_all is_write puts) h).0)
 
-module _ (n : Night) (l m : Ledger) (u : IsUnderway n l m) where
+module _ (n : Night) (l m : Ledger) (fault : MaintFault) (cause : NightCause) (allowed : AreAllowed n) (told : cause ≡ cause_of fault) (u : IsStopped n l fault m) where
+  beginning : Begin_it n (with_held u.ops u.held)
+  beginning = front_begins n u.place (with_held u.ops u.held) u.rest u.within u.passed u.begins
+
   opened : Opens_it (with_held u.ops u.held)
-  opened = begins_open n (with_held u.ops u.held) u.begun u.beginning
+  opened = begins_open n (with_held u.ops u.held) u.begun beginning
 
   -- what has gone out once what is held has
   gone : gone_out m ≡ l.list ++ with_held u.ops u.held
@@ -46,12 +54,27 @@ module _ (n : Night) (l m : Ledger) (u : IsUnderway n l m) where
       ∙ ap is_active (versions_append (versions_of l.of.opening []) l.list (Opens ∷ opened.puts))
       ∙ stays (after (versions_of l.of.opening l.list) Opens) (versions_of l.of.opening l.list).newest opened.puts refl opened.write
 
-  pub given_up_cuts : (o : Ledger) (answer : Ended) → Ends m o answer → IsCut n l o
+  -- with what was held it stops where it stopped
+  all_stopped : HasStopped n cause (with_held u.ops u.held)
+  all_stopped = record {
+    allowed = allowed;
+    place = u.place;
+    within = u.within;
+    passed = u.passed;
+    rest = u.rest;
+    begins = u.begins;
+    fault = fault;
+    told = told;
+    why = ⊎_elim (λ e. inl e) (λ r. inr (r.1, r.2)) u.why;
+  }
+
+  pub given_up_cuts : (o : Ledger) (answer : Ended) → Ends m o answer → IsCut n cause l o
   given_up_cuts o answer e = record {
-    ops = with_held u.ops u.held ++ Gives_up ∷ [];
+    ops = with_held u.ops u.held;
+    stopped = all_stopped;
     cut = record {
       puts = opened.puts;
-      beginning = subst (Begin_it n) opened.is u.beginning;
+      beginning = subst (Begin_it n) opened.is beginning;
       cut = ap (λ ops. ops ++ Gives_up ∷ []) opened.is;
     };
     now = e.0
@@ -60,25 +83,50 @@ module _ (n : Night) (l m : Ledger) (u : IsUnderway n l m) where
         ∙ (λ i. ledger l.of (append_assoc l.list (with_held u.ops u.held) (Gives_up ∷ []) i) None);
   }
 
-  front : (held : Option Operation) → Begin_it n (with_held u.ops held) → Begin_it n u.ops
-  front None b = b
-  front (Some op) b = begins_shorter n u.ops (op ∷ []) b
-
-  next : (held : Option Operation) → Begin_it n (with_held u.ops held) → IsNext n u.ops held
-  next None b = nothing
-  next (Some op) b = put op b
-
   out_now : (o : Ledger) (held : Option Operation) → o ≡ ledger m.of (gone_out m) held → o ≡ goes_out l (with_held u.ops u.held) held
   out_now o held e = e ∙ (λ i. ledger (same_warehouse i) (gone i) held)
 
-  pub not_given_up : (o : Ledger) → EndsLater m o → IsOpen n l o
+  -- nothing has gone out since
+  same_open : (o : Ledger) (held : Option Operation) → o ≡ goes_out l u.ops held → IsTrue (is_busy o) → out_below n u.place ≡ with_held u.ops held ++ u.rest
+      → (fault ≡ Memory) ⊎ ((held ≡ None) × (u.rest ≡ []) × IsRefusedThere n u.place fault) → Begin_it n (with_held u.ops held) → IsOpen n cause l o
+  same_open o None now busy begins why b = record {
+    ops = u.ops;
+    held = None;
+    stopped = record { allowed = allowed; place = u.place; within = u.within; passed = u.passed; rest = u.rest; begins = begins; fault = fault; told = told; why = ⊎_elim (λ e. inl e) (λ r. inr (r.1, r.2)) why };
+    beginning = b;
+    next = nothing;
+    now = now;
+    busy = busy;
+  }
+  same_open o (Some op) now busy begins why b = record {
+    ops = u.ops;
+    held = Some op;
+    stopped = record {
+      allowed = allowed;
+      place = u.place;
+      within = u.within;
+      passed = u.passed;
+      rest = op ∷ u.rest;
+      begins = begins ∙ append_assoc u.ops (op ∷ []) u.rest;
+      fault = fault;
+      told = told;
+      why = ⊎_elim (λ e. inl e) (λ r. absurd (let e : Some op ≡ None = r.0 in cc)) why;
+    };
+    beginning = begins_shorter n u.ops (op ∷ []) b;
+    next = put op u.rest refl;
+    now = now;
+    busy = busy;
+  }
+
+  pub not_given_up : (o : Ledger) → EndsLater m o → IsOpen n cause l o
   not_given_up o e = ⊎_elim
-      (λ same. record { ops = u.ops; held = u.held; beginning = front u.held u.beginning; next = next u.held u.beginning; now = same ∙ u.now; busy = subst (λ x. IsTrue (is_busy x)) (sym same) e.0 })
+      (λ same. same_open o u.held (same ∙ u.now) (subst (λ x. IsTrue (is_busy x)) (sym same) e.0) u.begins u.why beginning)
       (λ later. ⊎_elim
       (λ none. record {
         ops = with_held u.ops u.held;
         held = None;
-        beginning = u.beginning;
+        stopped = all_stopped;
+        beginning = beginning;
         next = nothing;
         now = out_now o None none;
         busy = subst (λ x. IsTrue (is_busy x)) (sym none) later.0;
@@ -86,7 +134,8 @@ module _ (n : Night) (l m : Ledger) (u : IsUnderway n l m) where
       (λ end. record {
         ops = with_held u.ops u.held;
         held = Some Gives_up;
-        beginning = u.beginning;
+        stopped = all_stopped;
+        beginning = beginning;
         next = give_up u.begun;
         now = out_now o (Some Gives_up) end;
         busy = subst (λ x. IsTrue (is_busy x)) (sym end) refl;
@@ -103,13 +152,18 @@ module _ (n : Night) (l m : Ledger) where
     now = e ∙ (λ i. ledger (p.out i).of ((p.out i).list ++ Commits ∷ []) None) ∙ (λ i. ledger l.of (append_assoc l.list (out_below n (length n.list)) (Commits ∷ []) i) None);
   }
 
-  pub put_underway : IsPut n l m → IsUnderway n l m
-  put_underway p = record {
+  pub put_stops : IsPut n l m → IsStopped n l Memory m
+  put_stops p = record {
     ops = out_below n (length n.list);
     held = None;
     now = p.out;
     begun = λ e. cc;
-    beginning = begins_at n (length n.list) (omega arith) p.passed;
+    place = length n.list;
+    within = omega arith;
+    passed = p.passed;
+    rest = [];
+    begins = sym (append-nil (out_below n (length n.list)));
+    why = inl refl;
   }
 
   module _ (w : WaitsToCommit n l m) where
@@ -132,13 +186,24 @@ module _ (n : Night) (l m : Ledger) where
       now = e.0 ∙ ap (λ b. ledger m.of (closed b (gone_out m)) None) is_shut ∙ (λ i. ledger (of_same i) (gone_commit i) None);
     }
 
-    pub still_held : (o : Ledger) → EndsLater m o → IsOpen n l o
-    still_held o e = ⊎_elim
+    pub still_held : (o : Ledger) (cause : NightCause) → cause ≡ cause_of Memory → AreAllowed n → EndsLater m o → IsOpen n cause l o
+    still_held o cause told allowed e = ⊎_elim
         (λ same. record {
           ops = out_below n (length n.list);
           held = Some Commits;
+          stopped = record {
+            allowed = allowed;
+            place = length n.list;
+            within = omega arith;
+            passed = w.passed;
+            rest = [];
+            begins = sym (append-nil (out_below n (length n.list)));
+            fault = Memory;
+            told = told;
+            why = inl refl;
+          };
           beginning = begins_at n (length n.list) (omega arith) w.passed;
-          next = commit (whole_out n w.passed);
+          next = commit w.passed (whole_out n w.passed);
           now = same ∙ w.out;
           busy = subst (λ x. IsTrue (is_busy x)) (sym same) e.0;
         })

@@ -7,3 +7,5 @@ pub mod Stages
 pub mod Soundness
 pub mod OneRefusal
 pub mod Ready
+pub mod Taken
+pub mod FitFor

@@ -22,8 +22,7 @@ use Rattle.wh_night.proofs.NewValues.{passed_have_values}
 use Rattle.wh_course.proofs.Sources.{job_at}
 use Rattle.wh_course.specs.Night.{Night, state_at}
 use Rattle.wh_course.specs.Standing.{IsWaveAt}
-use Rattle.wh_run.specs.Tonight.{Begin_it, IsWhole}
-use Rattle.wh_run.specs.Underway.{out_below}
+use Rattle.wh_run.specs.Tonight.{Begin_it, IsWhole, out_below}
 
 module _ (g : ViewGraph) (changes : ℕ → Bag) (keys : ℕ) where
   puts_append : (a b : List Expression) (s : State) → puts_of g changes keys (a ++ b) s ≡ puts_of g changes keys a s ++ puts_of g changes keys b (carried g changes a s)
@@ -69,15 +68,6 @@ begins_at n p l passed = front_begins n p (out_below n p) [] l passed (sym (appe
 
 pub begins_shorter : (n : Night) (a b : List Operation) → Begin_it n (a ++ b) → Begin_it n a
 begins_shorter n a b r = record { place = r.place; within = r.within; values = r.values; rest = b ++ r.rest; begins = r.begins ∙ append_assoc a b r.rest }
-
--- before anything is published
-pub none_begins : (n : Night) → Begin_it n []
-none_begins n = front_begins n 0 [] (out_below n 0) (omega arith) (λ q e l at. absurd (omega arith)) refl
-
--- a night that has begun
-pub opening_begins : (n : Night) → Begin_it n (Opens ∷ [])
-unfolding puts_of
-opening_begins n = front_begins n 0 (Opens ∷ []) [] (omega arith) (λ q e l at. absurd (omega arith)) refl
 
 -- all of it is the whole night list
 pub whole_out : (n : Night) → ArePassedBelow n.catalog n.list n.tables n.changes (length n.list) → IsWhole n (out_below n (length n.list) ++ Commits ∷ [])

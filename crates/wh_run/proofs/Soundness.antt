@@ -30,6 +30,7 @@ use Rattle.wh_night.proofs.Prefixes.{take_whole}
 use Rattle.wh_night.proofs.NewValues.{changed_base, strategies_end_in_contents}
 use Rattle.wh_night.proofs.NightLists.{night_lists_end_in_contents, night_lists_write_tables}
 use Rattle.wh_course.specs.Night.{Night}
+use Rattle.wh_run.specs.declared.cause.NightCause.{NightCause}
 use Rattle.wh_run.specs.declared.left.Left.{Left}
 use Rattle.wh_run.specs.declared.left.Left.TheVariants.{Untouched, GivenUp, StillOpen}
 use Rattle.wh_run.specs.declared.left.NightFault.{NightFault}
@@ -110,23 +111,23 @@ front_keeps n v (x ∷ ops) b =
 
 -- what a refused night leaves published makes the same newest contents
 module _ (n : Night) (l m : Ledger) where
-  open_newest : IsOpen n l m → newest_in m ≡ newest_in l
-  open_newest o = ap newest_in o.now ∙ ap (λ (v : Versions). v.newest) (behind l o.ops) ∙ (front_keeps n (versions_in l.of l.list) o.ops o.beginning).0
+  open_newest : (cause : NightCause) → IsOpen n cause l m → newest_in m ≡ newest_in l
+  open_newest cause o = ap newest_in o.now ∙ ap (λ (v : Versions). v.newest) (behind l o.ops) ∙ (front_keeps n (versions_in l.of l.list) o.ops o.beginning).0
 
-  cut_newest : IsCut n l m → newest_in m ≡ newest_in l
-  cut_newest o =
+  cut_newest : (cause : NightCause) → IsCut n cause l m → newest_in m ≡ newest_in l
+  cut_newest cause o =
       let v0 : Versions = versions_in l.of l.list in
-      ap newest_in o.now ∙ ap (λ (v : Versions). v.newest) (behind l o.ops ∙ ap (versions_from v0) o.cut.cut ∙ versions_append v0 (Opens ∷ o.cut.puts) (Gives_up ∷ []))
+      ap newest_in o.now ∙ ap (λ (v : Versions). v.newest) (behind l (o.ops ++ Gives_up ∷ []) ∙ ap (versions_from v0) o.cut.cut ∙ versions_append v0 (Opens ∷ o.cut.puts) (Gives_up ∷ []))
       ∙ (front_keeps n v0 (Opens ∷ o.cut.puts) o.cut.beginning).0
 
-  left_newest : (left : Left) → Leaves n l left m → newest_in m ≡ newest_in l
-  left_newest Untouched e = ap newest_in e
-  left_newest GivenUp o = cut_newest o
-  left_newest StillOpen o = open_newest o
+  left_newest : (cause : NightCause) (left : Left) → Leaves n cause l left m → newest_in m ≡ newest_in l
+  left_newest cause Untouched e = ap newest_in e
+  left_newest cause GivenUp o = cut_newest cause o
+  left_newest cause StillOpen o = open_newest cause o
 
-  pub refused_newest : (r : Result Report NightFault) → IfErr r (λ f. Leaves n l f.left m) → OnErr r (newest_in m ≡ newest_in l)
+  pub refused_newest : (r : Result Report NightFault) → IfErr r (λ f. Leaves n f.cause l f.left m) → OnErr r (newest_in m ≡ newest_in l)
   refused_newest (Ok report) leaves = tt
-  refused_newest (Err f) leaves = left_newest f.left leaves
+  refused_newest (Err f) leaves = left_newest f.cause f.left leaves
 
 module _ (catalog : CatalogOf) (list : List Expression) (l m : Ledger) (changes : List Bag) (keys : ℕ) (is : IsCatalog catalog) (ok : IsCorrect catalog.views.children list)
     (bags : AreBags catalog (newest_in l)) (given : AreBags catalog changes) (some : 1 ≤ keys) (few : keys ≤ 256) (allowed : AreAllowed (tonight catalog list l changes keys)) (sound : IsSound catalog l)
@@ -164,17 +165,17 @@ module _ (catalog : CatalogOf) (list : List Expression) (l m : Ledger) (changes 
         (cases_lt k (suc (length v0.older))));
   }
 
-  open_sound : IsOpen n l m → IsSound catalog m
-  open_sound o =
+  open_sound : (cause : NightCause) → IsOpen n cause l m → IsSound catalog m
+  open_sound cause o =
       let k = front_keeps n v0 o.ops o.beginning in
       let now : versions_in m.of m.list ≡ versions_from v0 o.ops = ap (λ (x : Ledger). versions_in x.of x.list) o.now ∙ behind l o.ops in
       same_sound (ap (λ (v : Versions). v.newest) now ∙ k.0) (ap (λ (v : Versions). v.older) now ∙ k.1)
 
-  cut_sound : IsCut n l m → IsSound catalog m
-  cut_sound o =
+  cut_sound : (cause : NightCause) → IsCut n cause l m → IsSound catalog m
+  cut_sound cause o =
       let k = front_keeps n v0 (Opens ∷ o.cut.puts) o.cut.beginning in
       let now : versions_in m.of m.list ≡ after (versions_from v0 (Opens ∷ o.cut.puts)) Gives_up =
-      ap (λ (x : Ledger). versions_in x.of x.list) o.now ∙ behind l o.ops ∙ ap (versions_from v0) o.cut.cut ∙ versions_append v0 (Opens ∷ o.cut.puts) (Gives_up ∷ []) in
+      ap (λ (x : Ledger). versions_in x.of x.list) o.now ∙ behind l (o.ops ++ Gives_up ∷ []) ∙ ap (versions_from v0) o.cut.cut ∙ versions_append v0 (Opens ∷ o.cut.puts) (Gives_up ∷ []) in
       one_more v0.newest newest_contents (ap (λ (v : Versions). v.newest) now ∙ k.0) (ap (λ (v : Versions). v.older) now ∙ (λ i. k.0 i ∷ k.1 i))
 
   abbrev base : ℕ → Bag
@@ -202,14 +203,14 @@ module _ (catalog : CatalogOf) (list : List Expression) (l m : Ledger) (changes 
       has.0))
       (ap (λ (v : Versions). v.newest) now) (ap (λ (v : Versions). v.older) now)
 
-  left_sound : (left : Left) → Leaves n l left m → IsSound catalog m
-  left_sound Untouched e = subst (IsSound catalog) (sym e) sound
-  left_sound GivenUp o = cut_sound o
-  left_sound StillOpen o = open_sound o
+  left_sound : (cause : NightCause) (left : Left) → Leaves n cause l left m → IsSound catalog m
+  left_sound cause Untouched e = subst (IsSound catalog) (sym e) sound
+  left_sound cause GivenUp o = cut_sound cause o
+  left_sound cause StillOpen o = open_sound cause o
 
-  pub stays_sound : (r : Result Report NightFault) → OnOk r (IsDone n l m) → IfErr r (λ f. Leaves n l f.left m) → IsSound catalog m
+  pub stays_sound : (r : Result Report NightFault) → OnOk r (IsDone n l m) → IfErr r (λ f. Leaves n f.cause l f.left m) → IsSound catalog m
   stays_sound (Ok report) done left = done_sound done
-  stays_sound (Err f) done left = left_sound f.left left
+  stays_sound (Err f) done left = left_sound f.cause f.left left
 
 -- ---- the new contents
 

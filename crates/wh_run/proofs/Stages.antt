@@ -1,7 +1,7 @@
 -- A stage of a night: what it carries out and publishes, or why it is refused.
 use Rattle.std.proofs.Common.{◌≡◌, refl, sym, ap, subst, ◌∙◌, ℕ, ◌+◌, eqb, List, [], ◌∷◌, ◌++◌, map, length, None, ◌⊎◌, inl, inr, ⊎_elim, arith}
 use Rattle.std.proofs.lemmas.Bool.{cases_Bool}
-use Rattle.std.proofs.lemmas.List.{append_assoc, length-map}
+use Rattle.std.proofs.lemmas.List.{append-nil, append_assoc, length-map}
 use Rattle.wh_dag.specs.Catalog.{CatalogOf}
 use Rattle.wh_strategy.specs.declared.expression.Expression.{Expression}
 use Rattle.wh_strategy.specs.declared.expression.Expression.TheVariants.{Inst}
@@ -21,7 +21,7 @@ use Rattle.wh_night.specs.declared.stages.Stage.TheVariants as stage
 use Rattle.wh_night.specs.Carry.{State}
 use Rattle.wh_night.specs.Kept.{Kept, finished, installed, rows_in}
 use Rattle.wh_night.specs.NightList.{new_counts, pages_of, puts_at}
-use Rattle.wh_night.specs.Refused.{IsPassedIn, IsStepFault, IsStepFaultIn}
+use Rattle.wh_night.specs.Refused.{ArePassedBelow, IsPassedIn, IsStepFault, IsStepFaultIn}
 use Rattle.wh_night.specs.Steps.{AreFirstSteps}
 use Rattle.wh_night.specs.Waves.{comp_of, stages_of}
 use Rattle.wh_night.proofs.Agreeing.{inst_done}
@@ -31,11 +31,11 @@ use Rattle.wh_night.proofs.Refusals.{same_fit, told_next, unfinished}
 use Rattle.wh_course.specs.Night.{Night, state_at}
 use Rattle.wh_course.specs.Standing.{IsWaveAt, StandsAt, place_of}
 use Rattle.wh_course.proofs.Parts.{fits_behind, inst_at, place_next, wave_at}
-use Rattle.wh_run.specs.Refusals.{IsFirstStageFault, IsWaveFault}
-use Rattle.wh_run.specs.Tonight.{goes_out, made_by}
-use Rattle.wh_run.specs.Underway.{HasCome, IsAt, IsInstStopped, IsPartly, IsStopped, IsUnderway, Reports, is_cut, is_refused, out_below, puts_in}
+use Rattle.wh_run.specs.Refusals.{IsFirstStageFault, IsStageFault, IsWaveFault}
+use Rattle.wh_run.specs.Tonight.{IsRefusedThere, goes_out, made_by, out_below}
+use Rattle.wh_run.specs.Underway.{HasCome, IsAt, IsInstStopped, IsPartly, IsStopped, Reports, is_cut, is_refused, puts_in}
 use Rattle.wh_run.proofs.Outs.{held_behind, out_more}
-use Rattle.wh_run.proofs.Puts.{begins_at, front_begins, out_next, wave_out}
+use Rattle.wh_run.proofs.Puts.{out_next, wave_out}
 
 -- before the first expression
 pub comes_first : (catalog : CatalogOf) (list : List Expression) (tables changes : ℕ → Bag) (keys : ℕ) (k : Kept) → StandsAt (record { catalog = catalog; list = list; tables = tables; changes = changes; keys = keys }) 0 k
@@ -50,14 +50,19 @@ module _ (n : Night) (l m : Ledger) (before after : List Stage) (k : Kept) (step
   abbrev p : ℕ
   p = place_of before
 
-  -- where it has come to it is underway
-  underway : (x : Stage) → stages_of n.list ≡ before ++ x ∷ after → IsUnderway n l m
-  underway x split = record {
+  -- where it has come to it can stop
+  stopped : (x : Stage) → stages_of n.list ≡ before ++ x ∷ after → (fault : MaintFault) → (fault ≡ Memory) ⊎ IsStageFault n p x fault → IsStopped n l fault m
+  stopped x split fault f = record {
     ops = out_below n p;
     held = None;
     now = here.out;
     begun = λ e. cc;
-    beginning = begins_at n p (let f = fits_behind n before after x split in omega (arith, f)) here.come.passed;
+    place = p;
+    within = let f = fits_behind n before after x split in omega (arith, f);
+    passed = here.come.passed;
+    rest = [];
+    begins = sym (append-nil (out_below n p));
+    why = ⊎_elim (λ e. inl e) (λ w. inr (refl, refl, record { before = before; refused = x; after = after; split = split; here = refl; is = w })) f;
   }
 
   -- ---- a wave
@@ -72,10 +77,7 @@ module _ (n : Night) (l m : Ledger) (before after : List Stage) (k : Kept) (step
         subst (λ q. IsAt n l q next more m) e (record { come = come; out = here.out ∙ ap (λ ops. goes_out l ops None) (sym (wave_out n p jobs its_wave (length jobs) (omega arith))) })
 
     pub wave_stops : (fault : MaintFault) → (fault ≡ Memory) ⊎ IsWaveFault n p jobs fault → IsStopped n l fault m
-    wave_stops fault f = (
-      underway (stage.Wave jobs) split,
-      ⊎_elim (λ e. inl e) (λ w. inr (record { before = before; refused = stage.Wave jobs; after = after; split = split; passed = here.come.passed; is = w })) f,
-    )
+    wave_stops fault f = stopped (stage.Wave jobs) split fault f
 
   -- ---- an Inst
 
@@ -137,8 +139,8 @@ module _ (n : Night) (l m : Ledger) (before after : List Stage) (k : Kept) (step
         h)
 
     -- some of its pages have gone out
-    cut_underway : (o : Ledger) → IsPassedIn n.catalog k (Inst v) → IsPartly m (puts_in n.catalog n.keys v k) o → IsUnderway n l o
-    cut_underway o passed part =
+    cut_stopped : (o : Ledger) (fault : MaintFault) → fault ≡ Memory → IsPassedIn n.catalog k (Inst v) → IsPartly m (puts_in n.catalog n.keys v k) o → IsStopped n l fault o
+    cut_stopped o fault memory passed part =
         let s = here.come.stands in
         let f = fits_behind n before after (stage.Inst v) split in
         let behind = held_behind (out_below n p) part.out part.held in
@@ -147,17 +149,31 @@ module _ (n : Night) (l m : Ledger) (before after : List Stage) (k : Kept) (step
           held = part.held;
           now = out_more l m o (out_below n p) part.out part.held here.out part.now;
           begun = λ e. let g : out_below n p ++ with_held part.out part.held ≡ [] = sym behind ∙ e in cc;
-          beginning = front_begins n (p + 1) (with_held (out_below n p ++ part.out) part.held) part.rest (omega (arith, f))
-              (passed_next n.catalog n.list n.tables n.changes s.catalogue s.correct p (Inst v) k at s.agrees s.told here.come.passed passed)
-              (out_behind ∙ ap (λ ops. out_below n p ++ ops) part.split ∙ sym (append_assoc (out_below n p) (with_held part.out part.held) part.rest) ∙ ap (λ ops. ops ++ part.rest) (sym behind));
+          place = p + 1;
+          within = omega (arith, f);
+          passed = passed_next n.catalog n.list n.tables n.changes s.catalogue s.correct p (Inst v) k at s.agrees s.told here.come.passed passed;
+          rest = part.rest;
+          begins = out_behind ∙ ap (λ ops. out_below n p ++ ops) part.split ∙ sym (append_assoc (out_below n p) (with_held part.out part.held) part.rest) ∙ ap (λ ops. ops ++ part.rest) (sym behind);
+          why = inl memory;
         }
 
     pub inst_stops : (fault : MaintFault) (o : Ledger) → IsInstStopped n.catalog n.keys v k fault m o → IsStopped n l fault o
-    inst_stops fault o (is_refused same h) = (
-      subst (IsUnderway n l) (sym same) (underway (stage.Inst v) split),
-      ⊎_elim (λ e. inl e) (λ w. inr (record { before = before; refused = stage.Inst v; after = after; split = split; passed = here.come.passed; is = w })) (fault_is fault h),
-    )
-    inst_stops fault o (is_cut memory passed part) = (cut_underway o passed part, inl memory)
+    inst_stops fault o (is_refused same h) = subst (IsStopped n l fault) (sym same) (stopped (stage.Inst v) split fault (fault_is fault h))
+    inst_stops fault o (is_cut memory passed part) = cut_stopped o fault memory passed part
+
+-- what stops it is the first stage that is refused, if not want of memory
+pub stopped_so : (n : Night) (l m : Ledger) (fault : MaintFault) → IsStopped n l fault m → (fault ≡ Memory) ⊎ IsFirstStageFault n fault
+stopped_so n l m fault u = ⊎_elim (λ e. inl e) (λ r. inr (first r.2)) u.why
+  where
+    first : IsRefusedThere n u.place fault → IsFirstStageFault n fault
+    first r = record {
+      before = r.before;
+      refused = r.refused;
+      after = r.after;
+      split = r.split;
+      passed = subst (ArePassedBelow n.catalog n.list n.tables n.changes) r.here u.passed;
+      is = subst (λ q. IsStageFault n q r.refused fault) r.here r.is;
+    }
 
 -- ---- where nothing is published
 
@@ -178,7 +194,7 @@ module _ (n : Night) (l : Ledger) (before after : List Stage) (k : Kept) (steps 
 
   pub wave_is_refused : (jobs : List Job) → stages_of n.list ≡ before ++ stage.Wave jobs ∷ after → (fault : MaintFault) → (fault ≡ Memory) ⊎ IsWaveFault n (place_of before) jobs fault
       → (fault ≡ Memory) ⊎ IsFirstStageFault n fault
-  wave_is_refused jobs split fault f = (wave_stops n l so_far before after k steps here jobs split fault f).1
+  wave_is_refused jobs split fault f = stopped_so n l so_far fault (wave_stops n l so_far before after k steps here jobs split fault f)
 
   pub inst_has_come : (v : ℕ) → stages_of n.list ≡ before ++ stage.Inst v ∷ after → (next : Kept) (more : List (Expression × ℕ)) → IsPassedIn n.catalog k (Inst v)
       → next ≡ installed v (finished n.catalog (λ u. eqb v u) k) → Reports (rows_in n.catalog (Inst v) k) (Inst v) steps more → HasCome n (place_of (before ++ stage.Inst v ∷ [])) next more
@@ -187,4 +203,4 @@ module _ (n : Night) (l : Ledger) (before after : List Stage) (k : Kept) (steps 
 
   pub inst_is_refused : (v : ℕ) → stages_of n.list ≡ before ++ stage.Inst v ∷ after → (fault : MaintFault) → IsStepFaultIn n.catalog k (Inst v) fault
       → (fault ≡ Memory) ⊎ IsFirstStageFault n fault
-  inst_is_refused v split fault f = (inst_stops n l so_far before after k steps here v split fault so_far (is_refused refl f)).1
+  inst_is_refused v split fault f = stopped_so n l so_far fault (inst_stops n l so_far before after k steps here v split fault so_far (is_refused refl f))

@@ -1,18 +1,27 @@
 -- What a night publishes behind what stood published before, and what a refused one leaves.
-use Rattle.std.specs.Prelude.{◌≡◌, ◌≢◌, ℕ, ◌≤◌, List, [], ◌∷◌, ◌++◌, Option, Some, None, IsTrue, length}
+use Rattle.std.specs.Prelude.{◌≡◌, ◌≢◌, ◌⊎◌, ℕ, ◌≤◌, List, [], ◌∷◌, ◌++◌, Option, Some, None, IsTrue, length}
 use Rattle.wh_row.specs.Bag.{Bag}
 use Rattle.wh_dag.specs.Catalog.{CatalogOf}
 use Rattle.wh_strategy.specs.declared.expression.Expression.{Expression}
 use Rattle.wh_maint.specs.Comp.{bag_at}
 use Rattle.wh_maint.specs.Contents.{AreContents}
 use Rattle.wh_maint.specs.Definition.{graph_of}
+use Rattle.wh_maint.specs.declared.fault.MaintFault.{MaintFault}
+use Rattle.wh_maint.specs.declared.fault.MaintFault.TheVariants.{Memory}
 use Rattle.wh_store.specs.Operations.{Operation, Commits, Gives_up}
 use Rattle.wh_store.specs.Pages.{Contents}
 use Rattle.wh_store.specs.Versions.{is_well_formed, number, version}
 use Rattle.wh_publish.specs.Ledgers.{Ledger, is_busy, ledger, versions_in}
 use Rattle.wh_night.specs.Carry.{tables_after}
-use Rattle.wh_night.specs.NightList.{IsBeginning, IsCutNight, IsNightList}
+use Rattle.wh_night.specs.NightList.{IsBeginning, IsCutNight, IsNightList, night_below}
+use Rattle.wh_night.specs.Refused.{ArePassedBelow}
+use Rattle.wh_night.specs.Waves.{stages_of}
+use Rattle.wh_night.specs.declared.stages.Stage.{Stage}
 use Rattle.wh_course.specs.Night.{Night}
+use Rattle.wh_course.specs.Standing.{place_of}
+use Rattle.wh_run.specs.Causes.{cause_of}
+use Rattle.wh_run.specs.Refusals.{AreAllowed, IsStageFault}
+use Rattle.wh_run.specs.declared.cause.NightCause.{NightCause}
 use Rattle.wh_run.specs.declared.left.Left.{Left}
 use Rattle.wh_run.specs.declared.left.Left.TheVariants.{Untouched, GivenUp, StillOpen}
 
@@ -52,33 +61,62 @@ pub record IsDone (n : Night) (l m : Ledger) : Type 0 where
   pub whole : IsWhole n ops
   pub now : m ≡ goes_out l ops None
 
--- the night was cut: a beginning of its list has gone out, and a give-up behind it; nothing is held
-pub record IsCut (n : Night) (l m : Ledger) : Type 0 where
+-- what a night has published where the expressions before this place are carried out
+abbrev pub out_below : Night → ℕ → List Operation
+out_below n place = night_below (graph_of n.catalog) n.changes n.keys n.list n.tables place
+
+-- the stage that begins at this place is refused for this
+pub record IsRefusedThere (n : Night) (place : ℕ) (fault : MaintFault) : Type 0 where
+  pub before : List Stage
+  pub refused : Stage
+  pub after : List Stage
+  pub split : stages_of n.list ≡ before ++ refused ∷ after
+  pub here : place ≡ place_of before
+  pub is : IsStageFault n place refused fault
+
+-- How far a refused night came that has published these operations, and why no further: no base change is refused, each expression before
+-- a place is passed, and what is published up to there begins with the operations. For want of memory the rest of it is still to come; else
+-- there is none, and the stage at the place is refused
+pub record HasStopped (n : Night) (cause : NightCause) (ops : List Operation) : Type 0 where
+  pub allowed : AreAllowed n
+  pub place : ℕ
+  pub within : place ≤ length n.list
+  pub passed : ArePassedBelow n.catalog n.list n.tables n.changes place
+  pub rest : List Operation
+  pub begins : out_below n place ≡ ops ++ rest
+  pub fault : MaintFault
+  pub told : cause ≡ cause_of fault
+  pub why : (fault ≡ Memory) ⊎ ((rest ≡ []) × IsRefusedThere n place fault)
+
+-- the night was cut: it has stopped, and a give-up has gone out behind its operations; nothing is held
+pub record IsCut (n : Night) (cause : NightCause) (l m : Ledger) : Type 0 where
   pub ops : List Operation
-  pub cut : IsCutNight n.catalog n.list n.tables n.changes n.keys ops
-  pub now : m ≡ goes_out l ops None
+  pub stopped : HasStopped n cause ops
+  pub cut : IsCutNight n.catalog n.list n.tables n.changes n.keys (ops ++ Gives_up ∷ [])
+  pub now : m ≡ goes_out l (ops ++ Gives_up ∷ []) None
 
--- what is held is the night's next operation, or the give-up of a night that has begun
-pub data IsNext (n : Night) (ops : List Operation) : Option Operation → Type 0 where
-  nothing : IsNext n ops None
-  put : (op : Operation) → Begin_it n (ops ++ op ∷ []) → IsNext n ops (Some op)
-  commit : IsWhole n (ops ++ Commits ∷ []) → IsNext n ops (Some Commits)
-  give_up : ops ≢ [] → IsNext n ops (Some Gives_up)
+-- what is held is the first of what is still to come, the commit of a night whose expressions are all passed, or the give-up of one that has begun
+pub data IsNext (n : Night) (ops rest : List Operation) : Option Operation → Type 0 where
+  nothing : IsNext n ops rest None
+  put : (op : Operation) (more : List Operation) → rest ≡ op ∷ more → IsNext n ops rest (Some op)
+  commit : ArePassedBelow n.catalog n.list n.tables n.changes (length n.list) → IsWhole n (ops ++ Commits ∷ []) → IsNext n ops rest (Some Commits)
+  give_up : ops ≢ [] → IsNext n ops rest (Some Gives_up)
 
--- a beginning of the night list has gone out, without its commit, and what is held comes next; a night is open, or something is held
-pub record IsOpen (n : Night) (l m : Ledger) : Type 0 where
+-- the night has stopped, and no commit has gone out; what is held comes next. A night is open, or something is held
+pub record IsOpen (n : Night) (cause : NightCause) (l m : Ledger) : Type 0 where
   pub ops : List Operation
   pub held : Option Operation
+  pub stopped : HasStopped n cause ops
   pub beginning : Begin_it n ops
-  pub next : IsNext n ops held
+  pub next : IsNext n ops stopped.rest held
   pub now : m ≡ goes_out l ops held
   pub busy : IsTrue (is_busy m)
 
--- what a refused night leaves
-abbrev pub Leaves : Night → Ledger → Left → Ledger → Type 0
-Leaves n l Untouched m = m ≡ l
-Leaves n l GivenUp m = IsCut n l m
-Leaves n l StillOpen m = IsOpen n l m
+-- what a night leaves that is refused for this cause
+abbrev pub Leaves : Night → NightCause → Ledger → Left → Ledger → Type 0
+Leaves n cause l Untouched m = m ≡ l
+Leaves n cause l GivenUp m = IsCut n cause l m
+Leaves n cause l StillOpen m = IsOpen n cause l m
 
 -- the published list is sound: each operation may come where it stands, and each version is the contents of a base
 pub record IsSound (catalog : CatalogOf) (l : Ledger) : Type 0 where

@@ -1,26 +1,33 @@
 -- Where a night has come to: what is carried out, reported and published.
-use Rattle.std.specs.Prelude.{◌≡◌, ◌≢◌, ◌⊎◌, ◌==◌, ℕ, ◌<◌, ◌^◌, true, List, [], ◌∷◌, ◌++◌, map, Option, Some, None, length, slice_get}
+use Rattle.std.specs.Prelude.{◌≡◌, ◌≢◌, ◌⊎◌, ◌==◌, ℕ, ◌<◌, ◌≤◌, ◌^◌, true, List, [], ◌∷◌, ◌++◌, map, Option, Some, None, length, slice_get}
+use Rattle.std.specs.List.{All}
 use Rattle.wh_dag.specs.Shape.{children_of}
 use Rattle.wh_dag.specs.Catalog.{CatalogOf, definition_of, width_of}
 use Rattle.wh_strategy.specs.declared.expression.Expression.{Expression}
 use Rattle.wh_strategy.specs.declared.expression.Expression.TheVariants.{Inst}
 use Rattle.wh_row.specs.Weigh.{Counted}
-use Rattle.wh_row.specs.Bag.{Bag, HasWidth}
+use Rattle.wh_row.specs.Bag.{Bag, HasWidth, IsTable, sum_of}
 use Rattle.wh_maint.specs.Comp.{PendingOf, comp_columns}
 use Rattle.wh_maint.specs.Definition.{graph_of, view_of}
 use Rattle.wh_maint.specs.declared.fault.MaintFault.{MaintFault}
 use Rattle.wh_maint.specs.declared.fault.MaintFault.TheVariants.{Memory}
 use Rattle.wh_store.specs.Operations.{Operation, Writes, Commits}
-use Rattle.wh_publish.specs.Ledgers.{Ledger, with_held}
+use Rattle.wh_store.specs.Pages.{Contents, is_page}
+use Rattle.wh_publish.specs.Ledgers.{Ledger, versions_in, with_held}
 use Rattle.wh_night.specs.declared.stages.Job.{Job}
+use Rattle.wh_night.specs.declared.stages.Stage.{Stage}
+use Rattle.wh_night.specs.declared.stages.Stage.TheVariants as stage
+use Rattle.wh_night.specs.Fit.{AreFit}
+use Rattle.wh_night.specs.NightLaws.{HaveTables}
+use Rattle.wh_night.specs.Waves.{stages_of}
 use Rattle.wh_night.specs.Kept.{Kept, IsPendingIn, finished}
-use Rattle.wh_night.specs.NightList.{new_counts, night_below, pages_of}
+use Rattle.wh_night.specs.NightList.{new_counts, pages_of}
 use Rattle.wh_night.specs.Refused.{ArePassedBelow, CanBeComputed, IsCompFaultIn, IsPassedIn, IsStepFaultIn}
 use Rattle.wh_night.specs.Steps.{AreFirstSteps}
 use Rattle.wh_course.specs.Night.{Night, state_at}
 use Rattle.wh_night.proofs.Reasons.{CanBeFinished}
 use Rattle.wh_course.specs.Standing.{StandsAt, is_source}
-use Rattle.wh_run.specs.Tonight.{Begin_it, goes_out, made_by}
+use Rattle.wh_run.specs.Tonight.{IsRefusedThere, goes_out, made_by, newest_in, out_below}
 use Rattle.wh_run.specs.Refusals.{IsFirstStageFault}
 use Rattle.wh_run.specs.Causes.{cause_of}
 use Rattle.wh_run.specs.declared.left.NightFault.{NightFault}
@@ -36,10 +43,6 @@ pub record Given : Type 0 where
 abbrev pub night_of : CatalogOf → ℕ → Given → Night
 night_of catalog keys t = record { catalog = catalog; list = t.list; tables = t.tables; changes = t.changes; keys = keys }
 
--- what a night has published where the expressions before this place are carried out
-abbrev pub out_below : Night → ℕ → List Operation
-out_below n place = night_below (graph_of n.catalog) n.changes n.keys n.list n.tables place
-
 -- the expressions before this place are carried out and reported
 pub record HasCome (n : Night) (place : ℕ) (k : Kept) (steps : List (Expression × ℕ)) : Type 0 where
   pub stands : StandsAt n place k
@@ -54,17 +57,19 @@ pub record IsPartly (l : Ledger) (ops : List Operation) (m : Ledger) : Type 0 wh
   pub now : m ≡ goes_out l out held
   pub split : ops ≡ with_held out held ++ rest
 
--- a night that has begun: a beginning of its list has gone out or is held, not its commit
-pub record IsUnderway (n : Night) (l m : Ledger) : Type 0 where
+-- a night that has begun and cannot go on for this: a beginning of what it publishes up to a place has gone out or is held, where each
+-- expression before the place is passed; memory aside, that is all of it, and the stage at the place is refused
+pub record IsStopped (n : Night) (l : Ledger) (fault : MaintFault) (m : Ledger) : Type 0 where
   pub ops : List Operation
   pub held : Option Operation
   pub now : m ≡ goes_out l ops held
   pub begun : with_held ops held ≢ []
-  pub beginning : Begin_it n (with_held ops held)
-
--- it is underway, and cannot go on for this
-abbrev pub IsStopped : Night → Ledger → MaintFault → Ledger → Type 0
-IsStopped n l fault m = IsUnderway n l m × ((fault ≡ Memory) ⊎ IsFirstStageFault n fault)
+  pub place : ℕ
+  pub within : place ≤ length n.list
+  pub passed : ArePassedBelow n.catalog n.list n.tables n.changes place
+  pub rest : List Operation
+  pub begins : out_below n place ≡ with_held ops held ++ rest
+  pub why : (fault ≡ Memory) ⊎ ((held ≡ None) × (rest ≡ []) × IsRefusedThere n place fault)
 
 -- ---- jobs
 
@@ -108,6 +113,17 @@ pub record Reports (rows : ℕ) (e : Expression) (old new : List (Expression × 
 
 -- ---- pages
 
+-- nothing is held, a night is open, and what it writes has this view
+pub record TakesPages (l : Ledger) (view : ℕ) : Type 0 where
+  pub free : l.held ≡ None
+  pub draft : Contents
+  pub open_night : (versions_in l.of l.list).draft ≡ Some draft
+  pub has : view < length draft
+
+-- cut into pages, these rows are pages that an operation may write
+abbrev pub AreGoodPages : ℕ → Counted → Type 0
+AreGoodPages keys rows = All (λ page. is_page page ≡ true) (pages_of keys rows)
+
 -- the new counts of a view, by pages, as its Inst publishes them
 abbrev pub puts_in : CatalogOf → ℕ → ℕ → Kept → List Operation
 puts_in catalog keys view k = map (Writes view) (pages_of keys (new_counts (k.tables view) ((finished catalog (λ u. view == u) k).changes view)))
@@ -125,10 +141,34 @@ pub data IsInstStopped (catalog : CatalogOf) (keys view : ℕ) (k : Kept) (fault
 
 -- ---- stages
 
+-- what an Inst puts may be published: its pages are taken, and the new table counts no row below zero
+abbrev pub CanPublish : CatalogOf → Stage → Kept → Ledger → Type 0
+CanPublish catalog (stage.Wave jobs) k l = Unit {0}
+CanPublish catalog (stage.Inst v) k l = TakesPages l v × IsTable (sum_of (k.tables v) ((finished catalog (λ u. v == u) k).changes v))
+
 -- the night has come to this place, and what it publishes up to there has gone out
 pub record IsAt (n : Night) (l : Ledger) (place : ℕ) (k : Kept) (steps : List (Expression × ℕ)) (m : Ledger) : Type 0 where
   pub come : HasCome n place k steps
   pub out : m ≡ goes_out l (out_below n place) None
+
+-- these are the stages of a night over fit tables, which stay so, and of what is published the newest contents are these tables
+pub record AreFitStages (catalog : CatalogOf) (keys : ℕ) (t : Given) (stages : List Stage) : Type 0 where
+  pub are : stages ≡ stages_of t.list
+  pub tables : HaveTables (newest_in t.before) (length catalog.views.children) t.tables
+  pub fit : (place : ℕ) → AreFit (graph_of catalog) (state_at (night_of catalog keys t) place).tables
+
+-- the night of these stages can begin from what is kept
+pub record CanBegin (catalog : CatalogOf) (keys : ℕ) (stages : List Stage) (k : Kept) (l : Ledger) : Type 0 where
+  pub given : Given
+  pub fit : AreFitStages catalog keys given stages
+  pub before : given.before ≡ l
+  pub come : HasCome (night_of catalog keys given) 0 k []
+
+-- it has begun
+pub record HasBegun (catalog : CatalogOf) (keys : ℕ) (stages : List Stage) (k : Kept) (m : Ledger) : Type 0 where
+  pub given : Given
+  pub fit : AreFitStages catalog keys given stages
+  pub at : IsAt (night_of catalog keys given) given.before 0 k [] m
 
 -- all but the commit has gone out, each expression being passed
 pub record IsPut (n : Night) (l m : Ledger) : Type 0 where

@@ -1,17 +1,18 @@
 //! Insts: a view's change is added to its table, and the new counts go out page by page.
 
-ghost use Rattle.std.specs.Prelude.{◌≡◌, ◌⊎◌, ◌≤◌, ◌<◌, ◌==◌, ◌++◌, ◌∷◌, [], ◌^◌, ℕ, None, List, length, map, OnOk, OnErr, IfOk, IfErr};
-ghost use Rattle.wh_row.specs.Bag.{count, size, written};
+ghost use Rattle.std.specs.Prelude.{true, ◌≡◌, ◌⊎◌, ◌≤◌, ◌<◌, ◌==◌, ◌++◌, ◌∷◌, [], ◌^◌, ℕ, None, List, length, map, OnOk, OnErr, IfOk, IfErr};
+ghost use Rattle.wh_row.specs.Bag.{IsTable, count, size, sum_of, written};
 ghost use Rattle.wh_row.specs.Stored.{plain};
 ghost use Rattle.wh_row.specs.Weigh.{Counted};
 ghost use Rattle.wh_strategy.specs.declared.expression.Expression.TheVariants.{Inst};
 ghost use Rattle.wh_maint.specs.declared.fault.MaintFault.TheVariants.{Memory};
 ghost use Rattle.wh_store.specs.Operations.{Operation, Writes};
+ghost use Rattle.wh_store.specs.Pages.{is_page};
 ghost use Rattle.wh_night.specs.Kept.{kept, finished, installed, AreParts, CanFinish, rows_in};
 ghost use Rattle.wh_night.specs.NightList.{new_counts, pages_of};
 ghost use Rattle.wh_night.specs.Refused.{IsPassedIn, IsStepFaultIn};
 ghost use Rattle.wh_run.specs.Tonight.{goes_out};
-ghost use Rattle.wh_run.specs.Underway.{GoesOut, IsInstStopped, IsPartly, Reports, puts_in};
+ghost use Rattle.wh_run.specs.Underway.{AreGoodPages, TakesPages, GoesOut, IsInstStopped, IsPartly, Reports, puts_in};
 
 use std::alloc::{AllocError, Global};
 use std::sync::Wait;
@@ -19,7 +20,7 @@ use wh_dag::Catalog;
 use wh_formula::{RowTest, RowValue};
 use wh_maint::MaintFault;
 use wh_night::NightState;
-use wh_publish::Publish;
+use wh_publish::{Publish, PublishFault};
 use wh_row::{Bag, Row};
 use wh_store::Op;
 use wh_strategy::Expression;
@@ -32,7 +33,8 @@ fn publish_page<P: Publish, R: Wait>(
     view: usize,
     page: &mut Vec<(Row, i64)>,
 ) -> Result<(), AllocError>
-    requires held { (P.kept writer.old).held ≡ None }
+    requires takes { TakesPages (P.kept writer.old) view }
+    requires good { is_page (plain page.old.items) ≡ true }
     ensures home { P.home writer.new ≡ P.home writer.old }
     ensures empty { OnOk result (page.new.items ≡ []) }
     ensures out { OnOk result (P.kept writer.new ≡ goes_out (P.kept writer.old) (Writes view (plain page.old.items) ∷ []) None) }
@@ -41,7 +43,8 @@ fn publish_page<P: Publish, R: Wait>(
     let rows = std::mem::replace(page, Vec::new(alloc));
     match writer.publish(rt, Op::Put(view, rows)) {
         Ok(()) => Ok(()),
-        Err(_) => Err(AllocError),
+        Err(PublishFault::Memory { held: _ }) => Err(AllocError),
+        Err(_) => unreachable!(),
     }
 }
 
@@ -54,9 +57,10 @@ fn make_room<P: Publish, R: Wait>(
     keys: usize,
     page: &mut Vec<(Row, i64)>,
 ) -> Result<(), AllocError>
-    requires held { (P.kept writer.old).held ≡ None }
+    requires takes { TakesPages (P.kept writer.old) view }
     requires some { 1 ≤ keys }
     requires few { length page.old.items ≤ keys }
+    requires good { length page.old.items ≡ keys → is_page (plain page.old.items) ≡ true }
     ensures home { P.home writer.new ≡ P.home writer.old }
     ensures room { OnOk result (length page.new.items < keys) }
     ensures out { OnOk result (GoesOut view keys (plain page.old.items) (plain page.new.items) (P.kept writer.old) (P.kept writer.new)) }
@@ -77,8 +81,9 @@ fn close_last<P: Publish, R: Wait>(
     keys: usize,
     page: &mut Vec<(Row, i64)>,
 ) -> Result<(), AllocError>
-    requires held { (P.kept writer.old).held ≡ None }
+    requires takes { TakesPages (P.kept writer.old) view }
     requires few { length page.old.items ≤ keys }
+    requires good { 1 ≤ length page.old.items → is_page (plain page.old.items) ≡ true }
     ensures home { P.home writer.new ≡ P.home writer.old }
     ensures out { OnOk result (P.kept writer.new ≡ goes_out (P.kept writer.old) (map (Writes view) (pages_of keys (plain page.old.items))) None) }
     ensures err { OnErr result (IsPartly (P.kept writer.old) (map (Writes view) (pages_of keys (plain page.old.items))) (P.kept writer.new)) }
@@ -115,8 +120,9 @@ fn publish_change<P: Publish, R: Wait>(
     table: &Bag,
     change: &Bag,
 ) -> Result<(), AllocError>
-    requires held { (P.kept writer.old).held ≡ None }
+    requires takes { TakesPages (P.kept writer.old) view }
     requires some { 1 ≤ keys }
+    requires good { AreGoodPages keys (map (λ e. (e.0, count table.now e.0)) (written change.now)) }
     ensures home { P.home writer.new ≡ P.home writer.old }
     ensures out { OnOk result (P.kept writer.new ≡ goes_out (P.kept writer.old) (map (Writes view) (pages_of keys (map (λ e. (e.0, count table.now e.0)) (written change.now)))) None) }
     ensures err { OnErr result (IsPartly (P.kept writer.old) (map (Writes view) (pages_of keys (map (λ e. (e.0, count table.now e.0)) (written change.now)))) (P.kept writer.new)) }
@@ -172,11 +178,13 @@ pub(crate) fn inst<P: Publish, F: RowTest, G: RowValue, R: Wait>(
     state: &mut NightState,
     steps: &mut Vec<(Expression, u128)>,
 ) -> Result<(), MaintFault>
-    requires held { (P.kept writer.old).held ≡ None }
+    requires takes { TakesPages (P.kept writer.old) view }
     requires parts { AreParts catalog.now state.old }
     requires fit { CanFinish catalog.now (kept state.old) }
     requires view { view < length catalog.now.views.children }
+    requires table { IsTable (sum_of ((kept state.old).tables view) ((finished catalog.now (λ u. view == u) (kept state.old)).changes view)) }
     requires some { 1 ≤ keys }
+    requires few { keys ≤ 256 }
     ensures home { P.home writer.new ≡ P.home writer.old }
     ensures parts { OnOk result (AreParts catalog.now state.new) }
     ensures fit { OnOk result (CanFinish catalog.now (kept state.new)) }

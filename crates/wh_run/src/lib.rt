@@ -16,7 +16,7 @@ mod running;
 mod waves;
 
 pub use alone::night_alone;
-pub use asked::can_run_wave;
+pub use asked::{are_fit_for, can_run_wave};
 pub use cause::NightCause;
 pub use gate::{Gate, NoGate};
 pub use laws::nights_have_one_refusal;

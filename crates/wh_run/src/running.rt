@@ -12,7 +12,7 @@ ghost use Rattle.wh_store.specs.Operations.{Commits, Opens};
 ghost use Rattle.wh_store.specs.Versions.{number};
 ghost use Rattle.wh_publish.specs.Faults.{publish_refusal};
 ghost use Rattle.wh_publish.specs.Ledgers.{Ledger, versions_in};
-ghost use Rattle.wh_night.specs.Fit.{AreFitTables};
+ghost use Rattle.wh_night.specs.Fit.{AreFitFor};
 ghost use Rattle.wh_night.specs.Kept.{kept, AreParts, CanFinish};
 ghost use Rattle.wh_night.specs.NightLaws.{HaveTables};
 ghost use Rattle.wh_night.specs.Refused.{ArePassedBelow};
@@ -25,7 +25,7 @@ ghost use Rattle.wh_run.specs.Causes.{cause_of, cause_of_begin};
 ghost use Rattle.wh_run.specs.declared.left.Left.TheVariants.{Untouched};
 ghost use Rattle.wh_run.specs.Refusals.{AreAllowed, IsRefused};
 ghost use Rattle.wh_run.specs.Tonight.{IsDone, IsSound, IsWhole, Leaves, goes_out, made_by, newest_in, tonight};
-ghost use Rattle.wh_run.specs.Underway.{AreWide, Given, HasCome, IsAt, IsPut, IsRefusedLater, IsStopped, IsUnderway, WaitsToCommit, night_of};
+ghost use Rattle.wh_run.specs.Underway.{AreWide, CanBegin, CanPublish, Given, HasBegun, HasCome, IsAt, IsPut, IsRefusedLater, IsStopped, WaitsToCommit, night_of};
 
 use crate::gate::Gate;
 use crate::insts::inst;
@@ -68,7 +68,7 @@ fn given_up<P: Publish, R: Wait>(rt: &R, writer: &mut P, fault: MaintFault) -> N
     ensures home { P.home writer.new ≡ P.home writer.old }
     ensures cause { result.cause ≡ cause_of fault }
     ensures started { result.left ≢ Untouched }
-    ensures leaves { (n : Night) (l : Ledger) → IsUnderway n l (P.kept writer.old) → Leaves n l result.left (P.kept writer.new) }
+    ensures leaves { (n : Night) (l : Ledger) → AreAllowed n → IsStopped n l fault (P.kept writer.old) → Leaves n result.cause l result.left (P.kept writer.new) }
 {
     let left = match writer.give_up(rt) {
         Ok(_) => Left::GivenUp,
@@ -82,16 +82,17 @@ fn given_up<P: Publish, R: Wait>(rt: &R, writer: &mut P, fault: MaintFault) -> N
 
 /// Begins a night.
 fn begin<P: Publish, R: Wait>(rt: &R, writer: &mut P) -> Result<(), NightFault>
-    requires held { (P.kept writer.old).held ≡ None }
+    requires { publish_refusal (P.kept writer.old) Opens ≡ None }
     ensures home { P.home writer.new ≡ P.home writer.old }
     ensures ok { OnOk result (P.kept writer.new ≡ goes_out (P.kept writer.old) (Opens ∷ []) None) }
     ensures cause { IfErr result (λ f. f.cause ≡ cause_of Memory) }
-    ensures leaves { IfErr result (λ f. (n : Night) → Leaves n (P.kept writer.old) f.left (P.kept writer.new)) }
+    ensures leaves { IfErr result (λ f. (n : Night) → AreAllowed n → Leaves n f.cause (P.kept writer.old) f.left (P.kept writer.new)) }
 {
     match writer.publish(rt, Op::Begin) {
         Ok(()) => Ok(()),
         Err(PublishFault::Memory { held: true }) => Err(given_up(rt, writer, MaintFault::Memory)),
-        Err(_) => Err(untouched(NightCause::Memory)),
+        Err(PublishFault::Memory { held: false }) => Err(untouched(NightCause::Memory)),
+        Err(_) => unreachable!(),
     }
 }
 
@@ -117,7 +118,7 @@ fn commit_held<P: Publish, R: Wait>(
     ensures steps { IfOk result (λ r. r.steps.items ≡ steps.items) }
     ensures done { OnOk result ((n : Night) (l : Ledger) → WaitsToCommit n l (P.kept writer.old) → IsDone n l (P.kept writer.new)) }
     ensures cause { IfErr result (λ f. f.cause ≡ cause_of Memory) }
-    ensures leaves { IfErr result (λ f. (n : Night) (l : Ledger) → WaitsToCommit n l (P.kept writer.old) → Leaves n l f.left (P.kept writer.new)) }
+    ensures leaves { IfErr result (λ f. (n : Night) (l : Ledger) → AreAllowed n → WaitsToCommit n l (P.kept writer.old) → Leaves n f.cause l f.left (P.kept writer.new)) }
 {
     match writer.give_up(rt) {
         Ok(_) => Ok(told(writer, steps)),
@@ -134,17 +135,21 @@ fn commit<P: Publish, R: Wait>(
     writer: &mut P,
     steps: Vec<(Expression, u128)>,
 ) -> Result<Report, NightFault>
+    requires { publish_refusal (P.kept writer.old) Commits ≡ None }
     ensures home { P.home writer.new ≡ P.home writer.old }
     ensures version { IfOk result (λ r. r.version ≡ number (versions_in (P.kept writer.new).of (P.kept writer.new).list)) }
     ensures steps { IfOk result (λ r. r.steps.items ≡ steps.items) }
     ensures done { OnOk result ((n : Night) (l : Ledger) → IsPut n l (P.kept writer.old) → IsDone n l (P.kept writer.new)) }
     ensures cause { IfErr result (λ f. f.cause ≡ cause_of Memory) }
-    ensures leaves { IfErr result (λ f. (n : Night) (l : Ledger) → IsPut n l (P.kept writer.old) → Leaves n l f.left (P.kept writer.new)) }
+    ensures leaves { IfErr result (λ f. (n : Night) (l : Ledger) → AreAllowed n → IsPut n l (P.kept writer.old) → Leaves n f.cause l f.left (P.kept writer.new)) }
 {
     match writer.publish(rt, Op::Commit) {
         Ok(()) => Ok(told(writer, steps)),
         Err(PublishFault::Memory { held: true }) => commit_held(rt, writer, steps),
-        Err(_) => Err(given_up(rt, writer, MaintFault::Memory)),
+        Err(PublishFault::Memory { held: false }) => {
+            Err(given_up(rt, writer, MaintFault::Memory))
+        }
+        Err(_) => unreachable!(),
     }
 }
 
@@ -165,7 +170,9 @@ fn stage_of<P: Publish, F: RowTest, G: RowValue, T: Gate + Sync, R: Threads + Wa
     requires parts { AreParts catalog.now state.old }
     requires fit { CanFinish catalog.now (kept state.old) }
     requires stage { IsStageIn catalog.now stage.now }
+    requires publishes { CanPublish catalog.now stage.now (kept state.old) (P.kept writer.old) }
     requires some { 1 ≤ keys }
+    requires few { keys ≤ 256 }
     requires least { 1 ≤ workers }
     requires most { workers ≤ 16 }
     ensures home { P.home writer.new ≡ P.home writer.old }
@@ -210,7 +217,9 @@ fn through<P: Publish, F: RowTest, G: RowValue, T: Gate + Sync, R: Threads + Wai
     requires parts { AreParts catalog.now state.old }
     requires fit { CanFinish catalog.now (kept state.old) }
     requires stages { (i : ℕ) (stage : StageOf) → slice_get stages.now i ≡ Some stage → IsStageIn catalog.now stage }
+    requires begun { HasBegun catalog.now keys stages.now (kept state.old) (P.kept writer.old) }
     requires some { 1 ≤ keys }
+    requires few { keys ≤ 256 }
     requires least { 1 ≤ workers }
     requires most { workers ≤ 16 }
     ensures home { P.home writer.new ≡ P.home writer.old }
@@ -245,11 +254,13 @@ fn run<P: Publish, F: RowTest, G: RowValue, T: Gate + Sync, R: Threads + Wait + 
     state: &mut NightState,
     gate: &T,
 ) -> Result<Report, NightFault>
-    requires held { (P.kept writer.old).held ≡ None }
+    requires free { publish_refusal (P.kept writer.old) Opens ≡ None }
     requires parts { AreParts catalog.now state.old }
     requires fit { CanFinish catalog.now (kept state.old) }
     requires stages { (i : ℕ) (stage : StageOf) → slice_get stages.now i ≡ Some stage → IsStageIn catalog.now stage }
+    requires begins { CanBegin catalog.now keys stages.now (kept state.old) (P.kept writer.old) }
     requires some { 1 ≤ keys }
+    requires few { keys ≤ 256 }
     requires least { 1 ≤ workers }
     requires most { workers ≤ 16 }
     ensures home { P.home writer.new ≡ P.home writer.old }
@@ -260,7 +271,8 @@ fn run<P: Publish, F: RowTest, G: RowValue, T: Gate + Sync, R: Threads + Wait + 
         × AreSteps catalog.now.views.children t.list t.tables (made_by (night_of catalog.now keys t)) r.steps.items
         × AreWide catalog.now (made_by (night_of catalog.now keys t))) }
     ensures refused { IfErr result (λ f. (t : Given) → t.before ≡ P.kept writer.old → stages.now ≡ stages_of t.list → HasCome (night_of catalog.now keys t) 0 (kept state.old) []
-        → Leaves (night_of catalog.now keys t) t.before f.left (P.kept writer.new) × IsRefusedLater (night_of catalog.now keys t) f) }
+        → AreAllowed (night_of catalog.now keys t)
+        → Leaves (night_of catalog.now keys t) f.cause t.before f.left (P.kept writer.new) × IsRefusedLater (night_of catalog.now keys t) f) }
 {
     if let Err(fault) = begin(rt, writer) {
         return Err(fault);
@@ -273,9 +285,10 @@ fn run<P: Publish, F: RowTest, G: RowValue, T: Gate + Sync, R: Threads + Wait + 
     }
 }
 
-/// Carries a night out over what is published, wave by wave, from the tables of the current version: one bag a view, each
-/// fit, as the contents of a base are (`are_fit` tests it). There is a change for each view; those of derived views are not
-/// read. The strategy was judged over this catalogue's shape (`is_of` tests it). Readers go on meanwhile.
+/// Carries a night out over what is published, wave by wave, from the tables of the current version: one bag a view, which
+/// are fit for the night, as the contents of a base are for every night ([`crate::are_fit_for`] tests it). There is a
+/// change for each view; those of derived views are not read. The strategy was judged over this catalogue's shape (`is_of`
+/// tests it). Readers go on meanwhile.
 ///
 /// [`Publish::views`] says how many views are published, and [`current_tables`] hands out their tables to be tested. The contents of
 /// a base are fit without a test: `opening_contents` gives them, and from them `carry` and each night.
@@ -298,7 +311,7 @@ pub fn night<P: Publish, F: RowTest, G: RowValue, T: Gate + Sync, R: Threads + W
     requires judged { correct.now.children ≡ catalog.now.views.children }
     requires tables { AreBags catalog.now (newest_in (P.kept writer.old)) }
     requires changes { AreBags catalog.now changes.now }
-    requires fit { AreFitTables catalog.now (newest_in (P.kept writer.old)) }
+    requires fit { AreFitFor (graph_of catalog.now) (bag_at changes.now) correct.now.list (bag_at (newest_in (P.kept writer.old))) }
     requires one { 1 ≤ options.workers }
     requires sixteen { options.workers ≤ 16 }
     requires least { 1 ≤ options.page_keys }
@@ -315,7 +328,7 @@ pub fn night<P: Publish, F: RowTest, G: RowValue, T: Gate + Sync, R: Threads + W
         (made_by (tonight catalog.now correct.now.list (P.kept writer.old) changes.now options.page_keys)) r.steps.items) }
     ensures allowed { OnOk result (AreAllowed (tonight catalog.now correct.now.list (P.kept writer.old) changes.now options.page_keys)) }
     ensures passed { OnOk result (ArePassedBelow catalog.now correct.now.list (bag_at (newest_in (P.kept writer.old))) (bag_at changes.now) (length correct.now.list)) }
-    ensures leaves { IfErr result (λ f. Leaves (tonight catalog.now correct.now.list (P.kept writer.old) changes.now options.page_keys) (P.kept writer.old) f.left (P.kept writer.new)) }
+    ensures leaves { IfErr result (λ f. Leaves (tonight catalog.now correct.now.list (P.kept writer.old) changes.now options.page_keys) f.cause (P.kept writer.old) f.left (P.kept writer.new)) }
     ensures newest { OnErr result (newest_in (P.kept writer.new) ≡ newest_in (P.kept writer.old)) }
     ensures sound { IsSound catalog.now (P.kept writer.old) → IsSound catalog.now (P.kept writer.new) }
     ensures refused { MatchOption (publish_refusal (P.kept writer.old) Opens)

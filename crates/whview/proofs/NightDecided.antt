@@ -10,21 +10,21 @@ use Rattle.wh_load.specs.ReadingNight.{Night, Opening, catalog_in}
 use Rattle.wh_maint.specs.Comp.{bag_at}
 use Rattle.wh_maint.specs.Contents.{AreBaseTables, AreContents, AreContentsOf, IsFromScratch, contents}
 use Rattle.wh_maint.specs.Definition.{graph_of}
-use Rattle.wh_maint.specs.Finishing.{kind_in}
-use Rattle.wh_maint.specs.Fit.{IsFitTable}
 use Rattle.wh_maint.specs.Laws.{changed}
 use Rattle.wh_maint.specs.Opening.{CanBeEvaluated, HasNoContents, HaveContentsBelow}
 use Rattle.wh_maint.specs.View.{IsViewGraph, ViewGraph}
 use Rattle.wh_maint.specs.declared.fault.MaintFault.{MaintFault}
 use Rattle.wh_maint.specs.declared.fault.MaintFault.TheVariants.{Memory}
-use Rattle.wh_maint.proofs.FromScratch.{catalogs_are_graphs, contents_are_fit, contents_are_unique, contents_are_values}
+use Rattle.wh_maint.proofs.FromScratch.{catalogs_are_graphs, contents_are_unique, contents_are_values}
 use Rattle.wh_maint.proofs.Differences.{same_tables}
 use Rattle.wh_maint.specs.Value.{view_value}
 use Rattle.wh_night.specs.Carry.{before, tables_after}
 use Rattle.wh_night.specs.Refused.{AreAllowedBelow, ArePassedBelow}
 use Rattle.wh_night.specs.Steps.{AreSteps}
 use Rattle.wh_night.specs.declared.report.CarryFault.{CarryFault}
+use Rattle.wh_night.specs.Fit.{AreFitFor}
 use Rattle.wh_night.proofs.Agreeing.{past}
+use Rattle.wh_night.proofs.FitNights.{contents_are_fit_for_nights}
 use Rattle.wh_night.proofs.NewValues.{new_contents_have_values, new_rows_are_few, passed_have_values, within}
 use Rattle.wh_night.specs.Laws.{AreFew}
 use Rattle.wh_strategy.specs.Rules.{IsCorrect}
@@ -56,15 +56,13 @@ base_tables cat is tables are b e =
     (λ m. subst IsTable (sym (past tables b empty (let n = are.bags.each in omega arith))) none_negative)
     (cases_lt b (length cat.views.children))
 
-pub opened_fit : (cat : CatalogOf) → IsCatalog cat → (base old : List Bag) → AreReadTables cat base → (ts : List Bag) → ts ≡ old
-    → ((v : ℕ) → bag_at old v ≡ contents (graph_of cat) (bag_at base) v)
-    → (v : ℕ) → v < length cat.views.children → IsFitTable (kind_in cat v) (bag_at ts v)
-opened_fit cat is base old are ts same opened v l =
+pub opened_fit : (cat : CatalogOf) → IsCatalog cat → (base old : List Bag) → AreReadTables cat base → ((v : ℕ) → bag_at old v ≡ contents (graph_of cat) (bag_at base) v)
+    → (list : List Expression) → IsCorrect cat.views.children list → (changes : ℕ → Bag) → AreFitFor (graph_of cat) changes list (bag_at old)
+opened_fit cat is base old are opened list ok changes =
     let g = graph_of cat in
-    let isg = catalogs_are_graphs cat is in
-    let whole : IsFromScratch g (bag_at base) = contents_are_values g (bag_at base) isg in
-    let fit = contents_are_fit g (contents g (bag_at base)) isg (λ b e. subst IsTable (sym (whole.bases b e)) (base_tables cat is base are b e)) whole.values v in
-    subst (IsFitTable (kind_in cat v)) (sym (ap (λ xs. bag_at xs v) same ∙ opened v)) fit
+    let whole : IsFromScratch g (bag_at base) = contents_are_values g (bag_at base) (catalogs_are_graphs cat is) in
+    let counts : AreBaseTables g (contents g (bag_at base)) = λ b e. subst IsTable (sym (whole.bases b e)) (base_tables cat is base are b e) in
+    subst (AreFitFor g changes list) (λ i v. sym (opened v) i) (contents_are_fit_for_nights cat list (contents g (bag_at base)) changes is ok counts whole.values)
 
 module _ (cat : CatalogOf) (is : IsCatalog cat) (base old : List Bag) (opened : (v : ℕ) → bag_at old v ≡ contents (graph_of cat) (bag_at base) v) where
   abbrev pub g : ViewGraph

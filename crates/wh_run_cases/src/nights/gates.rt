@@ -2,7 +2,9 @@
 
 ghost use Rattle.std.specs.Prelude.{◌≡◌};
 ghost use Rattle.wh_maint.specs.Asked.{AreBags};
-ghost use Rattle.wh_night.specs.Fit.{AreFitTables};
+ghost use Rattle.wh_maint.specs.Comp.{bag_at};
+ghost use Rattle.wh_maint.specs.Definition.{graph_of};
+ghost use Rattle.wh_night.specs.Fit.{AreFitFor};
 ghost use Rattle.wh_run.specs.Tonight.{newest_in};
 
 use crate::nights::run::{Answer, ends_with, table_of};
@@ -195,7 +197,7 @@ fn read_beside<R: Threads + Wait + Sync>(
     requires judged { correct.now.children ≡ catalog.now.views.children }
     requires tables { AreBags catalog.now (newest_in writer.old.ledger) }
     requires changes { AreBags catalog.now changes.now }
-    requires fit { AreFitTables catalog.now (newest_in writer.old.ledger) }
+    requires fit { AreFitFor (graph_of catalog.now) (bag_at changes.now) correct.now.list (bag_at (newest_in writer.old.ledger)) }
 {
     thread::join(
         rt,
@@ -204,7 +206,7 @@ fn read_beside<R: Threads + Wait + Sync>(
             requires judged { correct.now.children ≡ catalog.now.views.children }
             requires tables { AreBags catalog.now (newest_in writer.now.ledger) }
             requires changes { AreBags catalog.now changes.now }
-            requires fit { AreFitTables catalog.now (newest_in writer.now.ledger) }
+            requires fit { AreFitFor (graph_of catalog.now) (bag_at changes.now) correct.now.list (bag_at (newest_in writer.now.ledger)) }
         {
             night(
                 rt,
@@ -235,7 +237,10 @@ fn night_that_is_read<R: Threads + Wait + Sync + Abort>(
     if !correct.is_of(catalog.shape()) || !are_bags(&catalog, &changes) {
         return Ok(None);
     }
-    let Some((mut writer, mut desks)) = warehouse_of(rt, alloc, &catalog, tables)? else {
+    let Some((mut writer, mut desks)) = warehouse_of(
+        rt, alloc, &catalog, tables, &changes, &correct,
+    )?
+    else {
         return Ok(None);
     };
     let Some(mut desk) = desks.pop() else {

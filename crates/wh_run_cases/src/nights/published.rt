@@ -12,10 +12,10 @@ use std::thread::Threads;
 use wh_dag::Catalog;
 use wh_given::catalogs::{Cell, Every, joined, one_way, summed};
 use wh_maint::are_bags;
-use wh_night::{Report, are_fit};
+use wh_night::Report;
 use wh_publish::{Ended, Publish};
 use wh_row::Bag;
-use wh_run::{Left, NightFault, NoGate, night};
+use wh_run::{Left, NightFault, NoGate, are_fit_for, night};
 use wh_store::Op;
 use wh_strategy::{Correct, check};
 
@@ -67,7 +67,10 @@ fn set(alloc: Global, refusals: Refusals) -> Result<(Setting, Refusing), Fail> {
     let Ok(correct) = check(alloc, catalog.shape(), one_way(alloc)?) else {
         return Err(Fail::from("a correct strategy"));
     };
-    let Some(store) = store_of(alloc, &catalog, tables)? else {
+    if !correct.is_of(catalog.shape()) || !are_bags(&catalog, &changes) {
+        return Err(Fail::from("what a night asks for"));
+    }
+    let Some(store) = store_of(alloc, &catalog, tables, &changes, &correct)? else {
         return Err(Fail::from("fit tables"));
     };
     let writer = Refusing::new(alloc, store, refusals)?;
@@ -94,7 +97,7 @@ fn carry_out<R: Threads + Wait + Sync>(
     let is_asked = correct.is_of(catalog.shape())
         && are_bags(catalog, changes)
         && are_bags(catalog, writer.tables());
-    if !is_asked || !are_fit(alloc, catalog, writer.tables())? {
+    if !is_asked || !are_fit_for(alloc, catalog, writer.tables(), changes, correct)? {
         return Err(Fail::from("what a night asks for"));
     }
     Ok(night(

@@ -6,7 +6,7 @@ ghost use Rattle.wh_maint.specs.Comp.{bag_at};
 ghost use Rattle.wh_maint.specs.Contents.{AreContents, AreContentsOf};
 ghost use Rattle.wh_maint.specs.Definition.{graph_of};
 ghost use Rattle.wh_maint.specs.Laws.{changed};
-ghost use Rattle.wh_night.specs.Fit.{AreFitTables};
+ghost use Rattle.wh_night.specs.Fit.{AreFitFor};
 ghost use Rattle.wh_store.specs.Pages.{page_of};
 ghost use Rattle.wh_store.specs.Versions.{table_in};
 ghost use Rattle.wh_run.specs.Tonight.{newest_in};
@@ -62,7 +62,7 @@ fn read_before_and_after<R: Threads + Wait + Sync>(
     requires judged { correct.now.children ≡ catalog.now.views.children }
     requires tables { AreBags catalog.now (newest_in writer.old.ledger) }
     requires changes { AreBags catalog.now changes.now }
-    requires fit { AreFitTables catalog.now (newest_in writer.old.ledger) }
+    requires fit { AreFitFor (graph_of catalog.now) (bag_at changes.now) correct.now.list (bag_at (newest_in writer.old.ledger)) }
     ensures before { IfSome result (λ pages. pages.0 ≡ page_of (table_in (newest_in writer.old.ledger) view) None 256) }
     ensures after { IfSome result (λ pages. pages.1 ≡ page_of (table_in (newest_in writer.new.ledger) view) None 256) }
     ensures contents { IfSome result (λ pages. AreContents (graph_of catalog.now) (bag_at (newest_in writer.old.ledger))
@@ -105,7 +105,10 @@ fn a_reader_is_told_of_a_night(rt: HostRuntime) -> Result<(), Fail> {
     if !correct.is_of(catalog.shape()) || !are_bags(&catalog, &changes) {
         return Err(Fail::from("what a night asks for"));
     }
-    let Some((mut writer, mut desks)) = warehouse_of(&rt, alloc, &catalog, tables)? else {
+    let Some((mut writer, mut desks)) = warehouse_of(
+        &rt, alloc, &catalog, tables, &changes, &correct,
+    )?
+    else {
         return Err(Fail::from("a warehouse"));
     };
     let Some(mut desk) = desks.pop() else {

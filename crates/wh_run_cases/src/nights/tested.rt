@@ -9,10 +9,10 @@ use std::thread::Threads;
 use wh_dag::Catalog;
 use wh_formula::{RowTest, RowValue};
 use wh_maint::are_bags;
-use wh_night::{Report, are_fit};
+use wh_night::Report;
 use wh_publish::Publish;
 use wh_row::Bag;
-use wh_run::{NightFault, NoGate, Options, current_tables, night};
+use wh_run::{NightFault, NoGate, Options, are_fit_for, current_tables, night};
 use wh_strategy::Correct;
 
 /// Carries a night out. None where something is held, or one of these does not belong to the other: what is published, the catalogue,
@@ -37,7 +37,7 @@ pub(crate) fn tested_night<P: Publish, F: RowTest, G: RowValue, R: Threads + Wai
     if !correct.is_of(catalog.shape())
         || !are_bags(catalog, changes)
         || !are_bags(catalog, &tables)
-        || !are_fit(alloc, catalog, &tables)?
+        || !are_fit_for(alloc, catalog, &tables, changes, correct)?
     {
         return Ok(None);
     }

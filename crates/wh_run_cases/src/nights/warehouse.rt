@@ -3,7 +3,9 @@
 ghost use Rattle.std.specs.Prelude.{◌≡◌, [], IfOk, IfSome};
 ghost use Rattle.std.specs.List.{All};
 ghost use Rattle.wh_maint.specs.Asked.{AreBags};
-ghost use Rattle.wh_night.specs.Fit.{AreFitTables};
+ghost use Rattle.wh_maint.specs.Comp.{bag_at};
+ghost use Rattle.wh_maint.specs.Definition.{graph_of};
+ghost use Rattle.wh_night.specs.Fit.{AreFitFor};
 ghost use Rattle.wh_store.specs.Windows.{Shows, current};
 ghost use Rattle.wh_run.specs.Tonight.{newest_in};
 
@@ -17,9 +19,8 @@ use wh_desk::{Desk, Writer, open_warehouse};
 use wh_given::catalogs::{Cell, Every};
 use wh_given::tables::{bag, two_bags};
 use wh_maint::are_bags;
-use wh_night::are_fit;
 use wh_row::Bag;
-use wh_run::{Gate, Options, night};
+use wh_run::{Gate, Options, are_fit_for, night};
 use wh_store::Store;
 use wh_strategy::Correct;
 
@@ -34,35 +35,43 @@ pub(crate) fn one_worker() -> Options
     }
 }
 
-/// A store of these tables. None where they are not what a night asks for.
+/// A store of these tables. None where they are not what this night asks for.
 pub(crate) fn store_of(
     alloc: Global,
     catalog: &Catalog<Every, Cell>,
     tables: Vec<Bag>,
+    changes: &[Bag],
+    correct: &Correct,
 ) -> Result<Option<Store>, Fail>
+    requires judged { correct.now.children ≡ catalog.now.views.children }
+    requires changes { AreBags catalog.now changes.now }
     ensures new { IfOk result (λ made. IfSome made (λ store. Shows store (current store) [])) }
     ensures limit { IfOk result (λ made. IfSome made (λ store. store.limit ≡ 2)) }
     ensures bags { IfOk result (λ made. IfSome made (λ store. AreBags catalog.now (current store))) }
-    ensures fit { IfOk result (λ made. IfSome made (λ store. AreFitTables catalog.now (current store))) }
+    ensures fit { IfOk result (λ made. IfSome made (λ store. AreFitFor (graph_of catalog.now) (bag_at changes.now) correct.now.list (bag_at (current store)))) }
 {
-    if !are_bags(catalog, &tables) || !are_fit(alloc, catalog, &tables)? {
+    if !are_bags(catalog, &tables) || !are_fit_for(alloc, catalog, &tables, changes, correct)? {
         return Ok(None);
     }
     Ok(Some(Store::new(alloc, tables)?))
 }
 
-/// A warehouse of these tables with one desk. None where they are not what a night asks for.
+/// A warehouse of these tables with one desk. None where they are not what this night asks for.
 pub(crate) fn warehouse_of<R: Wait>(
     rt: &R,
     alloc: Global,
     catalog: &Catalog<Every, Cell>,
     tables: Vec<Bag>,
+    changes: &[Bag],
+    correct: &Correct,
 ) -> Result<Option<(Writer, Vec<Desk>)>, Fail>
+    requires judged { correct.now.children ≡ catalog.now.views.children }
+    requires changes { AreBags catalog.now changes.now }
     ensures bags { IfOk result (λ made. IfSome made (λ w. AreBags catalog.now (newest_in w.0.ledger))) }
-    ensures fit { IfOk result (λ made. IfSome made (λ w. AreFitTables catalog.now (newest_in w.0.ledger))) }
+    ensures fit { IfOk result (λ made. IfSome made (λ w. AreFitFor (graph_of catalog.now) (bag_at changes.now) correct.now.list (bag_at (newest_in w.0.ledger)))) }
     ensures same { IfOk result (λ made. IfSome made (λ w. All (λ d. d.book ≡ w.0.book) w.1.items)) }
 {
-    match store_of(alloc, catalog, tables)? {
+    match store_of(alloc, catalog, tables, changes, correct)? {
         Some(store) => Ok(open_warehouse(rt, alloc, store, 1).ok()),
         None => Ok(None),
     }
@@ -81,7 +90,8 @@ pub(crate) fn night_at<R: Threads + Wait + Sync, T: Gate + Sync>(
     if !correct.is_of(catalog.shape()) || !are_bags(catalog, changes) {
         return Ok(None);
     }
-    let Some((mut writer, _desks)) = warehouse_of(rt, alloc, catalog, tables)? else {
+    let Some((mut writer, _desks)) = warehouse_of(rt, alloc, catalog, tables, changes, correct)?
+    else {
         return Ok(None);
     };
     let night = night(

@@ -15,9 +15,8 @@ use wh_formula::{Combiner, Expr, Filter, Pred};
 use wh_given::catalogs::{Cell, Every};
 use wh_given::shapes::shaped;
 use wh_maint::are_bags;
-use wh_night::are_fit;
 use wh_row::Bag;
-use wh_run::{Gate, Options, night};
+use wh_run::{Gate, Options, are_fit_for, night};
 use wh_store::Store;
 use wh_strategy::{Expression, Sources, Strategy, check};
 
@@ -128,7 +127,7 @@ fn goes_out<R: Threads + Wait + Sync + Abort>(
     let changes = empty(alloc)?;
     if !are_bags(catalog, &tables)
         || !are_bags(catalog, &changes)
-        || !are_fit(alloc, catalog, &tables)?
+        || !are_fit_for(alloc, catalog, &tables, &changes, &correct)?
     {
         return Ok(false);
     }

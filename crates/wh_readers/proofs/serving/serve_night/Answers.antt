@@ -11,7 +11,7 @@ use Rattle.wh_maint.specs.Laws.{changed}
 use Rattle.wh_maint.specs.declared.fault.MaintFault.TheVariants.{Memory}
 use Rattle.wh_store.specs.Windows.{Shows, current}
 use Rattle.wh_night.specs.Carry.{tables_after}
-use Rattle.wh_night.specs.Fit.{AreFitTables}
+use Rattle.wh_night.specs.Fit.{AreFitFor}
 use Rattle.wh_night.specs.Refused.{AreAllowedBelow, ArePassedBelow}
 use Rattle.wh_night.specs.Steps.{AreSteps}
 use Rattle.wh_run.specs.Refusals.{IsRefusedSo, left_of}
@@ -21,7 +21,10 @@ use Rattle.wh_readers.proofs.Serves.{first_number, fit_are_tables, if_served, on
 use Rattle.wh_readers.proofs.serving.serve_night.Goals as goal
 
 pub new-requires : goal.new-requires
-new-requires g c = fit_are_tables c.args.catalog.now c.args.tables.items c.requires.tables.each c.requires.fit
+new-requires g c = fit_are_tables c.args.catalog.now c.args.tables.items c.requires.tables.each (λ v l. c.requires.fit.now v)
+
+pub serve_none-requires-clause-fit : goal.serve_none-requires-clause-fit
+serve_none-requires-clause-fit g c κs within = λ v l. c.requires.fit.now v
 
 pub serve_some-requires-clause-new : goal.serve_some-requires-clause-new
 serve_some-requires-clause-new g c κs within = subst (λ ts. Shows c.in-Ok.store ts []) (sym c.in-Ok.ensures.current) c.in-Ok.ensures.shows
@@ -35,7 +38,7 @@ serve_some-requires-clause-ready g c κs within =
       free = refl;
       wide = subst (AreBags cat) (sym same) c.requires.tables;
       wide_changes = c.requires.changes;
-      fit = subst (AreFitTables cat) (sym same) c.requires.fit;
+      fit = subst (λ ts. AreFitFor (graph_of cat) (bag_at c.args.changes.now) c.args.correct.now.list (bag_at ts)) (sym same) c.requires.fit;
       some = c.requires.some;
       few = c.requires.few;
       least = c.requires.least;

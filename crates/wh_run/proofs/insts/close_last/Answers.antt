@@ -12,7 +12,7 @@ pub returns-then-len-eq0-clause-out : goal.returns-then-len-eq0-clause-out
 returns-then-len-eq0-clause-out g c =
     let none : length c.args.page.now.items ≡ 0 = search rules in
     subst (λ pages. g.P.Publish.kept c.args.writer.now ≡ goes_out (g.P.Publish.kept c.args.writer.now) (map (Writes c.args.view) pages) None) (sym (no_rows c.args.keys c.args.page.now.items none))
-    (nothing_out (g.P.Publish.kept c.args.writer.now) c.requires.held)
+    (nothing_out (g.P.Publish.kept c.args.writer.now) c.requires.takes.free)
 
 pub returns-clause-out : goal.returns-clause-out
 returns-clause-out g c =

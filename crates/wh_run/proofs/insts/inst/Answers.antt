@@ -1,11 +1,14 @@
-use Rattle.std.proofs.Common.{◌≡◌, refl, ap, subst, ◌∙◌, eqb, ℕ, map, cond, None}
+use Rattle.std.proofs.Common.{◌≡◌, refl, sym, ap, subst, ◌∙◌, eqb, ℕ, map, cond, true, None}
+use Rattle.std.specs.List.{All}
 use Rattle.std.proofs.lemmas.Bool.{eq-eqb, or_left}
 use Rattle.wh_row.specs.Bag.{Bag, count, sum_of, written}
 use Rattle.wh_row.specs.Row.{Row}
 use Rattle.std.proofs.Common.{ℤ}
 use Rattle.wh_store.specs.Operations.{Writes}
+use Rattle.wh_store.specs.Pages.{is_page}
 use Rattle.wh_night.specs.Kept.{Kept, kept, finished, installed}
 use Rattle.wh_night.specs.NightList.{pages_of}
+use Rattle.wh_night.proofs.NewCounts.{new_counts_make_tables}
 use Rattle.wh_run.specs.Tonight.{goes_out}
 use Rattle.wh_run.specs.Underway.{IsPartly, is_cut, is_refused}
 use Rattle.wh_run.proofs.insts.inst.Goals as goal
@@ -42,3 +45,11 @@ returns-in-Err-publish_change-clause-err g c =
     (subst (λ pages. IsPartly (g.P.Publish.kept c.args.writer.now) (map (Writes v) pages) (g.P.Publish.kept c.publish_change.new.writer))
     (same_pages v c.args.keys k (kept c.install.new.state) over c.table.result.now c.change.result.now c.in_default.ensures.done c.table.ensures c.change.ensures)
     c.in-Err-publish_change.ensures.err)
+
+pub publish_change-requires-clause-good : goal.publish_change-requires-clause-good
+publish_change-requires-clause-good g c =
+    let v : ℕ = c.args.view in
+    let k : Kept = kept c.args.state.now in
+    let over : Kept = finished c.args.catalog.now (λ u. eqb v u) k in
+    subst (All (λ page. is_page page ≡ true)) (sym (same_pages v c.args.keys k (kept c.install.new.state) over c.table.result.now c.change.result.now c.in_default.ensures.done c.table.ensures c.change.ensures))
+    ((new_counts_make_tables c.args.keys (over.tables v) (over.changes v) c.requires.some).good c.requires.few c.requires.table)

@@ -10,6 +10,7 @@ use Rattle.wh_publish.specs.Ledgers.{Ledger}
 use Rattle.wh_course.proofs.Growing.{longer}
 use Rattle.wh_course.proofs.Lengths.{plain_length}
 use Rattle.wh_run.proofs.Outs.{on_err, out_pages, partly_none, partly_pages}
+use Rattle.wh_run.proofs.Taken.{full_good, last_good, takes_more}
 use Rattle.wh_run.proofs.insts.publish_change.Goals as goal
 
 pub returns-in_err-make_room-clause-err : goal.returns-in_err-make_room-clause-err
@@ -81,3 +82,31 @@ returns-clause-out g c =
     let whole : i.0 ++ pages_of c.args.keys (plain c.loop-row.page.items) ≡ pages_of c.args.keys (map f (written c.args.change.now)) =
     ap (λ rows. i.0 ++ pages_of c.args.keys rows) (sym (append-nil (plain c.loop-row.page.items)) ∙ ap (λ es. plain c.loop-row.page.items ++ map f es) (sym none)) ∙ i.2 in
     out_pages (g.P.Publish.kept c.args.writer.now) (g.P.Publish.kept c.loop-row.writer) (g.P.Publish.kept c.close_last.new.writer) c.args.view i.0 (pages_of c.args.keys (plain c.loop-row.page.items)) _ i.1 whole c.in_ok-close_last.ensures.out
+
+pub make_room-requires-clause-takes : goal.make_room-requires-clause-takes
+make_room-requires-clause-takes g c =
+    let i = c.loop-row.invariant.told in
+    takes_more (g.P.Publish.kept c.args.writer.now) (g.P.Publish.kept c.loop-row.writer) c.args.view i.0 c.requires.takes i.1
+
+pub make_room-requires-clause-good : goal.make_room-requires-clause-good
+make_room-requires-clause-good g c = λ full.
+    let i = c.loop-row.invariant.told in
+    let f : List ℤ × ℤ → Row × ℤ = λ e. (e.0, count c.args.table.now e.0) in
+    let l = plain_length c.loop-row.page.items in
+    full_good c.args.keys i.0 (plain c.loop-row.page.items) (map f c.loop-row.row-iterator) (map f (written c.args.change.now)) c.requires.some c.requires.good i.2 (omega (arith, l, full))
+
+pub close_last-requires-clause-takes : goal.close_last-requires-clause-takes
+close_last-requires-clause-takes g c =
+    let i = c.loop-row.invariant.told in
+    takes_more (g.P.Publish.kept c.args.writer.now) (g.P.Publish.kept c.loop-row.writer) c.args.view i.0 c.requires.takes i.1
+
+pub close_last-requires-clause-good : goal.close_last-requires-clause-good
+close_last-requires-clause-good g c = λ some.
+    let i = c.loop-row.invariant.told in
+    let f : List ℤ × ℤ → Row × ℤ = λ e. (e.0, count c.args.table.now e.0) in
+    let none : c.loop-row.row-iterator ≡ [] = search rules in
+    let l = plain_length c.loop-row.page.items in
+    let few = c.loop-row.invariant.few in
+    let whole : i.0 ++ pages_of c.args.keys (plain c.loop-row.page.items) ≡ pages_of c.args.keys (map f (written c.args.change.now)) =
+    ap (λ rows. i.0 ++ pages_of c.args.keys rows) (sym (append-nil (plain c.loop-row.page.items)) ∙ ap (λ es. plain c.loop-row.page.items ++ map f es) (sym none)) ∙ i.2 in
+    last_good c.args.keys i.0 (plain c.loop-row.page.items) (map f (written c.args.change.now)) c.requires.good whole (omega (arith, l, few)) (λ e. let k = ap length e in omega (arith, k, l, some))

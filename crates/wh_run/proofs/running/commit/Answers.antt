@@ -1,12 +1,18 @@
-use Rattle.std.proofs.Common.{rules, ◌≡◌, subst, sym}
-use Rattle.wh_run.specs.Underway.{IsUnderway}
-use Rattle.wh_run.proofs.Ends.{committed, put_underway}
+use Rattle.std.proofs.Common.{◌≡◌, subst, sym, ap, ◌∙◌}
+use Rattle.wh_store.specs.Operations.{Commits}
+use Rattle.wh_publish.specs.Faults.{refused}
+use Rattle.wh_publish.specs.declared.fault.PublishFault.TheVariants as publish
+use Rattle.wh_maint.specs.declared.fault.MaintFault.TheVariants.{Memory}
+use Rattle.wh_run.specs.Underway.{IsStopped}
+use Rattle.wh_run.proofs.Ends.{committed, put_stops}
 use Rattle.wh_run.proofs.running.commit.Goals as goal
 
 pub returns-in-Ok-clause-done : goal.returns-in-Ok-clause-done
 returns-in-Ok-clause-done g c = λ n l p. committed n l (g.P.Publish.kept c.args.writer.now) (g.P.Publish.kept c.publish.new.self) p c.in-Ok.ensures.ok
 
-pub returns-in-Err-clause-leaves : goal.returns-in-Err-clause-leaves
-returns-in-Err-clause-leaves g c = λ n l p.
-    let same : g.P.Publish.kept c.publish.new.self ≡ g.P.Publish.kept c.args.writer.now = search rules in
-    c.given_up.ensures.leaves n l (subst (IsUnderway n l) (sym same) (put_underway n l (g.P.Publish.kept c.args.writer.now) p))
+pub returns-in-Err-Memory-false-clause-leaves : goal.returns-in-Err-Memory-false-clause-leaves
+returns-in-Err-Memory-false-clause-leaves g c = λ n l allowed p.
+    let old = g.P.Publish.kept c.args.writer.now in
+    let same : g.P.Publish.kept c.publish.new.self ≡ old =
+    c.in-Err-Memory-false.ensures.err ∙ ap (refused old Commits) c.in-Err-Memory-false.field-0-is ∙ ap (λ b. refused old Commits (publish.Memory b)) c.in-Err-Memory-false.field-0-0-test in
+    c.given_up.ensures.leaves n l allowed (subst (IsStopped n l Memory) (sym same) (put_stops n l old p))

@@ -1,10 +1,12 @@
-use Rattle.std.proofs.Common.{◌≡◌, ◌≢◌, refl, sym, subst, ◌∙◌, List, length, Option, Some, None, inl, inr, ⊎_elim}
+use Rattle.std.proofs.Common.{◌≡◌, ◌≢◌, refl, sym, ap, subst, ◌∙◌, List, length, Option, Some, None, inl, inr, ⊎_elim}
 use Rattle.std.specs.Prelude.{MatchOption}
 use Rattle.wh_dag.specs.Catalog.{CatalogOf}
 use Rattle.wh_row.specs.Bag.{Bag}
 use Rattle.wh_strategy.specs.declared.expression.Expression.{Expression}
 use Rattle.wh_strategy.specs.Rules.{IsCorrect}
 use Rattle.wh_maint.specs.Comp.{bag_at}
+use Rattle.wh_maint.specs.Finishing.{kind_in}
+use Rattle.wh_maint.specs.Fit.{IsFitTable}
 use Rattle.wh_maint.specs.declared.fault.MaintFault.{MaintFault}
 use Rattle.wh_store.specs.Operations.{Opens}
 use Rattle.wh_publish.specs.Faults.{publish_refusal}
@@ -25,6 +27,7 @@ use Rattle.wh_run.specs.Tonight.{IsDone, made_by, newest_in, tonight}
 use Rattle.wh_run.specs.Underway.{Given, IsRefusedLater, night_of}
 use Rattle.wh_run.proofs.Outs.{if_err, if_ok, if_ok_on}
 use Rattle.wh_night.proofs.NewValues.{ends_in_contents}
+use Rattle.wh_run.proofs.FitFor.{allowed_for}
 use Rattle.wh_run.proofs.Stages.{comes_first}
 use Rattle.wh_run.proofs.Soundness.{done_bags, done_tables, refused_newest, stays_sound}
 use Rattle.wh_run.proofs.running.night.Goals as goal
@@ -59,6 +62,47 @@ pub run-answer-requires-clause-stages : goal.run-answer-requires-clause-stages
 run-answer-requires-clause-stages g c κs within =
     let ok : IsCorrect c.args.catalog.now.views.children c.args.correct.now.list = subst (λ shape. IsCorrect shape c.args.correct.now.list) c.requires.judged c.strategy.ensures.rules in
     stages_in c.args.catalog.now c.args.correct.now.list ok c.as_slice.result.now (c.as_slice.ensures.value ∙ c.in-Ok-waves.ensures.stages)
+
+none_then : (o : Option PublishFault) → MatchOption o (◌≡◌ {A = Option NightCause} None None) (λ f. ◌≡◌ {A = Option NightCause} None (Some (cause_of_begin f))) → o ≡ None
+none_then None h = refl
+none_then (Some f) h = cc
+
+pub run-answer-requires-clause-free : goal.run-answer-requires-clause-free
+run-answer-requires-clause-free g c κs within = none_then (publish_refusal (g.P.Publish.kept c.args.writer.now) Opens) c.in_default.ensures
+
+pub run-answer-requires-clause-fit : goal.run-answer-requires-clause-fit
+run-answer-requires-clause-fit g c κs within = λ v l unknown.
+    let cat : CatalogOf = c.args.catalog.now in
+    let newest : List Bag = newest_in (g.P.Publish.kept c.args.writer.now) in
+    let same : c.in-Ok.tables.items ≡ newest = c.in-Ok.ensures in
+    subst (IsFitTable (kind_in cat v)) (sym (c.in-Ok-over.ensures.first.tables v ∙ ap (λ ts. bag_at ts v) same)) (c.requires.fit.now v)
+
+pub run-answer-requires-clause-begins : goal.run-answer-requires-clause-begins
+run-answer-requires-clause-begins g c κs within =
+    let cat : CatalogOf = c.args.catalog.now in
+    let list : List Expression = c.args.correct.now.list in
+    let l : Ledger = g.P.Publish.kept c.args.writer.now in
+    let newest : List Bag = newest_in l in
+    let ok : IsCorrect cat.views.children list = subst (λ shape. IsCorrect shape list) c.requires.judged c.strategy.ensures.rules in
+    let same : c.in-Ok.tables.items ≡ newest = c.in-Ok.ensures in
+    let k : Kept = kept c.in-Ok-over.state in
+    let first : IsFirst cat (bag_at newest) (bag_at c.args.changes.now) k = subst (λ ts. IsFirst cat (bag_at ts) (bag_at c.args.changes.now) k) same c.in-Ok-over.ensures.first in
+    let t : Given = record { list = list; tables = bag_at newest; changes = bag_at c.args.changes.now; before = l } in
+    let are : c.as_slice.result.now ≡ stages_of list = c.as_slice.ensures.value ∙ c.in-Ok-waves.ensures.stages in
+    let come = comes_first cat list (bag_at newest) (bag_at c.args.changes.now) c.args.options.page_keys k
+    (stands_first cat list (bag_at newest) (bag_at c.args.changes.now) c.args.options.page_keys k c.in-Ok-over.ensures.parts.catalogue ok first) in
+    let old : c.deref.result.now ≡ newest = c.deref.ensures.value ∙ c.in-Ok.ensures in
+    let allowed : AreAllowed (night_of cat c.args.options.page_keys t) = subst (λ ts. AreAllowedBelow cat (bag_at ts) (bag_at c.args.changes.now) (length cat.views.children)) old c.in_default-base_changes.ensures.allowed in
+    record {
+      given = t;
+      fit = record {
+        are = are;
+        tables = record { each = c.requires.tables.each; are = λ v l. refl };
+        fit = λ place. c.requires.fit.later (allowed_for cat newest c.args.changes.now c.requires.tables c.requires.changes allowed) place;
+      };
+      before = refl;
+      come = come;
+    }
 
 pub returns-clause-done : goal.returns-clause-done
 returns-clause-done g c =
@@ -122,7 +166,9 @@ returns-clause-leaves g c =
     let are : c.as_slice.result.now ≡ stages_of list = c.as_slice.ensures.value ∙ c.in-Ok-waves.ensures.stages in
     let come = comes_first cat list (bag_at newest) (bag_at c.args.changes.now) c.args.options.page_keys k
     (stands_first cat list (bag_at newest) (bag_at c.args.changes.now) c.args.options.page_keys k c.in-Ok-over.ensures.parts.catalogue ok first) in
-    if_err _ _ c.run-answer.result (λ f h. (h t refl are come).0) c.run-answer.ensures.refused
+    let old : c.deref.result.now ≡ newest = c.deref.ensures.value ∙ c.in-Ok.ensures in
+    let allowed : AreAllowed (night_of cat c.args.options.page_keys t) = subst (λ ts. AreAllowedBelow cat (bag_at ts) (bag_at c.args.changes.now) (length cat.views.children)) old c.in_default-base_changes.ensures.allowed in
+    if_err _ _ c.run-answer.result (λ f h. (h t refl are come allowed).0) c.run-answer.ensures.refused
 
 pub returns-clause-newest : goal.returns-clause-newest
 returns-clause-newest g c =
@@ -138,8 +184,10 @@ returns-clause-newest g c =
     let are : c.as_slice.result.now ≡ stages_of list = c.as_slice.ensures.value ∙ c.in-Ok-waves.ensures.stages in
     let come = comes_first cat list (bag_at newest) (bag_at c.args.changes.now) c.args.options.page_keys k
     (stands_first cat list (bag_at newest) (bag_at c.args.changes.now) c.args.options.page_keys k c.in-Ok-over.ensures.parts.catalogue ok first) in
+    let old : c.deref.result.now ≡ newest = c.deref.ensures.value ∙ c.in-Ok.ensures in
+    let allowed : AreAllowed (night_of cat c.args.options.page_keys t) = subst (λ ts. AreAllowedBelow cat (bag_at ts) (bag_at c.args.changes.now) (length cat.views.children)) old c.in_default-base_changes.ensures.allowed in
     refused_newest (tonight cat list l c.args.changes.now c.args.options.page_keys) l (g.P.Publish.kept c.run-answer.new.writer) c.run-answer.result
-    (if_err _ _ c.run-answer.result (λ f h. (h t refl are come).0) c.run-answer.ensures.refused)
+    (if_err _ _ c.run-answer.result (λ f h. (h t refl are come allowed).0) c.run-answer.ensures.refused)
 
 pub returns-clause-refused : goal.returns-clause-refused
 returns-clause-refused g c =
@@ -158,7 +206,7 @@ returns-clause-refused g c =
     let old : c.deref.result.now ≡ newest = c.deref.ensures.value ∙ c.in-Ok.ensures in
     let allowed : AreAllowed (night_of cat c.args.options.page_keys t) = subst (λ ts. AreAllowedBelow cat (bag_at ts) (bag_at c.args.changes.now) (length cat.views.children)) old c.in_default-base_changes.ensures.allowed in
     none_refuses (publish_refusal l Opens) _ _ c.in_default.ensures
-    (if_err _ _ c.run-answer.result (λ f h. later_so (night_of cat c.args.options.page_keys t) f allowed (h t refl are come).1) c.run-answer.ensures.refused)
+    (if_err _ _ c.run-answer.result (λ f h. later_so (night_of cat c.args.options.page_keys t) f allowed (h t refl are come allowed).1) c.run-answer.ensures.refused)
 
 pub returns-clause-sound : goal.returns-clause-sound
 returns-clause-sound g c = λ sound.
@@ -179,7 +227,7 @@ returns-clause-sound g c = λ sound.
     stays_sound cat list l (g.P.Publish.kept c.run-answer.new.writer) c.args.changes.now c.args.options.page_keys c.in-Ok-over.ensures.parts.catalogue ok c.requires.tables c.requires.changes c.requires.least c.requires.most allowed sound
     c.current.ensures.well_formed c.run-answer.result
     (if_ok_on _ _ c.run-answer.result (λ r h. (h t refl are come).0) c.run-answer.ensures.done)
-    (if_err _ _ c.run-answer.result (λ f h. (h t refl are come).0) c.run-answer.ensures.refused)
+    (if_err _ _ c.run-answer.result (λ f h. (h t refl are come allowed).0) c.run-answer.ensures.refused)
 
 pub returns-clause-tables : goal.returns-clause-tables
 returns-clause-tables g c =

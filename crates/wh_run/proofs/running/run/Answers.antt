@@ -14,6 +14,8 @@ use Rattle.wh_night.specs.Steps.{AreSteps}
 use Rattle.wh_run.specs.Underway.{night_of}
 use Rattle.wh_run.proofs.Outs.{if_err_both, if_ok_both}
 use Rattle.wh_run.proofs.Puts.{opening_out}
+use Rattle.wh_run.proofs.Stages.{stopped_so}
+use Rattle.wh_run.proofs.Taken.{may_commit}
 use Rattle.wh_run.proofs.running.run.Goals as goal
 
 -- a night that has only begun
@@ -34,10 +36,26 @@ made_wide n s steps parts come v l =
 pub through-requires-clause-held : goal.through-requires-clause-held
 through-requires-clause-held g c κs within = ap (λ (l : Ledger). l.held) c.in_default.ensures.ok
 
+pub through-requires-clause-begun : goal.through-requires-clause-begun
+through-requires-clause-begun g c κs within =
+    let r = c.requires.begins in
+    record {
+      given = r.given;
+      fit = r.fit;
+      at = begun_at (night_of c.args.catalog.now c.args.keys r.given) r.given.before (g.P.Publish.kept c.args.writer.now) (g.P.Publish.kept c.begin.new.writer) (kept c.args.state.now) r.before c.in_default.ensures.ok r.come;
+    }
+
+pub commit-requires : goal.commit-requires
+commit-requires g c =
+    let r = c.requires.begins in
+    let n = night_of c.args.catalog.now c.args.keys r.given in
+    may_commit c.args.catalog.now c.args.keys r.given c.args.stages.now r.fit c.requires.some (length r.given.list) (kept c.through.new.state) c.in-Ok.steps.items (g.P.Publish.kept c.through.new.writer)
+    (c.in-Ok.ensures.goes r.given r.fit.are (begun_at n r.given.before (g.P.Publish.kept c.args.writer.now) (g.P.Publish.kept c.begin.new.writer) (kept c.args.state.now) r.before c.in_default.ensures.ok r.come))
+
 pub returns-in-Err-clause-refused : goal.returns-in-Err-clause-refused
-returns-in-Err-clause-refused g c = λ t before are come.
+returns-in-Err-clause-refused g c = λ t before are come allowed.
     let n = night_of c.args.catalog.now c.args.keys t in (
-      subst (λ l. Leaves n l c.in-Err.fault.left (g.P.Publish.kept c.begin.new.writer)) (sym before) (c.in-Err.ensures.leaves n),
+      subst (λ l. Leaves n c.in-Err.fault.cause l c.in-Err.fault.left (g.P.Publish.kept c.begin.new.writer)) (sym before) (c.in-Err.ensures.leaves n allowed),
       record { fault = Memory; told = c.in-Err.ensures.cause; why = inl refl },
     )
 
@@ -53,16 +71,16 @@ returns-in-Ok-clause-done g c =
 pub returns-in-Ok-clause-refused : goal.returns-in-Ok-clause-refused
 returns-in-Ok-clause-refused g c =
     if_err_both _ _ _ c.commit.result
-    (λ f leaves cause t before are come.
+    (λ f leaves cause t before are come allowed.
     let n = night_of c.args.catalog.now c.args.keys t in
     let at = c.in-Ok.ensures.goes t are (begun_at n t.before (g.P.Publish.kept c.args.writer.now) (g.P.Publish.kept c.begin.new.writer) (kept c.args.state.now) before c.in_default.ensures.ok come) in
-    (leaves n t.before (record { passed = at.come.passed; out = at.out }), record { fault = Memory; told = cause; why = inl refl }))
+    (leaves n t.before allowed (record { passed = at.come.passed; out = at.out }), record { fault = Memory; told = cause; why = inl refl }))
     c.commit.ensures.leaves c.commit.ensures.cause
 
 pub returns-in-Err-through-clause-refused : goal.returns-in-Err-through-clause-refused
-returns-in-Err-through-clause-refused g c = λ t before are come.
+returns-in-Err-through-clause-refused g c = λ t before are come allowed.
     let n = night_of c.args.catalog.now c.args.keys t in
     let stopped = c.in-Err-through.ensures.stops t are (begun_at n t.before (g.P.Publish.kept c.args.writer.now) (g.P.Publish.kept c.begin.new.writer) (kept c.args.state.now) before c.in_default.ensures.ok come) in (
-      c.given_up.ensures.leaves n t.before stopped.0,
-      record { fault = c.in-Err-through.fault; told = c.given_up.ensures.cause; why = ⊎_elim (λ m. inl m) (λ s. inr (s, c.given_up.ensures.started)) stopped.1 },
+      c.given_up.ensures.leaves n t.before allowed stopped,
+      record { fault = c.in-Err-through.fault; told = c.given_up.ensures.cause; why = ⊎_elim (λ m. inl m) (λ s. inr (s, c.given_up.ensures.started)) (stopped_so n t.before (g.P.Publish.kept c.through.new.writer) c.in-Err-through.fault stopped) },
     )

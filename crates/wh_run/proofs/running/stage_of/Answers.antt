@@ -2,7 +2,7 @@ use Rattle.std.proofs.Common.{◌≡◌, sym, ap, subst, ◌∙◌, ◌++◌, �
 use Rattle.wh_night.specs.Kept.{kept}
 use Rattle.wh_night.specs.declared.stages.Stage.TheVariants as stage
 use Rattle.wh_course.specs.Standing.{IsStageIn, place_of}
-use Rattle.wh_run.specs.Underway.{IsAt, night_of}
+use Rattle.wh_run.specs.Underway.{CanPublish, IsAt, night_of}
 use Rattle.wh_run.proofs.Outs.{if_err, on_four, on_ok}
 use Rattle.wh_run.proofs.Stages.{inst_goes, inst_stops, its_wave, wave_goes, wave_stops}
 use Rattle.wh_run.proofs.running.stage_of.Goals as goal
@@ -54,3 +54,9 @@ returns-in-Inst-clause-stops g c =
     inst_stops (night_of c.args.catalog.now c.args.keys t) t.before (g.P.Publish.kept c.args.writer.now) before after (kept c.args.state.now) c.args.steps.now.items here c.in-Inst.view
     (split ∙ ap (λ x. before ++ x ∷ after) c.in-Inst.is) fault (g.P.Publish.kept c.inst.new.writer) stopped)
     c.inst.ensures.err
+
+pub inst-requires-clause-takes : goal.inst-requires-clause-takes
+inst-requires-clause-takes g c κs within = (subst (λ x. CanPublish c.args.catalog.now x (kept c.args.state.now) (g.P.Publish.kept c.args.writer.now)) c.in-Inst.is c.requires.publishes).0
+
+pub inst-requires-clause-table : goal.inst-requires-clause-table
+inst-requires-clause-table g c κs within = (subst (λ x. CanPublish c.args.catalog.now x (kept c.args.state.now) (g.P.Publish.kept c.args.writer.now)) c.in-Inst.is c.requires.publishes).1

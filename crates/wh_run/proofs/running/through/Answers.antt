@@ -7,6 +7,7 @@ use Rattle.wh_night.proofs.StageLaws.{lists_have_one_stages}
 use Rattle.wh_course.specs.Standing.{place_of}
 use Rattle.wh_course.proofs.Waves.{split_at, take_all, take_next}
 use Rattle.wh_run.specs.Underway.{IsAt, night_of}
+use Rattle.wh_run.proofs.Taken.{can_publish}
 use Rattle.wh_run.proofs.running.through.Goals as goal
 
 pub loop-stage-init : goal.loop-stage-init
@@ -26,6 +27,16 @@ stage_of-requires-clause-stage g c κs within =
 -- how the stages split before the one in turn
 split_here : (stages : List Stage) (i : ℕ) (x : Stage) → slice_get stages i ≡ Some x → stages ≡ take i stages ++ x ∷ drop (i + 1) stages
 split_here stages i x e = let f : suc i ≡ i + 1 = omega arith in sym (split_at stages i x e) ∙ ap (λ k. take i stages ++ x ∷ drop k stages) f
+
+pub stage_of-requires-clause-publishes : goal.stage_of-requires-clause-publishes
+stage_of-requires-clause-publishes g c κs within =
+    let stages : List Stage = c.args.stages.now in
+    let i : ℕ = c.loop-stage.stage-index in
+    let x : Stage = c.stage-item.result in
+    let here : slice_get stages i ≡ Some x = slice_get_read stages (length stages) i x refl (omega arith) c.stage-item.is in
+    let r = c.requires.begun in
+    can_publish c.args.catalog.now c.args.keys r.given stages r.fit c.requires.some (take i stages) (drop (i + 1) stages) (kept c.loop-stage.state) c.loop-stage.steps.items (g.P.Publish.kept c.loop-stage.writer)
+    (c.loop-stage.invariant.come r.given r.fit.are r.at) x (split_here stages i x here)
 
 pub loop-stage-preserved : goal.loop-stage-preserved
 loop-stage-preserved g c =

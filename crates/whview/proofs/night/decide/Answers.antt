@@ -1,6 +1,7 @@
-use Rattle.std.proofs.Common.{refl, subst, sym, ⊎_elim}
+use Rattle.std.proofs.Common.{subst, sym, ⊎_elim}
 use Rattle.wh_dag.specs.Shape.{Views}
 use Rattle.wh_load.specs.ReadingShown.{shown_given, shown_opening}
+use Rattle.wh_maint.specs.Comp.{bag_at}
 use Rattle.wh_strategy.specs.Rules.{IsCorrect}
 use Rattle.whview.specs.NightOutput.{IsDecided, IsWhole}
 use Rattle.whview.proofs.IfOks.{if_ok}
@@ -19,7 +20,8 @@ returns-in-Err-clause-whole g c = if_ok c.no_contents.result _ _ c.no_contents.e
 
 pub serve_night-served-requires-clause-fit : goal.serve_night-served-requires-clause-fit
 serve_night-served-requires-clause-fit g c κs within =
-    opened_fit c.args.catalog.now c.shape.ensures.catalog c.args.opening.tables.items c.in-Ok-opening_contents.tables.items c.requires.tables c.in-Ok-opening_contents.tables.items refl c.in-Ok-opening_contents.ensures.contents
+    opened_fit c.args.catalog.now c.shape.ensures.catalog c.args.opening.tables.items c.in-Ok-opening_contents.tables.items c.requires.tables c.in-Ok-opening_contents.ensures.contents
+    c.in-Ok.correct.list (subst (λ list. IsCorrect c.args.catalog.now.views.children list) (sym c.in-Ok.ensures.ok.1) (subst (λ (v : Views). IsCorrect v.children c.args.given.strategy) c.shape.ensures.views c.in-Ok.ensures.ok.2)) (bag_at c.deref.result.now)
 
 pub returns-in-Ok-served-clause-decided : goal.returns-in-Ok-served-clause-decided
 returns-in-Ok-served-clause-decided g c = (

@@ -21,7 +21,7 @@ pub returns-in_default : goal.returns-in_default
 returns-in_default c = λ s log h.
     let m = c.args.self.now in
     let active : is_some m.store.draft ≡ true = search rules in
-    let same : c.apply.new.self ≡ m.store = c.in_default.ensures.err in (
+    let same : c.apply_next.new.store ≡ m.store = c.in_default.ensures.err in (
       record {
         legal = h.legal;
         shows = subst (λ w. Shows w s.opening (published s log)) (sym same) h.shows;

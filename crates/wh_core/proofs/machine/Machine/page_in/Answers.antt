@@ -12,6 +12,7 @@ use Rattle.wh_core.specs.Standing.{GoesOn, Stands}
 use Rattle.wh_core.proofs.Underway.{night-paged}
 use Rattle.wh_core.proofs.Steps.{drop_one, page_over}
 use Rattle.wh_core.proofs.Moves.{goes_here, no_memory_to_page, no_night_to_page, no_page, page_done, page_in_turn_there, page_stopped, page_there}
+use Rattle.wh_core.proofs.Accepts.{page_accepted}
 use Rattle.wh_core.proofs.machine.Machine.page_in.Goals as goal
 
 pub returns-then-not-is_active : goal.returns-then-not-is_active
@@ -33,11 +34,19 @@ returns-in-Some-hindrance c = λ s log h.
           (page_stopped s log m h active c.in-Some.op.now c.in-Some.ensures c.in-Some-hindrance.fault.now (drop_one m.place m.course.parts.items ∙ c.in-Some-hindrance.ensures.0) c.in-Some-hindrance.ensures.1),
     )
 
-pub returns-in_default-apply : goal.returns-in_default-apply
-returns-in_default-apply c = λ s log h.
+pub apply_next-requires : goal.apply_next-requires
+apply_next-requires c =
+    let r = c.requires in
     let m = c.args.self.now in
     let active : is_some m.store.draft ≡ true = search rules in
-    let same : c.apply.new.self ≡ m.store = c.in_default-apply.ensures.err in (
+    let on : (drop 1 (drop m.place m.course.parts.items) ≢ []) ⊎ (m.course.stop ≡ None) = ⊎_elim (λ no. inl (λ e. no (sym (drop_one m.place m.course.parts.items) ∙ e))) (λ e. inr e) c.in_default-hindrance.ensures in
+    page_accepted c.published_are_well_formed.ensures c.well_formed_law.ensures r.setup r.log m r.is_setup r.stands active c.in-Some.op.now c.in-Some.ensures on
+
+pub returns-in_default-apply_next : goal.returns-in_default-apply_next
+returns-in_default-apply_next c = λ s log h.
+    let m = c.args.self.now in
+    let active : is_some m.store.draft ≡ true = search rules in
+    let same : c.apply_next.new.store ≡ m.store = c.in_default-apply_next.ensures.err in (
       record {
         legal = h.legal;
         shows = subst (λ w. Shows w s.opening (published s log)) (sym same) h.shows;
@@ -66,7 +75,7 @@ returns c = λ s log h.
     let put : operation op ∷ [] ≡ page_in_turn (At_page there.place there.view there.rows) = ap (λ o. o ∷ []) there.writes in (
       subst (Stands s (Paged_in ∷ log)) (sym c.turn_over.ensures) (record {
         legal = more log event.PageIn (reply.Paged c.rows_of-rows.result) h.legal r;
-        shows = subst (λ ops. Shows c.apply.new.self s.opening (published s log ++ ops)) (put ∙ ap page_in_turn (sym (page_in_turn_there s log m h active op first))) (c.in-Ok.ensures.shows s.opening (published s log) h.shows);
+        shows = subst (λ ops. Shows c.apply_next.new.store s.opening (published s log ++ ops)) (put ∙ ap page_in_turn (sym (page_in_turn_there s log m h active op first))) (c.in-Ok.ensures.shows s.opening (published s log) h.shows);
         versions = ap (λ (w : Window). w.limit) (c.in-Ok.ensures.ok ∙ ap (applied m.store) there.writes) ∙ h.versions;
         begun = h.begun;
         desks = h.desks;

@@ -18,10 +18,10 @@ returns-in-Some c = λ s log h closed left few allowed are. (
       (stopped_at_first s log closed left few allowed c.args.course.parts.items c.args.course.stop are c.in-Some.fault.now c.in-Some.ensures.0 c.in-Some.ensures.1),
 )
 
-pub returns-in_default-apply : goal.returns-in_default-apply
-returns-in_default-apply c = λ s log h closed left few allowed are.
+pub returns-in_default-apply_next : goal.returns-in_default-apply_next
+returns-in_default-apply_next c = λ s log h closed left few allowed are.
     let m = c.args.self.now in
-    let same : c.apply.new.self ≡ m.store = c.in_default-apply.ensures.err in (
+    let same : c.apply_next.new.store ≡ m.store = c.in_default-apply_next.ensures.err in (
       record {
         legal = h.legal;
         shows = subst (λ w. Shows w s.opening (published s log)) (sym same) h.shows;

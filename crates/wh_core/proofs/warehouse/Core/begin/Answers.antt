@@ -1,6 +1,6 @@
 use Rattle.std.proofs.Common.{rules, ◌≡◌, ◌≢◌, refl, sym, ap, subst, ◌∙◌, ℕ, ◌+◌, ◌<◌, ◌≤◌, ◌^◌, length, Bool, true, false, Option, Some, None, ◌⊎◌, ⊎_elim, inl, inr, arith}
 use Rattle.std.proofs.Common.{List}
-use Rattle.std.specs.Prelude.{is_some, slice_get}
+use Rattle.std.specs.Prelude.{◌==◌, is_some, if◌then◌else◌, slice_get}
 use Rattle.wh_strategy.specs.Rules.{IsCorrect}
 use Rattle.wh_dag.specs.Catalog.{CatalogOf}
 use Rattle.wh_row.specs.Bag.{Bag}
@@ -11,6 +11,7 @@ use Rattle.wh_maint.specs.Definition.{graph_of}
 use Rattle.wh_maint.specs.Finishing.{kind_in}
 use Rattle.wh_maint.specs.Fit.{IsFitTable}
 use Rattle.wh_store.specs.Versions.{number}
+use Rattle.wh_store.specs.declared.fault.StoreFault.TheVariants as store
 use Rattle.wh_course.specs.Night.{Night}
 use Rattle.wh_course.specs.Legs.{legs_of}
 use Rattle.wh_course.specs.Course.{AreParts}
@@ -22,7 +23,7 @@ use Rattle.wh_core.specs.declared.event.Event.TheVariants as event
 use Rattle.wh_core.specs.declared.reply.Reply.TheVariants as reply
 use Rattle.wh_core.specs.Replies.{AreAllowed, IsReply}
 use Rattle.wh_core.specs.Standing.{given_of}
-use Rattle.wh_core.proofs.Moves.{number_here, open_here}
+use Rattle.wh_core.proofs.Moves.{not_equal, number_here, open_here}
 use Rattle.wh_core.proofs.Seats.{map_length}
 use Rattle.wh_core.proofs.Wholes.{found_there, given_there, last_version, newest_are, next_is, night_open, none_left, not_begun, same_night}
 use Rattle.wh_core.proofs.warehouse.Core.begin.Goals as goal
@@ -85,6 +86,15 @@ course_of-requires-clause-fit g c κs within =
     let fit = (c.contents_are_fit_for_nights.ensures r.setup.catalog (given_of c.index.result.now).list (bag_at (versions r.setup r.log).newest) (bag_at (given_of c.index.result.now).changes) r.is_setup.catalogue given.list are.counts are.values).now in
     subst (λ (catalog : CatalogOf). (v : ℕ) → v < length catalog.views.children → IsFitTable (kind_in catalog v) (bag_at c.tables-tables.result.now v)) (sym r.stands.catalog)
     (subst (λ (tables : List Bag). (v : ℕ) → v < length r.setup.catalog.views.children → IsFitTable (kind_in r.setup.catalog v) (bag_at tables v)) (sym (c.tables-tables.ensures.tables r.setup r.log r.stands.stands)) (λ v l. fit v))
+
+pub start-requires-clause-free : goal.start-requires-clause-free
+start-requires-clause-free g c =
+    let m = c.args.self.now.machine in
+    let k = c.number.ensures in
+    let no = c.if-number.false in
+    let idle : is_some m.store.draft ≡ false = search rules in
+    let early : (m.store.number + 1 == 2 ^ 64) ≡ false = not_equal (m.store.number + 1) (2 ^ 64) (λ f. omega (arith, f, k, no)) in
+    (λ i. if idle i then Some store.NightOpen else (if m.store.number + 1 == 2 ^ 64 then Some store.LastVersion else None)) ∙ (λ i. if early i then Some store.LastVersion else None)
 
 pub returns-in-Ok : goal.returns-in-Ok
 returns-in-Ok g c = record {
