@@ -15,3 +15,6 @@ pub mod Steps
 pub mod Moves
 pub mod Seats
 pub mod Wholes
+pub mod FirstTurn
+pub mod OneWorker
+pub mod NightLogs

@@ -55,7 +55,7 @@ own_contents catalog base tables are = record {
 number-newest : (v : Versions) → version v (number v) ≡ v.newest
 number-newest v = let z : number v - number v ≡ 0 = omega arith in ap (λ k. slice_index_or (v.newest ∷ v.older) k []) z
 
-given_at : (nights : List GivenNight) (n : ℕ) (d : GivenNight) → n < length nights → slice_get nights n ≡ Some (slice_index_or nights n d)
+pub given_at : (nights : List GivenNight) (n : ℕ) (d : GivenNight) → n < length nights → slice_get nights n ≡ Some (slice_index_or nights n d)
 given_at [] n d l = absurd (omega arith)
 given_at (x ∷ xs) zero d l = refl
 given_at (x ∷ xs) (suc n) d l = given_at xs n d (omega arith)
