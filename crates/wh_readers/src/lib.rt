@@ -6,5 +6,8 @@ mod laws;
 mod reading;
 mod serving;
 
-pub use laws::{desks_answer_as_the_machine, told_pages_are_of_contents};
+pub use laws::{
+    desks_answer_as_the_machine, desks_beside_nights_answer_as_the_machine, nights_go_on,
+    running_nights_have_a_log, told_pages_are_of_contents,
+};
 pub use serving::{Served, serve_night};
