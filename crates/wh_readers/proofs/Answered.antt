@@ -1,11 +1,12 @@
 -- That a running desk is answered as a desk of the machine over events.
-use Rattle.std.proofs.Common.{◌≡◌, ◌≢◌, ℕ, ◌<◌, ◌≤◌, Bool, true, false, Option, Some, None, refl, sym, ap, subst, ◌∙◌, arith}
+use Rattle.std.proofs.Common.{◌≡◌, ◌≢◌, ℕ, ◌<◌, ◌≤◌, Bool, true, false, Option, Some, None, [], ◌∷◌, ◌+◌, ◌-◌, refl, sym, ap, subst, ◌∙◌, arith}
 use mathlib.Core.Logic.{inl}
-use Rattle.std.specs.Prelude.{is_some, length, nat_le, nat_lt, not, option_map, ◌||◌, ◌==◌}
+use Rattle.std.specs.Prelude.{is_some, length, nat_le, nat_lt, not, option_map, slice_index_or, ◌||◌, ◌&&◌, ◌==◌}
+use Rattle.wh_row.specs.Row.{Row}
 use Rattle.std.proofs.lemmas.Bool.{le-leb, lt-leb, ne_eqb}
 use Rattle.std.proofs.lemmas.Option.{same_Some}
 use Rattle.wh_store.specs.Pages.{Shown, page_of}
-use Rattle.wh_store.specs.Versions.{Versions, is_active, is_unexpired, number, table_of, version}
+use Rattle.wh_store.specs.Versions.{Versions, is_active, is_unexpired, kept_count, number, table_in, table_of, version}
 use Rattle.wh_desk.specs.Desks.{Sitting, NotRead, versions_seen}
 use Rattle.wh_desk.specs.declared.chair.DeskFault.TheVariants.{Expired}
 use Rattle.wh_core.specs.declared.event.Event.TheVariants.{Read}
@@ -93,15 +94,33 @@ module _ (s : Setup) (log : Log) (d : ℕ) (before after : Sitting) (are : AreAl
   same_session : (o : Option ℕ) → before.session ≡ o → o ≡ option_map (λ x. x.version) of
   same_session o e = sym e ∙ are.session
 
-  readable : (b : Bool) (v : ℕ) → is_unexpired after.of.limit (versions_seen after) v ≡ b → is_unexpired s.versions (versions s log) v ≡ b
-  readable b v e = subst (λ vs. is_unexpired s.versions vs v ≡ b) are.versions (subst (λ k. is_unexpired k (versions_seen after) v ≡ b) are.kept e)
+  abbrev seen : Versions
+  seen = versions_seen after
+
+  abbrev now : Versions
+  now = versions s log
+
+  same_number : number seen ≡ number now
+  same_number = ap length are.versions.older
+
+  same_version : (v : ℕ) → version seen v ≡ version now v
+  same_version v = λ i. slice_index_or (are.versions.newest i ∷ are.versions.older i) (length (are.versions.older i) - v) []
+
+  same_page : (v view limit : ℕ) (row : Option Row) → page_of (table_of seen v view) row limit ≡ page_of (table_of now v view) row limit
+  same_page v view limit row = ap (λ contents. page_of (table_in contents view) row limit) (same_version v)
+
+  same_readable : (k v : ℕ) → is_unexpired k seen v ≡ is_unexpired k now v
+  same_readable k v = λ i. nat_le v (same_number i) && nat_lt (same_number i) (v + kept_count k (are.versions.active i))
+
+  readable : (b : Bool) (v : ℕ) → is_unexpired after.of.limit seen v ≡ b → is_unexpired s.versions now v ≡ b
+  readable b v e = sym (same_readable s.versions v) ∙ ap (λ k. is_unexpired k seen v) (sym are.kept) ∙ e
 
   told : (view v current : ℕ) (active : Bool) (r : NotRead before after view (Expired v current active))
-      → cause.Expired v current active ≡ cause.Expired r.0 (number (versions s log)) (is_active (versions s log))
+      → cause.Expired v current active ≡ cause.Expired r.0 (number now) (is_active now)
   told view v current active r =
       ap (λ n. cause.Expired n current active) r.2.0
-      ∙ ap (λ n. cause.Expired r.0 n active) (r.2.2 ∙ ap number are.versions)
-      ∙ ap (λ b. cause.Expired r.0 (number (versions s log)) b) (r.2.3 ∙ ap is_active are.versions)
+      ∙ ap (λ n. cause.Expired r.0 n active) (r.2.2 ∙ same_number)
+      ∙ ap (λ b. cause.Expired r.0 (number now) b) (r.2.3 ∙ are.versions.active)
 
   pub alike : IsAnsweredAlike s log d before after
   alike = record {
@@ -109,15 +128,15 @@ module _ (s : Setup) (log : Log) (d : ℕ) (before after : Sitting) (are : AreAl
         (let none = no_session of (same_session None o.1) in
         passed (nat_le s.desks d) cause.NoDesk _ (reply.Session v) desk
         (passed (is_some of) cause.SessionOpen (Says (reply.Session (number (versions s log)))) (reply.Session v) (ap is_some none)
-        (ap reply.Session (o.3 ∙ ap number are.versions))));
+        (ap reply.Session (o.3 ∙ same_number))));
     open_already = λ o.
         passed (nat_le s.desks d) cause.NoDesk _ (reply.Refused cause.SessionOpen) desk
         (refused (is_some of) cause.SessionOpen _ (any_session before.session of are.session o.1));
     reads = λ view limit page some few r.
         passed (nat_le s.desks d) cause.NoDesk _ (reply.Page page) desk
         (pages s.versions (versions s log) view limit r.0 of page some few (same_session (Some r.0) r.1.1) (readable true r.0 r.2.0)
-        (subst (λ vs. view < length (version vs r.0)) are.versions r.2.1)
-        (r.2.2 ∙ ap (λ vs. page_of (table_of vs r.0 view) (row_read view of) limit) are.versions));
+        (subst (λ contents. view < length contents) (same_version r.0) r.2.1)
+        (r.2.2 ∙ same_page r.0 view limit (row_read view of)));
     expired = λ view limit v current active r.
         subst (λ c. IsReply s log (Read d view limit) (reply.Refused c)) (sym (told view v current active r))
         (passed (nat_le s.desks d) cause.NoDesk _ (reply.Refused (cause.Expired r.0 (number (versions s log)) (is_active (versions s log)))) desk
@@ -125,7 +144,7 @@ module _ (s : Setup) (log : Log) (d : ℕ) (before after : Sitting) (are : AreAl
     no_view = λ view limit r.
         passed (nat_le s.desks d) cause.NoDesk _ (reply.Refused cause.NoView) desk
         (lacks s.versions (versions s log) view limit r.0 of (same_session (Some r.0) r.1.1) (readable true r.0 r.2.0)
-        (subst (λ vs. length (version vs r.0) ≤ view) are.versions r.2.1));
+        (subst (λ contents. length contents ≤ view) (same_version r.0) r.2.1));
     no_session = λ view limit r.
         passed (nat_le s.desks d) cause.NoDesk _ (reply.Refused cause.NoSession) desk
         (subst (λ o. IsRuled (read_ruling s.versions (versions s log) view limit o) (reply.Refused cause.NoSession)) (sym (no_session of (same_session None r.1))) refl);

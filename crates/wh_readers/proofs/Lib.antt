@@ -3,3 +3,6 @@ pub mod Readings
 pub mod Seats
 pub mod Serves
 mod Told
+mod SeenAlike
+mod Logs
+mod GoOn

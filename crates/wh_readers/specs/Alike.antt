@@ -2,6 +2,7 @@
 use Rattle.std.specs.Prelude.{◌≡◌, ℕ, Bool, ◌<◌, ◌≤◌, Option, option_map, option_and_then}
 use Rattle.wh_row.specs.Row.{Row}
 use Rattle.wh_store.specs.Pages.{Shown}
+use Rattle.wh_store.specs.Versions.{Versions, is_active}
 use Rattle.wh_desk.specs.Desks.{Sitting, NotOpened, NotRead, OpensAt, Reads, versions_seen}
 use Rattle.wh_desk.specs.declared.chair.DeskFault.TheVariants.{NoSession, SessionOpen, Expired, NoView}
 use Rattle.wh_core.specs.declared.event.Event.TheVariants.{Open, Read}
@@ -15,13 +16,20 @@ use Rattle.wh_core.specs.Replies.{IsReply, goes_on}
 abbrev pub row_read : ℕ → Option SessionOf → Option Row
 row_read view of = option_and_then (λ o. goes_on view o.bookmark) of
 
--- The desk of this number has, before it is answered, the session that the log has given it; and what it then sees makes the versions of
--- the log, as many of which are kept
+-- readers see no difference between these versions: each has the same contents, and a night is open in both or in neither. What an open
+-- night is writing no reader sees
+pub record AreSeenAlike (v w : Versions) : Type 0 where
+  pub newest : v.newest ≡ w.newest
+  pub older : v.older ≡ w.older
+  pub active : is_active v ≡ is_active w
+
+-- The desk of this number has, before it is answered, the session that the log has given it; and what it then sees makes versions that
+-- are seen as those of the log are, as many of which are kept
 pub record AreAlike (s : Setup) (log : Log) (d : ℕ) (before after : Sitting) : Type 0 where
   pub desk : d < s.desks
   pub session : before.session ≡ option_map (λ o. o.version) (session log d)
   pub kept : after.of.limit ≡ s.versions
-  pub versions : versions_seen after ≡ versions s log
+  pub versions : AreSeenAlike (versions_seen after) (versions s log)
 
 -- what such a desk is answered is the log's reply: a session, a page, or why there is none
 pub record IsAnsweredAlike (s : Setup) (log : Log) (d : ℕ) (before after : Sitting) : Type 0 where

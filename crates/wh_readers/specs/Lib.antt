@@ -1,3 +1,4 @@
 pub mod Alike
+pub mod RunningNights
 pub mod Serving
 pub mod Told
