@@ -1,18 +1,9 @@
-#!/usr/bin/env python3
-"""Runs the program with every kind of words: commands, options and their ranges, words in the first line of the input, helps
-and mistakes with their texts; and with input that comes a byte at a time, fails or never ends, and output that fails.
+"""Every kind of words: commands, options and their ranges, words in the first line of the input, helps and mistakes with their texts;
+and input that comes a byte at a time, fails or never ends, and output that fails."""
 
-"""
+from typing import NamedTuple
 
-import os
-import subprocess
-import sys
-from concurrent.futures import ThreadPoolExecutor
-from tempfile import TemporaryDirectory
-from typing import NamedTuple, Optional
-
-sys.dont_write_bytecode = True
-from whtools.program import program, words_with_program  # noqa: E402
+from whtools.cases import AByteAtATime, BesideAFile, Case, Endless, FromAFolder, TakenByNobody
 
 # A Comp reads 30 + 10 and 4 + 70 rows and the Insts write 30 + 4 + 6: 114 and 40.
 BUNDLE = """@catalogue
@@ -185,15 +176,6 @@ Usage: whview <COMMAND>
 {MORE}"""
 
 
-class Case(NamedTuple):
-    """Words, the input, and the answer: its text, where it is known, and its status."""
-
-    words: list
-    bundle: bytes
-    text: Optional[str]
-    status: int
-
-
 def correct(comp=1, inst=1):
     return f"correct\nwork {comp * COMP_ROWS + inst * INST_ROWS}\n"
 
@@ -324,67 +306,32 @@ def first_lines():
     yield Case([], b"check \xff\n" + CHECKED.encode(), None, 2)
 
 
-def mistake(started, case):
-    """The answer, where it is not the one that is wanted."""
-    ran = subprocess.run([started, *case.words], input=case.bundle, capture_output=True, timeout=60)
-    text = ran.stdout.decode(errors="replace")
-    right = ran.returncode == case.status and not ran.stderr and bool(text) and case.text in (None, text)
-    got = f"{case.words} on {case.bundle[:40]}: {text[:300]}status {ran.returncode}"
-    return None if right else f"{got}, where {case.text}status {case.status} is wanted"
+class BesideANight(BesideAFile):
+    """A case beside a file that has a bundle to be checked."""
+
+    file = CHECKED.encode()
 
 
-def files(started):
+def files():
     """A file that is named is read in place of standard input, by either spelling; one that is not there is a fault."""
-    with TemporaryDirectory() as room:
-        path = f"{room}/night.txt"
-        with open(path, "w", encoding="utf-8") as file:
-            file.write(CHECKED)
-        for words in (["--input", path], [f"--input={path}"], [f"--input={path}", "--comp-cost", "1"]):
-            yield mistake(started, Case(["check", *words], b"", correct(), 0))
-            yield mistake(started, Case(["check", *words], BUNDLE.encode(), correct(), 0))
-        yield mistake(started, Case(["check", "--input", f"{room}/none"], CHECKED.encode(), "fault read\n", 3))
-        yield mistake(started, Case(["check", "--input", room], CHECKED.encode(), "fault read\n", 3))
+    path = "{room}/night.txt"
+    for words in (["--input", path], [f"--input={path}"], [f"--input={path}", "--comp-cost", "1"]):
+        yield BesideANight(["check", *words], b"", correct(), 0)
+        yield BesideANight(["check", *words], BUNDLE.encode(), correct(), 0)
+    yield BesideANight(["check", "--input", "{room}/none"], CHECKED.encode(), "fault read\n", 3)
+    yield BesideANight(["check", "--input", "{room}"], CHECKED.encode(), "fault read\n", 3)
 
 
-def wrong_end(ran, text, status, name):
-    return None if (ran.stdout, ran.returncode) == (text, status) else f"{name}: {ran.stdout[:300]} status {ran.returncode}"
-
-
-def streams(started):
+def streams():
     """Input that cannot be read, comes a byte at a time or never ends, and output that takes nothing."""
-    folder = os.open("/", os.O_RDONLY)
-    ran = subprocess.run([started, "check"], stdin=folder, capture_output=True, timeout=60)
-    os.close(folder)
-    yield wrong_end(ran, b"fault read\n", 3, "standard input that is a folder")
+    yield FromAFolder(["check"], b"", "fault read\n", 3, "standard input that is a folder")
     for words, head in ((["check"], b""), ([], b"check\n")):
-        child = subprocess.Popen([started, *words], stdin=subprocess.PIPE, stdout=subprocess.PIPE, bufsize=0)
-        for byte in head + CHECKED.encode():
-            child.stdin.write(bytes([byte]))
-        child.stdin.close()
-        text = child.stdout.read()
-        yield wrong_end(subprocess.CompletedProcess([], child.wait(), text), correct().encode(), 0, "a byte at a time")
-    with subprocess.Popen(["yes", ""], stdout=subprocess.PIPE) as endless:
-        ran = subprocess.run([started, "check"], stdin=endless.stdout, capture_output=True, timeout=60)
-        endless.kill()
-        yield wrong_end(ran, b"fault toolong\n", 3, "input that never ends")
+        yield AByteAtATime(words, head + CHECKED.encode(), correct(), 0, "a byte at a time")
+    yield Endless(["check"], b"", "fault toolong\n", 3, "input that never ends")
     for words in (["check"], ["plan"], ["replay"], ["--help"], ["check", "x"]):
-        with open("/dev/full", "wb") as full:
-            ran = subprocess.run([started, *words], input=CHECKED.encode(), stdout=full, timeout=60)
-        yield None if ran.returncode == 5 else f"{words} with output that takes nothing: status {ran.returncode}"
+        yield TakenByNobody(words, CHECKED.encode(), None, 5, "output that takes nothing")
 
 
-def main():
-    started = program(words_with_program(__doc__).parse_args().program)
-    cases = [case for group in (costs, budgets, refused, helps, mistakes, first_lines) for case in group()]
-    with ThreadPoolExecutor(max_workers=4) as runners:
-        told = list(runners.map(lambda case: mistake(started, case), cases))
-    told += [*files(started), *streams(started)]
-    wrongs = [it for it in told if it]
-    for wrong in wrongs:
-        print(wrong)
-    print(f"words: {len(told) - len(wrongs)} passed, {len(wrongs)} failed")
-    return 1 if wrongs else 0
-
-
-if __name__ == "__main__":
-    sys.exit(main())
+def cases():
+    for group in (costs, budgets, refused, helps, mistakes, first_lines, files, streams):
+        yield from group()

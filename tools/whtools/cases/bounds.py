@@ -1,16 +1,9 @@
-#!/usr/bin/env python3
-"""Runs the program at the bounds of what a bundle may hold, and one past each: depths of formulas and of TOML, numbers of 64
-bits, names, sizes, costs, budgets, trees, long predicates, a long text and words that are not UTF-8. The answers are worked out here.
-
-"""
+"""The bounds of what a bundle may hold, and one past each: depths of formulas and of TOML, numbers of 64 bits, names, sizes, costs,
+budgets, trees, long predicates, a long text and words that are not UTF-8. The answers are worked out here."""
 
 import random
-import subprocess
-import sys
-from concurrent.futures import ThreadPoolExecutor
 
-sys.dont_write_bytecode = True
-from whtools.program import program, words_with_program  # noqa: E402
+from whtools.cases import Case
 
 MOST, LEAST = 2**63 - 1, -(2**63)
 ONE_VIEW = "comp v from a\ninst a\ninst v\n"
@@ -240,28 +233,8 @@ def bundle_of_no_work(work):
     return bundle.replace("work 0\n", f"work {work}\n")
 
 
-def mistake(started, words, bundle, expected):
-    """The answer where it is not the one that is wanted; of a command line that is refused only the status is."""
-    ran = subprocess.run([started, *words.split()], input=bundle.encode(), capture_output=True, timeout=60)
-    text, status = ran.stdout.decode(errors="replace"), ran.returncode
-    wanted, ends = expected
-    is_plan = words.startswith("plan") and ends == 0
-    right = status == ends and (wanted is None or (text.startswith(wanted) if is_plan else text == wanted)) and not ran.stderr
-    return None if right else f"{text[:300]}status {status}, where {str(wanted)[:300]}status {ends} is wanted"
-
-
-def main():
-    started = program(words_with_program(__doc__).parse_args().program)
-    cases = [case for group in (formulas, numbers, names, costs, trees, schedules, replayed, words) for case in group()]
-    with ThreadPoolExecutor(max_workers=4) as runners:
-        wrongs = list(runners.map(lambda case: mistake(started, *case[1:]), cases))
-    for case, wrong in zip(cases, wrongs):
-        if wrong:
-            print(f"{case[0]}: {wrong}")
-    failed = sum(wrong is not None for wrong in wrongs)
-    print(f"bounds: {len(cases) - failed} passed, {failed} failed")
-    return 1 if failed else 0
-
-
-if __name__ == "__main__":
-    sys.exit(main())
+def cases():
+    """All cases; of a plan is known how it begins."""
+    for group in (formulas, numbers, names, costs, trees, schedules, replayed, words):
+        for what, asked, bundle, (text, status) in group():
+            yield Case(asked.split(), bundle.encode(), text, status, what, is_beginning=asked.startswith("plan") and status == 0)
