@@ -72,6 +72,11 @@ def price(number):
     return scattered(number + 1000003) % 12 + 1
 
 
+def whole(rows):
+    """The text of the bundle."""
+    return CATALOGUE + "".join(line + "\n" for line in bundle(rows)) + STRATEGY
+
+
 def bundle(rows):
     """The lines of the bundle, but for the catalogue and the strategy."""
     yield "@data sales\nid,shop,product,pieces"

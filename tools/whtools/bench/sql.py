@@ -1,11 +1,8 @@
-#!/usr/bin/env python3
-"""Times nights by the scripts of tools/sql in a PostgreSQL server of its own and in SQLite, beside REFRESH MATERIALIZED VIEW.
+"""Nights by the scripts of tools/sql in a PostgreSQL server of its own and in SQLite, beside REFRESH MATERIALIZED VIEW.
 
-    tools/bench/run_sql [FACTS [ROUNDS]]
-
-The warehouses are the star of tools/star with FACTS facts (1,000,000) and the shop of tools/try_warehouse with as many lines and a
-third as many orders; one row in a hundred changes. Rows are loaded, the views are opened, and then the night is carried out ROUNDS
-times (5), each time rolled back, with the time of each step; so is REFRESH of materialized views that hold the same. What is printed
+The warehouses are the star of tools/star with a million facts, or as many as are asked for, and the shop of tools/try_warehouse with as many lines and a
+third as many orders; one row in a hundred changes. Rows are loaded, the views are opened, and then the night is carried out
+round by round, each time rolled back, with the time of each step; so is REFRESH of materialized views that hold the same. What is printed
 are medians: of the night, of its Comps, of the Insts of base views and of derived ones, and of REFRESH without and with parallel
 workers; and for each kind of step the time for a row of its work. After that come the star by a strategy that takes all changes at
 once, and a night of the star in which nine tenths of the facts change.
@@ -19,21 +16,19 @@ import statistics
 import sys
 import time
 from collections import defaultdict
-from pathlib import Path
 
-sys.dont_write_bytecode = True
-ROOT = Path(__file__).resolve().parent.parent.parent
-sys.path.insert(0, str(ROOT / "tools"))
-from whtools import star as star_bundle  # noqa: E402
-from whtools.bundle import parts_of  # noqa: E402
-from whtools.shop import Shop  # noqa: E402
-from whtools.sql.catalogue import Catalogue  # noqa: E402
-from whtools.sql.comments import Comments  # noqa: E402
-from whtools.sql.script import Script  # noqa: E402
-from whtools.sql.server import PostgreSQLEngine, postgresql, texts  # noqa: E402
-from whtools.sql.sqlite import SQLite  # noqa: E402
-from whtools.sql.tokens import sql  # noqa: E402
+from whtools import star as star_bundle
+from whtools.bundle import parts_of
+from whtools.program import ROOT
+from whtools.shop import Shop
+from whtools.sql.catalogue import Catalogue
+from whtools.sql.comments import Comments
+from whtools.sql.script import Script
+from whtools.sql.server import PostgreSQLEngine, postgresql, texts
+from whtools.sql.sqlite import SQLite
+from whtools.sql.tokens import sql
 
+ROUNDS = 5
 # The server's memory is that of a small machine; all other settings are PostgreSQL's own.
 MEMORY = ["SET work_mem = '64MB';", "SET temp_buffers = '64MB';"]
 SALES = """SELECT orders.day, orders.region, lines.product, lines.pieces, lines.pieces * products.price AS cost FROM orders
@@ -65,16 +60,14 @@ inst by_kind
 
 def star(facts, nine_tenths=False):
     """The star's catalogue, and the rows and changes of its base views."""
-    module = star_bundle
-    text = module.CATALOGUE + "\n".join(module.bundle(facts)) + "\n" + module.STRATEGY
-    once, nights = parts_of(text)
+    once, nights = parts_of(star_bundle.whole(facts))
     records = lambda lines: list(csv.reader(lines))[1:]  # noqa: E731
     rows = {heading.split()[1]: records(lines) for heading, lines in once.items() if heading.startswith("data ")}
     changes = {heading.split()[1]: records(lines) for heading, lines in nights[0].items() if heading.startswith("changes ")}
     if nine_tenths:
         numbers = [(-1, number) for number in range(facts * 9 // 10)] + [(1, facts + number) for number in range(facts * 9 // 10)]
-        changes["sales"] = [[count, *module.sale(number).split(",")] for count, number in numbers]
-    return module.CATALOGUE + module.STRATEGY, rows, changes
+        changes["sales"] = [[count, *star_bundle.sale(number).split(",")] for count, number in numbers]
+    return star_bundle.CATALOGUE + star_bundle.STRATEGY, rows, changes
 
 
 def shop(lines):
@@ -141,7 +134,7 @@ class OnPostgreSQL(Timed):
 
     def told(self, told):
         if told:
-            sys.exit(f"run_sql: {told}")
+            sys.exit(f"tools/bench: {told}")
 
     def copy(self, table, columns, listed):
         text = io.StringIO()
@@ -253,8 +246,8 @@ def tried(engine, name, drawn, refreshed, rounds, on_sqlite=True):
         show(name, "sqlite", spent(OnSQLite(text, rows, changes), rounds), work)
 
 
-def main():
-    facts, rounds = (int(word) for word in [*sys.argv[1:3], *("1000000", "5")[len(sys.argv[1:3]) :]])
+def measure(asked):
+    facts, rounds = asked.facts, asked.rounds
     with PostgreSQLEngine(postgresql()) as engine:
         text, rows, changes = star(facts)
         tried(engine, "star", (text, rows, changes), REFRESHED["star"], rounds)
@@ -262,7 +255,3 @@ def main():
         at_once = text.partition("@strategy")[0] + AT_ONCE
         tried(engine, "star, all at once", (at_once, rows, changes), None, rounds)
         tried(engine, "star, nine tenths", star(facts, True), REFRESHED["star"], rounds, False)
-
-
-if __name__ == "__main__":
-    main()

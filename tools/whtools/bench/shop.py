@@ -1,7 +1,4 @@
-#!/usr/bin/env python3
-"""Times the night of a shop beside SQLite, which loads the same tables and makes the views once, and in every order of its join.
-
-    tools/bench/run_shop [PROGRAM]
+"""The night of a shop beside SQLite, which loads the same tables and makes the views once, and in every order of its join.
 
 There are 20,000 orders, 60,000 lines and 400 products, all integers; `sales` joins the three, and two summaries add it up by customer
 and by product. In the night every hundredth order leaves with its lines, as many come, and one price in a hundred changes. The strategy
@@ -11,7 +8,7 @@ is what `whview plan` finds for the views' sizes.
 prints all rows of the new views to a file. SQLite works in memory, in the process of this tool, on the tables of before alone, and
 prints nothing: `split` makes tuples of numbers of the text, `load` puts them by executemany into tables with their keys, and `views` is
 CREATE TABLE AS SELECT for each view. The views that the night prints have to be those that SQLite makes of the tables of after, and its
-text one whatever the order in which `sales` names the views that it is over. All run in turn, seven times; what is printed are the best
+text one whatever the order in which `sales` names the views that it is over. All run in turn; what is printed are the best
 times and the medians, and the ratios of both.
 """
 
@@ -27,9 +24,7 @@ from statistics import median
 from tempfile import TemporaryDirectory
 from time import monotonic
 
-sys.dont_write_bytecode = True
-sys.path.insert(0, str(Path(__file__).resolve().parent.parent))
-from whtools.program import program  # noqa: E402
+from whtools.program import program
 
 ORDERS, LINES, PRODUCTS, CUSTOMERS, DAYS = 20_000, 60_000, 400, 1_000, 30
 CHANGED, ROUNDS = 100, 7
@@ -138,13 +133,13 @@ def judge(answer, expected):
         rows = [tuple(map(int, line.split(","))) for line in lines]
         found[name] = {row[1:]: row[0] for row in rows}
     if found != expected:
-        sys.exit("run_shop: the views of the night are not those that SQLite makes of the tables of after")
+        sys.exit("tools/bench: the views of the night are not those that SQLite makes of the tables of after")
 
 
-def measured(built, bundles, answer, texts, expected):
+def measured(built, bundles, answer, texts, expected, rounds):
     """The seconds of SQLite's steps, and those of the night in each order, round by round."""
     steps, nights, answers = defaultdict(list), defaultdict(list), set()
-    for _ in range(ROUNDS):
+    for _ in range(rounds):
         _, moments = by_sqlite(texts)
         for step, began, ended in zip(("split", "load", "views"), moments, moments[1:]):
             steps[step].append(ended - began)
@@ -152,7 +147,7 @@ def measured(built, bundles, answer, texts, expected):
             nights[over].append(by_whview(built, bundle, answer))
             answers.add(answer.read_text())
     if len(answers) > 1:
-        sys.exit("run_shop: the texts of two orders differ")
+        sys.exit("tools/bench: the texts of two orders differ")
     judge(answers.pop(), expected)
     return steps, nights
 
@@ -180,8 +175,8 @@ def report(steps, nights):
     show_ratio("the slowest order over the fastest", nights.values(), nights.values())
 
 
-def main():
-    built = program()
+def measure(asked):
+    built = program(asked.program)
     before, leaving, coming = drawn(random.Random(7))
     after = {name: list((Counter(before[name]) - Counter(leaving[name]) + Counter(coming[name])).elements()) for name in BASES}
     texts, expected = tables(before), contents(tables(after))
@@ -191,9 +186,5 @@ def main():
         bundles = {over: Path(folder) / "_".join(over) for over in permutations(BASES)}
         for over, bundle in bundles.items():
             bundle.write_text(catalogue(over) + parts)
-        steps, nights = measured(built, bundles, Path(folder) / "answer", texts, {name: expected[name] for name in VIEWS})
+        steps, nights = measured(built, bundles, Path(folder) / "answer", texts, {name: expected[name] for name in VIEWS}, asked.rounds)
     report(steps, nights)
-
-
-if __name__ == "__main__":
-    main()
