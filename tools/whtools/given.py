@@ -1,11 +1,8 @@
 """A reader of the bundles of `whview replay` that have no fault."""
 
-import csv
-import io
-from collections import Counter
-
 from whtools.bundle import parts_of, words_of
 from whtools.catalogue import views_of
+from whtools.tables import bag_of
 
 
 def event_of(words):
@@ -36,14 +33,7 @@ class Given:
 
     def bag(self, view, lines):
         """The rows of a part, and how often each stands in it."""
-        records = list(csv.reader(io.StringIO("".join(line + "\n" for line in lines or []), newline="")))
-        found = Counter()
-        for record in records[1:]:
-            if record:
-                count = int(record.pop(0)) if records[0][0] == "#" else 1
-                cells = zip(record, view.columns)
-                found[tuple(self.number(cell) if kind == "text" else int(cell) for cell, (_, kind) in cells)] += count
-        return {row: count for row, count in found.items() if count}
+        return dict(bag_of("".join(line + "\n" for line in lines or []), view.columns, self.number))
 
     def strategy(self, lines):
         """Each expression as its view and its sources, of which an Inst has none."""

@@ -1,7 +1,11 @@
 """Nights whose answers are worked out from the definitions alone, and some that are drawn."""
 
+import subprocess
+
+from whtools.bundle import unpack
 from whtools.drawn import Drawer
 from whtools.evaluator import Evaluator, added, difference, terms, total
+from whtools.tables import bag_of
 from whtools.views import View, numbered
 from whtools.warehouses import Warehouse, line
 
@@ -77,6 +81,15 @@ def moved_by_one(view):
     """The view where all numbers of views are one higher."""
     over = [u + 1 for u in view.over]
     return View(view.name, view.columns, over, view.join, view.where, view.keep, view.group, view.sums)
+
+
+def carried(program, views, bundle):
+    """The tables of the derived views after a night by the program, by their names, or the words of a refusal."""
+    ran = subprocess.run([program, "night"], input=bundle, capture_output=True, timeout=60)
+    if ran.returncode:
+        return None, ran.stdout.decode().partition("\n")[0]
+    columns = {view.name: view.columns for view in views}
+    return {name: bag_of(text.decode(), columns[name]) for name, text in unpack(ran.stdout).items()}, None
 
 
 # ---- drawing

@@ -4,6 +4,8 @@ import csv
 import sqlite3
 from collections import Counter
 
+from whtools.tables import bag_of, text_of
+
 BASES = {"orders": ["id", "day", "region"], "lines": ["id", "product", "pieces"], "products": ["product", "price"]}
 VIEWS = {
     "sales": "SELECT COUNT(*), day, region, lines.product, pieces, pieces * price FROM orders JOIN lines USING (id)"
@@ -87,9 +89,4 @@ def texts(row):
 
 def table(path):
     """The rows of a file that was written, with how often they stand."""
-    with path.open(newline="") as file:
-        records = list(csv.reader(file))[1:]
-    found = Counter()
-    for count, *cells in records:
-        found[tuple(cells)] += int(count)
-    return found
+    return bag_of(text_of(path))

@@ -10,8 +10,8 @@ from pathlib import Path
 from typing import NamedTuple
 from unittest import mock
 
-from whtools.bundle import unpack
 from whtools.evaluator import Unbounded, added
+from whtools.nights import carried
 from whtools.sql import command
 from whtools.warehouses import Warehouse
 
@@ -59,14 +59,10 @@ class Night:
     def answered(self, program, is_after):
         """The tables of all views by the program, or the words of a refusal."""
         changes = self.changes if is_after else [[] for _ in self.views]
-        ran = subprocess.run([program, "night"], input=self.bundle(changes), capture_output=True, timeout=60)
-        if ran.returncode:
-            return None, ran.stdout.decode().partition("\n")[0]
-        tables = self.base(is_after)
-        for name, text in unpack(ran.stdout).items():
-            v = [view.name for view in self.views].index(name)
-            tables[v] = read(self.views[v], text.decode())
-        return tables, None
+        derived, told = carried(program, self.views, self.bundle(changes))
+        if told is not None:
+            return None, told
+        return [derived.get(view.name, table) for view, table in zip(self.views, self.base(is_after))], None
 
     def contents(self, program=None):
         """The tables before and after, and the words of a refusal, by the program or else by the definitions."""
@@ -85,13 +81,6 @@ class Night:
         (path / "catalogue.toml").write_bytes(self.catalogue)
         (path / "strategy.txt").write_bytes(self.words.listed(self.strategy).partition(b"\n")[2])
         return path
-
-
-def read(view, text):
-    """A table that the program prints."""
-    rows = list(csv.reader(io.StringIO(text, newline="")))[1:]
-    kinds = [kind for _, kind in view.columns]
-    return Counter({tuple(int(cell) if kind == "int" else cell for kind, cell in zip(kinds, row[1:])): int(row[0]) for row in rows})
 
 
 class Written(NamedTuple):

@@ -1,16 +1,12 @@
 """Drawn nights, what the program makes of each, and how an engine carries it out by a script."""
 
-import csv
-import io
-import subprocess
 from collections import Counter
 from contextlib import nullcontext
 from types import SimpleNamespace
 
-from whtools.bundle import unpack
 from whtools.drawn import WORDS, Drawer
 from whtools.evaluator import added
-from whtools.nights import draw_views
+from whtools.nights import carried, draw_views
 from whtools.sql import lexed
 from whtools.sql.comments import Comments
 from whtools.sql.dialect import COUNT
@@ -86,16 +82,7 @@ class Night:
 
     def answered(self, started, changes):
         """The derived views by their names, or the words of a refusal."""
-        ran = subprocess.run([started, "night"], input=self.bundle(changes), capture_output=True, timeout=60)
-        if ran.returncode:
-            return None, ran.stdout.decode().partition("\n")[0]
-        return {name: self.table(name, text.decode()) for name, text in unpack(ran.stdout).items()}, None
-
-    def table(self, name, text):
-        view = next(view for view in self.views if view.name == name)
-        rows = list(csv.reader(io.StringIO(text, newline="")))[1:]
-        kinds = ["int", *(kind for _, kind in view.columns)]
-        return Counter({tuple(cells(row[1:], kinds[1:])): int(row[0]) for row in rows})
+        return carried(started, self.views, self.bundle(changes))
 
     def expected(self, done):
         """The tables of all views, and those of changes, where the night was done or refused."""
@@ -104,10 +91,6 @@ class Night:
         for v, view in enumerate(self.views):
             tables.append(derived[view.name] if view.over else added(self.records[v] + (self.changes[v] if done else [])))
         return tables, [Counter() if done or view.over else added(self.changes[v]) for v, view in enumerate(self.views)]
-
-
-def cells(row, kinds):
-    return [int(cell) if kind == "int" else cell for cell, kind in zip(row, kinds)]
 
 
 # ---- engines

@@ -1,6 +1,5 @@
 """The shop whose nights are stopped: its tables, what its views have to be, and changes of which each row is given once."""
 
-import csv
 import os
 from collections import Counter
 from functools import lru_cache
@@ -8,7 +7,8 @@ from pathlib import Path
 from typing import NamedTuple
 
 from whtools.program import ROOT
-from whtools.shop import BASES, VIEWS, expected, write
+from whtools.shop import BASES, VIEWS, expected, table, write
+from whtools.tables import records_of, text_of
 
 SHOP = ROOT / "examples/shop"
 
@@ -19,21 +19,6 @@ class Change(NamedTuple):
     view: str
     count: int
     cells: tuple
-
-
-def records(path):
-    """The rows of a file with their counts, which are 1 where it has no column for them."""
-    with path.open(newline="") as file:
-        header, *rows = csv.reader(file)
-    return [(int(row[0]), tuple(row[1:])) for row in rows] if header[0] == "#" else [(1, tuple(row)) for row in rows]
-
-
-def table(path):
-    """The rows of a file, with how often they stand."""
-    found = Counter()
-    for count, cells in records(path):
-        found[cells] += count
-    return found
 
 
 def base_tables(folder):
@@ -48,7 +33,8 @@ def change_files(folder):
 
 def changes_in(folder):
     """The rows of the files of changes in a folder, with how often each stands there."""
-    return Counter(Change(path.name.partition(".")[0], *row) for path in change_files(folder) for row in records(path))
+    rows = ((path.name.partition(".")[0], row) for path in change_files(folder) for row in records_of(text_of(path)))
+    return Counter(Change(view, count, cells) for view, (cells, count) in rows)
 
 
 def after(tables, changes):
