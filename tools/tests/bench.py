@@ -34,8 +34,9 @@ class Measured(unittest.TestCase):
         self.assertRaises(SystemExit, one_text, runs.values())
 
     def test_steps_are_told_by_least_median_and_ratio(self):
-        counted = self.program("counted", f"echo step $(cat {self.room.name}/next) 2 bounds, 7; echo plain 10 text; echo 30 >{self.room.name}/next")
         (Path(self.room.name) / "next").write_text("20")
+        script = 'cd "$(dirname "$0")"; echo step $(cat next) 2 bounds, 7; echo plain 10 text; echo 30 >next'
+        counted = self.program("counted", script)
         steps = Steps([counted], 3)
         self.assertEqual((steps.found["step"], steps.least("step"), steps.median("step")), ([10, 15, 15], 10, 15))
         self.assertEqual((steps.ratio("step", "plain"), steps.ratio_of_rounds("step", "plain")), (1.5, 1.5))

@@ -43,7 +43,8 @@ class Bundles(unittest.TestCase):
 class Catalogues(unittest.TestCase):
     def test_what_is_read_is_written_as_it_was(self):
         views = views_of(CATALOGUE)
-        self.assertEqual([view.columns for view in views[1:]], [[("twice", "int"), ("t", "text")], [("t", "text"), ("n", "int"), ("x", "int")]])
+        columns = [[("twice", "int"), ("t", "text")], [("t", "text"), ("n", "int"), ("x", "int")]]
+        self.assertEqual([view.columns for view in views[1:]], columns)
         again = Warehouse(views).catalogue().decode().partition("\n")[2]
         self.assertEqual([vars(view) for view in views_of(again)], [vars(view) for view in views])
 

@@ -1,8 +1,8 @@
 """Nights by the scripts of tools/sql in a PostgreSQL server of its own and in SQLite, beside REFRESH MATERIALIZED VIEW.
 
-The warehouses are the star of tools/star with a million facts, or as many as are asked for, and the shop of tools/try_warehouse with as many lines and a
-third as many orders; one row in a hundred changes. Rows are loaded, the views are opened, and then the night is carried out
-round by round, each time rolled back, with the time of each step; so is REFRESH of materialized views that hold the same. What is printed
+The warehouses are the star of tools/star with a million facts, or as many as are asked for, and the shop of tools/try_warehouse with as
+many lines and a third as many orders; one row in a hundred changes. Rows are loaded, the views are opened, and then the night is carried
+out round by round, each time rolled back, with the time of each step; so is REFRESH of materialized views that hold the same. What is printed
 are medians: of the night, of its Comps, of the Insts of base views and of derived ones, and of REFRESH without and with parallel
 workers; and for each kind of step the time for a row of its work. After that come the star by a strategy that takes all changes at
 once, and a night of the star in which nine tenths of the facts change.

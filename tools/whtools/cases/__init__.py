@@ -33,8 +33,8 @@ class Case:
         text = ran.stdout.decode(errors="replace")
         if ran.returncode == self.status and text and not ran.stderr and self.is_right(text):
             return None
-        said = ran.stderr.decode(errors="replace")[:300]
-        return f"{self.what} {self.words}: {text[:300]}{said}status {ran.returncode}, where {str(self.text)[:300]}status {self.status} is wanted"
+        said = f"{text[:300]}{ran.stderr.decode(errors='replace')[:300]}status {ran.returncode}"
+        return f"{self.what} {self.words}: {said}, where {str(self.text)[:300]}status {self.status} is wanted"
 
 
 class BesideAFile(Case):

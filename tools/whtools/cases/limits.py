@@ -8,18 +8,22 @@ LIMIT = 67108864
 TOO_LONG = ("fault toolong\n", 3)
 
 
-def example(name):
-    """An example's bundle, with its strategy last, and its answer, with the status."""
+def example(name, last):
+    """An example's bundle, with the parts last whose headings begin so, and its answer, with the status."""
     folder = ROOT / "examples"
-    parts = sorted(pieces((folder / f"{name}.bundle").read_bytes()), key=lambda part: name.startswith("one_way") and part.startswith(b"@strategy"))
+    parts = sorted(pieces((folder / f"{name}.bundle").read_bytes()), key=lambda part: part.startswith(last))
     text, _, status = (folder / f"{name}.answer").read_text().rpartition("status ")
     return b"".join(parts), (text, int(status))
 
 
 def lengths():
     """Inputs with line ends after them up to exactly the limit, one more, and inputs that never end."""
-    for command, name in (("check", "one_way_check"), ("night", "night_two_tables"), ("replay", "replay_two_nights")):
-        bundle, answer = example(name)
+    for command, name, last in (
+        ("check", "one_way_check", b"@strategy"),
+        ("night", "night_two_tables", b"@"),
+        ("replay", "replay_two_nights", b"@"),
+    ):
+        bundle, answer = example(name, last)
         for what, size, wanted in (("the limit", LIMIT, answer), ("a byte more", LIMIT + 1, TOO_LONG)):
             yield Case([command], lambda bundle=bundle, size=size: bundle.ljust(size, b"\n"), *wanted, f"an input of {what}")
         if command != "replay":
