@@ -88,5 +88,5 @@ class TakenByNobody(Case):
 
     def mistake(self, started):
         with open("/dev/full", "wb") as full:
-            ran = subprocess.run([started, *self.words], input=self.given, stdout=full, timeout=SECONDS)
+            ran = subprocess.run([started, *self.words], input=self.given, stdout=full, stderr=subprocess.DEVNULL, timeout=SECONDS)
         return None if ran.returncode == self.status else f"{self.what} {self.words}: status {ran.returncode}"

@@ -9,6 +9,7 @@ import subprocess
 import tempfile
 from pathlib import Path
 
+from whtools.installed import install
 from whtools.sql.postgresql import PostgreSQL
 from whtools.sql.sqlite import SQLite
 
@@ -122,11 +123,5 @@ def installed():
 
 def postgresql():
     """The folder of PostgreSQL's programs, which are installed where they are missing and that can be done; else None."""
-    for command in (["install", "-y"], ["update"], ["install", "-y"]):
-        if installed():
-            break
-        words = ["apt-get", *command, *(["postgresql"] if command[0] == "install" else [])]
-        quiet = {**os.environ, "DEBIAN_FRONTEND": "noninteractive"}
-        if shutil.which("apt-get"):
-            subprocess.run(words, env=quiet, stdout=subprocess.DEVNULL, stderr=subprocess.DEVNULL, check=False)
+    install("postgresql", installed)
     return installed()

@@ -50,16 +50,6 @@ def installed():
     return shutil.which("strace") is not None
 
 
-def install():
-    """Installs strace where it is missing and that can be done."""
-    for command in (["install", "-y", "strace"], ["update"], ["install", "-y", "strace"]):
-        if installed():
-            break
-        quiet = {**os.environ, "DEBIAN_FRONTEND": "noninteractive"}
-        if shutil.which("apt-get"):
-            subprocess.run(["apt-get", *command], env=quiet, stdout=subprocess.DEVNULL, stderr=subprocess.DEVNULL, check=False)
-
-
 class Tool:
     """A tools/warehouse, with the program that it hands bundles to."""
 
