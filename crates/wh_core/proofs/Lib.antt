@@ -15,12 +15,9 @@ pub mod Steps
 pub mod Moves
 pub mod Seats
 pub mod Wholes
-<<<<<<< HEAD
 pub mod Headline
 pub mod Told
 pub mod Accepts
-=======
 pub mod FirstTurn
 pub mod OneWorker
 pub mod NightLogs
->>>>>>> 57085a9877e73964d448a91f89856d52c18d4a97

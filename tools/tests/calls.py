@@ -1,0 +1,180 @@
+"""Tests of tools/calls: what it tells of the sources of two small crates, and what it makes of their README.md."""
+
+import tempfile
+import unittest
+from contextlib import redirect_stdout
+from importlib.machinery import SourceFileLoader
+from importlib.util import module_from_spec, spec_from_loader
+from io import StringIO
+from pathlib import Path
+from unittest.mock import patch
+
+from whtools import sources
+
+HERE = Path(__file__).resolve().parents[1]
+LIB = """//! Stacks.
+#![tactic(auto)]
+
+mod laws;
+mod stack;
+
+pub use laws::pushes_add_up;
+pub use low::{Low, lower};
+pub use stack::{LIMIT, Stack};
+
+#[cfg(test)]
+mod tests {
+    #[test]
+    pub fn a_test_is_no_call() {}
+}
+"""
+LAWS = """/// What is pushed is there. No more is said.
+pub fn pushes_add_up()
+    ensures { PushesAddUp }
+{}
+"""
+STACK = """ghost use Rattle.std.specs.Prelude.{List, OnOk};
+
+/// The most numbers.
+pub const LIMIT: usize = 64;
+
+/// Numbers, the [`Stack::push`]ed last first; a `|` parts them. The rest is not told.
+#[derive(Drop)]
+pub struct Stack<'a> {
+    numbers: &'a [u8],
+}
+
+impl<'a> Model for Stack<'a> {
+    ghost view = { λ s. s.numbers };
+}
+
+impl<'a> Stack<'a> {
+    /// Puts a number on top.
+    pub fn push<F: Fn(&[u8]) -> bool>(&mut self, keep: &F, mut number: u8) -> Result<(), u8>
+        requires { number < 64 }
+        ensures ok { OnOk result (λ s. { s } ≡ s) } // of { one
+        ensures err { result ≡ Err '}' }
+
+        // No brace { of a comment counts.
+        ensures { b'{' ≡ b'{' }
+    {
+        let text = "}}";
+        put(self, number)
+    }
+
+    pub(crate) fn hidden(&self) {}
+
+    /// Whether there is no number.
+    pub fn is_empty(&self) -> bool
+        ensures { result ≡ is_empty self.now }
+    {
+        self.numbers.is_empty()
+    }
+}
+
+impl<'a> Lower for Stack<'a> {
+    fn lowest(&self) -> u8 {
+        self.numbers[0]
+    }
+}
+
+fn put(stack: &mut Stack<'_>, number: u8)
+    ensures { True }
+{
+    stack.numbers.push(number);
+}
+"""
+LOW = """/// What has a lowest number.
+pub trait Lower {
+    /// The lowest number.
+    fn lowest(&self) -> u8
+        ensures low { True };
+}
+"""
+EDITS = {
+    "crates/high/must-fail/pushes_nothing.edit": "file: src/stack.rt\n"
+    "old:     stack.numbers.push(number);\nnew:     stack.numbers.push(0);\n",
+    "crates/high/must-fail/lent-old.edit": "file: src/stack.rt\nold: put(self\nnew: put(other\n",
+    "tools/edits/high/turns_twice.edit": "file: src/stack.rt\nold:         put(self, number)\nnew:         put(self, 1)\n"
+    "file: src/stack.rt\nold: put(self, 1)\nnew: put(self, 2)\nfile: specs/Stack.antt\nold: one\nnew: two\n",
+}
+HIGH_PAGE = [
+    "| `push(&mut self, keep, number)` | Puts a number on top. | one clause | one clause, `ok`, `err` | *apart* `turns_twice` |",
+    "| `is_empty(&self)` | Whether there is no number. |  | one clause |  |",
+    "| `Lower::lowest(&self)` | The lowest number. |  | as `Lower` |  |",
+    "| `pushes_add_up()` | What is pushed is there. | one clause |",
+    "| `LIMIT` | The most numbers. |",
+    "| `src/stack.rt` | `put(stack, number)` | one clause | `pushes_nothing` |",
+    "| `specs/Stack.antt` |  |  | *apart* `turns_twice` |",
+    "- of [`low`](../low/README.md): `Low`, `lower`",
+    "Numbers, the `Stack::push`ed last first; a `|` parts them.",
+]
+
+
+def load():
+    loader = SourceFileLoader("calls", str(HERE / "calls"))
+    module = module_from_spec(spec_from_loader("calls", loader))
+    loader.exec_module(module)
+    return module
+
+
+class Calls(unittest.TestCase):
+    def setUp(self):
+        room = tempfile.TemporaryDirectory()
+        self.addCleanup(room.cleanup)
+        self.root, self.calls = Path(room.name), load()
+        self.calls.ROOT = self.root
+        patched = patch.object(sources, "ROOT", self.root)
+        patched.start()
+        self.addCleanup(patched.stop)
+        files = {"crates.txt": "low:\nhigh: low toml\n", "crates/low/src/lib.rt": LOW, "crates/high/specs/Stack.antt": "one\n"}
+        sources_of_high = {"lib": LIB, "laws": LAWS, "stack": STACK}
+        files |= {f"crates/high/src/{name}.rt": text for name, text in sources_of_high.items()}
+        for path, text in (files | EDITS).items():
+            (self.root / path).parent.mkdir(parents=True, exist_ok=True)
+            (self.root / path).write_text(text)
+        self.crates = {name: sources.Crate(name) for name in ("low", "high")}
+
+    def test_a_page_has_what_the_sources_say(self):
+        lines = self.calls.written(self.crates["high"], self.crates).split("\n")
+        for line in HIGH_PAGE:
+            self.assertIn(line, lines)
+        self.assertEqual(lines[0], "Stands on [`low`](../low/README.md), `toml` of the toolchain. Used by no other crate.")
+        self.assertTrue(lines[2].startswith("3 calls and 1 law: "), lines[2])
+        self.assertNotIn("hidden", "\n".join(lines))
+        self.assertNotIn("a_test_is_no_call", "\n".join(lines))
+        self.assertNotIn("lent", "\n".join(lines))
+
+    def test_a_trait_has_its_own_clauses(self):
+        self.assertIn("| `lowest(&self)` | The lowest number. | `low` |", self.calls.written(self.crates["low"], self.crates).split("\n"))
+
+    def test_a_page_is_renewed_below_its_head(self):
+        for name in self.crates:
+            (self.root / "crates" / name / "README.md").write_text(f"# {name}\n\nBy hand.\n\n{self.calls.MARK}\nold\n")
+        (self.root / "docs").mkdir()
+        (self.root / "docs/PROMISES.md").write_text("")
+        told = StringIO()
+        with redirect_stdout(told):
+            found = [self.calls.judge(self.crates), self.calls.write(self.crates), self.calls.judge(self.crates)]
+        self.assertEqual(found, [1, 0, 0], told.getvalue())
+        text = (self.root / "crates/high/README.md").read_text()
+        self.assertTrue(text.startswith(f"# high\n\nBy hand.\n\n{self.calls.MARK}\n\nStands on "), text)
+        self.assertNotIn("\nold\n", text)
+
+    def test_a_link_of_a_head_has_to_lead_to_a_file(self):
+        for there, ends in (("src/stack.rt", 0), ("src/gone.rt", 1)):
+            for name in self.crates:
+                link = f"Begin with [it]({there})." if name == "high" else "By hand."
+                (self.root / "crates" / name / "README.md").write_text(f"# {name}\n\n{link}\n\n{self.calls.MARK}\n")
+            (self.root / "docs").mkdir(exist_ok=True)
+            (self.root / "docs/PROMISES.md").write_text("")
+            with redirect_stdout(StringIO()):
+                self.calls.write(self.crates)
+                self.assertEqual(self.calls.judge(self.crates), ends, there)
+
+    def test_a_page_without_a_head_is_refused(self):
+        with redirect_stdout(StringIO()):
+            self.assertEqual(self.calls.judge(self.crates), 1)
+        with self.assertRaises(SystemExit):
+            self.calls.write(self.crates)
+

@@ -1,0 +1,50 @@
+"""Tests of whtools.cuts: what a beginning of an input is answered, by the formats."""
+
+import unittest
+
+from whtools.cuts import Certified, Checked, Replayed
+
+CHECKED = """@catalogue
+[[view]]
+name = "A"
+@strategy
+inst A
+@sizes
+view,pre,post,change
+A,10,12,4
+"""
+PLANNED = CHECKED.partition("@strategy")[0] + CHECKED[CHECKED.index("@sizes") :] + "@plan\nscope all\nwork 4\ninst A\n"
+REPLAYED = '@catalogue\n[[view]]\nname = "a"\ncolumns = ["x"]\n@strategy\ninst a\n@schedule\ndesks 1\nworkers 1\nkeys 1\nopen 0\n'
+
+
+class Beginnings(unittest.TestCase):
+    def told(self, given, ends):
+        """Sees that the beginning that ends with a text is answered so."""
+        for end, answer in ends.items():
+            with self.subTest(end=end):
+                at = given.given.index(end) + len(end)
+                self.assertEqual(given.expected(given.given[:at]), answer)
+
+    def test_a_check(self):
+        given = Checked("a check", CHECKED, ["A"], "correct\nwork 4\n")
+        self.told(given, {
+            "chec": ("", 2), "check": ("fault part catalogue\n", 3), "check\n@": ("fault part text\n", 3), "@cat": ("fault part cat\n", 3),
+            "@catalogue": ("fault part sizes\n", 3), "@sizes\nview,pr": ("fault header\n", 3), "post,change\n": ("fault sizes A\n", 3),
+            "A,10,12": ("fault csv 2\n", 3), "A,10,12,": ("fault number 2\n", 3), "A,10,12,4": ("correct\nwork 4\n", 0),
+        })  # fmt: skip
+        self.assertEqual(given.expected(given.given.replace(",12,4", ",12,1")), ("fault sizes A\n", 3))
+
+    def test_a_plan_that_is_certified(self):
+        given = Certified("a plan", PLANNED, ["A"], [[]], [(10, 12, 4)], [])
+        self.told(given, {
+            "A,10,12,4\n": ("fault part plan\n", 3), "scope al": ("fault plan 1\n", 3), "scope all\nwor": ("fault plan 2\n", 3),
+            "work 4\n": ("broken S2 at 1\n", 1), "work 4\ninst": ("fault plan 3\n", 3), "inst A\n": ("certified all work 4\n", 0),
+        })  # fmt: skip
+        self.assertEqual(given.expected(given.given.replace("work 4", "work 5")), ("rejected work\n", 1))
+
+    def test_a_replay(self):
+        given = Replayed("a replay", REPLAYED, ["a"])
+        self.told(given, {
+            "@strategy": ("fault part schedule\n", 3), "inst a\n@": ("fault part text\n", 3), "workers 1\n": ("fault schedule 3\n", 3),
+            "keys 1\n": ("", 0), "keys 1\nop": ("fault schedule 4\n", 3), "open 0": ("session 0\n", 0),
+        })  # fmt: skip

@@ -1,0 +1,50 @@
+"""`diff`, from two exports."""
+
+import shutil
+import subprocess
+import sys
+import tempfile
+import unittest
+from pathlib import Path
+
+from whtools.warehouse.folder import Folder
+from whtools.warehouse.records import table_text
+
+from .shop import SHOP, TOOLS
+
+
+class Differences(unittest.TestCase):
+    """`diff`, from two exports."""
+
+    def ran(self, before, after):
+        with tempfile.TemporaryDirectory() as room:
+            for name, text in (("old.csv", before), ("new.csv", after)):
+                (Path(room) / name).write_bytes(text)
+            ran = subprocess.run([sys.executable, TOOLS / "warehouse", "diff", "old.csv", "new.csv"], cwd=room, capture_output=True)
+        return ran.returncode, ran.stdout, ran.stderr.decode().splitlines()
+
+    def test_rows_that_come_and_go(self):
+        before = b'id,name\n1,jam\n1,jam\n2,"tea, black"\n3,bread\n'
+        after = b"id,name\r\n3,bread\r\n1,jam\r\n4,honey\r\n4,honey\r\n"
+        self.assertEqual(self.ran(before, after), (0, b'#,id,name\n-1,1,jam\n-1,2,"tea, black"\n2,4,honey\n', []))
+
+    def test_equal_exports_have_the_header_alone_as_their_changes(self):
+        self.assertEqual(self.ran(b"#,x\n3,7\n", b"x\n7\n7\n7\n"), (0, b"#,x\n", []))
+
+    def test_bytes_that_are_not_utf_8_are_kept(self):
+        self.assertEqual(self.ran(b"x\n", b"x\n\xff\n"), (0, b"#,x\n1,\xff\n", []))
+
+    def test_mistakes(self):
+        told = "new.csv:1:1: the header is x,z, and it was x,y"
+        self.assertEqual(self.ran(b"x,y\n", b"x,z\n"), (3, b"", [told]))
+        told = "new.csv:3:1: this record has not the header's cells, or no count"
+        self.assertEqual(self.ran(b"x,y\n", b"x,y\n1,2\n1\n"), (3, b"", [told]))
+
+    def test_the_changes_of_a_night_are_those_between_the_exports_before_and_after_it(self):
+        with tempfile.TemporaryDirectory() as room:
+            folder = Folder(shutil.copytree(SHOP, Path(room) / "shop"))
+            for view in folder.views[:3]:
+                after = table_text(view.columns, folder.rolled(view))
+                status, printed, _ = self.ran((folder.path / f"data/{view.name}.csv").read_bytes(), after)
+                (folder.path / f"changes/{view.name}.csv").write_bytes(printed)
+                self.assertEqual((status, Folder(folder.path).rolled(view)), (0, folder.rolled(view)))

@@ -1,0 +1,115 @@
+"""What a night writes, and from where its sizes are."""
+
+import subprocess
+import sys
+from pathlib import Path
+
+from whtools.warehouse.catalogue import Catalogue
+
+from .shop import ANSWER, SHOP, SIZES, TOOLS, Shop, contents
+
+
+PRODUCTS = b'#,product,price\n1,bread,300\n1,honey,950\n1,jam,475\n1,"tea, black",800\n'
+
+
+class Nights(Shop):
+    def test_a_night_writes_every_view_and_a_report_and_nothing_else(self):
+        before = contents(self.folder)
+        self.assertEqual(self.ran("night"), (0, []))
+        after = contents(self.folder)
+        made = {f"new/{view.name}.csv" for view in Catalogue(SHOP).views} | {"new/report.txt", ".lock"}
+        self.assertEqual(set(after) - set(before), made)
+        self.assertEqual({file: after[file] for file in before}, before)
+        self.assertEqual(after["new/products.csv"], PRODUCTS)
+
+    def test_workers_and_readers_go_through_and_what_readers_saw_is_told(self):
+        seen = "reader 0 version 0 rows 13\nreader 1 version 0 rows 13\n"
+        self.answers(ANSWER.read_bytes().removesuffix(b"status 0\n") + seen.encode(), 0)
+        self.program.write_text(self.program.read_text().replace("cat >", f'echo "$@" >> {self.program}.words\ncat >'))
+        words = ["--workers", "2", "--readers", "2", "--page-keys", "3"]
+        self.assertEqual(self.ran("night", *words), (0, []))
+        self.assertEqual(Path(f"{self.program}.words").read_text().splitlines()[0].split(), ["night", *words])
+        self.assertIn(f"work 98\n{seen}view,pre,post,change\n", (self.folder / "new/report.txt").read_text())
+        self.assertEqual(self.ran("check", "--workers", "2"), (2, ["check has no option --workers"]))
+
+    def test_sizes_are_given_or_told_from_the_last_report_or_measured(self):
+        measured = (SIZES.splitlines(), ["sizes measured by a night that is not kept"])
+        # The program that stands here answers every night alike, so the rows before it are those after it.
+        measured[0][4:] = ["sales,9,9,8", "daily_by_product,8,8,8", "daily_by_region,6,6,8"]
+        self.assertEqual(self.sizes(), measured)
+        self.assertEqual(self.ran("night", "--commit"), (0, []))
+        (self.folder / "changes/orders.csv").write_bytes(b"#,id,day,region\n-1,7,Wednesday,south\n1,7,Wednesday,north\n")
+        told = ["view,pre,post,change", "orders,7,7,2", "lines,9,9,0", "products,4,4,0", "sales,9,9,2"]
+        told += ["daily_by_product,8,8,2", "daily_by_region,6,6,2"]
+        self.assertEqual(self.sizes(), (told, ["sizes from the change files and the last report"]))
+        (self.folder / "sizes.csv").write_text(SIZES)
+        self.assertEqual(self.sizes(), (SIZES.splitlines(), ["sizes given in sizes.csv"]))
+
+    def sizes(self):
+        command = [sys.executable, TOOLS / "warehouse", "sizes", self.folder, "--program", self.program]
+        ran = subprocess.run(command, capture_output=True, text=True, check=True)
+        return ran.stdout.splitlines(), ran.stderr.splitlines()
+
+    def test_several_files_of_changes_of_a_view_add_up(self):
+        (self.folder / "changes/products.3.csv").write_text("#,product,price\n1,plum,120\n-1,honey,950\n")
+        (self.folder / "changes/products.12.csv").write_text("#,product,price\n2,plum,120\n")
+        self.keep_bundle()
+        self.assertEqual(self.ran("night", "--commit"), (0, []))
+        self.assertIn(b"@changes products\n#,product,price\n-1,jam,450\n1,jam,475\n3,plum,120\n@strategy", self.bundle())
+        self.assertIn(b"\n3,plum,120\n", (self.folder / "current/data/products.csv").read_bytes())
+        self.assertNotIn(b"honey", (self.folder / "current/data/products.csv").read_bytes())
+        names = ["lines.csv", "orders.csv", "products.12.csv", "products.3.csv", "products.csv"]
+        self.assertEqual(sorted(path.name for path in (self.folder / "current/changes").iterdir()), names)
+
+    def test_each_of_several_files_of_changes_is_judged_at_its_own_places(self):
+        (self.folder / "changes/products.1.csv").write_text("#,product,price\n-1,plum,1x\n-1,plum,120\n")
+        self.assertEqual(self.ran("lint"), (3, ['changes/products.1.csv:2:9: "1x" is not a whole number']))
+        (self.folder / "changes/products.1.csv").write_text("#,product,price\n1,jam,475\n-1,plum,120\n")
+        (self.folder / "changes/products.2.csv").write_text("#,product,price\n-2,jam,475\n-1,plum,120\n")
+        told = "changes/products.1.csv:3:1: 2 of plum,120 leave, and data/products.csv has 0"
+        self.assertEqual(self.ran("night", "--commit"), (1, [told]))
+
+    def keep_bundle(self):
+        """Has the program keep what it was given."""
+        self.program.write_text(self.program.read_text().replace("cat > /dev/null", f"cat >> {self.program}.bundle"))
+
+    def bundle(self):
+        return Path(f"{self.program}.bundle").read_bytes()
+
+
+class Programs(Shop):
+    """Programs that give no answer: each is told with the command and the status or signal, and nothing is changed."""
+
+    def judge(self, script, status, told):
+        """Runs each command that asks the program."""
+        self.program.write_text(f"#!/bin/sh\n{script}\n")
+        before = {file: text for file, text in contents(self.folder).items() if file != ".lock"}
+        for words in (["night"], ["check"], ["plan"], ["certify"]):
+            asked = "check" if words == ["check"] else "night"
+            with self.subTest(words=words):
+                self.assertEqual(self.ran(*words), (status, [f"{self.program} {asked} {told}; nothing was changed"]))
+        self.assertEqual({file: text for file, text in contents(self.folder).items() if file != ".lock"}, before)
+
+    def test_a_program_that_is_killed(self):
+        self.judge("kill -9 $$", 70, "was killed by signal 9 (SIGKILL)")
+
+    def test_a_program_that_could_not_be_built(self):
+        self.judge("cat > /dev/null\nexit 70", 70, "ended with status 70, which is none of the program's")
+
+    def test_a_program_that_says_nothing(self):
+        self.judge("cat > /dev/null\necho", 70, "ended with status 0 and without an answer")
+        self.judge("cat > /dev/null\nexit 4", 4, "ended with status 4 and without an answer")
+
+    def test_a_program_that_there_is_not(self):
+        self.program.unlink()
+        told = f"{self.program} cannot be run for night: No such file or directory; nothing was changed"
+        self.assertEqual(self.ran("night", "--commit"), (70, [told]))
+
+    def test_a_look_at_what_it_might_not_print_whole_is_refused_at_once(self):
+        ran = subprocess.run([TOOLS / "look", "night"], input=b"@catalogue\n" + b" " * 2**19, capture_output=True)
+        told = "tools/look: the input has 524299 bytes, and its answer may be longer than can be printed; 524288 is the most"
+        self.assertEqual((ran.returncode, ran.stdout, ran.stderr.decode()), (70, b"", f"{told}; take ./whview, which has no such bound\n"))
+
+    def test_an_answer_that_was_cut(self):
+        self.answers(ANSWER.read_bytes().partition(b"view daily_by_region")[0], 0)
+        self.assertEqual(self.ran("night"), (70, [f"{self.program} night gave no table of daily_by_region; nothing was changed"]))

@@ -1,0 +1,1 @@
+"""What tools/try_databases carries out: nights by tools/sql over tables as people have them."""

@@ -1,0 +1,380 @@
+"""Cases that people met, one by one, in both engines: tables in parts, foreign keys, columns of others, triggers and types."""
+
+
+from whtools.databases.cases import (
+    ALE_COMES, EITHER, JAM_IS_DEARER, LINES, REFUSED, TEA_GOES, Case,
+)  # fmt: skip
+
+PG, LITE = "postgresql", "sqlite"
+BOTH = (PG, LITE)
+KEYED = {"keys": {"products": [0]}}
+PRODUCT = "product text NOT NULL, price bigint NOT NULL"
+KEY = "product text NOT NULL PRIMARY KEY, price bigint NOT NULL"
+
+
+# ---- tables in parts
+
+
+def in_parts(by, *parts, columns=PRODUCT, table="products"):
+    """A table and its parts."""
+    made = [f"CREATE TABLE {table} ({columns}) PARTITION BY {by};"]
+    return {table: made + [f"CREATE TABLE {table}_{n} PARTITION OF {table} {part};" for n, part in enumerate(parts)]}
+
+
+BY_LIST = in_parts("LIST (product)", "FOR VALUES IN ('tea')", "DEFAULT")
+BY_RANGE = in_parts("RANGE (price)", "FOR VALUES FROM (MINVALUE) TO (400)", "FOR VALUES FROM (400) TO (MAXVALUE)")
+BY_HASH = in_parts("HASH (product)", *(f"FOR VALUES WITH (MODULUS 3, REMAINDER {n})" for n in range(3)))
+INHERITED = {"products": [f"CREATE TABLE products ({PRODUCT});", "CREATE TABLE imported () INHERITS (products);"]}
+MOVED = ["INSERT INTO imported SELECT * FROM products WHERE product <> 'tea';", "DELETE FROM ONLY products WHERE product <> 'tea';"]
+MANY = {"products": [(f"product {n}", 100 + n) for n in range(12)], "lines": LINES}
+SOME_GO = {"products": [((f"product {n}", 100 + n), -1) for n in range(4)]}
+GROUPS = in_parts(
+    "LIST (product)", "FOR VALUES IN ('tea')", "DEFAULT",
+    columns="product text NOT NULL, n bigint NOT NULL, cost bigint NOT NULL", table="by_product",
+)  # fmt: skip
+BY_COST = in_parts(
+    "RANGE (cost)", "FOR VALUES FROM (MINVALUE) TO (2000)", "FOR VALUES FROM (2000) TO (MAXVALUE)",
+    columns="product text NOT NULL, n bigint NOT NULL, cost bigint NOT NULL", table="by_product",
+)  # fmt: skip
+JAM_IS_CHEAPER = {"products": [(("jam", 450), -1), (("jam", 300), 1)]}
+SALES = in_parts(
+    "LIST (product)", "FOR VALUES IN ('tea')", "DEFAULT",
+    columns='id bigint NOT NULL, product text NOT NULL, cost bigint NOT NULL, "#" bigint NOT NULL', table="sales",
+)  # fmt: skip
+COUNTED = {"products": [sql.replace("price bigint NOT NULL", 'price bigint NOT NULL, "#" bigint NOT NULL') for sql in BY_LIST["products"]]}
+
+
+def partitions():
+    return [
+        Case("tea leaves a table in parts by list, and jam stays", PG, TEA_GOES, BY_LIST),
+        Case("tea leaves a table in parts by range", PG, TEA_GOES, BY_RANGE),
+        Case("products leave a table in parts by hash", PG, SOME_GO, BY_HASH, rows=MANY),
+        Case("tea leaves a table with an heir", PG, TEA_GOES, INHERITED, MOVED),
+        Case("jam leaves the heir of a table", PG, {"products": [(("jam", 450), -1)]}, INHERITED, MOVED),
+        Case("tea leaves a counted table in parts", PG, TEA_GOES, COUNTED, counted=("products",)),
+        Case("a group of a summary in parts changes", PG, JAM_IS_DEARER, GROUPS),
+        Case("a sum moves a group to another part", PG, JAM_IS_CHEAPER, BY_COST),
+        Case("a joined view in parts changes", PG, JAM_IS_DEARER, SALES),
+        Case("a price moves a row to another part", PG, {"products": [(("tea", 300), -1), (("tea", 500), 1)]}, BY_RANGE),
+    ]
+
+
+# ---- foreign keys
+
+REFERENCES = "CREATE TABLE products ({key});"
+ORDERED = "id bigint NOT NULL, product text {null} REFERENCES products (product) {action}"
+LEFT_AND_COME = {"products": [(("jam", 450), -1), (("jelly", 450), 1)]}
+BOTH_GO = {"products": [(("tea", 300), -1)], "lines": [((1, "tea", 2), -1)]}
+
+
+def keyed(key=KEY):
+    return {"products": [f"CREATE TABLE products ({key});"]}
+
+
+def referring(action):
+    """Lines of the catalogue that refer to products."""
+    reference = f"REFERENCES products (product) {action}"
+    return {**keyed(), "lines": [f"CREATE TABLE lines (id bigint NOT NULL, product text NOT NULL {reference}, pieces bigint NOT NULL);"]}
+
+
+def ordered(action, null="NOT NULL", rows="(1, 'tea'), (2, 'jam')"):
+    """A table beside the catalogue that refers to products."""
+    return ["CREATE TABLE order_lines (" + ORDERED.format(null=null, action=action) + ");", f"INSERT INTO order_lines VALUES {rows};"]
+
+
+def foreign_keys():
+    found = []
+    for engine in BOTH:
+        found += [
+            Case("a price changes under ON DELETE CASCADE", engine, JAM_IS_DEARER, referring("ON DELETE CASCADE"), **KEYED),
+            Case("a price changes, and order lines refer to it", engine, JAM_IS_DEARER, keyed(), ordered("ON DELETE CASCADE"), **KEYED),
+            Case("a product goes under ON DELETE CASCADE", engine, TEA_GOES, keyed(), ordered("ON DELETE CASCADE"), REFUSED,
+                 "refused cascade products"),
+            Case("a key changes under ON UPDATE CASCADE", engine, LEFT_AND_COME, keyed(), ordered("ON UPDATE CASCADE ON DELETE CASCADE"),
+                 REFUSED, "refused cascade products"),
+            Case("a product goes under ON DELETE SET NULL", engine, TEA_GOES, keyed(), ordered("ON DELETE SET NULL", ""), REFUSED,
+                 "refused cascade products"),
+            Case("a product goes under ON DELETE SET DEFAULT", engine, TEA_GOES, keyed(), ordered("ON DELETE SET DEFAULT",
+                 "DEFAULT 'jam'"), REFUSED, "refused cascade products"),
+            Case("a product goes that nothing refers to", engine, TEA_GOES, keyed(), ordered("", rows="(2, 'jam')"), **KEYED),
+            Case("a product goes before its line, which may be later", engine, BOTH_GO, referring("DEFERRABLE INITIALLY IMMEDIATE"),
+                 **KEYED),
+            Case("a price changes that NO ACTION refers to", engine, JAM_IS_DEARER, referring(""), **KEYED),
+        ]  # fmt: skip
+    keyed_parts = in_parts("LIST (product)", "FOR VALUES IN ('tea')", "DEFAULT", columns=KEY)
+    on_part = [sql.replace("REFERENCES products ", "REFERENCES products_0 ") for sql in ordered("ON DELETE CASCADE", rows="(1, 'tea')")]
+    on_heir = [*MOVED, "ALTER TABLE imported ADD PRIMARY KEY (product);",
+               *(sql.replace("REFERENCES products ", "REFERENCES imported ") for sql in ordered("ON DELETE CASCADE",
+                   rows="(2, 'jam')"))]  # fmt: skip
+    found += [
+        Case("a product goes, and a cascade hangs on its part", PG, TEA_GOES, keyed_parts, on_part, REFUSED, "refused cascade products"),
+        Case("a product goes, and a cascade hangs on an heir", PG, {"products": [(("jam", 450), -1)]}, INHERITED, on_heir, REFUSED,
+             "refused cascade products"),
+        Case("a price changes, and a cascade hangs on its part", PG, {"products": [(("tea", 300), -1), (("tea", 310), 1)]}, keyed_parts,
+             on_part, **KEYED),
+    ]
+    found.append(Case("a product goes under a cascade that is switched off", LITE, TEA_GOES, keyed(), ordered("ON DELETE CASCADE"),
+        database="unkeyed"))
+    return found
+
+
+# ---- columns that the catalogue does not have
+
+DESCRIBED = "UPDATE products SET description = CASE product WHEN 'tea' THEN 'green' ELSE 'plum' END;"
+BESIDE = {"others": {"products": ["description"]}}
+
+
+def described(more, key=KEY):
+    return keyed(f"{key}, {more}")
+
+
+def other_columns():
+    found = []
+    for engine in BOTH:
+        own = described("description text")
+        unique = {"products": [f"CREATE TABLE products ({PRODUCT}, description text);",
+            "CREATE UNIQUE INDEX by_name ON products (product);"]}
+        found += [
+            Case("a price changes beside a description", engine, JAM_IS_DEARER, own, [DESCRIBED], **KEYED, **BESIDE),
+            Case("a price changes beside a description, with a unique index", engine, JAM_IS_DEARER, unique, [DESCRIBED], **KEYED,
+                 **BESIDE),
+            Case("a counted price changes beside a description", engine, JAM_IS_DEARER,
+                 described('"#" bigint NOT NULL DEFAULT 1, description text'),
+                 [DESCRIBED], counted=("products",), **KEYED, **BESIDE),
+            Case("a product comes without its description", engine, ALE_COMES, own, [DESCRIBED], REFUSED, "no default"),
+            Case("a product comes without what has to be there", engine, ALE_COMES, described("description text NOT NULL DEFAULT ''"),
+                 [DESCRIBED], **KEYED, **BESIDE),
+            Case("a price changes where no key tells which", engine, JAM_IS_DEARER, described("description text", PRODUCT), [DESCRIBED],
+                 REFUSED, "no default"),
+            Case("a column is worked out from others", engine, JAM_IS_DEARER,
+                 described("twice bigint GENERATED ALWAYS AS (price * 2) STORED"), **KEYED),
+            Case("a product comes beside a column that is worked out", engine, ALE_COMES,
+                 described("twice bigint GENERATED ALWAYS AS (price * 2) STORED"), **KEYED),
+            Case("a price is worked out by the engine", engine, TEA_GOES, PRICED,
+                 ["INSERT INTO products (product) VALUES ('tea'), ('jam');"],
+                 REFUSED, "products does not fit", rows={"lines": LINES, "products": []}),
+        ]  # fmt: skip
+    return found + numbered()
+
+
+PRICED = {"products": ["CREATE TABLE products (product text NOT NULL, price bigint NOT NULL GENERATED ALWAYS AS (300) STORED);"]}
+
+
+def numbered():
+    """Columns that the engine numbers."""
+    beside = f"CREATE TABLE products (row_number bigint GENERATED ALWAYS AS IDENTITY PRIMARY KEY, {PRODUCT});"
+    serial = f"CREATE TABLE products (row_number serial, {PRODUCT});"
+    lines = {"lines": ["CREATE TABLE lines (id bigint PRIMARY KEY, product text NOT NULL, pieces bigint NOT NULL);"]}
+    always, by_default = ([f"ALTER TABLE lines ALTER id ADD GENERATED {how} AS IDENTITY;"] for how in ("ALWAYS", "BY DEFAULT"))
+    comes = {"lines": [((7, "tea", 5), 1)]}
+    return [
+        Case("a product comes beside a number of its own", PG, ALE_COMES, {"products": [beside]}),
+        Case("a price changes beside a serial number", PG, JAM_IS_DEARER, {"products": [serial]}),
+        Case("a line comes with its number by default", PG, comes, lines, by_default, keys={"lines": [0]}),
+        Case("a line comes with a number that is always the engine's", PG, comes, lines, always, EITHER, keys={"lines": [0]}),
+    ]  # fmt: skip
+
+
+# ---- triggers and rules
+
+ALE_IS_SOLD = {**ALE_COMES, "lines": [((9, "ale", 1), 1)]}
+
+def trigger(when, table, body, each="FOR EACH ROW", kind="TRIGGER"):
+    """A trigger of PostgreSQL."""
+    return [
+        f"CREATE FUNCTION meddling() RETURNS trigger LANGUAGE plpgsql AS $$ BEGIN {body} END $$;",
+        f"CREATE {kind} meddling {when} ON {table} {each} EXECUTE FUNCTION meddling();",
+    ]
+
+
+def triggers():
+    late = trigger("AFTER INSERT OR UPDATE OR DELETE", "products", "DELETE FROM by_product; RETURN NULL;",
+                   "DEFERRABLE INITIALLY DEFERRED FOR EACH ROW", "CONSTRAINT TRIGGER")  # fmt: skip
+    audit = ["CREATE TABLE audit (told text);", *trigger("AFTER INSERT OR UPDATE OR DELETE", "products",
+        "INSERT INTO audit VALUES (TG_OP); RETURN NULL;")]
+    torn = {"wanted": REFUSED, "word": "refused torn products"}
+    return [
+        Case("a trigger keeps a row", PG, TEA_GOES, more=trigger("BEFORE DELETE", "products", "RETURN NULL;"), **torn),
+        Case("a trigger of a part keeps a row", PG, TEA_GOES, BY_LIST, trigger("BEFORE DELETE", "products_0", "RETURN NULL;"), **torn),
+        Case("a trigger keeps a row out", PG, ALE_COMES, more=trigger("BEFORE INSERT", "products", "RETURN NULL;"), **torn),
+        Case("a trigger keeps a row as it was", PG, JAM_IS_DEARER, keyed(), trigger("BEFORE UPDATE", "products", "RETURN NULL;"), **torn),
+        Case("a trigger changes what comes", PG, ALE_COMES, more=trigger("BEFORE INSERT", "products",
+             "NEW.price := NEW.price + 1; RETURN NEW;"), **torn),
+        Case("a trigger changes what is changed", PG, JAM_IS_DEARER, keyed(), trigger("BEFORE UPDATE", "products",
+             "NEW.price := 1; RETURN NEW;"), **torn),
+        Case("a trigger puts a second row in", PG, ALE_COMES,
+             more=trigger("AFTER INSERT", "products", "INSERT INTO products VALUES ('ale', 220); RETURN NULL;",
+                          "FOR EACH ROW WHEN (pg_trigger_depth() = 0)"), **torn),
+        Case("a trigger changes a row that was done", PG, {**ALE_COMES, "lines": [((9, "jam", 1), 1)]},
+             more=trigger("AFTER INSERT", "lines", "UPDATE products SET price = 1 WHERE product = 'ale'; RETURN NULL;"), **torn),
+        Case("a trigger adds a row to a table that was done", PG, {**TEA_GOES, "lines": [((9, "jam", 1), 1)]},
+             more=trigger("AFTER INSERT", "lines", "INSERT INTO products VALUES ('rum', 1); RETURN NULL;"), **torn),
+        Case("a trigger keeps a group out", PG, ALE_IS_SOLD, more=trigger("BEFORE INSERT", "by_product", "RETURN NULL;"),
+             wanted=REFUSED, word="refused torn by_product"),
+        Case("a trigger that waits for the end empties a view", PG, JAM_IS_DEARER, more=late, wanted=REFUSED,
+             word="refused torn by_product"),
+        Case("a rule does nothing instead", PG, ALE_COMES, more=["CREATE RULE nothing AS ON INSERT TO products DO INSTEAD NOTHING;"],
+             wanted=REFUSED),
+        Case("a trigger keeps a book", PG, JAM_IS_DEARER, keyed(), audit, touched=("public.audit",), **KEYED),
+        *stamped(),
+        *hidden_rows(),
+        *triggers_of_sqlite(torn),
+    ]  # fmt: skip
+
+
+def stamped():
+    """Triggers that write into a column of others."""
+    stamp = described("stamp text DEFAULT ''")
+    change = {"products": [*JAM_IS_DEARER["products"], *ALE_COMES["products"]]}
+    before = trigger("BEFORE INSERT OR UPDATE", "products", "NEW.stamp := TG_OP; RETURN NEW;")
+    after = "UPDATE products SET stamp = 'done' WHERE product = NEW.product;"
+    return [
+        Case("a trigger stamps what comes and changes", PG, change, stamp, before),
+        Case("a trigger stamps afterwards", PG, change, stamp, trigger("AFTER INSERT", "products", after + " RETURN NULL;"), EITHER),
+        Case("a trigger stamps afterwards", LITE, change, stamp, [f"CREATE TRIGGER meddling AFTER INSERT ON products BEGIN {after} END;"],
+             EITHER),
+    ]
+
+
+def hidden_rows():
+    """Rows that whoever runs the night does not see."""
+    granted = [
+        "GRANT ALL ON SCHEMA public TO clerk;",
+        "GRANT SELECT, INSERT, UPDATE, DELETE ON ALL TABLES IN SCHEMA public TO clerk;",
+    ]
+    secured = ["ALTER TABLE products ENABLE ROW LEVEL SECURITY;", "CREATE POLICY cheap ON products USING (price < 400) WITH CHECK (true);"]
+    behind = [
+        "ALTER TABLE products RENAME TO all_products;",
+        "CREATE VIEW products AS SELECT * FROM all_products WHERE price < 400;",
+    ]
+    return [
+        Case("the night is run by someone who owns nothing", PG, JAM_IS_DEARER, keyed(), granted, role="clerk", **KEYED),
+        Case("rows are hidden by a policy", PG, ALE_COMES, more=[*granted, *secured], wanted=REFUSED, role="clerk"),
+        Case("products are a view", PG, ALE_COMES, more=behind, wanted=REFUSED),
+    ]
+
+
+def triggers_of_sqlite(torn):
+    def made(when, body):
+        return [f"CREATE TRIGGER meddling {when} BEGIN {body} END;"]
+
+    ignored = "SELECT RAISE(IGNORE);"
+    return [
+        Case("a trigger keeps a row", LITE, TEA_GOES, more=made("BEFORE DELETE ON products", ignored), **torn),
+        Case("a trigger keeps a row out", LITE, ALE_COMES, more=made("BEFORE INSERT ON products", ignored), **torn),
+        Case("a trigger keeps a row as it was", LITE, JAM_IS_DEARER, keyed(), made("BEFORE UPDATE ON products", ignored), **torn),
+        Case("a trigger changes what comes", LITE, ALE_COMES,
+             more=made("AFTER INSERT ON products", "UPDATE products SET price = price + 1 WHERE rowid = NEW.rowid;"), **torn),
+        Case("a trigger changes a row that was done", LITE, {**ALE_COMES, "lines": [((9, "jam", 1), 1)]},
+             more=made("AFTER INSERT ON lines", "UPDATE products SET price = 1 WHERE product = 'ale';"), **torn),
+        Case("a trigger adds a row to a table that was done", LITE, {**TEA_GOES, "lines": [((9, "jam", 1), 1)]},
+             more=made("AFTER INSERT ON lines", "INSERT INTO products VALUES ('rum', 1);"), **torn),
+        Case("a trigger keeps a group out", LITE, ALE_IS_SOLD, more=made("BEFORE INSERT ON by_product", ignored),
+             wanted=REFUSED, word="refused torn by_product"),
+        Case("a trigger keeps a book", LITE, JAM_IS_DEARER, keyed(),
+             ["CREATE TABLE audit (told text);", *made("AFTER UPDATE ON products", "INSERT INTO audit VALUES ('changed');")],
+             touched=("audit",), **KEYED),
+        Case("products are a view", LITE, ALE_COMES, more=[
+             "ALTER TABLE products RENAME TO all_products;",
+             "CREATE VIEW products AS SELECT * FROM all_products WHERE price < 400;",
+             *made("INSTEAD OF INSERT ON products", "INSERT INTO all_products VALUES (NEW.product, NEW.price);")], wanted=REFUSED),
+    ]  # fmt: skip
+
+
+# ---- types
+
+
+def typed(product="text NOT NULL", price="bigint NOT NULL", end="", rest=""):
+    return {"products": [f"CREATE TABLE products (product {product}, price {price}{rest}){end};"]}
+
+
+def types():
+    found = [
+        Case(f"a column is {own}", PG, {"products": [((product, price), 1)]}, typed(**{column: f"{own} NOT NULL"}), wanted=REFUSED,
+             word="products does not fit")
+        for column, own, product, price in (
+            ("product", "varchar(5)", "jam  " + "  ", 1), ("product", "char(5)", "ale", 1), ("product", '"char"', "a", 1),
+            ("price", "numeric(6,2)", "ale", 1), ("price", "numeric", "ale", 1), ("price", "real", "ale", 1),
+        )
+    ]  # fmt: skip
+    changes = '"products~changes" (product varchar(5) NOT NULL, price bigint NOT NULL, "#" bigint NOT NULL)'
+    loose = {"products~changes": [f"CREATE TABLE {changes};"]}
+    domain = ["CREATE DOMAIN small AS text CHECK (length(VALUE) < 5);", *typed("small NOT NULL")["products"]]
+    found += [
+        Case("a column is of a domain", PG, TEA_GOES, {"products": domain}, wanted=REFUSED, word="products does not fit"),
+        Case("a column of the changes is varchar(5)", PG, {"products": []}, loose, wanted=REFUSED, word="products~changes does not fit"),
+        Case("columns are varchar and int4", PG, JAM_IS_DEARER, typed("varchar NOT NULL", "int NOT NULL")),
+        Case("columns are int2 and of another order", PG, JAM_IS_DEARER,
+             {"products": ["CREATE TABLE products (price smallint NOT NULL, product text NOT NULL);"]}),
+        Case("counts of 32 bits multiply to more", PG, {"lines": [((1, "tea", 2), 70000)]}, COUNTS_OF_32, counted=("products", "lines"),
+             rows={"products": [(("tea", 300), 70000)], "lines": [((1, "tea", 2), 70000)]}),
+    ]  # fmt: skip
+    return found + types_of_sqlite()
+
+
+COUNTS_OF_32 = {
+    "products": ['CREATE TABLE products (product text NOT NULL, price bigint NOT NULL, "#" int NOT NULL DEFAULT 1);'],
+    "lines": ['CREATE TABLE lines (id bigint NOT NULL, product text NOT NULL, pieces bigint NOT NULL, "#" int NOT NULL DEFAULT 1);'],
+    "lines~changes": ['CREATE TABLE "lines~changes" (id bigint NOT NULL, product text NOT NULL, pieces bigint NOT NULL, "#" int NOT NULL);',
+                      "INSERT INTO \"lines~changes\" VALUES (1, 'tea', 2, 70000);"],
+}  # fmt: skip
+
+
+def types_of_sqlite():
+    lines = {"lines": ["CREATE TABLE lines (id INTEGER PRIMARY KEY, product VARCHAR(20) NOT NULL, pieces INT NOT NULL);"]}
+    change = {"lines": [((3, "jam", 4), -1), ((3, "jam", 5), 1), ((4, "tea", 1), 1)]}
+    unfit = {"wanted": REFUSED, "word": "products does not fit"}
+    return [
+        Case("columns are INTEGER PRIMARY KEY and VARCHAR", LITE, change, lines, keys={"lines": [0]}),
+        Case("a table is STRICT", LITE, JAM_IS_DEARER, typed("TEXT NOT NULL", "INTEGER NOT NULL", " STRICT")),
+        Case("a table is WITHOUT ROWID", LITE, JAM_IS_DEARER, typed("TEXT NOT NULL PRIMARY KEY", end=" WITHOUT ROWID"), wanted=REFUSED),
+        Case("a key may be NULL", LITE, TEA_GOES, typed("TEXT PRIMARY KEY"), **unfit),
+        Case("a column is REAL", LITE, TEA_GOES, typed(price="REAL NOT NULL"), **unfit),
+        Case("a column is NUMERIC", LITE, TEA_GOES, typed(price="NUMERIC NOT NULL"), **unfit),
+        Case("a column is BLOB", LITE, TEA_GOES, typed("BLOB NOT NULL"), **unfit),
+        Case("a change holds what is no whole number", LITE, {"products": []}, {
+            "products~changes": ['CREATE TABLE "products~changes" (product TEXT NOT NULL, price INTEGER NOT NULL, "#" INTEGER NOT NULL);',
+                                 """INSERT INTO "products~changes" VALUES ('ale', 2.5, 1);"""]}, wanted=REFUSED),
+    ]  # fmt: skip
+
+
+# ---- tables of changes
+
+CHANGES = 'product text NOT NULL, price bigint NOT NULL, "#" bigint NOT NULL'
+CHANGED = """INSERT INTO "products~changes" (product, price, "#") VALUES ('ale', 220, 1);"""
+
+
+def changes():
+    """Tables of changes of forms of their own, and such that are not emptied."""
+    table = '"products~changes"'
+    kept = trigger("BEFORE DELETE", table, "RETURN NULL;")
+    back = trigger("AFTER DELETE", table, 'INSERT INTO "products~changes" SELECT OLD.*; RETURN NULL;')
+    parts = ["CREATE TABLE \"products~changes\" (" + CHANGES + ") PARTITION BY LIST (product);",
+             'CREATE TABLE changes_1 PARTITION OF "products~changes" DEFAULT;', CHANGED]  # fmt: skip
+    refused = {"wanted": REFUSED, "word": "refused torn products"}
+    found = [
+        Case("a trigger keeps the changes", PG, ALE_COMES, more=kept, **refused),
+        Case("a trigger puts the changes back", PG, ALE_COMES, more=back, **refused),
+        Case("changes stand in parts", PG, ALE_COMES, {"products~changes": parts}),
+        Case("a trigger keeps the changes", LITE, ALE_COMES,
+             more=[f"CREATE TRIGGER meddling BEFORE DELETE ON {table} BEGIN SELECT RAISE(IGNORE); END;"], **refused),
+        Case("a trigger puts the changes back", LITE, ALE_COMES,
+             more=[f"CREATE TRIGGER meddling AFTER DELETE ON {table} BEGIN INSERT INTO {table} VALUES (OLD.product, OLD.price, 1); END;"],
+                 **refused),
+    ]  # fmt: skip
+    for engine in BOTH:
+        more = [f"CREATE TABLE {table} (who text DEFAULT 'me', {CHANGES}, told text);", CHANGED]
+        key = [f'CREATE TABLE products ({PRODUCT}, "#" bigint NOT NULL DEFAULT 1, PRIMARY KEY (product, price, "#"));']
+        found += [
+            Case("changes have columns of others", engine, ALE_COMES, {"products~changes": more}),
+            Case("counts belong to the key", engine, {"products": [(("tea", 300), 1), (("jam", 450), -1)]}, {"products": key},
+                 counted=("products",)),
+        ]
+    return found
+
+
+def cases():
+    return [*changes(), *partitions(), *foreign_keys(), *other_columns(), *triggers(), *types()]
+
+
+

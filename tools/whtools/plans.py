@@ -1,0 +1,310 @@
+"""Plans: catalogues with sizes and costs, the least work over them found by searches, and trees of decisions with a judge of these."""
+
+from functools import lru_cache
+from itertools import combinations
+
+from whtools.evaluator import terms
+from whtools.strategies import Rules
+
+CHANGED_NODES = 5
+COSTS = [1, 1, 2, 3, 1000000]
+
+
+class Catalogue(Rules):
+    """Views, each over the numbers of earlier ones, with their sizes and the costs of a row."""
+
+    def __init__(self, over, sizes, comp, inst):
+        super().__init__(over)
+        self.pre, self.post, self.change = zip(*sizes)
+        self.comp = comp
+        self.inst = inst
+        self.views = range(len(over))
+        self.pairs = [(u, w) for v in self.derived for u, w in combinations(sorted(over[v]), 2)]
+        self.couples = sorted(set(self.pairs))
+        self.nodes = [("comp", v, u) for v in self.derived for u in sorted(over[v])] + [("inst", v) for v in self.views]
+
+    def bundle(self):
+        lines = ["@catalogue"]
+        for v in self.views:
+            lines += ["[[view]]", f'name = "v{v}"']
+            if self.over[v]:
+                lines.append("over = [" + ", ".join(f'"v{u}"' for u in self.over[v]) + "]")
+        lines += ["@sizes", "view,pre,post,change"]
+        lines += [f"v{v},{self.pre[v]},{self.post[v]},{self.change[v]}" for v in self.views]
+        return "\n".join(lines) + "\n"
+
+    # ---- strategies
+
+    def comp_cost(self, view, sources, installed):
+        """What a Comp costs: a term for each non-empty part of its sources."""
+        states = {u: self.post[u] if u in installed else self.pre[u] for u in self.over[view]}
+        return self.comp * sum(map(sum, terms(self.over[view], sources, states, self.change)))
+
+    def work_of(self, steps):
+        """The work of a list, or None where it is not correct."""
+        installed, done, work = set(), set(), 0
+        for view, sources in steps:
+            if sources is None:
+                if not self.may_inst(view, installed, done):
+                    return None
+                installed.add(view)
+                work += self.inst * self.change[view]
+            else:
+                if not self.may_comp(view, sources, installed, done):
+                    return None
+                work += self.comp_cost(view, sources, installed)
+                done.update((view, u) for u in sources)
+        return work if installed == set(self.views) else None
+
+    def least_work(self, widest):
+        """The least work of all correct strategies whose Comps have at most so many sources."""
+        cost = lru_cache(maxsize=None)(self.comp_cost)
+
+        @lru_cache(maxsize=None)
+        def rest(installed, done):
+            if len(installed) == len(self.views):
+                return 0
+            found = []
+            for v in self.views:
+                if self.may_inst(v, installed, done):
+                    found.append(self.inst * self.change[v] + rest(installed | {v}, done))
+            for v in self.derived:
+                ready = [u for u in self.over[v] if self.may_comp(v, (u,), installed, done)]
+                seen = installed & frozenset(self.over[v])
+                for count in range(1, min(widest, len(ready)) + 1):
+                    for sources in combinations(ready, count):
+                        taken = done | {(v, u) for u in sources}
+                        found.append(cost(v, sources, seen) + rest(installed, taken))
+            return min(found, default=float("inf"))
+
+        return rest(frozenset(), frozenset())
+
+    # ---- decisions, each a couple with the view first that is installed first
+
+    def bound(self, decided):
+        """The pair bound, with each decided couple at the value of its decision."""
+        rows = sum(self.change[u] for v in self.derived for u in self.over[v])
+        for u, w in self.pairs:
+            lower_first, higher_first = self.pre[w] + self.post[u], self.pre[u] + self.post[w]
+            if (u, w) in decided:
+                rows += lower_first
+            elif (w, u) in decided:
+                rows += higher_first
+            else:
+                rows += min(lower_first, higher_first)
+        return self.comp * rows + self.inst * sum(self.change)
+
+    def has_edge(self, first, second, decided):
+        """Whether the first expression has to stand before the second."""
+        match first, second:
+            case ("comp", view, source), ("inst", installed):
+                return installed in (source, view)  # S3, S5
+            case ("inst", installed), ("comp", view, source):
+                return installed in self.over[view] and (installed, source) in decided  # S4
+            case ("comp", view, _), ("comp", _, source):
+                return source == view  # S6
+        return False
+
+    def has_cycle(self, decided):
+        """Whether the graph of these decisions has a cycle: nodes without an edge from one that is left go, until none does."""
+        left = set(self.nodes)
+        while True:
+            ready = {node for node in left if not any(self.has_edge(other, node, decided) for other in left)}
+            if not ready:
+                return bool(left)
+            left -= ready
+
+    def has_cyclic_order(self):
+        """Whether the ordered graph has a cycle."""
+        rank = {v: (self.post[v] - self.pre[v], v) for v in self.views}
+        return self.has_cycle({(u, w) if rank[u] < rank[w] else (w, u) for u, w in self.couples})
+
+    # ---- the full tree
+
+    def full_tree_least(self):
+        """The least bound over all ways to decide the couples that leave no cycle. What is below a cycle has it too, and what
+        decides more costs no less, so neither is gone through."""
+        least = self.bound(frozenset(self.couples))
+
+        def below(decided, rest):
+            nonlocal least
+            if self.bound(decided) >= least or self.has_cycle(decided):
+                return
+            if not rest:
+                least = self.bound(decided)
+                return
+            (u, w), *later = rest
+            below(decided | {(u, w)}, later)
+            below(decided | {(w, u)}, later)
+
+        below(frozenset(), self.couples)
+        return least
+
+    # ---- trees, as lists of nodes in preorder
+
+    def is_good(self, node, decided, work):
+        """Whether a node is good under the decisions above it, for a strategy of this work."""
+        match node:
+            case ("bound",):
+                return self.bound(decided) >= work
+            case ("cycle", cycle):
+                following = cycle[1:] + cycle[:1]
+                return all(e in self.nodes for e in cycle) and all(
+                    self.has_edge(e, after, decided) for e, after in zip(cycle, following)
+                )
+            case ("branch", lower, higher):
+                return (lower, higher) in self.couples and not decided & {(lower, higher), (higher, lower)}
+
+    def judge_tree(self, nodes, work):
+        """The place of the first bad node, from 1; 0 where each is good."""
+        for place, (node, decided) in enumerate(zip(nodes, decisions_above(nodes)), 1):
+            if not self.is_good(node, decided, work):
+                return place
+        return 0
+
+
+# ---- trees, as lists of nodes in preorder
+
+
+def decisions_above(nodes):
+    """For each node of a whole tree the decisions above it."""
+    above, waiting = [], [frozenset()]
+    for node in nodes:
+        decided = waiting.pop()
+        above.append(decided)
+        if node[0] == "branch":
+            _, lower, higher = node
+            waiting += [decided | {(higher, lower)}, decided | {(lower, higher)}]
+    return above
+
+
+def tree_end(nodes):
+    """How many nodes come before the first that is one too many, or before one that is missing; None where they are a tree."""
+    open_ends = 1
+    for count, node in enumerate(nodes):
+        if open_ends == 0:
+            return count
+        open_ends += 1 if node[0] == "branch" else -1
+    return len(nodes) if open_ends else None
+
+
+def changed_trees(source, catalogue, nodes):
+    """Trees with one node changed: another kind, another couple, a cycle of less, or left out."""
+    above = decisions_above(nodes)
+    cycles = [node for node in nodes if node[0] == "cycle"]
+    for place in source.sample(range(len(nodes)), min(CHANGED_NODES, len(nodes))):
+        before, node, after = nodes[:place], nodes[place], nodes[place + 1 :]
+        others = []
+        match node:
+            case ("bound",):
+                view = source.choice(catalogue.derived)
+                child = source.choice(catalogue.over[view])
+                others.append(source.choice(cycles) if cycles else ("cycle", [("comp", view, child), ("inst", view)]))
+                others.append(("cycle", [("comp", view, child), ("inst", child)]))
+            case ("cycle", cycle):
+                left_out = source.randrange(len(cycle))
+                others += [("bound",), ("cycle", cycle[:left_out] + cycle[left_out + 1 :]), ("cycle", cycle[::-1])]
+            case ("branch", lower, higher):
+                others.append(("branch", higher, lower))
+                others += [("branch", min(d), max(d)) for d in source.sample(sorted(above[place]), min(1, len(above[place])))]
+        yield "left out", before + after
+        for other in others:
+            if other != ("cycle", []):
+                yield f"{node[0]} made {other[0]}", before + [other] + after
+
+
+# ---- what is drawn
+
+
+def drawn(source, couples):
+    """A catalogue of 1 to 3 base views and 1 to 4 derived views over 1 to 3 views each, now and then up to 4, with at most so
+    many couples and small sizes, so that many tie."""
+    bases = source.randint(1, 3)
+    children = [[] for _ in range(bases)]
+    for v in range(bases, bases + source.randint(1, 4)):
+        children.append(source.sample(range(v), min(v, source.choice([1, 2, 2, 2, 3, 3, 4]))))
+    top = source.choice([2, 6, 30])
+    sizes = []
+    for _ in children:
+        pre, post = source.randint(0, top), source.randint(0, top)
+        sizes.append((pre, post, abs(post - pre) + source.choice([0, 0, 1, 5])))
+    catalogue = Catalogue(children, sizes, source.choice(COSTS), source.choice(COSTS))
+    return catalogue if len(catalogue.couples) <= couples else drawn(source, couples)
+
+
+def drawn_cyclic(source, couples):
+    """One whose ordered graph has a cycle."""
+    while True:
+        catalogue = drawn(source, couples)
+        if catalogue.has_cyclic_order():
+            return catalogue
+
+
+# ---- plans as they are printed, over views named v0, v1 and so on
+
+
+def number(name):
+    return int(name.removeprefix("v"))
+
+
+def read_expression(text):
+    """`comp V from U` and `inst V`, one-way."""
+    match text.split():
+        case ["comp", view, "from", source]:
+            return ("comp", number(view), number(source))
+        case ["inst", view]:
+            return ("inst", number(view))
+
+
+def read_node(line):
+    match line.split():
+        case ["bound"]:
+            return ("bound",)
+        case ["branch", lower, higher]:
+            return ("branch", number(lower), number(higher))
+        case ["cycle", *_]:
+            return ("cycle", [read_expression(text) for text in line.removeprefix("cycle").split(";")])
+
+
+def expression_text(expression):
+    match expression:
+        case ("comp", view, source):
+            return f"comp v{view} from v{source}"
+        case ("inst", view):
+            return f"inst v{view}"
+
+
+def node_text(node):
+    match node:
+        case ("bound",):
+            return "bound\n"
+        case ("branch", lower, higher):
+            return f"branch v{lower} v{higher}\n"
+        case ("cycle", cycle):
+            return "cycle " + "; ".join(expression_text(e) for e in cycle) + "\n"
+
+
+class Plan:
+    """A plan that was printed: its scope, its work, its list as steps, a view with its sources or with None for its Inst, and
+    how many lines come before the certificate."""
+
+    def __init__(self, text):
+        self.lines = text.splitlines(keepends=True)
+        self.scope = self.lines[0].removeprefix("scope ").strip()
+        self.work = int(self.lines[1].removeprefix("work "))
+        self.steps = []
+        for line in self.lines[2:]:
+            words = line.split()
+            if words[0] == "comp":
+                self.steps.append((number(words[1]), tuple(number(u) for u in words[3:])))
+            elif words[0] == "inst":
+                self.steps.append((number(words[1]), None))
+            else:
+                break
+        self.head = 2 + len(self.steps)
+
+    def tree(self):
+        return [read_node(line) for line in self.lines[self.head :]]
+
+    def with_tree(self, nodes):
+        return "".join(self.lines[: self.head] + [node_text(node) for node in nodes])

@@ -1,0 +1,1 @@
+"""What tools/sql writes: a catalogue and a strategy as a script, in the words of PostgreSQL or SQLite."""

@@ -1,0 +1,194 @@
+"""Nights over tables as people have them, each with what has to come of it, and the spoilt script that it has to notice."""
+
+from copy import copy
+from types import SimpleNamespace
+from typing import NamedTuple
+
+from whtools.sql.catalogue import Catalogue
+from whtools.sql.comments import Comments
+from whtools.sql.script import Script
+from whtools.sql.tokens import sql
+
+SMALL = """@catalogue
+[[view]]
+name = "a"
+columns = ["x", "t:text"]
+[[view]]
+name = "v"
+over = ["a"]
+keep = [["t", "a.t"]]
+@strategy
+comp v from a
+inst a
+inst v
+"""
+
+
+def small(engine, *more, plain=(), kind=Script):
+    """The night of a small catalogue whose tables were made with more statements, and what was told there."""
+    catalogue = Catalogue(SMALL)
+    script = kind(catalogue, engine.dialect, plain)
+    engine.fresh()
+    told = engine.run([*script.create(), *more])
+    return told, script.night(catalogue.correct(), Comments(SimpleNamespace(**vars(catalogue))).short)
+
+
+# ---- scripts without one check each
+
+
+class RowsAreNotPaired(Script):
+    def paired(self, v):
+        return []
+
+    def spared(self, v):
+        return []
+
+
+class NewRowsAreNotJudged(Script):
+    def spared(self, v):
+        return []
+
+
+class CascadesAreNotJudged(Script):
+    def cascades(self, v, *_):
+        return []
+
+
+class NothingIsLookedAt(Script):
+    def put(self, v, statement, rows):
+        return super().put(v, statement, rows)[:1] if self.dialect.engine == "sqlite" else [statement]
+
+    def verified(self, v):
+        return []
+
+    def untouched(self, v):
+        return []
+
+
+class OtherRowsAreNotCounted(Script):
+    def untouched(self, v):
+        return []
+
+
+class PlacesAreTakenForRows(Script):
+    def __init__(self, catalogue, dialect, plain=()):
+        alone = copy(dialect)
+        alone.at = lambda: sql("t.ctid = g.place")
+        super().__init__(catalogue, alone, plain)
+
+    def put(self, v, statement, rows):
+        return [statement]
+
+    def verified(self, v):
+        return []
+
+    def untouched(self, v):
+        return []
+
+
+# ---- cases
+
+
+class Case(NamedTuple):
+    """What is made beside the tables that --create makes; the words of the refusal, or None; and what a question gives after the night."""
+
+    made: list
+    told: str | None
+    asked: tuple
+    rows: list
+    spoilt: type
+    plain: tuple = (0,)
+
+
+OWN = "DROP TABLE a; CREATE TABLE a ({});"
+KEYED = OWN.format("x BIGINT NOT NULL PRIMARY KEY, t TEXT NOT NULL, about TEXT NOT NULL DEFAULT 'none'")
+HELD = "INSERT INTO a (x, t, about) VALUES (7, 'six', 'long'); INSERT INTO v (t) VALUES ('six');"
+CHANGED = """INSERT INTO "a~changes" (x, t, "#") VALUES (7, 'six', -1), (7, 'seven', 1);"""
+GONE = """INSERT INTO "a~changes" (x, t, "#") VALUES (7, 'six', -1);"""
+COMES = """INSERT INTO "a~changes" (x, t, "#") VALUES (7, 'seven', 1);"""
+CHILD = "CREATE TABLE child (x BIGINT NOT NULL REFERENCES a (x) ON DELETE CASCADE ON UPDATE CASCADE); INSERT INTO child VALUES (7);"
+KEPT = ('"a"', ["x", "t"])
+ABOUT = ('"a"', ["t", "about"])
+CASES = {
+    "a row that changes keeps its other columns": Case([KEYED, HELD, CHANGED], None, ABOUT, [["seven", "long"]], RowsAreNotPaired),
+    "a price that changes under a cascade": Case([KEYED, HELD, CHILD, CHANGED], None, ('"child"', ["x"]), [[7]], RowsAreNotPaired),
+    "a row that goes under a cascade": Case([KEYED, HELD, CHILD, GONE], "refused cascade a", ('"child"', ["x"]), [[7]], CascadesAreNotJudged),
+    "a row that comes without a value": Case(
+        [OWN.format("x BIGINT NOT NULL, t TEXT NOT NULL, about TEXT"), COMES], "table a does not fit: a row comes", KEPT, [], NewRowsAreNotJudged
+    ),
+}
+FUNCTION = "CREATE FUNCTION f() RETURNS trigger LANGUAGE plpgsql AS $f$ BEGIN {} END $f$;"
+EACH = " FOR EACH ROW EXECUTE FUNCTION f();"
+OF_POSTGRESQL = {
+    "a trigger that skips a row": Case(
+        [FUNCTION.format("RETURN NULL;"), "CREATE TRIGGER q BEFORE INSERT ON a" + EACH, COMES], "refused torn a", KEPT, [], NothingIsLookedAt, ()
+    ),
+    "a trigger that changes a row": Case(
+        [FUNCTION.format("NEW.t := 'else'; RETURN NEW;"), "CREATE TRIGGER q BEFORE INSERT ON a" + EACH, COMES],
+        "refused torn a", KEPT, [], NothingIsLookedAt, (),
+    ),
+    "a trigger of another table": Case(
+        [FUNCTION.format("INSERT INTO a VALUES (9, 'nine', 1); RETURN NULL;"), "CREATE TRIGGER q AFTER INSERT ON v" + EACH, COMES],
+        "refused torn a", KEPT, [], OtherRowsAreNotCounted, (),
+    ),
+    "two partitions": Case(
+        [
+            OWN.format("x bigint NOT NULL, t text NOT NULL").replace(");", ") PARTITION BY LIST (t);"),
+            "CREATE TABLE a1 PARTITION OF a FOR VALUES IN ('six'); CREATE TABLE a2 PARTITION OF a FOR VALUES IN ('jam', 'seven');",
+            "INSERT INTO a VALUES (7, 'six'), (1, 'jam'); INSERT INTO v (t) VALUES ('six'), ('jam');", GONE,
+        ],
+        None, KEPT, [[1, "jam"]], PlacesAreTakenForRows,
+    ),
+    "rows of a table that inherits": Case(
+        ["CREATE TABLE below () INHERITS (a); INSERT INTO below VALUES (7, 'six', 1); INSERT INTO a VALUES (1, 'jam', 1);", GONE,
+         "INSERT INTO v (t) VALUES ('six'), ('jam');"],
+        None, KEPT, [[1, "jam"]], PlacesAreTakenForRows, (),
+    ),
+    "a rule": Case(
+        ["CREATE RULE q AS ON DELETE TO a DO INSTEAD NOTHING;", COMES], "table a does not fit: it has a rule", KEPT, [], None, ()
+    ),
+}  # fmt: skip
+OF_SQLITE = {
+    "a trigger that skips a row": Case(
+        ["CREATE TRIGGER q BEFORE INSERT ON a BEGIN SELECT RAISE(IGNORE); END;", COMES], "refused torn a", KEPT, [], NothingIsLookedAt, ()
+    ),
+    "a trigger that changes a row": Case(
+        ["CREATE TRIGGER q AFTER INSERT ON a BEGIN UPDATE a SET t = 'else' WHERE x = new.x; END;", COMES],
+        "refused torn a", KEPT, [], NothingIsLookedAt, (),
+    ),
+    "a trigger of another table": Case(
+        ["CREATE TRIGGER q AFTER INSERT ON v BEGIN INSERT INTO a VALUES (9, 'nine', 1); END;", COMES],
+        "refused torn a", KEPT, [], OtherRowsAreNotCounted, (),
+    ),
+    "a text among numbers": Case(
+        ["""INSERT INTO "a~changes" (x, t, "#") VALUES ('seven', 'seven', 1);"""], "table a~changes does not fit", KEPT, [], None, ()
+    ),
+    "a table without rowids": Case(
+        [OWN.format("x INTEGER PRIMARY KEY, t TEXT NOT NULL").replace(");", ") WITHOUT ROWID;"), COMES], "WITHOUT ROWID", KEPT, [], None
+    ),
+    "changes without counts": Case(
+        ['DROP TABLE "a~changes"; CREATE TABLE "a~changes" (x INTEGER NOT NULL, t TEXT NOT NULL);'], "table a~changes does not fit", KEPT, [], None, ()
+    ),
+}  # fmt: skip
+OF = {"postgresql": OF_POSTGRESQL, "sqlite": OF_SQLITE}
+
+
+def mistake(engine, case, kind=Script):
+    """What comes of a case that has not to come of it, or None."""
+    foreign_keys = ["PRAGMA foreign_keys = ON;"] if engine.dialect.engine == "sqlite" else []
+    made, night = small(engine, *foreign_keys, *case.made, plain=case.plain, kind=kind)
+    told = made or engine.run(night)
+    rows = engine.contents([case.asked])[0]
+    right = (case.told in told if told and case.told else told is None and case.told is None) and rows == case.rows
+    return None if right else f"{told!r}, and {rows}"
+
+
+def mistakes(engine):
+    """The cases that an engine does otherwise, and the spoilt scripts that they do not notice."""
+    wrong, name = [], engine.dialect.engine
+    for title, case in {**CASES, **OF[name]}.items():
+        if told := mistake(engine, case):
+            wrong.append(f"{name}, {title}: {told}")
+        if case.spoilt and mistake(engine, case, case.spoilt) is None:
+            wrong.append(f"{name}, {title}: {case.spoilt.__name__} is not noticed")
+    return wrong

@@ -1,0 +1,249 @@
+"""What a view's change is: the rows that come and go, where each stands in its table, and what of it is one row that stays."""
+
+
+from whtools.sql.dialect import COUNT, MOST, summed
+from whtools.sql.tokens import joined, name, number, sql, word
+
+# A row that leaves for good, one that comes, and one whose count changes, among the rows d of a counted change.
+LEAVES, COMES = sql("d.pair IS NULL AND d.n < 0 AND d.was + d.n = 0"), sql("d.pair IS NULL AND d.n > 0 AND d.was = 0")
+LEAVES_ONCE, COMES_ONCE = sql("d.pair IS NULL AND d.n < 0"), sql("d.pair IS NULL AND d.n > 0")
+
+
+class Changes:
+    """The statements that make changes, judge them and find their rows."""
+
+    def change_tables(self, v):
+        """The change: rows d with their numbers, counts, how often each was there, and the other row of a pair; and the places of rows."""
+        kinds, whole = self.dialect.kinds, self.dialect.kinds["int"]
+        cells = [sql("{cell} {kind} NOT NULL", cell=cell, kind=kinds[kind]) for cell, kind in zip(self.cells(v), self.kinds(v))]
+        net = [sql("id {kind}", kind=self.dialect.id_kind), *cells, sql("n {kind}", kind=self.dialect.count_number)]
+        net += [sql("was {whole} NOT NULL DEFAULT 0", whole=whole), sql("pair {whole}", whole=whole)]
+        part, place = self.dialect.part_kind, self.dialect.place_kind
+        found = sql("id {whole}, part {part}, place {place}, held {whole}, nth {whole}", whole=whole, part=part, place=place)
+        return [("net", net), ("found", [found])]
+
+    # ---- base views
+
+    def told_large(self, v):
+        return f"refused large {self.views[v].name}"
+
+    def net(self, step):
+        """Equal rows of the changes add up, and opposite ones cancel."""
+        v = step.view
+        table, counts = self.table(v, "~changes"), self.dialect.halves(self.dialect.read_count(sql("t.{count}", count=COUNT)))
+        wrong = self.dialect.wrong_cells(self.read(v), self.kinds(v), sql("t.{count}", count=COUNT))
+        told = f"table {self.views[v].name}~changes does not fit: a cell or a count of it is of another kind than its column"
+        judged = self.dialect.refuse(told, sql("SELECT 1 FROM {table} AS t WHERE {wrong}", table=table, wrong=wrong)) if wrong else []
+        return judged + self.added_up(v, sql("{table} AS t", table=table), self.read(v), counts)
+
+    def added_up(self, v, rows, cells, halves):
+        """The change of a view whose rows are told by their cells: of those these counts, added up."""
+        net, count = self.working(v, "net"), self.dialect.whole_of(summed(halves))
+        insert = sql(
+            "INSERT INTO {net} (id, {columns}, n) SELECT row_number() OVER (), {cells}, {count} FROM {rows} GROUP BY {cells}"
+            " HAVING {count} <> 0",
+            net=self.dialect.filling(net), columns=joined(self.cells(v)), cells=joined(cells), count=count, rows=rows,
+        )  # fmt: skip
+        too_large = sql("SELECT 1 FROM {net} AS d WHERE {lost}", net=net, lost=self.dialect.is_lost(sql("d.n")))
+        lost = self.dialect.exact(self.told_large(v), too_large)
+        return [*self.dialect.counted(self.told_large(v), [insert]), *lost, *self.dialect.filled(net)]
+
+    def judge(self, step):
+        """A change that takes away what is not there, or that would take more with it than it says."""
+        v = step.view
+        return [*self.located(v), *self.absent(v), *self.large(v), *self.paired(v), *self.spared(v), *self.cascades(v)]
+
+    def absent(self, v):
+        net = self.working(v, "net")
+        query = sql("SELECT 1 FROM {net} AS d WHERE d.n < 0 AND d.n < - d.was", net=net)
+        return self.dialect.refuse(f"refused absent {self.views[v].name}", query)
+
+    def large(self, v):
+        """A count that would leave 64 bits."""
+        net, most = self.working(v, "net"), self.dialect.whole(MOST)
+        query = sql("SELECT 1 FROM {net} AS d WHERE d.n > 0 AND d.n > {most} - d.was", net=net, most=most)
+        return self.dialect.refuse(self.told_large(v), query) if self.shape.is_counted(v) else []
+
+    # ---- places
+
+    def located(self, v):
+        """Where the rows of a change stand in the view's table, and how often each was there."""
+        net, found, counted = self.working(v, "net"), self.working(v, "found"), self.shape.is_counted(v)
+        held = self.dialect.read_count(sql("t.{count}", count=COUNT)) if counted else number(1)
+        insert = sql(
+            "INSERT INTO {filling} (id, part, place, held, nth) SELECT d.id, {here}, {held}, row_number() OVER (PARTITION BY d.id)"
+            " FROM {net} AS d {table}",
+            filling=self.dialect.filling(found), here=self.dialect.here(word("t")), held=held, net=net,
+            table=self.dialect.found_in(sql("{table} AS t", table=self.table(v)), self.same(v)),
+        )  # fmt: skip
+        return [insert, *self.dialect.filled(found), *self.twice(v), *self.counted_before(v)]
+
+    def twice(self, v):
+        """A table of counts in which a row stands twice."""
+        if not self.shape.is_counted(v):
+            return []
+        told = f"table {self.views[v].name} does not fit: a row stands in it twice, where each stands once with its count"
+        return self.dialect.refuse(told, sql("SELECT 1 FROM {found} AS f WHERE f.nth > 1", found=self.working(v, "found")))
+
+    def counted_before(self, v):
+        net = name(self.working_name(v, "net"))
+        return [
+            sql(
+                "UPDATE {target} SET was = g.held FROM (SELECT f.id, sum(f.held) AS held FROM {found} AS f GROUP BY f.id) AS g"
+                " WHERE g.id = {net}.id",
+                target=self.dialect.filling(self.working(v, "net")), net=net, found=self.working(v, "found"),
+            )
+        ]  # fmt: skip
+
+    # ---- pairs
+
+    def is_key(self, v, place):
+        return sql("EXISTS (SELECT 1 FROM {keys} AS k WHERE k.view = {view} AND k.place = {place})", keys=self.dialect.working("night~keys"),
+                   view=number(v), place=number(place))  # fmt: skip
+
+    def has_key(self, v):
+        return sql("EXISTS (SELECT 1 FROM {keys} AS k WHERE k.view = {view})", keys=self.dialect.working("night~keys"), view=number(v))
+
+    def paired(self, v):
+        """A row that leaves and one that comes with the same key are one row, which changes."""
+        if self.shape.width(v) < 2:
+            return []
+        keys = [word("k", place) for place in range(1, self.shape.width(v) + 1)]
+        shown = [
+            sql("CASE WHEN {test} THEN d.{cell} END AS {key}", test=self.is_key(v, place), cell=cell, key=key)
+            for place, (cell, key) in enumerate(zip(self.cells(v), keys), 1)
+        ]
+        leaves, comes = (LEAVES, COMES) if self.shape.is_counted(v) else (sql("d.n = -1"), sql("d.n = 1 AND d.was = 0"))
+        pairs = sql(
+            "SELECT min(CASE WHEN e.leaves = 1 THEN e.id END) AS old, min(CASE WHEN e.comes = 1 THEN e.id END) AS new FROM (SELECT d.id,"
+            " CASE WHEN {leaves} THEN 1 ELSE 0 END AS leaves, CASE WHEN {comes} THEN 1 ELSE 0 END AS comes, {shown} FROM {net} AS d"
+            " WHERE {has}) AS e GROUP BY {keys} HAVING count(*) = 2 AND sum(e.leaves) = 1 AND sum(e.comes) = 1",
+            leaves=leaves, comes=comes, shown=joined(shown), net=self.working(v, "net"), has=self.has_key(v),
+            keys=joined([sql("e.{key}", key=key) for key in keys]),
+        )  # fmt: skip
+        return self.dialect.only_where(self.has_key(v), self.pair_statements(v, pairs))
+
+    def pair_statements(self, v, pairs):
+        """Each row of a pair learns of the other."""
+        target, net = self.dialect.filling(self.working(v, "net")), name(self.working_name(v, "net"))
+        first = sql("UPDATE {target} SET pair = g.new FROM ({pairs}) AS g WHERE {net}.id = g.old", target=target, net=net, pairs=pairs)
+        back = sql(
+            "UPDATE {target} SET pair = d.id FROM {from_net} AS d WHERE d.pair = {net}.id",
+            target=target, net=net, from_net=self.working(v, "net"),
+        )  # fmt: skip
+        return [first, back]
+
+    # ---- what a change would take with it
+
+    def comes(self, v):
+        return COMES if self.shape.is_counted(v) else COMES_ONCE
+
+    def leaves(self, v):
+        return LEAVES if self.shape.is_counted(v) else LEAVES_ONCE
+
+    def spared(self, v):
+        """A new row where the table has a column that nothing gives it a value for."""
+        return self.checked.spared(v, sql("SELECT 1 FROM {net} AS d WHERE {comes}", net=self.working(v, "net"), comes=self.comes(v)))
+
+    def cascades(self, v):
+        """Rows whose going, or whose change of a key, would change other rows."""
+        net = self.working(v, "net")
+        gone = sql("SELECT 1 FROM {net} AS d WHERE {leaves}", net=net, leaves=self.leaves(v))
+        changed = joined(
+            [sql("WHEN {place} THEN o.{cell} <> w.{cell}", place=number(at), cell=cell) for at, cell in enumerate(self.cells(v), 1)], ""
+        )
+        moved = sql(
+            "SELECT 1 FROM {net} AS o JOIN {net} AS w ON w.id = o.pair WHERE o.n < 0 AND CASE r.place {changed} END",
+            net=net, changed=changed,
+        )
+        return self.checked.cascades(v, gone, moved)
+
+    # ---- derived views
+
+    def finish(self, step):
+        """What was computed of a view becomes its change."""
+        return self.summary_change(step.view) if self.shape.is_summary(step.view) else self.joined_change(step.view)
+
+    def joined_change(self, v):
+        halves = [sql("d.{part}", part=part) for part in self.dialect.parts(1)]
+        rows = sql("{pending} AS d", pending=self.working(v, "pending"))
+        return [*self.added_up(v, rows, self.cells(v, "d"), halves), *self.located(v), *self.absent(v), *self.large(v)]
+
+    def summary_change(self, v):
+        """The rows before leave, and the rows after come; a group without rows has none."""
+        return [*self.folded(v), *self.beside(v), *self.group_rows(v)]
+
+    def summed_columns(self, v, letter, of=None):
+        found = [word(letter, place) for place in range(1, self.shape.sums(v) + 1)]
+        return [sql("{of}.{column}", of=word(of), column=column) for column in found] if of else found
+
+    def folded(self, v):
+        """What all Comps of a view added to its groups; those that nothing was added to are left out."""
+        groups = self.cells(v, "d")[: self.shape.groups(v)]
+        parts = [self.dialect.parts(place) for place in range(1, self.shape.sums(v) + 1)]
+        added = [summed([sql("d.{part}", part=part) for part in each]) for each in parts]
+        changed = joined([sql("{whole} <> 0", whole=self.dialect.whole_of(each)) for each in added], "OR")
+        return [
+            sql(
+                "INSERT INTO {folded} ({columns}) SELECT {shown} FROM {pending} AS d {grouped} HAVING {changed}",
+                folded=self.dialect.filling(self.working(v, "folded")), pending=self.working(v, "pending"), changed=changed,
+                columns=joined([*self.cells(v)[: len(groups)], *sum(parts, [])]), shown=joined([*groups, *sum(added, [])]),
+                grouped=sql("GROUP BY {groups}", groups=joined(groups)) if groups else sql(""),
+            ),
+            *self.dialect.filled(self.working(v, "folded")),
+        ]  # fmt: skip
+
+    def beside(self, v):
+        """Each such group with its row before, if there is one, its place, and its sums after."""
+        groups, beside, folded = self.shape.groups(v), self.working(v, "beside"), self.working(v, "folded")
+        read = self.read(v)[groups:]
+        after = [self.after(column, place) for place, column in enumerate(read, 1)]
+        columns = [*self.cells(v)[:groups], *self.summed_columns(v, "o"), *self.summed_columns(v, "a")]
+        insert = sql(
+            "INSERT INTO {filling} (id, part, place, {columns}) SELECT row_number() OVER (), {here}, {shown}"
+            " FROM {folded} AS d LEFT {table}",
+            filling=self.dialect.filling(beside), columns=joined(columns), here=self.dialect.here(word("t")), folded=folded,
+            shown=joined([*self.cells(v, "d")[:groups], *read, *after]),
+            table=sql("JOIN {table} AS t ON {same}", table=self.table(v), same=self.same(v, groups)),
+        )  # fmt: skip
+        lost = joined([self.dialect.is_lost(each) for each in self.summed_columns(v, "a", "b")], "OR")
+        told = f"table {self.views[v].name} does not fit: a group stands in it twice"
+        query = sql("SELECT 1 WHERE (SELECT count(*) FROM {beside}) <> (SELECT count(*) FROM {folded})", beside=beside, folded=folded)
+        return [
+            insert,
+            *self.dialect.filled(beside),
+            *self.dialect.refuse(told, query),
+            *self.range(v, sql("SELECT 1 FROM {beside} AS b WHERE {lost}", beside=beside, lost=lost)),
+        ]
+
+    def after(self, column, place):
+        """A group's sum after the night, from its row before, t, and from what is added to it, d."""
+        before = self.dialect.halves(self.dialect.cell(sql("coalesce({column}, 0)", column=column)))
+        added = zip(before, self.dialect.parts(place))
+        return self.dialect.whole_of([sql("{before} + d.{part}", before=half, part=part) for half, part in added])
+
+    def group_rows(self, v):
+        """The change of a summary: a group that stays is a pair."""
+        groups, net, beside = self.shape.groups(v), self.working(v, "net"), self.working(v, "beside")
+        columns, keys = joined(self.cells(v)), self.cells(v, "b")[:groups]
+        rows = (
+            ("b.id * 2", "b.id * 2 + 1", "-1", "1", "o", "b.place IS NOT NULL", "b.a1 <> 0"),
+            ("b.id * 2 + 1", "b.id * 2", "1", "0", "a", "b.a1 <> 0", "b.place IS NOT NULL"),
+        )
+        found = []
+        for one, other, n, was, sums, here, there in rows:
+            found.append(
+                sql(
+                    "INSERT INTO {filling} (id, {columns}, n, was, pair) SELECT {one}, {cells}, {n}, {was},"
+                    " CASE WHEN {there} THEN {other} END FROM {beside} AS b WHERE {here}",
+                    filling=self.dialect.filling(net), columns=columns, one=sql(one), other=sql(other), n=sql(n), was=sql(was), here=sql(here),
+                    there=sql(there), beside=beside, cells=joined([*keys, *self.summed_columns(v, sums, "b")]),
+                )
+            )  # fmt: skip
+        places = sql(
+            "INSERT INTO {filling} (id, part, place, held, nth) SELECT b.id * 2, b.part, b.place, 1, 1 FROM {beside} AS b"
+            " WHERE b.place IS NOT NULL",
+            filling=self.dialect.filling(self.working(v, "found")), beside=beside,
+        )  # fmt: skip
+        return [*found, places, *self.dialect.filled(net), *self.dialect.filled(self.working(v, "found"))]
+

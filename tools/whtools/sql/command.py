@@ -1,0 +1,67 @@
+"""The words of tools/sql, and what is written for them."""
+
+import argparse
+import sys
+
+from whtools.sql.catalogue import read
+from whtools.sql.comments import Comments
+from whtools.sql.postgresql import PostgreSQL
+from whtools.sql.script import Script
+from whtools.sql.sqlite import SQLite
+from whtools.sql.tokens import Unfit
+from whtools.warehouse.finding import Failure
+
+ENGINES = {"postgresql": PostgreSQL, "sqlite": SQLite}
+
+
+def asked(about):
+    """The words of the command line."""
+    words = argparse.ArgumentParser("tools/sql", description=about, formatter_class=argparse.RawDescriptionHelpFormatter)
+    words.add_argument("--engine", choices=ENGINES, default="postgresql")
+    for name in ("create", "open", "night", "explain"):
+        words.add_argument(f"--{name}", action="store_true")
+    words.add_argument("--schema")
+    words.add_argument("--plain", default="")
+    words.add_argument("--counted", default="")
+    words.add_argument("path")
+    return words.parse_args()
+
+
+def base_views(catalogue, listed):
+    """The numbers of the base views in a list of names, of which `*` stands for all."""
+    base = {view.name: v for v, view in enumerate(catalogue.views) if not view.over}
+    names = list(base) if listed == "*" else [name for name in listed.split(",") if name]
+    for name in names:
+        if name not in base:
+            raise Unfit(f"{name} is no base view")
+    return [base[name] for name in names]
+
+
+def plain_views(catalogue, words):
+    """The numbers of the base views that have no column of counts."""
+    counted = base_views(catalogue, words.counted)
+    return [v for v in base_views(catalogue, words.plain) if v not in counted]
+
+
+def written(words):
+    """The text that is asked for."""
+    catalogue, dialect = read(words.path), ENGINES[words.engine](words.schema)
+    script, comments = Script(catalogue, dialect, plain_views(catalogue, words)), Comments(catalogue)
+    if words.explain:
+        return [comments.long(step) for step in script.steps.night(catalogue.correct())]
+    found = script.create() if words.create else []
+    found += script.open(comments.short) if words.open else []
+    if words.night or not (words.create or words.open):
+        found += script.night(catalogue.correct(), Comments(catalogue).short)
+    return dialect.head + dialect.written(found)
+
+
+def main(about):
+    """Writes all or nothing."""
+    try:
+        text = "\n".join(written(asked(about))) + "\n"
+        sys.stdout.buffer.write(text.encode())
+    except (Unfit, OSError) as told:
+        sys.exit(f"tools/sql: {told}")
+    except Failure as failure:
+        sys.exit("\n".join(f"tools/sql: {line}" for line in failure.lines))

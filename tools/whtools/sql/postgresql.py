@@ -1,0 +1,223 @@
+"""PostgreSQL 15 and later: a night is one block, which is undone as a whole where anything in it fails."""
+
+
+from whtools.sql.dialect import LEAST, MOST, Dialect
+from whtools.sql.formulas import both, nodes
+from whtools.sql.postgresql_checks import Checks
+from whtools.sql.tokens import END_OF_STATEMENT, body, joined, name, sql, statements, text, word
+
+LIMITS = sql("{least} AND {most}", least=sql("{n}::numeric", n=text(str(LEAST))), most=sql("{n}::numeric", n=text(str(MOST))))
+VARIABLES = [sql("{name} pg_catalog.text", name=word(said)) for said in ("path", "finding", "collapsed", "merged", "nested")]
+VARIABLES.append(sql("touched pg_catalog.int8"))
+MANY_PAIRS = 12
+# A block rests on these, whatever a session has set. The functions of triggers may want the path that was set.
+SETTINGS = [
+    sql("path := pg_catalog.current_setting({key})", key=text("search_path")),
+    sql("PERFORM pg_catalog.set_config({key}, {value}, TRUE)", key=text("search_path"), value=text("pg_catalog")),
+    sql(
+        "PERFORM set_config({key}, concat_ws({comma}, {first}, nullif(path, {none}), {last}), TRUE)",
+        key=text("search_path"), comma=text(", "), first=text("pg_catalog"), none=text(""), last=text("pg_temp"),
+    ),
+    *(
+        sql("PERFORM set_config({key}, {value}, TRUE)", key=text(key), value=text(value))
+        for key, value in (("row_security", "off"), ("jit", "off"))
+    ),
+]  # fmt: skip
+# Of many equalities PostgreSQL supposes that hardly a row passes, and would go through changes that have no index again and again.
+SEARCHES = (
+    ("join_collapse_limit", "1", word("collapsed")),
+    ("enable_mergejoin", "off", word("merged")),
+    ("enable_nestloop", "off", word("nested")),
+)
+KEPT = [sql("{before} := current_setting({key})", key=text(key), before=before) for key, _, before in SEARCHES]
+LIMITED = [sql("PERFORM set_config({key}, {value}, TRUE)", key=text(key), value=text(value)) for key, value, _ in SEARCHES]
+UNLIMITED = [sql("PERFORM set_config({key}, {before}, TRUE)", key=text(key), before=before) for key, _, before in SEARCHES]
+ISOLATION = "the isolation is not READ COMMITTED: run the script outside of other transactions"
+
+
+class PostgreSQL(Dialect):
+    engine = "postgresql"
+    own_schema = "public"
+    temporary = word("pg_temp")
+    limit = 63
+    escapes = True
+    own_columns = ("tableoid", "xmin", "cmin", "xmax", "cmax", "ctid")
+    kinds = {"int": sql("bigint"), "text": sql("text")}
+    declared = {"int": sql("bigint"), "text": sql("text COLLATE {c}", c=name("C"))}
+    free_number = sql("numeric")
+    count_number = sql("bigint NOT NULL")
+    id_kind, part_kind, place_kind = sql("bigint NOT NULL"), sql("oid"), sql("tid")
+    holds_count = sql("{count} > 0", count=name("#"))
+    head = [r"\set ON_ERROR_STOP on", r"\set ON_ERROR_ROLLBACK off", "SET client_encoding = 'UTF8';"]
+
+    def checks(self, script):
+        return Checks(script)
+
+    # ---- literals and expressions
+
+    def text(self, said):
+        return sql("{said}::text", said=text(said))
+
+    def whole(self, number):
+        return sql("{said}::bigint", said=text(str(number)))
+
+    def number(self, number):
+        return sql("{said}::numeric", said=text(str(number)))
+
+    def cell(self, column):
+        return sql("{column}::numeric", column=column)
+
+    def read(self, column, kind):
+        """A column of the user's, which may be of a narrower type."""
+        return sql("{column}::text", column=column) if kind == "text" else column
+
+    def read_count(self, column):
+        return sql("{column}::bigint", column=column)
+
+    def value_tests(self, formula, computed):
+        """That no step leaves 64 bits. It is computed in numeric, so that none raises."""
+        return [sql("{node} BETWEEN {limits}", node=computed(node), limits=LIMITS) for node in nodes(formula)]
+
+    def kept(self, computed, tests):
+        return sql("CASE WHEN {tests} THEN {computed} END", tests=both(tests), computed=computed)
+
+    def summand(self, value):
+        return sql("({value})::numeric", value=value)
+
+    def is_lost(self, number):
+        """Whether a number is no bigint."""
+        return sql("NOT {number} BETWEEN {limits}", number=number, limits=LIMITS)
+
+    def inexact(self, _):
+        """Sums in numeric are exact."""
+        return []
+
+    # ---- statements of a block
+
+    def raised(self, told):
+        return sql("RAISE EXCEPTION USING MESSAGE = {told}", told=told)
+
+    def where(self, test, statement):
+        """A statement that is carried out where a test holds."""
+        return sql("IF {test} THEN {statement}{end} END IF", test=test, statement=statement, end=END_OF_STATEMENT)
+
+    def refuse(self, told, query):
+        return [self.where(sql("EXISTS ({query})", query=query), self.raised(text(told)))]
+
+    def refuse_with(self, query):
+        """A refusal with the text that a query gives, where it gives one."""
+        return [sql("finding := ({query})", query=query), self.where(sql("finding IS NOT NULL"), self.raised(word("finding")))]
+
+    def counted(self, told, made):
+        """Statements that compute counts, with a word where one leaves 64 bits."""
+        return [
+            sql(
+                "BEGIN {made} EXCEPTION WHEN numeric_value_out_of_range THEN {raised}{end} END",
+                made=statements(made, 2), raised=self.raised(text(told)), end=END_OF_STATEMENT,
+            )
+        ]  # fmt: skip
+
+    def exact(self, *_):
+        """What leaves 64 bits raised already."""
+        return []
+
+    def touched(self, told, count):
+        """A refusal where the statement before did not touch as many rows as a query says."""
+        test = sql("touched <> ({count})", count=count)
+        return [sql("GET DIAGNOSTICS touched = ROW_COUNT"), self.where(test, self.raised(text(told)))]
+
+    def only_where(self, test, made):
+        """Statements that are carried out where a test holds."""
+        return [sql("IF {test} THEN {made} END IF", test=test, made=statements(made, 2))]
+
+    def planned(self, children, pairs, statement, told):
+        """The statement of a term. Where children are joined by many pairs they are joined in the order that is written, since a search
+        for a better one takes longer than the night, and the plan is not kept."""
+        if not self.is_wide(children, pairs):
+            return self.counted(told, [statement])
+        return [*LIMITED, *self.counted(told, [sql("EXECUTE {body}", body=body(statement))]), *UNLIMITED]
+
+    def is_wide(self, children, pairs):
+        """Whether planning a term by PostgreSQL's own ways takes longer than carrying it out."""
+        return children > 2 and pairs >= MANY_PAIRS
+
+    def apart(self, children, pairs):
+        """What keeps the adding up apart from the joins, whose equal columns it would be compared with one by one."""
+        return sql("OFFSET 0") if self.is_wide(children, pairs) else sql("")
+
+    def skipped(self, changes, made):
+        """Statements of a term that are left out where a change is empty."""
+        return self.only_where(joined([sql("EXISTS (SELECT 1 FROM {net} AS d)", net=net) for net in changes], "AND"), made) if changes else made
+
+    def filling(self, table):
+        """A table that a statement fills."""
+        return table
+
+    def wrong_cells(self, *_):
+        """What stands in a column is of its kind."""
+        return None
+
+    def filled(self, table):
+        """What follows where a working table has been filled: without statistics nested loops may be planned."""
+        return [sql("ANALYZE {table}", table=table)]
+
+    # ---- rows, each told by its table and its place
+
+    def here(self, of):
+        return sql("{of}.tableoid, {of}.ctid", of=of)
+
+    def at(self):
+        return sql("t.tableoid = g.part AND t.ctid = g.place")
+
+    def target(self, said):
+        return self.table(said)
+
+    def delete(self, said, gone):
+        return sql("DELETE FROM {table} AS t USING ({gone}) AS g WHERE {at}", table=self.table(said), gone=gone, at=self.at())
+
+    def update(self, said, sets, rows):
+        return sql("UPDATE {table} AS t SET {sets} FROM ({rows}) AS g WHERE {at}", table=self.table(said), sets=sets, rows=rows, at=self.at())
+
+    def copies(self, net):
+        """Rows of a change beside the numbers up to their counts."""
+        return sql("{net} AS d CROSS JOIN LATERAL generate_series(1::bigint, d.n) AS k", net=net)
+
+    def found_in(self, operand, test):
+        """Rows that are looked up, by whatever way is shortest."""
+        return sql("JOIN {operand} ON {test}", operand=operand, test=test)
+
+    def index(self, said):
+        return name(said)
+
+    def indexed(self, said):
+        return self.table(said)
+
+    # ---- programs
+
+    def created(self, table, columns):
+        return sql("CREATE TEMPORARY TABLE {table} ({columns}) ON COMMIT DROP", table=table, columns=joined(columns))
+
+    def block(self, made):
+        """Statements as one. A column's name means the column, also where PL/pgSQL has a variable of that name."""
+        begun = sql("\n#variable_conflict use_column\nDECLARE{variables}\nBEGIN", variables=statements(VARIABLES, 1))
+        program = sql("{begun}{made}\nEND{end}", begun=begun, made=statements([*SETTINGS, *KEPT, *made], 1), end=END_OF_STATEMENT)
+        return sql("DO {body}{end}", body=body(program), end=END_OF_STATEMENT)
+
+    def program(self, checked, working, made, _=None):
+        """A transaction of one block: what is checked, its working tables, and its statements."""
+        isolated = sql("current_setting({key}) <> {wanted}", key=text("transaction_isolation"), wanted=text("read committed"))
+        tables = [self.created(name(said), columns) for said, columns in working]
+        block = self.block([self.where(isolated, self.raised(text(ISOLATION))), *checked, *tables, *made])
+        begin = sql("BEGIN ISOLATION LEVEL READ COMMITTED READ WRITE{end}", end=END_OF_STATEMENT)
+        return [begin, block, sql("COMMIT{end}", end=END_OF_STATEMENT)]
+
+    def creation(self, made):
+        """A transaction that makes tables and indexes."""
+        return [sql("BEGIN READ WRITE{end}", end=END_OF_STATEMENT), self.block(made), sql("COMMIT{end}", end=END_OF_STATEMENT)]
+
+    def deferred(self):
+        """What may be wrong until the end, and no longer."""
+        return [sql("SET CONSTRAINTS ALL DEFERRED")]
+
+    def settled(self):
+        return [sql("SET CONSTRAINTS ALL IMMEDIATE")]

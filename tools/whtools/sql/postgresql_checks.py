@@ -1,0 +1,228 @@
+"""What PostgreSQL's catalogue says of the tables of a night, judged before anything is changed."""
+
+
+from whtools.sql.tokens import joined, name, number, sql, text
+
+# The tables of what is known of a night's tables: their names and columns, the tables themselves, those below them, the columns of
+# the key by which a row stays the same row, foreign keys that change what refers to them, and columns that the catalogue has not.
+KNOWN = {
+    "night~names": "number int, role text, told text, said name",
+    "night~columns": "number int, place int, said name, kind text",
+    "night~tables": "number int, role text, told text, relation oid",
+    "night~parts": "number int, told text, relation oid",
+    "night~keys": "view int, place int",
+    "night~referred": "view int, place int, told text, by_delete boolean, by_update boolean",
+    "night~spare": "view int, told text",
+    "night~touched": "view int, written bigint, removed bigint",
+}
+# How many rows of each table this transaction wrote, and how many it removed, where the server counts.
+TOUCHED = (
+    "SELECT p.number, sum(pg_stat_get_xact_tuples_inserted(p.relation) + pg_stat_get_xact_tuples_updated(p.relation)),"
+    " sum(pg_stat_get_xact_tuples_deleted(p.relation) + pg_stat_get_xact_tuples_updated(p.relation)) FROM {parts} AS p GROUP BY p.number"
+)
+KINDS = {"int": "bigint", "text": "text", "count": "bigint"}
+
+
+def known(said):
+    return sql("pg_temp.{table}", table=name(said))
+
+
+class Checks:
+    """The statements that find out about a script's tables and refuse what does not fit."""
+
+    def __init__(self, script):
+        self.script, self.dialect, self.expected = script, script.dialect, script.expected()
+        self.parts = {said.partition("~")[2]: known(said) for said in KNOWN}
+
+    def query(self, template, **parts):
+        return sql(template, schema=text(self.dialect.schema), **self.parts, **parts)
+
+    def refused(self, sentence, query):
+        """A refusal by the first sentence that a query gives, with a name in it."""
+        return self.dialect.refuse_with(self.query(query, sentence=text(sentence)))
+
+    def working_tables(self):
+        """Those of the checks are made by themselves, before the others."""
+        return []
+
+    def statements(self, locked):
+        """All of them; from the lock on nobody else writes."""
+        return [*self.tables(), *self.named(), *self.missing(), self.lock(locked), *self.dialect.deferred(), *self.found(), *self.misfits()]
+
+    def tables(self):
+        return [self.dialect.created(name(said), [sql(columns)]) for said, columns in KNOWN.items()]
+
+    def named(self):
+        """The names and columns that are expected."""
+        rows, columns = [], []
+        for at, each in enumerate(self.expected):
+            words = [number(at), text(each.role), text(each.told), text(each.said)]
+            rows.append(sql("({words})", words=joined(words)))
+            for place, (said, kind) in enumerate(each.columns, 1):
+                words = [number(at), number(place), text(said), text(KINDS[kind])]
+                columns.append(sql("({words})", words=joined(words)))
+        return [
+            self.query("INSERT INTO {names} VALUES {rows}", rows=joined(rows)),
+            self.query("INSERT INTO {columns} VALUES {rows}", rows=joined(columns)),
+        ]
+
+    def missing(self):
+        """Names under which no table stands."""
+        there = (
+            "FROM {names} AS w LEFT JOIN (pg_class AS c JOIN pg_namespace AS s ON s.oid = c.relnamespace AND s.nspname = {schema})"
+            " ON c.relname = w.said WHERE "
+        )
+        none = "there is no table %s in the schema %s: make it, or name another schema by --schema"
+        found = self.query(
+            "SELECT format({sentence}, w.said, {schema}) " + there + "c.oid IS NULL ORDER BY w.number LIMIT 1", sentence=text(none)
+        )
+        other = "table %s does not fit: it is no ordinary or partitioned table"
+        kinds = sql("({r}, {p})", r=text("r"), p=text("p"))
+        wrong = self.query(
+            "SELECT format({sentence}, w.told) " + there + "c.relkind NOT IN {kinds} ORDER BY w.number LIMIT 1",
+            sentence=text(other), kinds=kinds,
+        )
+        return [*self.dialect.refuse_with(found), *self.dialect.refuse_with(wrong)]
+
+    def lock(self, locked):
+        """Writers wait from here on; readers go on with the contents before."""
+        return sql("LOCK TABLE {tables} IN EXCLUSIVE MODE", tables=joined(locked))
+
+    def found(self):
+        """The tables and those below them, keys, columns without defaults and foreign keys."""
+        return [
+            self.query(
+                "INSERT INTO {tables} SELECT w.number, w.role, w.told, c.oid FROM {names} AS w JOIN pg_class AS c ON c.relname = w.said"
+                " JOIN pg_namespace AS s ON s.oid = c.relnamespace AND s.nspname = {schema}"
+            ),
+            self.query(
+                "INSERT INTO {parts} WITH RECURSIVE below (number, told, relation) AS (SELECT t.number, t.told, t.relation"
+                " FROM {tables} AS t"
+                " UNION SELECT b.number, b.told, i.inhrelid FROM below AS b JOIN pg_inherits AS i ON i.inhparent = b.relation)"
+                " SELECT b.number, b.told, b.relation FROM below AS b"
+            ),
+            *self.dialect.filled(self.parts["tables"]),
+            *self.dialect.filled(self.parts["columns"]),
+            *self.dialect.filled(self.parts["parts"]),
+            self.keys(),
+            self.spare(),
+            self.referred(),
+            self.query("INSERT INTO {touched} " + TOUCHED),
+        ]
+
+    def keys(self):
+        """Of each base table the primary key, or else the least unique index, if all its columns are in the catalogue, not all of it."""
+        return self.query(
+            "INSERT INTO {keys} SELECT b.number, w.place FROM (SELECT DISTINCT ON (t.number) t.number, i.indrelid, i.indkey, i.indnkeyatts"
+            " FROM {tables} AS t JOIN pg_index AS i ON i.indrelid = t.relation WHERE t.role = {base} AND i.indisunique AND i.indisvalid"
+            " AND i.indpred IS NULL AND i.indexprs IS NULL AND (SELECT count(*) FROM generate_series(0, i.indnkeyatts - 1) AS k"
+            " JOIN pg_attribute AS a ON a.attrelid = i.indrelid AND a.attnum = i.indkey[k] JOIN {columns} AS w ON w.number = t.number"
+            " AND w.said = a.attname AND w.said <> {count}) = i.indnkeyatts AND i.indnkeyatts < (SELECT count(*) FROM {columns} AS w"
+            " WHERE w.number = t.number AND w.said <> {count}) ORDER BY t.number, i.indisprimary DESC, i.indnkeyatts, i.indexrelid) AS b"
+            " CROSS JOIN generate_series(0, b.indnkeyatts - 1) AS k JOIN pg_attribute AS a ON a.attrelid = b.indrelid"
+            " AND a.attnum = b.indkey[k] JOIN {columns} AS w ON w.number = b.number AND w.said = a.attname",
+            base=text("base"), count=text("#"),
+        )  # fmt: skip
+
+    def spare(self):
+        """Columns that the catalogue has not and that a new row has no value for."""
+        return self.query(
+            "INSERT INTO {spare} SELECT t.number, a.attname FROM {tables} AS t JOIN pg_attribute AS a ON a.attrelid = t.relation"
+            " JOIN pg_type AS y ON y.oid = a.atttypid WHERE t.role <> {changes} AND a.attnum > 0 AND NOT a.attisdropped AND NOT a.atthasdef"
+            " AND a.attidentity = {none} AND y.typdefault IS NULL"
+            " AND NOT EXISTS (SELECT 1 FROM {columns} AS w WHERE w.number = t.number AND w.said = a.attname)",
+            changes=text("changes"), none=text(""),
+        )  # fmt: skip
+
+    def referred(self):
+        """Foreign keys to the tables that change other rows where a row goes or its key changes, column by column."""
+        acts = sql("({c}, {n}, {d})", c=text("c"), n=text("n"), d=text("d"))
+        return self.query(
+            "INSERT INTO {referred} SELECT p.number, w.place, f.conname, f.confdeltype IN {acts}, f.confupdtype IN {acts} FROM {parts} AS p"
+            " JOIN pg_constraint AS f ON f.confrelid = p.relation AND f.contype = {foreign}"
+            " AND (f.confdeltype IN {acts} OR f.confupdtype IN {acts}) CROSS JOIN LATERAL unnest(f.confkey) AS k"
+            " JOIN pg_attribute AS a ON a.attrelid = f.confrelid AND a.attnum = k"
+            " LEFT JOIN {columns} AS w ON w.number = p.number AND w.said = a.attname",
+            acts=acts, foreign=text("f"),
+        )  # fmt: skip
+
+    def misfits(self):
+        """Refusals of tables on which a night would not do what it says."""
+        below = "SELECT format({sentence}, p.told) FROM {parts} AS p JOIN pg_class AS c ON c.oid = p.relation WHERE "
+        last = " ORDER BY p.number LIMIT 1"
+        kinds = sql("({r}, {p})", r=text("r"), p=text("p"))
+        foreign = self.query(
+            below + "c.relkind NOT IN {kinds}" + last, kinds=kinds,
+            sentence=text("table %s does not fit: a table below it is no ordinary or partitioned table"),
+        )  # fmt: skip
+        return [
+            *self.dialect.refuse_with(self.misfit()),
+            *self.dialect.refuse_with(foreign),
+            *self.refused("table %s does not fit: row-level security hides rows of it from this role", below + "row_security_active(c.oid)" + last),
+            *self.refused(
+                "table %s does not fit: it has a rule, which would change what a night does; drop the rule",
+                below + "EXISTS (SELECT 1 FROM pg_rewrite AS r WHERE r.ev_class = c.oid)" + last,
+            ),
+        ]
+
+    def misfit(self):
+        """Columns that are not as they have to be, with what they are."""
+        has = (
+            "CASE WHEN a.attname IS NULL THEN {nothing} WHEN NOT a.attnotnull THEN {null} WHEN a.attgenerated <> {none} OR a.attidentity = {a}"
+            " THEN {generated} ELSE format_type(a.atttypid, a.atttypmod) END"
+        )
+        sound = (
+            "a.attnotnull AND a.attgenerated = {none} AND a.attidentity <> {a} AND a.atttypmod = -1 AND a.atttypid ="
+            " ANY (CASE w.kind WHEN {text} THEN {texts}::regtype[] ELSE {numbers}::regtype[] END)"
+            " AND coalesce(c.collname IN {collations} AND c.collisdeterministic, TRUE)"
+        )
+        return self.query(
+            "SELECT format({sentence}, t.told, string_agg(format({each}, w.said, w.kind, " + has + "), {comma} ORDER BY w.place))"
+            " FROM {tables} AS t JOIN {columns} AS w ON w.number = t.number LEFT JOIN pg_attribute AS a ON a.attrelid = t.relation"
+            " AND a.attname = w.said AND a.attnum > 0 AND NOT a.attisdropped LEFT JOIN pg_collation AS c ON c.oid = a.attcollation"
+            " WHERE NOT coalesce(" + sound + ", FALSE) GROUP BY t.number, t.told ORDER BY t.number LIMIT 1",
+            sentence=text("table %s does not fit: it wants %s, NOT NULL, of a type that alters no value and of a deterministic collation"),
+            each=text("%s %s (there is %s)"), comma=text(", "), nothing=text("nothing"), null=text("one that may be NULL"), none=text(""),
+            a=text("a"), generated=text("a generated one"), text=text("text"), texts=text("{text,varchar}"), numbers=text("{int2,int4,int8}"),
+            collations=sql("({c}, {default})", c=text("C"), default=text("default")),
+        )  # fmt: skip
+
+    # ---- what steps ask
+
+    def spared(self, v, coming):
+        """A row that comes where a column has no value for it."""
+        told = "table %s does not fit: a row comes, and the column %s, which the catalogue has not, has no default"
+        return self.dialect.refuse_with(
+            self.query(
+                "SELECT format({told}, {view}::text, min(s.told)) FROM {spare} AS s WHERE s.view = {v} AND EXISTS ({coming})"
+                " HAVING count(*) > 0",
+                told=text(told), view=text(self.script.views[v].name), v=number(v), coming=coming,
+            )
+        )  # fmt: skip
+
+    def watchers(self):
+        """The server counts by itself."""
+        return {}
+
+    def untouched(self, v, told, written, removed):
+        """A refusal where other rows were written or removed than these numbers of them."""
+        return self.dialect.refuse(
+            told,
+            self.query(
+                "SELECT 1 FROM {touched} AS b JOIN (" + TOUCHED + ") AS a (view, written, removed) ON a.view = b.view WHERE b.view = {v}"
+                " AND (a.written - b.written <> {written} OR a.removed - b.removed <> {removed}) AND current_setting({key}) = {on}",
+                v=number(v), written=written, removed=removed, key=text("track_counts"), on=text("on"),
+            ),
+        )  # fmt: skip
+
+    def cascades(self, v, gone, moved):
+        """A foreign key that would change other rows by what the night does."""
+        told = "refused cascade %s: the foreign key %s to it would delete or change other rows; make it NO ACTION"
+        return self.dialect.refuse_with(
+            self.query(
+                "SELECT format({told}, {view}::text, min(r.told)) FROM {referred} AS r WHERE r.view = {v}"
+                " AND ((r.by_delete AND EXISTS ({gone}))"
+                " OR (r.by_update AND EXISTS ({moved}))) HAVING count(*) > 0",
+                told=text(told), view=text(self.script.views[v].name), v=number(v), gone=gone, moved=moved,
+            )
+        )  # fmt: skip

@@ -1,0 +1,181 @@
+"""Scripts: what is made of a catalogue and a strategy, put together from checks, working tables and the statements of the steps."""
+
+from functools import cache
+from typing import NamedTuple
+
+from whtools.sql.changes import Changes
+from whtools.sql.comps import Comps
+from whtools.sql.insts import Insts
+from whtools.sql.names import Names
+from whtools.sql.shape import Shape
+from whtools.sql.steps import Steps
+from whtools.sql.tokens import joined, name, sql, word
+
+WIDEST_INDEX = 32
+
+
+class Expected(NamedTuple):
+    """A table that a night wants: `base`, `derived` or `changes`; what it is called when it is told of, and in SQL; its columns' kinds."""
+
+    role: str
+    told: str
+    said: str
+    columns: list
+
+
+class Script(Comps, Changes, Insts):
+    """The statements over a catalogue in a dialect. `plain` has the base views whose tables have no column of counts."""
+
+    def __init__(self, catalogue, dialect, plain=()):
+        self.views, self.words, self.dialect = catalogue.views, catalogue.words, dialect
+        self.shape, self.steps = Shape(self.views, plain), Steps(self.views)
+        for view in self.views:
+            dialect.judge_table(view.name)
+        self.tables = Names(dialect, [view.name for view in self.views])
+        self.columns = [Names(dialect, [said for said, _ in view.columns], dialect.own_columns) for view in self.views]
+        self.checked = dialect.checks(self)
+
+    # ---- names
+
+    def said(self, v, suffix=""):
+        """The name of a view's table, or of its changes."""
+        return self.tables.of(self.views[v].name, suffix)
+
+    def table(self, v, suffix=""):
+        return self.dialect.table(self.said(v, suffix))
+
+    def working(self, v, kind):
+        """A working table of a view's."""
+        return self.dialect.working(self.working_name(v, kind))
+
+    def working_name(self, v, kind):
+        return f"night~{kind}{v}"
+
+    def users(self, v):
+        """The names of a view's columns in the user's table."""
+        return [name(self.columns[v].of(said)) for said, _ in self.views[v].columns]
+
+    def kinds(self, v):
+        return [kind for _, kind in self.views[v].columns]
+
+    @cache
+    def read(self, v, of="t"):
+        """The columns of a view's table, as they are read."""
+        columns = zip(self.users(v), self.kinds(v))
+        return tuple(self.dialect.read(sql("{of}.{column}", of=word(of), column=column), kind) for column, kind in columns)
+
+    @cache
+    def cells(self, v, of=None):
+        """The columns of a view's working tables."""
+        found = [word("c", place) for place in range(1, self.shape.width(v) + 1)]
+        return tuple(sql("{of}.{column}", of=word(of), column=column) if of else column for column in found)
+
+    def same(self, v, count=None):
+        """Whether a row t of a view's table is the row d of a working table, or of its group."""
+        pairs = list(zip(self.read(v), self.cells(v, "d")))[:count]
+        return joined([sql("{left} = {right}", left=left, right=right) for left, right in pairs], "AND") if pairs else sql("1 = 1")
+
+    # ---- tables
+
+    def expected(self):
+        """What tables a night wants."""
+        found = []
+        for v, view in enumerate(self.views):
+            columns = [(self.columns[v].of(said), kind) for said, kind in view.columns]
+            counted = [*columns, ("#", "count")]
+            role, columns = "derived" if view.over else "base", counted if self.shape.is_counted(v) else columns
+            found.append(Expected(role, view.name, self.said(v), columns))
+        for v in self.steps.base():
+            columns = [(self.columns[v].of(said), kind) for said, kind in self.views[v].columns]
+            found.append(Expected("changes", f"{self.views[v].name}~changes", self.said(v, "~changes"), [*columns, ("#", "count")]))
+        return found
+
+    def create(self):
+        """The transaction that makes the tables and indexes that do not pass with a night."""
+        found = []
+        for v, view in enumerate(self.views):
+            found.append(sql("CREATE TABLE {table} ({columns})", table=self.table(v), columns=joined(self.declared(v))))
+            if not view.over:
+                columns = [*self.typed(v), sql("{count} {kind} NOT NULL CHECK ({count} <> 0)", count=name("#"), kind=self.dialect.kinds["int"])]
+                found.append(sql("CREATE TABLE {table} ({columns})", table=self.table(v, "~changes"), columns=joined(columns)))
+        return self.dialect.creation(found + self.indexes())
+
+    def typed(self, v):
+        """The columns as they are declared."""
+        return [
+            sql("{column} {kind} NOT NULL", column=column, kind=self.dialect.declared[kind]) for column, kind in zip(self.users(v), self.kinds(v))
+        ]
+
+    def declared(self, v):
+        found, columns = self.typed(v), self.users(v)[: self.shape.groups(v)]
+        if self.shape.is_counted(v):
+            kind, check = self.dialect.kinds["int"], self.dialect.holds_count
+            found.append(sql("{count} {kind} NOT NULL DEFAULT 1 CHECK ({check})", count=name("#"), kind=kind, check=check))
+        elif self.shape.is_summary(v):
+            found.append(sql("CHECK ({count} > 0)", count=self.users(v)[self.shape.groups(v)]))
+        if v not in self.shape.plain and 0 < len(columns) <= WIDEST_INDEX:
+            found.append(sql("CONSTRAINT {key} UNIQUE ({columns})", key=name(self.said(v, "~key")), columns=joined(columns)))
+        return found
+
+    def indexes(self):
+        """An index for the columns by which a table is joined with another one."""
+        found = []
+        for u, tables in enumerate(self.indexed()):
+            for at, columns in enumerate(tables, 1):
+                index, table = self.dialect.index(self.said(u, f"~{at}")), self.dialect.indexed(self.said(u))
+                listed = joined([self.users(u)[column] for column in columns])
+                found.append(sql("CREATE INDEX {index} ON {table} ({columns})", index=index, table=table, columns=listed))
+        return found
+
+    def indexed(self):
+        """Of each view the lists of columns by which another view is joined with it, each once."""
+        found = [{} for _ in self.views]
+        for v, view in enumerate(self.views):
+            for (u, _), columns in self.shape.partners(v).items():
+                found[view.over[u]][tuple(sorted(columns)[:WIDEST_INDEX])] = True
+        return found
+
+    def working_tables(self):
+        """The tables that pass with a night: of each view its change and where its rows stand, and of a derived one what its Comps make."""
+        found = []
+        for v, view in enumerate(self.views):
+            tables = self.change_tables(v) + (self.comp_tables(v) if view.over else [])
+            found += [(self.working_name(v, kind), columns) for kind, columns in tables]
+        return found
+
+    # ---- scripts
+
+    def carried(self, steps, comment):
+        """The statements of steps, each with a comment above it."""
+        found = []
+        for step in steps:
+            found += [comment(step), *getattr(self, step.kind)(step)]
+        return found
+
+    def whole(self, before, steps, after, comment):
+        """A transaction of all this."""
+        locked = [self.table(v) for v in range(len(self.views))] + [self.table(v, "~changes") for v in self.steps.base()]
+        working = self.checked.working_tables() + self.working_tables()
+        made = before + self.carried(steps, comment) + after
+        return self.dialect.program(self.checked.statements(locked), working, made, self.checked.watchers())
+
+    def night(self, strategy, comment):
+        numbers = range(len(self.views))
+        ended = self.emptied() + self.dialect.settled() + [each for v in numbers for each in [*self.verified(v), *self.untouched(v)]]
+        return self.whole([], self.steps.night(strategy), ended, comment)
+
+    def open(self, comment):
+        derived = self.steps.derived()
+        ended = self.dialect.settled() + [each for v in derived for each in self.verified(v)]
+        return self.whole([each for v in reversed(derived) for each in self.cleared(v)], self.steps.opening(), ended, comment)
+
+    def emptied(self):
+        """The changes are used up."""
+        found = []
+        for v in self.steps.base():
+            table, told = self.table(v, "~changes"), f"refused torn {self.views[v].name}: rows of its changes stayed in their table"
+            found.append(sql("DELETE FROM {table}", table=self.dialect.target(self.said(v, "~changes"))))
+            found += self.dialect.refuse(told, sql("SELECT 1 FROM {table}", table=table))
+        return found
+
+

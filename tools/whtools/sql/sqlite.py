@@ -1,0 +1,227 @@
+"""SQLite 3.39 and later: a night is one statement, which fires a temporary trigger, and is undone as a whole where anything in it fails."""
+
+
+from whtools.sql.dialect import Dialect
+from whtools.sql.sqlite_checks import Checks
+from whtools.sql.tokens import END_OF_STATEMENT, Sql, Unfit, joined, name, number, sql, statements, text, word
+
+HALF = 2**32
+# The high half of a product may have 2^39 at most, so that only sums of 2^24 of them could leave 64 bits.
+ROOM = 2**24
+INTEGER = text("integer")
+# What is left of SQLite's limits beside the statements round a formula.
+DEEPEST_TEST, MOST_HELD = 900, 66
+JUDGED, NIGHT = "night~judged", "night~"
+UNJUDGED = "the tables were not judged: run the script from its beginning"
+
+
+class SQLite(Dialect):
+    """Integers that leave 64 bits turn into reals there, and what is made of a real never turns back into an integer."""
+
+    engine = "sqlite"
+    own_schema = "main"
+    temporary = word("temp")
+    folds = True
+    own_columns = ("_rowid_",)
+    kinds = {"int": sql("INTEGER"), "text": sql("TEXT")}
+    declared = kinds
+    # Without a type a number stays what it was computed as; a column of integers would turn a real back.
+    free_number = sql("")
+    count_number = sql("NOT NULL")
+    id_kind, part_kind, place_kind = sql("INTEGER PRIMARY KEY"), sql("INTEGER"), sql("INTEGER")
+    holds_count = sql("{count} > 0 AND typeof({count}) = {integer}", count=name("#"), integer=INTEGER)
+    head = []
+
+    def checks(self, script):
+        return Checks(script)
+
+    def judge_table(self, said):
+        """Refuses a name that SQLite or a trigger has for itself."""
+        if said.lower().startswith("sqlite_") or said.lower() in ("new", "old"):
+            raise Unfit(f"SQLite has the name {said} for itself: give the view another one")
+
+    def judge_test(self, deep):
+        if deep > DEEPEST_TEST:
+            raise Unfit(f"a predicate is {deep} operators deep, and SQLite takes 1000 (SQLITE_MAX_EXPR_DEPTH): part it into two views")
+
+    def judge_expression(self, held):
+        if held > MOST_HELD:
+            raise Unfit("an expression nests too deep for SQLite's parser, whose stack has 100 places (YYSTACKDEPTH): part it in two")
+
+    # ---- literals and expressions
+
+    def text(self, said):
+        """A text; the lines of a script end where its statements do, so that a line's end in it is a number."""
+        whole, found, rest = text(said), [], said
+        while (at := next((at for at, letter in enumerate(rest) if letter < " "), None)) is not None:
+            found += [text(rest[:at]), sql("char({code})", code=number(ord(rest[at])))]
+            rest = rest[at + 1 :]
+        return sql("({parts})", parts=joined([*found, text(rest)], "||")) if found else whole
+
+    def whole(self, said):
+        return number(said)
+
+    number = whole
+
+    def cell(self, column):
+        return column
+
+    def read(self, column, _):
+        return column
+
+    read_count = cell
+
+    def value_tests(self, formula, computed):
+        return [sql("typeof({computed}) = {integer}", computed=computed(formula), integer=INTEGER)]
+
+    def kept(self, computed, _):
+        return computed
+
+    summand = cell
+
+    def is_lost(self, said):
+        return sql("typeof({number}) <> {integer}", number=said, integer=INTEGER)
+
+    def inexact(self, columns):
+        """Tests for sums of what turned into reals."""
+        return [self.is_lost(column) for column in columns]
+
+    # ---- sums, which SQLite refuses where they leave 64 bits on the way: those of halves do not
+
+    def halves(self, said):
+        """Both have the number's sign. The high half of a real is a real."""
+        return [sql("{said} / {half}", said=said, half=number(HALF)), sql("{said} % {half}", said=said, half=number(HALF))]
+
+    def times(self, count, said):
+        """A product may leave 64 bits by a byte; one that is larger turns into a real."""
+        high, low = (sql("{count} * ({half})", count=count, half=half) for half in self.halves(said))
+        half, room = number(HALF), number(ROOM)
+        first = sql("({high} + {low} / {half}) * {room} / {room}", high=high, low=low, half=half, room=room)
+        return [first, sql("{low} % {half}", low=low, half=half)]
+
+    def parts(self, place):
+        return [word("s", place), word("l", place)]
+
+    def whole_of(self, halves):
+        """The low half is brought between 0 and 2^32, so that nothing leaves 64 bits, and turns into a real, but what is joined."""
+        high, low = halves
+        return sql("(({high} + ({low} >> 32)) * {half} + ({low} & {most}))", high=high, low=low, half=number(HALF), most=number(HALF - 1))
+
+    # ---- statements of a trigger
+
+    def refuse(self, told, query):
+        """All of the transaction is undone, and a client that goes on finds nothing to commit."""
+        return [sql("SELECT RAISE(ROLLBACK, {told}) WHERE EXISTS ({query})", told=text(told), query=query)]
+
+    def counted(self, _, made):
+        return made
+
+    def exact(self, told, query):
+        return self.refuse(told, query)
+
+    def only_where(self, _, made):
+        """The statements find nothing where there is nothing to do."""
+        return made
+
+    def touched(self, told, count):
+        return [sql("SELECT RAISE(ROLLBACK, {told}) WHERE changes() <> ({count})", told=text(told), count=count)]
+
+    def filled(self, _):
+        return []
+
+    def planned(self, _, __, statement, ___):
+        return [statement]
+
+    def apart(self, *_):
+        return sql("")
+
+    def skipped(self, _, made):
+        return made
+
+    def filling(self, table):
+        """A table that a statement of a trigger fills, which has no schema: temporary tables are found first."""
+        return Sql(table.tokens[-1:])
+
+    def wrong_cells(self, cells, kinds, count):
+        """A test for cells that are of another kind than their columns."""
+        wanted = [*zip(cells, (text("integer" if kind == "int" else "text") for kind in kinds)), (count, INTEGER)]
+        return joined([sql("typeof({cell}) <> {kind}", cell=cell, kind=kind) for cell, kind in wanted], "OR")
+
+    # ---- rows, each told by its place
+
+    def here(self, of):
+        return sql("0, {of}._rowid_", of=of)
+
+    def target(self, said):
+        return name(said)
+
+    def delete(self, said, gone):
+        return sql("DELETE FROM {table} WHERE _rowid_ IN (SELECT g.place FROM ({gone}) AS g)", table=name(said), gone=gone)
+
+    def update(self, said, sets, rows):
+        return sql("UPDATE {table} SET {sets} FROM ({rows}) AS g WHERE {table}._rowid_ = g.place", table=name(said), sets=sets, rows=rows)
+
+    def copies(self, net):
+        """Rows of a change beside the numbers up to their counts."""
+        return sql(
+            "{net} AS d JOIN (WITH RECURSIVE copies (k) AS (SELECT 1 UNION ALL SELECT c.k + 1 FROM copies AS c WHERE c.k <"
+            " (SELECT max(d.n) FROM {net} AS d)) SELECT c.k AS k FROM copies AS c) AS k ON k.k <= d.n",
+            net=net,
+        )
+
+    def found_in(self, operand, test):
+        """Rows that are looked up one by one: tables are gone through in the order that they are written in."""
+        return sql("CROSS JOIN {operand} ON {test}", operand=operand, test=test)
+
+    def index(self, said):
+        return sql("{schema}.{index}", schema=name(self.schema), index=name(said))
+
+    def indexed(self, said):
+        return name(said)
+
+    # ---- programs
+
+    def fired(self, said, made):
+        """Statements as one: a trigger, and what fires it."""
+        table, body = name(said), statements(made, 1)
+        trigger = "CREATE TEMPORARY TRIGGER {table} AFTER INSERT ON {table} BEGIN{body}\nEND{end}"
+        return [
+            sql(trigger, table=table, body=body, end=END_OF_STATEMENT),
+            sql("INSERT INTO {table} VALUES (1){end}", table=self.working(said), end=END_OF_STATEMENT),
+        ]
+
+    def program(self, checked, working, made, watchers=None):
+        """A transaction between the making of its working tables and their going: a judgement, so that columns are there which the night
+        names, and the night, which does nothing where the judgement did not end well."""
+        tables = [(self.working(said), columns) for said, columns in [*working, *((said, [sql("begun")]) for said in (JUDGED, NIGHT))]]
+        gone = [self.dropped("TRIGGER", self.working(said)) for said in watchers or ()]
+        gone += [self.dropped("TABLE", table) for table, _ in tables]
+        judged = sql("SELECT RAISE(ROLLBACK, {told}) WHERE NOT EXISTS (SELECT 1 FROM {table})", told=text(UNJUDGED), table=self.working(JUDGED))
+        return [
+            sql("BEGIN IMMEDIATE{end}", end=END_OF_STATEMENT),
+            *gone,
+            *(sql("CREATE TABLE {table} ({columns}){end}", table=table, columns=joined(columns), end=END_OF_STATEMENT) for table, columns in tables),
+            *self.fired(JUDGED, checked),
+            *(
+                sql("CREATE TEMPORARY TRIGGER {said} {watcher}{end}", said=name(said), watcher=watcher, end=END_OF_STATEMENT)
+                for said, watcher in (watchers or {}).items()
+            ),
+            *self.fired(NIGHT, [judged, *made]),
+            *gone,
+            sql("COMMIT{end}", end=END_OF_STATEMENT),
+        ]
+
+    def dropped(self, kind, said):
+        return sql("DROP {kind} IF EXISTS {said}{end}", kind=word(kind), said=said, end=END_OF_STATEMENT)
+
+    def creation(self, made):
+        """A transaction that makes tables and indexes."""
+        lines = [sql("{made}{end}", made=each, end=END_OF_STATEMENT) for each in made]
+        return [sql("BEGIN IMMEDIATE{end}", end=END_OF_STATEMENT), *lines, sql("COMMIT{end}", end=END_OF_STATEMENT)]
+
+    def deferred(self):
+        return []
+
+    def settled(self):
+        """SQLite looks at foreign keys where a statement ends, and a night is one."""
+        return []

@@ -1,0 +1,62 @@
+"""The one place where tokens are written out."""
+
+
+from whtools.sql.tokens import COMMENT, END, LINE, WORD
+
+CLOSE_BEFORE, CLOSE_AFTER = frozenset(",).::];["), frozenset("(.::[")
+ESCAPES = {"\\": "\\\\", "'": "\\'", "\n": "\\n", "\r": "\\r"}
+# Words before a bracket that call nothing.
+APART = frozenset("AND AS BY CHECK ELSE EXISTS FROM HAVING IN JOIN NOT ON OR OVER SELECT SET THEN USING VALUES WHEN WHERE".split())
+
+
+class Writer:
+    """Writes tokens as an engine reads them. Where backslashes escape, a text with a line's end or one of them is written with escapes."""
+
+    def __init__(self, escapes):
+        self.escapes = escapes
+
+    def written(self, given):
+        """The text of tokens."""
+        found, before = [], None
+        for token in given.tokens:
+            if before is not None and before.kind == COMMENT and token.kind != LINE:
+                found.append("\n")
+            if before is not None and self.parted(before, token):
+                found.append(" ")
+            found.append(getattr(self, token.kind)(token.said))
+            before = token
+        return "".join(found)
+
+    def parted(self, before, token):
+        """Whether a blank stands between two tokens."""
+        if LINE in (before.kind, token.kind) or before.kind == COMMENT:
+            return False
+        if token.kind == END or (token.kind == WORD and token.said in CLOSE_BEFORE | {"::"}):
+            return False
+        if before.kind == WORD and before.said in CLOSE_AFTER | {"::"}:
+            return False
+        calls = before.kind == WORD and before.said.isidentifier() and before.said not in APART
+        return not (calls and token.kind == WORD and token.said == "(")
+
+    def word(self, said):
+        return said
+
+    number = end = line = word
+
+    def name(self, said):
+        return '"' + said.replace('"', '""') + '"'
+
+    def text(self, said):
+        if self.escapes and set(said) & {"\\", "\n", "\r"}:
+            return "E'" + "".join(ESCAPES.get(letter, letter) for letter in said) + "'"
+        return "'" + said.replace("'", "''") + "'"
+
+    def comment(self, said):
+        return f"-- {said}"
+
+    def body(self, said):
+        """A program between two marks that do not stand in it."""
+        inner, tag = self.written(said), "night"
+        while f"${tag}$" in inner:
+            tag += "_"
+        return f"${tag}${inner}\n${tag}$"

@@ -1,0 +1,1 @@
+"""What tools/try_stops does to nights of tools/warehouse: it kills, hinders and doubles them."""

@@ -1,0 +1,1 @@
+"""The commands of tools/warehouse, a module each, and what they share."""

@@ -1,0 +1,115 @@
+"""The words of tools/warehouse, and which command they mean."""
+
+import os
+import sys
+from importlib import import_module
+from pathlib import Path
+
+from .finding import Failure, nearest, of_system, warn
+from .lock import at_work
+from .program import OWN_PROGRAM
+from .status import BAD_INPUT, BAD_WORDS, DONE, NOT_WRITTEN
+from .stopped import is_stopped
+from .takeover import is_pending
+
+COMMANDS = ("pack", "unpack", "night", "lint", "check", "plan", "certify", "sizes", "diff", "explain", "graph")
+WITH_A_VALUE = ("--program", "--keep", "--comp-cost", "--inst-cost", "--budget", "--workers", "--readers", "--page-keys")
+GOES_THROUGH = {
+    "night": ("--workers", "--readers", "--page-keys"),
+    "check": ("--comp-cost", "--inst-cost"),
+    "certify": ("--comp-cost", "--inst-cost"),
+    "plan": ("--comp-cost", "--inst-cost", "--budget"),
+}
+
+
+class Words:
+    """What was asked for: the command, its folder, the program, and the options that go through to it."""
+
+    def __init__(self, words):
+        given = list(words)
+        self.program, self.commit, self.keep, self.lenient, self.through = OWN_PROGRAM, False, None, False, []
+        self.command = given.pop(0) if given else ""
+        if self.command not in COMMANDS:
+            near = nearest(self.command, COMMANDS)
+            raise Failure(BAD_WORDS, f"there is no command {self.command!r}; there are {', '.join(COMMANDS)}{near}")
+        folders = []
+        while given:
+            self.take(given, folders)
+        self.folders = list(map(Path, folders))
+        if len(folders) != (2 if self.command == "diff" else 1):
+            raise Failure(BAD_WORDS, "diff takes two files" if self.command == "diff" else f"{self.command} takes one folder")
+        self.folder = self.folders[0]
+        if self.keep and not self.commit:
+            raise Failure(BAD_WORDS, "--keep goes with --commit, which makes the versions")
+
+    def take(self, given, folders):
+        """Takes the next word, and its value where it has one."""
+        word = given.pop(0)
+        if word == "--commit" and self.command == "night":
+            self.commit = True
+        elif word == "--lenient" and self.command == "lint":
+            self.lenient = True
+        elif word in WITH_A_VALUE and not given:
+            raise Failure(BAD_WORDS, f"{word} wants a value")
+        elif word == "--program":
+            self.program = Path(given.pop(0)).resolve()
+        elif word == "--keep" and self.command == "night":
+            self.keep = number(given.pop(0))
+        elif word in GOES_THROUGH.get(self.command, ()):
+            self.through += [word, given.pop(0)]
+        elif word.startswith("-"):
+            raise Failure(BAD_WORDS, f"{self.command} has no option {word}")
+        else:
+            folders.append(word)
+
+
+def number(word):
+    """How many versions are to stay."""
+    if not word.isdecimal() or int(word) == 0:
+        raise Failure(BAD_WORDS, f"--keep is how many versions stay, 1 or more, and not {word!r}")
+    return int(word)
+
+
+def judge_folder(words):
+    """Refuses what is no folder, and for all but nights one in which a night was stopped; tells of one in which a night is at work."""
+    if not words.folder.is_dir():
+        raise Failure(BAD_WORDS, f"{words.folder} is no folder")
+    if words.command == "night":
+        return
+    stopped = is_stopped(words.folder) or is_pending(words.folder)
+    who = at_work(words.folder)
+    if who:
+        print(f"{who}; what is told here is without the changes that it has taken", file=sys.stderr)
+    elif stopped and (is_stopped(words.folder) or is_pending(words.folder)):
+        told = f"a night was stopped in {words.folder}; `tools/warehouse night {words.folder} --commit` finishes or undoes it"
+        raise Failure(BAD_INPUT, told)
+
+
+def main(given, about):
+    """Carries a command out, and answers its status."""
+    if not given or given[0] in ("-h", "--help", "help"):
+        print(about, file=sys.stdout if given else sys.stderr)
+        return DONE if given else BAD_WORDS
+    try:
+        words = Words(given)
+        if words.command not in ("unpack", "diff"):
+            judge_folder(words)
+        status = import_module(f"whtools.warehouse.{words.command}").run(words)
+        sys.stdout.flush()
+        return status
+    except Failure as failure:
+        warn(failure.lines)
+        status = failure.status
+    except OSError as error:
+        warn([f"tools/warehouse: {of_system(error)}"])
+        status = NOT_WRITTEN
+    drop_output()
+    return status
+
+
+def drop_output():
+    """Has what cannot be printed be no further trouble as the process ends."""
+    try:
+        sys.stdout.flush()
+    except OSError:
+        os.dup2(os.open(os.devnull, os.O_WRONLY), sys.stdout.fileno())

@@ -1,0 +1,91 @@
+"""A warehouse folder as it is: its catalogue, tables and changes, read once, with all findings."""
+
+from collections import Counter
+
+from ..bundle import part
+from .catalogue import Catalogue
+from .finding import Failure, Finding, Place
+from .inputs import Inputs
+from .limits import bundle_sizes, over_the_limit
+from .packing import left_out
+from .records import Changes, Records, absent
+from .status import BAD_INPUT, REFUSED
+
+
+class Folder:
+    """What a folder holds. Where it has faults, what is read may be cut short. A night under way has taken its changes to a folder
+    of its own, `taken`.
+    """
+
+    def __init__(self, path, taken=None, lenient=False):
+        self.path, self.catalogue, self.inputs = path, Catalogue(path, lenient), Inputs(path, taken)
+        self.views, self.state = self.catalogue.views, self.inputs.state
+        self.findings = self.catalogue.findings + self.inputs.findings(self.catalogue)
+        self.data, self.changes, self.absent = {}, {}, []
+        self.judge_other_files()
+        too_large = over_the_limit(self.inputs.sizes())
+        for view in self.views:
+            if view.is_base and view.columns:
+                self.read(view, not too_large)
+        self.findings += self.absent + (too_large or over_the_limit(bundle_sizes(self)))
+
+    @property
+    def faults(self):
+        return [finding for finding in self.findings if not finding.warns]
+
+    @property
+    def warnings(self):
+        return [finding for finding in self.findings if finding.warns]
+
+    @property
+    def bases(self):
+        return [view for view in self.views if view.is_base]
+
+    def read(self, view, is_small):
+        """Reads the table and the changes of a base view, where the folder is not too large to be read."""
+        table, changes = self.inputs.table(view.name), self.inputs.changes.get(view.name)
+        if table is None:
+            header = ",".join(name for name, _ in view.columns)
+            text = f"there is no data/{view.name}.csv; an empty table is a file with its header: {header}"
+            self.findings.append(Finding(view.place("name", 0), text))
+        if table and is_small:
+            self.data[view.name] = Records(table, view, False)
+            self.findings += self.data[view.name].findings
+        if changes and is_small:
+            self.changes[view.name] = Changes(changes, view)
+            self.findings += self.changes[view.name].findings
+        read = [kept[view.name] for kept in (self.data, self.changes) if view.name in kept]
+        if len(read) == 2 and not any(records.findings for records in read):
+            self.absent += absent(*read)
+
+    def judge_other_files(self):
+        """Files that are no part of a bundle."""
+        for path in left_out(self.path):
+            text = "this file is no part of a warehouse, and is not looked at"
+            self.findings.append(Finding(Place(str(path.relative_to(self.path))), text, True))
+
+    def rolled(self, view):
+        """The rows of a base view after its changes."""
+        rows = Counter(self.data[view.name].rows)
+        for row, count in self.changes[view.name].rows.items() if view.name in self.changes else ():
+            rows[row] += count
+        return rows
+
+    def bundle(self, strategy, with_changes=True):
+        """The bundle of one night with this strategy."""
+        parts = [part("catalogue", self.catalogue.content)]
+        for kind, kept in (("data", self.data), ("changes", self.changes)):
+            parts += [part(f"{kind} {name}", kept[name].content) for name in kept if kind == "data" or with_changes]
+        return b"".join([*parts, part("strategy", strategy.encode())])
+
+
+def judged(folder):
+    """The folder. Where it has faults, they end the command; rows that are not there alone are a refused night."""
+    if folder.faults:
+        raise Failure(REFUSED if folder.faults == folder.absent else BAD_INPUT, *folder.warnings, *folder.faults)
+    return folder
+
+
+def sound(path):
+    """The folder at a path, which has no fault."""
+    return judged(Folder(path))

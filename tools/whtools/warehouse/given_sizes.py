@@ -1,0 +1,59 @@
+"""What is wrong in a folder's sizes.csv, by line."""
+
+import csv
+import io
+
+from .finding import Finding, Place, nearest
+from .packing import MARK
+from .records import NUMBER
+
+FILE, HEADER = "sizes.csv", ["view", "pre", "post", "change"]
+MOST_ROWS = 2**40
+
+
+class GivenSizes:
+    """Goes through the records of sizes.csv, where there is one, and keeps what is wrong in them."""
+
+    def __init__(self, path, views):
+        self.names, self.seen, self.findings = [view.name for view in views], set(), []
+        if (path / FILE).is_file():
+            self.read((path / FILE).read_bytes().removeprefix(MARK))
+
+    def find(self, line, text):
+        self.findings.append(Finding(Place(FILE, line), text))
+
+    def read(self, content):
+        try:
+            reader = csv.reader(io.StringIO(content.decode(), newline=""))
+        except UnicodeDecodeError as error:
+            self.find(content[: error.start].count(b"\n") + 1, "this is not UTF-8")
+            return
+        header, line = next(filter(None, reader), None), reader.line_num + 1
+        if header != HEADER:
+            has = "it is missing" if header is None else f"it is {','.join(header)}"
+            self.find(1, f"the header is {','.join(HEADER)}; {has}")
+            return
+        for record in reader:
+            if record:
+                self.take(record, line)
+            line = reader.line_num + 1
+        for name in self.names:
+            if name not in self.seen:
+                self.find(line, f"{name} has no record")
+
+    def take(self, record, line):
+        """Judges a record: its length, its view, its numbers, and how far they are apart."""
+        if len(record) != len(HEADER):
+            self.find(line, f"this record has {len(record)} cells and the header has {len(HEADER)}")
+            return
+        name, *cells = record
+        if name not in self.names:
+            self.find(line, f"there is no view {name}{nearest(name, self.names)}")
+        elif name in self.seen:
+            self.find(line, f"{name} has an earlier record")
+        self.seen.add(name)
+        wrong = [cell for cell in cells if not NUMBER.fullmatch(cell) or not 0 <= int(cell) <= MOST_ROWS]
+        for cell in wrong:
+            self.find(line, f'"{cell}" is not a number of rows, which is 0 to {MOST_ROWS}')
+        if not wrong and abs(int(cells[0]) - int(cells[1])) > int(cells[2]):
+            self.find(line, f"{name}: pre and post are further apart than change")

@@ -1,0 +1,24 @@
+"""`pack`: the bundle of a folder, on standard output; files that are no part of it are named on standard error."""
+
+import sys
+
+from .packing import left_out, pack
+from .catalogue import Catalogue
+from .finding import Failure
+from .inputs import Inputs
+from .limits import judge, over_the_limit
+from .status import BAD_INPUT, DONE
+
+
+def run(words):
+    catalogue, inputs = Catalogue(words.folder), Inputs(words.folder)
+    found = catalogue.findings + inputs.findings(catalogue) + over_the_limit(inputs.sizes())
+    faults = [finding for finding in found if not finding.warns]
+    if faults:
+        raise Failure(BAD_INPUT, *faults)
+    for path in left_out(words.folder):
+        print(f"tools/warehouse: {path} is no part of a bundle", file=sys.stderr)
+    bundle = pack(words.folder)
+    judge(bundle)
+    sys.stdout.buffer.write(bundle)
+    return DONE

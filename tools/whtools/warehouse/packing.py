@@ -1,0 +1,90 @@
+"""A folder of files as a bundle.
+
+A folder has any of these files: catalogue.toml, data/NAME.csv, which a version has where there is one, changes/NAME.csv, strategy.txt,
+sizes.csv, plan.txt, schedule.txt. Further nights are folders of nights/, in the order of their names, with changes/NAME.csv and
+strategy.txt each. A file that is missing gives no part of the bundle, and an empty one gives a part with no lines. Several files of
+changes of one view make one part.
+"""
+
+import csv
+import io
+from collections import Counter
+
+from ..bundle import part
+from .catalogue import Catalogue
+from .inputs import CHANGES, Inputs, by_view
+
+AFTER = ("sizes.csv", "plan.txt", "schedule.txt")
+READ = ("catalogue.toml", "strategy.txt", *AFTER, "graph.dot", "graph.svg")
+# What the nights make, those of before there were versions too; and what is judged by itself.
+OWN = ("data", "changes", "versions", "versions.part", "current", "current.part", "new", "new.part", "new.old")
+OWN += ("views", "before", "commit", "commit.part")
+# A byte order mark, which may stand before a table.
+MARK = b"\xef\xbb\xbf"
+
+
+def merged(contents):
+    """The content of several files of changes: the header, and each row with the sum of its counts."""
+    if len(contents) == 1:
+        return contents[0]
+    header, rows = None, Counter()
+    for content in contents:
+        text = content.removeprefix(MARK).decode(errors="surrogateescape")
+        records = list(filter(None, csv.reader(io.StringIO(text, newline=""))))
+        if not records or records[0] != (header or records[0]):
+            raise ValueError("the files of changes of one view have headers that differ")
+        header = records[0]
+        for count, *cells in records[1:]:
+            rows[tuple(cells)] += int(count)
+    written = io.StringIO()
+    writer = csv.writer(written, lineterminator="\n")
+    writer.writerows([header, *([count, *row] for row, count in rows.items() if count)])
+    return written.getvalue().encode(errors="surrogateescape")
+
+
+def nights(folder):
+    """The folders of the nights after the first one."""
+    return sorted(path for path in (folder / "nights").glob("*") if path.is_dir())
+
+
+def file_part(file):
+    """The part of a file whose heading is its name, or none where it is missing."""
+    return [part(file.stem, file.read_bytes())] if file.is_file() else []
+
+
+def night_parts(changes, strategy):
+    """The parts of a night: its changes by view, and its strategy."""
+    merged_of = ((name, merged([source.path.read_bytes() for source in sources])) for name, sources in changes.items())
+    return [part(f"changes {name}", content) for name, content in merged_of] + file_part(strategy)
+
+
+def tables(folder, inputs):
+    """The tables of a bundle by the names of their views; of a version those that its base views still have."""
+    bases = {view.name for view in Catalogue(folder).views if view.is_base}
+    found = inputs.given | inputs.carried
+    is_taken = inputs.state.number is None or not bases
+    return {name: source for name, source in sorted(found.items()) if is_taken or name in bases}
+
+
+def pack(folder):
+    """The bundle of a folder."""
+    inputs = Inputs(folder)
+    parts = file_part(folder / "catalogue.toml")
+    parts += [part(f"data {name}", source.path.read_bytes()) for name, source in tables(folder, inputs).items()]
+    parts += night_parts(inputs.changes, folder / "strategy.txt")
+    for name in AFTER:
+        parts += file_part(folder / name)
+    for night in nights(folder):
+        parts += [b"@night\n", *night_parts(by_view(night / "changes", "changes", CHANGES), night / "strategy.txt")]
+    return b"".join(parts)
+
+
+def left_out(folder):
+    """The files of a folder that are no part of a bundle, but for those of data/ and changes/, and hidden ones."""
+    read = {folder / name for name in READ}
+    for night in nights(folder):
+        read.add(night / "strategy.txt")
+        read.update(source.path for sources in by_view(night / "changes", "changes", CHANGES).values() for source in sources)
+    tops = [path for path in folder.iterdir() if path.name not in OWN and not path.name.startswith(".")]
+    found = [path for top in tops for path in [top, *top.rglob("*")]]
+    return sorted(path for path in found if path.is_file() and path not in read)

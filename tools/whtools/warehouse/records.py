@@ -1,0 +1,155 @@
+"""The CSV files of a folder: their rows, and what is wrong in them, by line and column."""
+
+import csv
+import io
+import re
+from collections import Counter
+from functools import cached_property
+
+from .finding import Finding, Place
+from .packing import MARK, merged
+
+NUMBER = re.compile(r"[+-]?[0-9]+")
+MOST = 2**63
+
+
+class Records:
+    """The rows of a table or of changes, how often each stands in it, the line of each one's first record, and the findings."""
+
+    def __init__(self, source, view, are_changes):
+        self.file, self.view, self.are_changes = source.told, view, are_changes
+        self.rows, self.lines, self.findings, self.begun = Counter(), {}, [], []
+        self.content = source.path.read_bytes()
+        content = self.content.removeprefix(MARK)
+        try:
+            text = content.decode()
+        except UnicodeDecodeError as error:
+            line = content[: error.start].count(b"\n") + 1
+            start = content.rfind(b"\n", 0, error.start) + 1
+            self.find(line, len(content[start : error.start].decode()) + 1, "this is not UTF-8")
+            return
+        self.read(csv.reader(io.StringIO(text, newline="")))
+
+    @cached_property
+    def text(self):
+        """What places are counted in."""
+        return self.content.removeprefix(MARK).decode()
+
+    def find(self, line, column, text):
+        self.findings.append(Finding(Place(self.file, line, column), text))
+
+    def read(self, reader):
+        """Goes through the records; with a wrong header none is judged."""
+        columns = [name for name, _ in self.view.columns]
+        header = next((record for record in reader if record), None)
+        counted = header is not None and header[:1] == ["#"]
+        wanted = ["#", *columns] if counted or self.are_changes else columns
+        if header != wanted:
+            has = "it is missing" if header is None else f"it is {','.join(header)}"
+            self.find(1, 1, f"the header of {self.view.name} is {','.join(wanted)}; {has}")
+            return
+        kinds = (["int"] if counted else []) + [kind for _, kind in self.view.columns]
+        line = reader.line_num + 1
+        for record in reader:
+            if record:
+                self.take(record, kinds, counted, line)
+            line = reader.line_num + 1
+
+    def take(self, record, kinds, counted, line):
+        """Adds a record, or finds what is wrong with it."""
+        if len(record) != len(kinds):
+            self.find(line, 1, f"this record has {len(record)} cells and the header has {len(kinds)}")
+            return
+        cells = []
+        for number, (cell, kind) in enumerate(zip(record, kinds)):
+            if kind == "int":
+                cell = self.number(cell, line, number)
+                if cell is None:
+                    return
+            cells.append(cell)
+        count = cells.pop(0) if counted else 1
+        if count == 0 or (count < 0 and not self.are_changes):
+            self.find(line, 1, f"a row counts {count} times; a count is {'not zero' if self.are_changes else 'positive'}")
+            return
+        row = tuple(cells)
+        self.rows[row] += count
+        self.lines.setdefault(row, line)
+
+    def starts(self):
+        """Where each line begins; a carriage return alone ends one, as it does a record."""
+        if not self.begun:
+            self.begun = [0, *(found.end() for found in re.finditer("\r\n|\r|\n", self.text))]
+        return self.begun
+
+    def number(self, cell, line, number):
+        """A cell's whole number, or None where it has none."""
+        if NUMBER.fullmatch(cell) and -MOST <= int(cell) < MOST:
+            return int(cell)
+        cause = "does not fit into 64 bits" if NUMBER.fullmatch(cell) else "is not a whole number"
+        cents = " (keep cents)" if re.fullmatch(r"[+-]?[0-9]+[.,][0-9]+", cell) else ""
+        self.find(*self.place_of(line, number), f'"{cell}" {cause}{cents}')
+        return None
+
+    def place_of(self, line, number):
+        """The line and column of the cell with this number in the record that begins at this line."""
+        column, inside = 1, False
+        for at in range(self.starts()[line - 1], len(self.text)):
+            letter = self.text[at]
+            if number == 0:
+                break
+            inside ^= letter == '"'
+            column += 1
+            if letter == "\n":
+                line, column = line + 1, 1
+            elif letter == "," and not inside:
+                number -= 1
+        return line, column
+
+
+class Changes:
+    """The changes of a base view: those of one file or several, whose rows add up."""
+
+    def __init__(self, sources, view):
+        self.view, self.files, self.rows = view, [Records(source, view, True) for source in sources], Counter()
+        for records in self.files:
+            self.rows.update(records.rows)
+
+    @property
+    def findings(self):
+        return [finding for records in self.files for finding in records.findings]
+
+    @property
+    def content(self):
+        """What a bundle has of them, where they have no fault."""
+        return merged([records.content for records in self.files])
+
+    def place(self, row):
+        """Where a row stands first."""
+        return next(Place(records.file, records.lines[row]) for records in self.files if row in records.lines)
+
+
+def shown(row):
+    """A row as a CSV file has it, without a line's end."""
+    written = io.StringIO()
+    csv.writer(written, lineterminator="").writerow(row)
+    return written.getvalue()
+
+
+def table_text(columns, rows):
+    """A table sorted by what it shows, with `#`."""
+    written = io.StringIO()
+    writer = csv.writer(written, lineterminator="\n")
+    writer.writerow(["#", *(name for name, _ in columns)])
+    writer.writerows([count, *row] for row, count in sorted(rows.items()) if count)
+    return written.getvalue().encode()
+
+
+def absent(data, changes):
+    """A finding for each row of changes of which more leave than there are."""
+    found = []
+    for row, count in changes.rows.items():
+        there = data.rows[row]
+        if there + count < 0:
+            text = f"{-count} of {shown(row)} leave, and {data.file} has {there}"
+            found.append(Finding(changes.place(row), text))
+    return found
