@@ -65,11 +65,11 @@ pub not_false : (b : Bool) → not b ≡ false → b ≡ true
 not_false true e = refl
 not_false false e = sym e
 
-not_some : {A : Type 0} (o : Option A) → is_some o ≡ false → o ≡ None
+pub not_some : {A : Type 0} (o : Option A) → is_some o ≡ false → o ≡ None
 not_some None e = refl
 not_some (Some x) e = cc
 
-below : (a b : ℕ) → nat_le a b ≡ false → b < a
+pub below : (a b : ℕ) → nat_le a b ≡ false → b < a
 below a b e = grind arith
 
 begin_leaves : (s : Setup) (log : Log) (r : Reply) → IsReply s log Begin r → Leaves s log (logged log Begin r)

@@ -14,21 +14,23 @@ use Rattle.wh_store.specs.Laws.{PagesJoin, VersionsStay}
 use Rattle.wh_store.specs.Operations.{Opens, Commits, Gives_up}
 use Rattle.wh_store.specs.Pages.{Contents, Shown, page_of}
 use Rattle.wh_store.specs.Versions.{Versions, is_active, is_unexpired, kept_count, number, opened, table_in, table_of, version, versions_from}
-use Rattle.wh_course.specs.Night.{Night}
-use Rattle.wh_course.specs.Legs.{Turn, In_wave, At_page, Over}
+use Rattle.wh_maint.specs.declared.fault.MaintFault.{MaintFault}
+use Rattle.wh_maint.specs.declared.fault.MaintFault.TheVariants as fault
+use Rattle.wh_course.specs.Night.{Night, places_from}
+use Rattle.wh_course.specs.Legs.{Turn, In_wave, At_page, Over, legs_of, reach, turn_of}
 use Rattle.wh_core.specs.declared.event.Event.{Event}
 use Rattle.wh_core.specs.declared.event.Event.TheVariants.{Begin, Take, Done, PageIn, Commit, GiveUp, Open, Read, Close}
 use Rattle.wh_core.specs.declared.reply.Cause.{Cause}
 use Rattle.wh_core.specs.declared.reply.Cause.TheVariants as cause
 use Rattle.wh_core.specs.declared.reply.Reply.{Reply}
 use Rattle.wh_core.specs.declared.reply.Reply.TheVariants as reply
-use Rattle.wh_core.specs.Headline.{CarriesOver, ComesTrue, IsAnswered, IsNextPage, IsReadable, RunsComeTrue, done_before, is_reply_to, next_page, nights_ended}
+use Rattle.wh_core.specs.Headline.{CarriesOver, ComesTrue, IsAnswered, IsBegun, IsNewSession, IsNextPage, IsReadable, RunsComeTrue, done_before, has_begun, is_reply_to, last_version, next_page, nights_ended, of_rows, wants_memory}
 use Rattle.wh_core.specs.Laws.{IsSetup, log_after}
 use Rattle.wh_core.specs.Log.{Log, Began, Drew, Finished, Paged_in, Committed, Gave_up, Sat_down, Turned, Left, SessionOf, holding, is_open, logged, nights_begun, session}
-use Rattle.wh_core.specs.Nights.{GivenNight, Setup, night, page_in_turn, published, turn, versions}
+use Rattle.wh_core.specs.Nights.{GivenNight, Setup, next_night, night, page_in_turn, published, turn, versions}
 use Rattle.wh_core.specs.Replies.{IsCarried, IsLegalLog, IsLegalRun, IsMemory, IsReply, IsRuled, IsRunFrom, Ruling, Says, Takes, Carries, Starts, cause_of, commit_ruling, done_by, goes_on, more, nothing, page_ruling, read_ruling, ruling, take_ruling, unless}
-use Rattle.wh_core.proofs.Deeds.{AreDeeds, deeds_of, leaves, none, not_false, one_more, through}
-use Rattle.wh_core.proofs.Moves.{active-open}
+use Rattle.wh_core.proofs.Deeds.{AreDeeds, below, deeds_of, leaves, none, not_false, not_some, one_more, through}
+use Rattle.wh_core.proofs.Moves.{active-open, eq_true}
 use Rattle.wh_core.proofs.Runs.{leave_legal}
 use Rattle.wh_core.proofs.Sessions.{read_tables, version_stays}
 use Rattle.wh_core.proofs.Sound.{commits_make_contents, given_at, number-newest, sound, versions_are_contents}
@@ -188,19 +190,55 @@ unexpired_if n v k a b = ap (λ x. x && nat_lt (number v) (k + kept_count n (is_
 right_limit : (limit : ℕ) → 1 ≤ limit → limit ≤ 256 → ((limit == 0) || nat_lt 256 limit) ≡ false
 right_limit limit some few = grind arith
 
+at_most : (a b : ℕ) → nat_lt b a ≡ false → a ≤ b
+at_most a b e = grind arith
+
+second_false : (a b : Bool) → (a || b) ≡ false → b ≡ false
+second_false true b e = cc
+second_false false b e = e
+
+limit_so : (limit : ℕ) → ((limit == 0) || nat_lt 256 limit) ≡ false → (1 ≤ limit) × (limit ≤ 256)
+limit_so zero e = cc
+limit_so (suc k) e = (omega arith, at_most (suc k) 256 (second_false (suc k == 0) (nat_lt 256 (suc k)) e))
+
+-- a Begin that goes on to the night's changes and expressions
+fault_so : (log : Log) (f : MaintFault) → IsBegun log (reply.Refused (cause_of f))
+fault_so log (fault.Large v) = of_rows cause.Large refl
+fault_so log (fault.Range v) = of_rows cause.Range refl
+fault_so log (fault.Absent v row) = of_rows cause.Absent refl
+fault_so log fault.Memory = wants_memory
+
+started_so : (log : Log) (n : Night) (places : List ℕ) (r : Reply) → IsRuled (Starts n places reply.Begun) r → IsBegun log r
+started_so log n places r h =
+    ⊎_elim
+    (λ k. ⊎_elim
+    (λ c. ⊎_elim (λ p. subst (IsBegun log) (sym p.1) has_begun) (λ f. subst (IsBegun log) (sym f.2) (fault_so log f.0)) c)
+    (λ m. subst (IsBegun log) (sym m) wants_memory)
+    k.1)
+    (λ f. ⊎_elim (λ e. subst (IsBegun log) (sym e) (fault_so log f.0)) (λ m. subst (IsBegun log) (sym m.1) wants_memory) f.2)
+    h
+
+-- and before that tests whether a number is left
+begun_so : (log : Log) (last : Bool) (n : Night) (places : List ℕ) (r : Reply) → (last ≡ true → nights_ended log + 1 ≡ 2 ^ 64)
+    → IsRuled (unless last cause.LastVersion (Starts n places reply.Begun)) r → IsBegun log r
+begun_so log true n places r is_last h = subst (IsBegun log) (sym h) (last_version (is_last refl))
+begun_so log false n places r is_last h = started_so log n places r h
+
 -- the page that is read next after what was done
 abbrev shown_by : Setup → Log → SessionOf → ℕ → ℕ → Shown
 shown_by s log of view limit = page_of (table_of (versions s log) of.version view) (goes_on view of.bookmark) limit
 
 read_so : (s : Setup) (log : Log) (view limit : ℕ) (page : Shown) (o : Option SessionOf) → IsRuled (read_ruling s.versions (versions s log) view limit o) (reply.Page page)
-    → (of : SessionOf) × (o ≡ Some of) × (is_unexpired s.versions (versions s log) of.version ≡ true) × (page ≡ shown_by s log of view limit)
+    → (of : SessionOf) × (o ≡ Some of) × (is_unexpired s.versions (versions s log) of.version ≡ true) × (view < length (version (versions s log) of.version))
+    × (1 ≤ limit) × (limit ≤ 256) × (page ≡ shown_by s log of view limit)
 read_so s log view limit page None h = cc
 read_so s log view limit page (Some of) h =
     let accepted : (other : Cause) → ¬ (reply.Page page ≡ reply.Refused other) = λ c e. cc in
     let a = through (not (is_unexpired s.versions (versions s log) of.version)) _ _ (reply.Page page) accepted h in
     let b = through (nat_le (length (version (versions s log) of.version)) view) _ _ (reply.Page page) accepted a.1 in
     let c = through ((limit == 0) || nat_lt 256 limit) _ _ (reply.Page page) accepted b.1 in
-    (of, refl, not_false _ a.0, taken_page _ page c.1)
+    let right = limit_so limit c.0 in
+    (of, refl, not_false _ a.0, below (length (version (versions s log) of.version)) view b.0, right.0, right.1, taken_page _ page c.1)
 
 -- a refusal has this, and so has what a ruling says
 abbrev AllSay : (Reply → Type 0) → Ruling → Type 0
@@ -345,7 +383,28 @@ module _ (join : PagesJoin) (stay : VersionsStay) (s : Setup) (events : List Eve
   versions_made : (k : ℕ) → k ≤ nights_ended end → AreContents (graph_of s.catalog) (bag_at (made k))
   versions_made k l = (versions_are_contents stay s end k is (leave_legal s [] events replies nothing run) (subst (λ n. k ≤ n) (ended_is s end) l)).0
 
-  commit_made : (i k : ℕ) → IsAnswered events replies i Commit (reply.Version k) → (k ≡ nights_ended (at i) + 1) × CarriesOver s made (nights_ended (at i))
+  -- the nights that have begun are those that have ended, where none is open
+  begun_is : (i : ℕ) → is_open (at i) ≡ false → nights_begun (at i) ≡ nights_ended (at i)
+  begun_is i closed = (in_order s (at i) (deeds_of s (at i) (legal i))).outside closed
+
+  begin_made : (i : ℕ) → IsAnswered events replies i Begin reply.Begun → (is_open (at i) ≡ false) × (nights_ended (at i) < length s.nights)
+  begin_made i there =
+      let step = step_at s [] events replies run i Begin reply.Begun there.0 there.1 in
+      let accepted : (other : Cause) → ¬ (reply.Begun ≡ reply.Refused other) = λ c e. cc in
+      let a = through (is_open (at i)) cause.NightOpen _ reply.Begun accepted step.ruled in
+      let b = through (nat_le (length s.nights) (nights_begun (at i))) cause.NoNight _ reply.Begun accepted a.1 in
+      (a.0, subst (λ n. n < length s.nights) (begun_is i a.0) (below (length s.nights) (nights_begun (at i)) b.0))
+
+  is_begun : (i : ℕ) (r : Reply) → IsAnswered events replies i Begin r → is_open (at i) ≡ false → nights_ended (at i) < length s.nights → IsBegun (at i) r
+  is_begun i r there closed left =
+      let step = step_at s [] events replies run i Begin r there.0 there.1 in
+      let a = skip (is_open (at i)) cause.NightOpen _ r closed step.ruled in
+      let more : nights_begun (at i) < length s.nights = subst (λ n. n < length s.nights) (sym (begun_is i closed)) left in
+      let b = skip (nat_le (length s.nights) (nights_begun (at i))) cause.NoNight _ r (le_false (length s.nights) (nights_begun (at i)) more) a in
+      let n : Night = next_night s (at i) in
+      begun_so (at i) (number (versions s (at i)) + 1 == 2 ^ 64) n (places_from 0 (reach n (turn_of (legs_of n) 0 0 0))) r (λ e. ap (λ n. n + 1) (ended_is s (at i)) ∙ eq_true (number (versions s (at i)) + 1) (2 ^ 64) e) b
+
+  commit_made : (i k : ℕ) → IsAnswered events replies i Commit (reply.Version k) → (is_open (at i) ≡ true) × (k ≡ nights_ended (at i) + 1) × CarriesOver s made (nights_ended (at i))
   commit_made i k there =
       let step = step_at s [] events replies run i Commit (reply.Version k) there.0 there.1 in
       let open_night = through (not (is_open (at i))) cause.NoNight _ (reply.Version k) (λ c e. cc) step.ruled in
@@ -358,6 +417,7 @@ module _ (join : PagesJoin) (stay : VersionsStay) (s : Setup) (events : List Eve
       let last : nights_begun (at i) - 1 ≡ n = omega (arith, begun) in
       let nobody : GivenNight = record { changes = []; list = [] } in
       let new : made (n + 1) ≡ (versions s (Committed ∷ at i)).newest = subst (λ l. made (nights_ended l) ≡ (versions s l).newest) step.next (newest_made (suc i)) in (
+        opened,
         over.1 ∙ ap (λ m. m + 1) (sym (ended_is s (at i))),
         (
           slice_index_or s.nights n nobody,
@@ -369,7 +429,7 @@ module _ (join : PagesJoin) (stay : VersionsStay) (s : Setup) (events : List Eve
         ),
       )
 
-  give_up_made : (i k : ℕ) → IsAnswered events replies i GiveUp (reply.Version k) → (k ≡ nights_ended (at i) + 1) × (made k ≡ made (nights_ended (at i)))
+  give_up_made : (i k : ℕ) → IsAnswered events replies i GiveUp (reply.Version k) → (is_open (at i) ≡ true) × (k ≡ nights_ended (at i) + 1) × (made k ≡ made (nights_ended (at i)))
   unfolding published
   give_up_made i k there =
       let step = step_at s [] events replies run i GiveUp (reply.Version k) there.0 there.1 in
@@ -378,16 +438,22 @@ module _ (join : PagesJoin) (stay : VersionsStay) (s : Setup) (events : List Eve
       let new : made (nights_ended (at i) + 1) ≡ (versions s (Gave_up ∷ at i)).newest = subst (λ l. made (nights_ended l) ≡ (versions s l).newest) step.next (newest_made (suc i)) in
       let same : (versions s (Gave_up ∷ at i)).newest ≡ (versions s (at i)).newest =
       ap (λ (v : Versions). v.newest) (versions_from-append (opened s.opening) (published s (at i)) (Gives_up ∷ [])) in
-      (number_is, ap (λ k. version (versions s end) k) number_is ∙ new ∙ same ∙ sym (newest_made i))
+      (not_false _ open_night.0, number_is, ap (λ k. version (versions s end) k) number_is ∙ new ∙ same ∙ sym (newest_made i))
 
-  session_made : (i desk v : ℕ) → IsAnswered events replies i (Open desk) (reply.Session v) → v ≡ nights_ended (at i)
+  is_given_up : (i : ℕ) (r : Reply) → IsAnswered events replies i GiveUp r → is_open (at i) ≡ true → (r ≡ reply.Version (nights_ended (at i) + 1)) ⊎ IsMemory r
+  is_given_up i r there opened =
+      let step = step_at s [] events replies run i GiveUp r there.0 there.1 in
+      let a = skip (not (is_open (at i))) cause.NoNight _ r (ap not opened) step.ruled in
+      ⊎_elim (λ e. inl (e ∙ ap (λ k. reply.Version (k + 1)) (sym (ended_is s (at i))))) (λ memory. inr memory) a
+
+  session_made : (i desk v : ℕ) → IsAnswered events replies i (Open desk) (reply.Session v) → IsNewSession s (at i) desk v
   session_made i desk v there =
       let step = step_at s [] events replies run i (Open desk) (reply.Session v) there.0 there.1 in
       let accepted : (other : Cause) → ¬ (reply.Session v ≡ reply.Refused other) = λ c e. cc in
       let a = through (nat_le s.desks desk) cause.NoDesk _ (reply.Session v) accepted step.ruled in
       let b = through (is_some (session (at i) desk)) cause.SessionOpen _ (reply.Session v) accepted a.1 in
       let same : v ≡ number (versions s (at i)) = cc in
-      same ∙ sym (ended_is s (at i))
+      record { there = below s.desks desk a.0; free = not_some (session (at i) desk) b.0; current = same ∙ sym (ended_is s (at i)) }
 
   readable : (i k : ℕ) → is_unexpired s.versions (versions s (at i)) k ≡ true → IsReadable s (at i) k
   readable i k e =
@@ -403,13 +469,25 @@ module _ (join : PagesJoin) (stay : VersionsStay) (s : Setup) (events : List Eve
       (subst (λ b. number (versions s (at i)) < k + kept_count s.versions b) (sym (active-open s (at i)))
       (subst (λ n. n < k + kept_count s.versions (is_open (at i))) (ended_is s (at i)) r.1))
 
+  -- each version has a table of each view
+  each_view : (i k : ℕ) → k ≤ nights_ended (at i) → length (version (versions s (at i)) k) ≡ length s.catalog.views.children
+  each_view i k l = (versions_are_contents stay s (at i) k is (legal i) (subst (λ n. k ≤ n) (ended_is s (at i)) l)).1.each
+
   page_made : (i desk view limit : ℕ) (page : Shown) → IsAnswered events replies i (Read desk view limit) (reply.Page page) → IsNextPage s made (at i) desk view limit page
   page_made i desk view limit page there =
       let step = step_at s [] events replies run i (Read desk view limit) (reply.Page page) there.0 there.1 in
       let a = through (nat_le s.desks desk) cause.NoDesk _ (reply.Page page) (λ c e. cc) step.ruled in
       let read = read_so s (at i) view limit page (session (at i) desk) a.1 in
       let kept = readable i read.0.version read.2 in
-      (read.0, read.1, kept, read.3 ∙ shown_made i read.0 view limit kept.0)
+      record {
+        of = read.0;
+        sits = read.1;
+        readable = kept;
+        there = subst (λ n. view < n) (each_view i read.0.version kept.0) read.3;
+        some_rows = read.4;
+        few_rows = read.5;
+        is = read.6 ∙ shown_made i read.0 view limit kept.0;
+      }
 
   is_opened : (i desk : ℕ) (r : Reply) → IsAnswered events replies i (Open desk) r → desk < s.desks → session (at i) desk ≡ None → r ≡ reply.Session (nights_ended (at i))
   is_opened i desk r there l no_session =
@@ -425,8 +503,8 @@ module _ (join : PagesJoin) (stay : VersionsStay) (s : Setup) (events : List Eve
       let a = skip (nat_le s.desks desk) cause.NoDesk _ r (le_false s.desks desk l) step.ruled in
       let b = subst (λ o. IsRuled (read_ruling s.versions (versions s (at i)) view limit o) r) sits a in
       let c = skip (not (is_unexpired s.versions (versions s (at i)) of.version)) _ _ r (ap not (alive i of.version kept)) b in
-      let bags = (versions_are_contents stay s (at i) of.version is (legal i) (subst (λ n. of.version ≤ n) (ended_is s (at i)) kept.0)).1.each in
-      let there : nat_le (length (version (versions s (at i)) of.version)) view ≡ false = le_false (length (version (versions s (at i)) of.version)) view (omega (arith, bags, in_view)) in
+      let in_version : view < length (version (versions s (at i)) of.version) = subst (λ n. view < n) (sym (each_view i of.version kept.0)) in_view in
+      let there : nat_le (length (version (versions s (at i)) of.version)) view ≡ false = le_false (length (version (versions s (at i)) of.version)) view in_version in
       let d = skip (nat_le (length (version (versions s (at i)) of.version)) view) cause.NoView _ r there c in
       let e = skip ((limit == 0) || nat_lt 256 limit) cause.Limit _ r (right_limit limit some few) d in
       ⊎_elim (λ page. inl (page ∙ ap reply.Page (shown_made i of view limit kept.0))) (λ memory. inr memory) e
@@ -438,8 +516,11 @@ module _ (join : PagesJoin) (stay : VersionsStay) (s : Setup) (events : List Eve
     own = λ i event r there. own_reply s (at i) event r (step_at s [] events replies run i event r there.0 there.1).ruled;
     opening = opening_made;
     versions = versions_made;
+    begins = begin_made;
+    begun = is_begun;
     commits = commit_made;
     give_ups = give_up_made;
+    given_up = is_given_up;
     sessions = session_made;
     pages = page_made;
     opened = is_opened;

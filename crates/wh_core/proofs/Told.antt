@@ -18,7 +18,7 @@ use Rattle.wh_core.specs.declared.reply.Reply.TheVariants as reply
 use Rattle.wh_core.specs.Laws.{IsBefore, IsToldInTurn, RefusalsAreToldInTurn, after_inst, after_wave, before_first, is_of_rows, of_base, of_job}
 use Rattle.wh_core.specs.Log.{Log, SessionOf, draws, ends, holding, is_open, nights_begun, pages, session}
 use Rattle.wh_core.specs.Nights.{Setup, next_night, night, published, turn, versions}
-use Rattle.wh_core.specs.Replies.{IsCarried, IsLegalLog, IsReply, IsRuled, Ruling, Says, Takes, Carries, cause_of, commit_ruling, done_by, goes_on, page_ruling, read_ruling, take_ruling, unless}
+use Rattle.wh_core.specs.Replies.{AreAllowed, IsCarried, IsLegalLog, IsReply, IsRuled, Ruling, Says, Takes, Carries, cause_of, commit_ruling, done_by, goes_on, page_ruling, read_ruling, take_ruling, unless}
 use Rattle.wh_core.specs.Standing.{IsWithin}
 use Rattle.wh_core.proofs.Deeds.{deeds_of, not_false}
 use Rattle.wh_core.proofs.Underway.{Underway, all-head, all-tail, all_below, head_or, night-began, night-paged, now, start_of, underway, wave_legs, wave_place, wave_turn}
@@ -133,19 +133,19 @@ module _ (s : Setup) (log : Log) (why : Cause) (is : is_of_rows why ≡ true) wh
       let b = onwards (nat_le (length s.nights) (nights_begun log)) cause.NoNight _ why is refl a.1 in
       let c = onwards (number (versions s log) + 1 == 2 ^ 64) cause.LastVersion _ why is refl b.1 in
       ⊎_elim
-      (λ k. ⊎_elim (λ carried. of_first (carried_fault (next_night s log) _ reply.Begun why (λ e. cc) carried)) (λ m. absurd (not_other why cause.Memory is refl m)) k.1)
+      (λ k. ⊎_elim (λ carried. of_first k.0 (carried_fault (next_night s log) _ reply.Begun why (λ e. cc) carried)) (λ m. absurd (not_other why cause.Memory is refl m)) k.1)
       (λ f. ⊎_elim (λ e. (f.0, named (cause_of f.0) e, of_base f.1)) (λ m. absurd (not_other why cause.Memory is refl m.1)) f.2)
       c.1
     where
       named : (c : Cause) → reply.Refused why ≡ reply.Refused c → c ≡ why
       named c e = cc
 
-      of_first : (f : MaintFault) × IsFirstFaultOf (next_night s log) (places_from 0 (reach (next_night s log) (turn_of (legs_of (next_night s log)) 0 0 0))) f × (cause_of f ≡ why) → Told s log Begin why
-      of_first f =
+      of_first : AreAllowed (next_night s log) → (f : MaintFault) × IsFirstFaultOf (next_night s log) (places_from 0 (reach (next_night s log) (turn_of (legs_of (next_night s log)) 0 0 0))) f × (cause_of f ≡ why) → Told s log Begin why
+      of_first allowed f =
           let stop = stop_of (next_night s log) 0 (reach (next_night s log) (turn_of (legs_of (next_night s log)) 0 0 0)) f.0 f.1 in
           let before : IsBefore (next_night s log) (turn_of (legs_of (next_night s log)) 0 0 0) stop.place = before_turn (next_night s log) (turn_of (legs_of (next_night s log)) 0 0 0) stop.place stop.below in
           let passed : (q : ℕ) → q < stop.place → IsPassedAt (next_night s log) q = λ q l. stop.passed q (omega arith) l in
-          (f.0, f.2, before_first stop.place (subst (λ m. IsBefore (next_night s log) (turn_of (legs_of m) 0 0 0) stop.place) (sym (night-began s log)) before) (record { passed = passed; refused = stop.refused }))
+          (f.0, f.2, before_first stop.place allowed (subst (λ m. IsBefore (next_night s log) (turn_of (legs_of m) 0 0 0) stop.place) (sym (night-began s log)) before) (record { passed = passed; refused = stop.refused }))
 
   no_take : (t : Turn) → ¬ (IsRuled (take_ruling t) (reply.Refused why))
   no_take (In_wave place jobs drawn) h = let a = onwards (nat_le jobs drawn) cause.NoJob (Says (reply.Job drawn)) why is refl h in let e : reply.Refused why ≡ reply.Job drawn = a.1 in cc
@@ -224,7 +224,7 @@ module _ (s : Setup) (log : Log) (why : Cause) (is : is_of_rows why ≡ true) wh
           (λ later.
           let stop = stop_of n (first + jobs) (reach n next) f later.1 in
           let last = last_job stop.place stop.least stop.below in
-          after_wave w first jobs drawn stop.place at stop.least (before_turn n next stop.place stop.below)
+          after_wave w first jobs drawn job stop.place at held stop.least (before_turn n next stop.place stop.below)
           (record { passed = passed_below stop.place stop.passed (job_passed last later.0); refused = stop.refused }))
           (one_or_later n (first + job) (places_from (first + jobs) (reach n next)) f fault)
         where

@@ -30,7 +30,7 @@ use Rattle.wh_core.specs.declared.reply.Cause.{Cause}
 use Rattle.wh_core.specs.declared.reply.Cause.TheVariants as cause
 use Rattle.wh_core.specs.declared.reply.Reply.{Reply}
 use Rattle.wh_core.specs.declared.reply.Reply.TheVariants as reply
-use Rattle.wh_core.specs.Replies.{IsLegalLog, IsMemory, IsReply, IsRunFrom, cause_of}
+use Rattle.wh_core.specs.Replies.{AreAllowed, IsLegalLog, IsMemory, IsReply, IsRunFrom, cause_of}
 
 -- ---- what a machine is given
 
@@ -236,16 +236,17 @@ pub record IsRefusedAfter (n : Night) (earlier place : ℕ) (fault : MaintFault)
   pub passed : (p : ℕ) → p < earlier → IsPassedAt n p
   pub refused : IsFaultAt n place fault
 
--- Which event is refused for a fault of carrying out: a Begin for a base change, or for an expression that stands before the first turn;
--- a Done for its own job, or, as the last of its wave, for an expression behind the wave and before the turn that would come; and the last
--- PageIn of an Inst for an expression behind the Inst and before the turn that would come. No other event is
+-- Which event is refused for a fault of carrying out: a Begin for a base change, or, where all of them are allowed, for an expression that
+-- stands before the first turn; a Done of a worker with a job for this job, or, as the last of its wave, for an expression behind the wave
+-- and before the turn that would come; and the last PageIn of an Inst for an expression behind the Inst and before the turn that would
+-- come. No other event is
 pub data IsToldInTurn (s : Setup) (log : Log) (fault : MaintFault) : Event → Type 0 where
   of_base : IsBaseFault (next_night s log).catalog (next_night s log).tables (next_night s log).changes fault → IsToldInTurn s log fault Begin
-  before_first : (place : ℕ) → IsBefore (next_night s log) (turn s (Began ∷ log)) place → IsRefusedAfter (next_night s log) place place fault
+  before_first : (place : ℕ) → AreAllowed (next_night s log) → IsBefore (next_night s log) (turn s (Began ∷ log)) place → IsRefusedAfter (next_night s log) place place fault
       → IsToldInTurn s log fault Begin
   of_job : (worker first jobs drawn job : ℕ) → turn s log ≡ In_wave first jobs drawn → holding log worker ≡ Some job
       → IsRefusedAfter (night s log) first (first + job) fault → IsToldInTurn s log fault (Done worker)
-  after_wave : (worker first jobs drawn place : ℕ) → turn s log ≡ In_wave first jobs drawn → first + jobs ≤ place
+  after_wave : (worker first jobs drawn job place : ℕ) → turn s log ≡ In_wave first jobs drawn → holding log worker ≡ Some job → first + jobs ≤ place
       → IsBefore (night s log) (turn s (Finished worker ∷ log)) place → IsRefusedAfter (night s log) place place fault
       → IsToldInTurn s log fault (Done worker)
   after_inst : (inst view : ℕ) (rows : Counted) (place : ℕ) → turn s log ≡ At_page inst view rows → inst < place

@@ -33,9 +33,10 @@ pub fn replies_are_one()
 {}
 
 /// An event is refused for a number of rows, for a formula without a value or for rows that a base change takes away and are
-/// not there only where it is its turn: a Begin, for a base change or for an expression before the first turn; a Done, for its
-/// own job or, as the last of its wave, for an expression between the wave and the next turn; and the last PageIn of an Inst,
-/// for one between the Inst and the next turn. All expressions before that one are passed, of a job all before its wave.
+/// not there only where it is its turn: a Begin, for a base change or, where these are allowed, for an expression before the
+/// first turn; a Done, for its own job or, as the last of its wave, for an expression between the wave and the next turn; and
+/// the last PageIn of an Inst, for one between the Inst and the next turn. All expressions before that one are passed, of a
+/// job all before its wave.
 pub fn refusals_are_told_in_turn()
     ensures { RefusalsAreToldInTurn }
 {}
@@ -76,7 +77,8 @@ pub fn commits_make_contents()
 
 /// What a legal run of events comes to, from the contents of a base and by correct strategies: each night that ends makes one
 /// version, a commit that of the views' definitions over the new base, and a night that is given up the one before it again;
-/// and each page is the next one of the session's version.
+/// a night that is left begins, but for memory, the last number or what it comes to; and each page is the next one of the
+/// session's version, of a view that is there.
 pub fn runs_come_true()
     ensures { RunsComeTrue }
 {
