@@ -9,6 +9,7 @@ pub mod RecordReads
 pub mod RecordsReadBack
 pub mod SizeLimits
 pub mod SizesFaults
+pub mod SizesReadingBack
 pub mod TableFaults
 pub mod TableLines
 pub mod TableReadingBack

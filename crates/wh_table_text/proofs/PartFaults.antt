@@ -89,7 +89,7 @@ stops : {K S : Type 0} (scheme : Scheme K S) (width : ℕ) (kind : K) (number : 
 stops scheme width kind number state [] fault e = (let bad = sym (records_give-none scheme width kind number state) ∙ e in cc)
 stops {S = S} scheme width kind number state (own ∷ rest) fault e =
     by (fault-step (record_gives scheme width kind state number own) _ fault (sym (records_give-first scheme width kind number state own rest) ∙ e))
-        (λ after. stops scheme width kind (number + 1) after rest fault)
+    (λ after. stops scheme width kind (number + 1) after rest fault)
   where
     by : (record_gives scheme width kind state number own ≡ Err fault) ⊎ ((after : S) × (record_gives scheme width kind state number own ≡ Ok after) × (records_give scheme width kind (number + 1) after rest ≡ Err fault))
         → ((after : S) → records_give scheme width kind (number + 1) after rest ≡ Err fault → Stops scheme width kind (number + 1) after rest fault)

@@ -138,11 +138,10 @@ marks names width number given after (row ∷ rows) view long e =
     let later = marks names width (number + 1) next.0 after rows view length_next next.2 in
     let within = number-below names (view_in row) own.0 own.2 in
     let mark = marked given own.0 view own.1 (omega arith) in
-    let here : is_row names view row ≡ same own.0 view = of-view view own.0 (number_of names (view_in row)) own.2 in
-    (
+    let here : is_row names view row ≡ same own.0 view = of-view view own.0 (number_of names (view_in row)) own.2 in (
       later.0,
       later.1 ∙ ap (λ (g : List (Option SizeRow)). is_some (get_or g view None) || list_any (is_row names view) rows) own.3 ∙ ap (λ b. b || list_any (is_row names view) rows) (mark ∙ ap (λ b. is_some (get_or given view None) || b) (sym here))
-      ∙ or-assoc (is_some (get_or given view None)) (is_row names view row) (list_any (is_row names view) rows),
+          ∙ or-assoc (is_some (get_or given view None)) (is_row names view row) (list_any (is_row names view) rows),
     )
 
 -- the same from the start
@@ -287,7 +286,7 @@ no-row names rows view none = λ place cells at found. (
     let fails = none-at (is_row names view) rows place cells none at in
     let bad : true ≡ false = sym (is-row names view cells found) ∙ fails in
     cc
-)
+    )
 
 not-true : (b : Bool) → not b ≡ true → b ≡ false
 not-true true e = cc
@@ -359,8 +358,7 @@ all-taken names (header ∷ rows) given ends e =
     let below = from_step (below_header (sizes_scheme names) (header ∷ rows)) _ given e in
     let told = header-tells (sizes_scheme names) header rows below.0 below.1 in
     let read : records_give (sizes_scheme names) (length header) told.0 2 (replicate (length names) None) rows ≡ Ok given =
-    subst (λ (b : Below (Unit {0})). records_give (sizes_scheme names) b.width b.kind 2 (replicate (length names) None) b.rows ≡ Ok given) told.2 below.2 in
-    (
+    subst (λ (b : Below (Unit {0})). records_give (sizes_scheme names) b.width b.kind 2 (replicate (length names) None) b.rows ≡ Ok given) told.2 below.2 in (
       header,
       rows,
       record {

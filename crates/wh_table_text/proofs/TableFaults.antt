@@ -213,12 +213,11 @@ unfolding EntriesOf
 entries-begin count kinds texts all [] [] begins are = tt
 entries-begin count kinds texts all [] (e ∷ es) begins are = absurd are
 entries-begin count kinds texts all (cells ∷ rows) [] begins are = absurd are
-entries-begin count kinds texts all (cells ∷ rows) (e ∷ es) begins are =
-    (
-      entry-begins count kinds texts all cells begins are.1 ∙ are.0,
-      all-among-begins texts all (texts_in_row kinds (row_cells count cells)) begins are.1,
-      entries-begin count kinds texts all rows es begins are.2,
-    )
+entries-begin count kinds texts all (cells ∷ rows) (e ∷ es) begins are = (
+  entry-begins count kinds texts all cells begins are.1 ∙ are.0,
+  all-among-begins texts all (texts_in_row kinds (row_cells count cells)) begins are.1,
+  entries-begin count kinds texts all rows es begins are.2,
+)
 
 entries-more : (count : Counting) (kinds : List Kind) (texts : List (List ℕ)) (rows : List Cells) (es : Counted) (cells : Cells) (e : Row × ℤ) → EntriesOf count kinds texts rows es
     → entry_of count texts kinds cells ≡ Some e → AmongRow texts kinds (row_cells count cells) → EntriesOf count kinds texts (rows ++ cells ∷ []) (es ++ e ∷ [])
@@ -343,7 +342,7 @@ entry-judges : (kinds : List Kind) (count : Counting) (read : EntriesRead) (rows
     → result_err (added kinds count read number cells) ≡ first_of (entry_judged kinds count rows number cells)
 entry-judges kinds count read rows number cells are =
     by (texts_after count kinds read.texts cells) (is_i64 (total_of count kinds cells (rows ++ cells ∷ []))) (count_of count cells) (row_of (texts_after count kinds read.texts cells) kinds (row_cells count cells))
-        (λ entry e. ap is_i64 (running-total count kinds read.texts rows read.entries cells entry are e))
+    (λ entry e. ap is_i64 (running-total count kinds read.texts rows read.entries cells entry are e))
     ∙ sym (ap (λ f. option_or (fault_if (not (is_some (count_of count cells))) (Number number)) f)
     (cells-judge (texts_after count kinds read.texts cells) kinds number (row_cells count cells) (fault_if (not (is_i64 (total_of count kinds cells (rows ++ cells ∷ [])))) (Number number) ∷ [])))
   where

@@ -4,6 +4,7 @@ pub mod Part
 pub mod Records
 pub mod RowSizes
 pub mod SizesFaults
+pub mod SizesReadBack
 pub mod SizesText
 pub mod TableFaults
 pub mod TableRead
