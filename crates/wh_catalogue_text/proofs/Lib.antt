@@ -1,3 +1,4 @@
+pub mod CatalogueFaults
 pub mod CatalogueLengths
 pub mod CatalogueNames
 pub mod CatalogueTexts

@@ -1,5 +1,6 @@
 pub mod BaseColumns
 pub mod Catalogue
+pub mod CatalogueFaults
 pub mod ColumnNames
 pub mod Definitions
 pub mod ExprForm
