@@ -15,6 +15,7 @@ pub mod Pairs
 pub mod PredForm
 pub mod ReadCatalog
 pub mod Reference
+pub mod ViewFaults
 pub mod WrittenCatalogue
 pub mod WrittenFormula
 pub mod WrittenHeader

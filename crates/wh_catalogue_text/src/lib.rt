@@ -18,4 +18,4 @@ pub use definitions::written_law::{
     views_read_back_law,
 };
 pub use definitions::{definitions_fit_law, read_definitions};
-pub use laws::shapes_end_by_first_law;
+pub use laws::{definitions_end_by_first_law, shapes_end_by_first_law};
