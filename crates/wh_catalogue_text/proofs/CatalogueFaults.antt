@@ -1,22 +1,21 @@
 -- The first fault of a catalogue's document, of its names and of its shape.
-use Rattle.std.proofs.Common.{◌≡◌, ◌<◌, ◌+◌, ℕ, zero, suc, Bool, true, false, List, [], ◌∷◌, ◌++◌, length, map, take, Option, Some, None, Result, Ok, Err, ◌⊎◌, inl, inr, refl, sym, ap, subst, ◌∙◌, arith}
-use Rattle.std.specs.Prelude.{codes, if◌then◌else◌, is_some, nat_le, nat_lt, not, ok_or, option_and_then, option_map, slice_get, unwrap_or}
+use Rattle.std.proofs.Common.{◌≡◌, ◌<◌, ◌+◌, ℕ, Bool, true, false, List, [], ◌∷◌, ◌++◌, length, take, Option, Some, None, Result, Ok, Err, ◌⊎◌, inl, inr, refl, sym, ap, subst, ◌∙◌, arith}
+use Rattle.std.specs.Prelude.{codes, if◌then◌else◌, is_some, nat_le, nat_lt, not, ok_or, option_and_then, option_map, unwrap_or}
 use Rattle.std.specs.Option.{option_or, option_transpose}
 use Rattle.std.specs.Result.{result_err}
 use Rattle.std.specs.Str.{is_utf8}
 use Rattle.toml.specs.Data.{Data, Members, get}
 use Rattle.toml.specs.Parse.{parse_document}
 use Rattle.wh_dag.specs.Fault.{child_fault, children_fault, fault_from, first_fault, or_else, over_fault, place_fault, view_fault}
-use Rattle.wh_dag.specs.Shape.{Views}
 use Rattle.wh_dag.specs.Written.{is_named, name_of, number_of}
 use Rattle.wh_dag.specs.declared.fault.ShapeFault.{ShapeFault}
-use Rattle.wh_dag.specs.declared.fault.ShapeFault.TheVariants.{Duplicate, EmptyOver, Forward, Repeated, TooMany, Unknown}
+use Rattle.wh_dag.specs.declared.fault.ShapeFault.TheVariants.{Duplicate, Forward, Repeated, TooMany, Unknown}
 use Rattle.wh_text.specs.FirstFault.{EndsByFirst, Finds, IsBefore, IsFaultless, IsFirstFault, Place, fault_if}
 use Rattle.wh_text.specs.declared.fault.Key.TheVariants as key
 use Rattle.wh_text.specs.declared.fault.LoadFault.{LoadFault}
 use Rattle.wh_text.specs.declared.fault.LoadFault.TheVariants as fault
 use Rattle.wh_text.proofs.FirstFaults.{IsFirstIn, first_in, first_of, first_of-append, is-first-in, none-in}
-use Rattle.wh_catalogue_text.specs.Catalogue.{◌>>=◌, WrittenViews, document_of, judged, over_in, shape_of, shape_written, view_name, view_over, views_of, written_views}
+use Rattle.wh_catalogue_text.specs.Catalogue.{◌>>=◌, WrittenViews, document_of, judged, over_in, shape_written, view_name, view_over, views_of, written_views}
 use Rattle.wh_catalogue_text.specs.CatalogueFaults.{CatalogueWrong, ShapeWrong, ShapesEndByFirst, child_judged, children_judged, in_keys, in_shape, in_views, is_not_above, is_toml, is_wrong_over, keys_judged, no_toml, no_views, over_judged, tables_in, texts_in, view_judged, view_names, view_overs}
 
 same_value : {A : Type 0} (first second : A) → ◌≡◌ {A = Result A LoadFault} (Ok first) (Ok second) → first ≡ second

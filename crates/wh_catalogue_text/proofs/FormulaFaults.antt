@@ -7,7 +7,7 @@ use Rattle.std.specs.Result.{result_err, result_ok}
 use Rattle.std.proofs.lemmas.Bool.{and_parts}
 use Rattle.std.proofs.lemmas.List.{append-nil}
 use Rattle.toml.specs.View.{items_of}
-use Rattle.toml.specs.Data.{Data, string, integer, boolean, array}
+use Rattle.toml.specs.Data.{Data}
 use Rattle.wh_formula.specs.declared.comparison.Comparison.{Comparison}
 use Rattle.wh_formula.specs.declared.comparison.Comparison.TheVariants.{Equal, NotEqual, Less, LessOrEqual, Greater, GreaterOrEqual}
 use Rattle.wh_formula.specs.Expr as tree
@@ -16,18 +16,17 @@ use Rattle.wh_formula.specs.Pred.{PredTree}
 use Rattle.wh_text.specs.Columns.{NamedKind}
 use Rattle.wh_text.specs.FirstFault.{fault_if}
 use Rattle.wh_text.specs.NameForm.{is_name}
-use Rattle.wh_text.specs.declared.columns.Kind.{Kind}
 use Rattle.wh_text.specs.declared.columns.Kind.TheVariants.{Int}
 use Rattle.wh_text.specs.declared.fault.LoadFault.{LoadFault}
 use Rattle.wh_text.specs.declared.fault.LoadFault.TheVariants as fault
-use Rattle.wh_text.proofs.FirstFaults.{first_of, first_of-append}
+use Rattle.wh_text.proofs.FirstFaults.{first_of}
 use Rattle.wh_catalogue_text.specs.Catalogue.{◌>>=◌}
 use Rattle.wh_catalogue_text.specs.ColumnNames.{checked}
 use Rattle.wh_catalogue_text.specs.ExprForm.{WrittenExpr, expr_form, is_expr, parts_pass}
 use Rattle.wh_catalogue_text.specs.ExprForm as level
 use Rattle.wh_catalogue_text.specs.Formula.{is_whole_expr, is_whole_pred, unknown_column, unknown_in_test, whole_expr, whole_pred}
 use Rattle.wh_catalogue_text.specs.FormulaColumns.{first_unknown, unknown, unknown_in_expr, unknown_in_form, unknown_in_parts, unknown_in_pred}
-use Rattle.wh_catalogue_text.specs.FormulaKinds.{ExprOutcome, PredOutcome, Texts, combined, compared, fits_kinds, is_int, keeping, operation, typed_all, typed_any, typed_column, typed_comparison, typed_expr, typed_form, typed_not, typed_operation, typed_parts, typed_pred, typed_test, unfit}
+use Rattle.wh_catalogue_text.specs.FormulaKinds.{ExprOutcome, PredOutcome, Texts, combined, compared, fits_kinds, is_int, keeping, operation, typed_expr, typed_form, typed_parts, typed_pred, typed_test, unfit}
 use Rattle.wh_catalogue_text.specs.Header.{HeaderOf, cell_of}
 use Rattle.wh_catalogue_text.specs.Pairs.{takes_kind, typed_cell}
 use Rattle.wh_catalogue_text.specs.PredForm.{WrittenPred, is_pred, pred_form, pred_parts_pass}

@@ -1,39 +1,37 @@
 -- The first fault of the further keys of a catalogue's views.
-use Rattle.std.proofs.Common.{◌≡◌, ◌<◌, ◌≤◌, ◌+◌, ℕ, zero, suc, Bool, true, false, ◌&&◌, List, [], ◌∷◌, ◌++◌, length, map, take, Option, Some, None, Result, Ok, Err, ◌⊎◌, inl, inr, refl, sym, ap, subst, ◌∙◌, arith, append_assoc, length-append}
+use Rattle.std.proofs.Common.{◌≡◌, ◌<◌, ◌+◌, ℕ, zero, suc, Bool, true, false, ◌&&◌, List, [], ◌∷◌, ◌++◌, length, map, take, Option, Some, None, Result, Ok, Err, ◌⊎◌, inl, inr, refl, sym, ap, subst, ◌∙◌, arith, append_assoc, length-append}
 use Rattle.std.specs.Prelude.{codes, flat_map, if◌then◌else◌, is_some, nat_le, not, ok_or, option_and_then, option_map, slice_get, unwrap_or}
-use Rattle.std.specs.List.{list_all, list_any}
+use Rattle.std.specs.List.{list_any}
 use Rattle.std.specs.Option.{option_or}
 use Rattle.std.specs.Result.{result_err}
 use Rattle.std.specs.Str.{bytes_eq}
 use Rattle.std.proofs.lemmas.Bool.{and_parts}
 use Rattle.std.proofs.lemmas.List.{append-nil, length-map}
-use Rattle.toml.specs.Data.{Data, as_str, get, string}
+use Rattle.toml.specs.Data.{Data, get, string}
 use Rattle.wh_dag.specs.Catalog.{Keep, Sums}
 use Rattle.wh_dag.specs.Shape.{Views}
 use Rattle.wh_formula.specs.Pred.{PredTree}
 use Rattle.wh_text.specs.Columns.{NamedKind, names_of}
-use Rattle.wh_text.specs.FirstFault.{EndsByFirst, Finds, IsBefore, IsFaultless, IsFirstFault, Place, fault_if}
-use Rattle.wh_text.specs.declared.columns.Kind.{Kind}
-use Rattle.wh_text.specs.declared.fault.Key.{Key}
+use Rattle.wh_text.specs.FirstFault.{EndsByFirst, Finds, IsBefore, IsFirstFault, Place, fault_if}
 use Rattle.wh_text.specs.declared.fault.Key.TheVariants as key
 use Rattle.wh_text.specs.declared.fault.LoadFault.{LoadFault}
 use Rattle.wh_text.specs.declared.fault.LoadFault.TheVariants as fault
 use Rattle.wh_text.proofs.FirstFaults.{IsFirstOf, first_of, first_of-append, is-first, none-finds}
 use Rattle.wh_catalogue_text.specs.BaseColumns.{base_columns, columns_in, columns_written, is_few}
-use Rattle.wh_catalogue_text.specs.Catalogue.{◌>>=◌, array_of, name_in}
+use Rattle.wh_catalogue_text.specs.Catalogue.{◌>>=◌, array_of}
 use Rattle.wh_catalogue_text.specs.ColumnNames.{Seen, checked, fresh_columns, fresh_name, unless_unknown}
-use Rattle.wh_catalogue_text.specs.Definitions.{ViewOf, ViewOutcome, base_view, definitions_of, derived_view, header_of, next_view, view_at, views_after}
+use Rattle.wh_catalogue_text.specs.Definitions.{ViewOf, ViewOutcome, derived_view, header_of, next_view, view_at, views_after}
 use Rattle.wh_catalogue_text.specs.ExprForm.{Reference, is_expr, parts_pass}
-use Rattle.wh_catalogue_text.specs.Filter.{filter_at, filter_of, filter_written}
+use Rattle.wh_catalogue_text.specs.Filter.{filter_at, filter_of}
 use Rattle.wh_catalogue_text.specs.Formula.{is_whole_expr, is_whole_pred, unknown_column, unknown_in_test, whole_pred}
 use Rattle.wh_catalogue_text.specs.FormulaColumns.{unknown}
-use Rattle.wh_catalogue_text.specs.FormulaKinds.{PredOutcome, Texts, unfit}
+use Rattle.wh_catalogue_text.specs.FormulaKinds.{Texts, unfit}
 use Rattle.wh_catalogue_text.specs.Header.{HeaderOf, cell_of}
-use Rattle.wh_catalogue_text.specs.Join.{WrittenLink, join_of, joined, joined_link, linked_cell, links_in, links_written, same_kind, unknown_in_links}
-use Rattle.wh_catalogue_text.specs.Output.{ColumnsOf, Groups, OutputOutcome, count_column, count_written, group_written, groups_of, kept, kept_alone, output_at, output_of, summed, summed_at, sums_at, sums_in, sums_of}
-use Rattle.wh_catalogue_text.specs.Pairs.{GroupColumns, TypedColumns, WrittenPair, are_exprs, are_references, group_cell, group_columns, grouped, known_pairs, pairs_in, pairs_written, reference_in, typed_cell, typed_columns, typed_pairs, with_cell, with_expr}
+use Rattle.wh_catalogue_text.specs.Join.{WrittenLink, join_of, joined, joined_link, links_written, same_kind, unknown_in_links}
+use Rattle.wh_catalogue_text.specs.Output.{ColumnsOf, Groups, OutputOutcome, count_column, count_written, group_written, groups_of, kept, output_at, output_of, summed, sums_at, sums_of}
+use Rattle.wh_catalogue_text.specs.Pairs.{GroupColumns, TypedColumns, WrittenPair, are_exprs, are_references, group_cell, group_columns, grouped, known_pairs, pairs_written, reference_in, typed_cell, typed_columns, typed_pairs, with_cell, with_expr}
 use Rattle.wh_catalogue_text.specs.Reference.{is_reference}
-use Rattle.wh_catalogue_text.specs.ViewFaults.{DefinitionsEndByFirst, DefinitionsWrong, are_one_kind, base_judged, columns_form, count_form, count_judged, derived_judged, formed, group_form, group_judged, group_judged_cell, group_names, in_view, join_judged, keep_judged, kind_of, kinds_fit, kinds_judged, link_judged, link_kinds_judged, links_form, name_judged, names_judged, output_judged, pairs_form, pairs_judged, passing, reference_judged, references, references_judged, sum_form, sum_judged, summary_judged, table_judged, takes, where_judged, width_of}
+use Rattle.wh_catalogue_text.specs.ViewFaults.{DefinitionsEndByFirst, DefinitionsWrong, are_one_kind, base_judged, columns_form, count_form, count_judged, derived_judged, formed, group_form, group_judged, group_judged_cell, group_names, in_view, join_judged, keep_judged, kind_of, kinds_fit, kinds_judged, link_judged, link_kinds_judged, links_form, name_judged, names_judged, output_judged, pairs_form, pairs_judged, passing, reference_judged, references_judged, sum_form, sum_judged, summary_judged, table_judged, takes, where_judged, width_of}
 use Rattle.wh_catalogue_text.specs.declared.definitions.header.Cell.{Cell}
 use Rattle.wh_catalogue_text.specs.declared.definitions.typed_pairs.KindRule.{KindRule}
 use Rattle.wh_catalogue_text.specs.declared.definitions.typed_pairs.KindRule.TheVariants.{AnyKind, Numbers}
