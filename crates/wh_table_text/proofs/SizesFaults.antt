@@ -1,5 +1,5 @@
 -- The first fault of a part of sizes.
-use Rattle.std.proofs.Common.{◌≡◌, ◌<◌, ◌+◌, ℕ, ℤ, zero, suc, Bool, true, false, cond, ◌||◌, List, [], ◌∷◌, length, map, set, replicate, get_or, Option, Some, None, Result, Ok, Err, ◌⊎◌, inl, inr, refl, sym, ap, subst, ◌∙◌, arith}
+use Rattle.std.proofs.Common.{◌≡◌, ◌<◌, ◌+◌, ℕ, ℤ, zero, suc, Bool, true, false, ◌||◌, List, [], ◌∷◌, length, map, set, replicate, get_or, Option, Some, None, Result, Ok, Err, ◌⊎◌, inl, inr, refl, sym, ap, subst, ◌∙◌, arith}
 use Rattle.std.specs.Prelude.{◌&&◌, if◌then◌else◌, is_some, nat_le, not, ok_or, option_and_then, option_map, position, slice_get}
 use Rattle.std.specs.List.{filter_map, list_any}
 use Rattle.std.specs.Result.{result_err}
@@ -21,7 +21,7 @@ use Rattle.wh_table_text.specs.Part.{◌>>=◌, Below, below_header, or_fault, p
 use Rattle.wh_table_text.specs.Records.{cell, form_fault, records_of}
 use Rattle.wh_table_text.specs.RowSizes.{counts_of, rows_in, size_of}
 use Rattle.wh_table_text.specs.SizesFaults.{HasNoRow, SizesEndByFirst, SizesWrong, are_apart, in_part, no_row, size_judged, sizes_judging, view_in}
-use Rattle.wh_table_text.specs.SizesText.{all_sizes, fresh_view, missing_fault, placed, size_written, sizes_of_text, sizes_scheme, view_without}
+use Rattle.wh_table_text.specs.SizesText.{all_sizes, fresh_view, placed, size_written, sizes_of_text, sizes_scheme, view_without}
 use Rattle.wh_table_text.specs.declared.sizes.Counts.{Counts}
 use Rattle.wh_table_text.proofs.PartFaults.{Judges, header-tells, part-ends}
 use Rattle.wh_table_text.proofs.PassingPlaces.{any-at, none-at, position-any}

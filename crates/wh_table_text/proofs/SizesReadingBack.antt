@@ -1,6 +1,6 @@
 -- Sizes that were written are read back.
-use Rattle.std.proofs.Common.{◌≡◌, ◌≢◌, ◌<◌, ◌≤◌, ◌+◌, ◌^◌, ◌==◌, ◌&&◌, ℕ, ℤ, pos, zero, suc, Bool, true, false, cond, List, [], ◌∷◌, ◌++◌, length, map, set, replicate, codes, get_or, Option, Some, None, Result, Ok, Err, refl, sym, ap, ◌∙◌, arith, append_assoc, length-append, eq-eqb, All, FitsSigned}
-use Rattle.std.specs.Prelude.{IsUtf8, decimal, if◌then◌else◌, is_some, nat_le, nat_lt, not, position, slice_get}
+use Rattle.std.proofs.Common.{◌≡◌, ◌<◌, ◌≤◌, ◌+◌, ◌^◌, ℕ, pos, zero, suc, true, false, List, [], ◌∷◌, ◌++◌, length, map, set, replicate, codes, get_or, Option, Some, None, Result, Ok, refl, sym, ap, ◌∙◌, arith, append_assoc, length-append, All, FitsSigned}
+use Rattle.std.specs.Prelude.{IsUtf8, decimal, is_some, nat_le, nat_lt, not, position}
 use Rattle.std.specs.Int.{w64}
 use Rattle.std.specs.List.{IsDistinct, filter_map, list_all, list_any, position_or_len}
 use Rattle.std.specs.Str.{bytes_eq, is_utf8}
@@ -16,15 +16,14 @@ use Rattle.csv.specs.Writing.{read_back}
 use Rattle.wh_dag.specs.Written.{number_of}
 use Rattle.wh_strategy.specs.Sizes.{AreSizes, IsSize}
 use Rattle.wh_strategy.specs.declared.sizes.SizeRow.{SizeRow}
-use Rattle.wh_text.specs.WholeNumber.{is_i64, whole_number}
+use Rattle.wh_text.specs.WholeNumber.{whole_number}
 use Rattle.wh_text.specs.declared.fault.LoadFault.{LoadFault}
-use Rattle.wh_text.specs.declared.fault.LoadFault.TheVariants.{Header}
 use Rattle.wh_text.proofs.WholeNumbers.{is_i64-decides}
 use Rattle.wh_table_text.specs.Part.{◌>>=◌, below_header, part_gives, record_gives, records_give}
-use Rattle.wh_table_text.specs.Records.{form_fault, records_of}
+use Rattle.wh_table_text.specs.Records.{form_fault}
 use Rattle.wh_table_text.specs.RowSizes.{counts_of, size_of}
-use Rattle.wh_table_text.specs.SizesReadBack.{AreSizesOf, SizesReadBack, size_record, size_records, sizes_text}
-use Rattle.wh_table_text.specs.SizesText.{all_sizes, placed, size_written, sizes_header, sizes_of_text, sizes_scheme}
+use Rattle.wh_table_text.specs.SizesReadBack.{SizesReadBack, size_record, size_records}
+use Rattle.wh_table_text.specs.SizesText.{all_sizes, size_written, sizes_header, sizes_of_text, sizes_scheme}
 use Rattle.wh_table_text.proofs.PartReads.{records_give-first, records_give-none}
 use Rattle.wh_table_text.proofs.PassingPlaces.{position-any}
 use Rattle.wh_table_text.proofs.RecordsReadBack.{view-back}

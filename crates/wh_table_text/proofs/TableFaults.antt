@@ -1,7 +1,7 @@
 -- The first fault of a part of a table or of changes.
-use Rattle.std.proofs.Common.{◌≡◌, ◌<◌, ◌+◌, ℕ, ℤ, pos, ◌+ℤ◌, Bool, true, false, cond, ◌||◌, List, [], ◌∷◌, ◌++◌, length, get_or, Option, Some, None, Result, Ok, Err, ◌⊎◌, inl, inr, refl, sym, ap, subst, ◌∙◌, append_assoc, arith}
-use Rattle.std.specs.Prelude.{◌&&◌, if◌then◌else◌, is_some, nat_lt, not, ok_or, option_and_then, option_map, position, unwrap_or}
-use Rattle.std.specs.List.{list_all, list_any, position_or_len}
+use Rattle.std.proofs.Common.{◌≡◌, ◌+◌, ℕ, ℤ, pos, ◌+ℤ◌, Bool, true, false, cond, ◌||◌, List, [], ◌∷◌, ◌++◌, length, get_or, Option, Some, None, Result, Ok, Err, ◌⊎◌, inl, inr, refl, sym, ap, subst, ◌∙◌, append_assoc, arith}
+use Rattle.std.specs.Prelude.{◌&&◌, if◌then◌else◌, is_some, nat_lt, not, ok_or, option_and_then, option_map, position}
+use Rattle.std.specs.List.{list_any, position_or_len}
 use Rattle.std.specs.Option.{option_or}
 use Rattle.std.specs.Ordering.{int_cmp, is_eq, ordering_then}
 use Rattle.std.specs.Result.{result_err}
@@ -14,12 +14,11 @@ use Rattle.std.proofs.lemmas.List.{append-nil}
 use Rattle.std.proofs.lemmas.List.Folds.{list_all-append, list_any-append}
 use Rattle.std.proofs.lemmas.List.Quantifiers.{position-Some}
 use Rattle.std.proofs.lemmas.Slice.Eq.{bytes_eq-Decides}
-use Rattle.wh_row.specs.Bag.{Bag, bag_of}
 use Rattle.wh_row.specs.Records.{running_sum}
 use Rattle.wh_row.specs.Row.{Row, is_row, row_cmp}
 use Rattle.wh_row.specs.Weigh.{Counted, count_in}
 use Rattle.wh_row.proofs.RowLaws.{itself, same_row}
-use Rattle.wh_text.specs.Columns.{NamedKind, kinds_of, names_of}
+use Rattle.wh_text.specs.Columns.{NamedKind, kinds_of}
 use Rattle.wh_text.specs.Dict.{BeginsWith, number_of_text, with_text, with_texts}
 use Rattle.wh_text.specs.FirstFault.{EndsByFirst, fault_if}
 use Rattle.wh_text.specs.WholeNumber.{is_i64, whole_number}
@@ -30,9 +29,9 @@ use Rattle.wh_text.specs.declared.fault.LoadFault.TheVariants.{Number}
 use Rattle.wh_text.proofs.DictGrowth.{begins-texts, has-text, number-begins}
 use Rattle.wh_text.proofs.FirstFaults.{first_of}
 use Rattle.wh_table_text.specs.FaultPlaces.{Cells, PartWrong}
-use Rattle.wh_table_text.specs.Part.{◌>>=◌, or_fault, part_gives, record_gives, records_give}
+use Rattle.wh_table_text.specs.Part.{◌>>=◌, part_gives, record_gives, records_give}
 use Rattle.wh_table_text.specs.Records.{form_fault, records_of}
-use Rattle.wh_table_text.specs.TableFaults.{TablesEndByFirst, are_one_number, cells_judged, counts_row, entry_judged, entry_judging, is_wrong_cell, total_of, write_same_cell, write_same_row}
+use Rattle.wh_table_text.specs.TableFaults.{TablesEndByFirst, cells_judged, counts_row, entry_judged, entry_judging, is_wrong_cell, total_of, write_same_cell, write_same_row}
 use Rattle.wh_table_text.specs.TableText.{EntriesRead, added, bag_read, cell_number, count_of, entry_of, row_cells, row_of, table_scheme, text_gives, text_in, texts_after, texts_in_row, with_entry}
 use Rattle.wh_table_text.specs.declared.table.header.Content.{Content}
 use Rattle.wh_table_text.specs.declared.table.header.Counting.{Counting}

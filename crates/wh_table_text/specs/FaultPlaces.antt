@@ -1,6 +1,6 @@
 -- What is wrong with the records of a CSV part, each fault by itself and at its place: the number of its record, counted from 1
 -- with the header, and which of the record's judgements finds it.
-use Rattle.std.specs.Prelude.{◌≡◌, ℕ, ◌+◌, not, List, [], ◌∷◌, ◌++◌, length, take, slice_get, Option, Some, is_some}
+use Rattle.std.specs.Prelude.{◌≡◌, ℕ, ◌+◌, not, List, [], ◌∷◌, length, take, slice_get, Option, Some, is_some}
 use Rattle.wh_text.specs.FirstFault.{Finds, Place, fault_if}
 use Rattle.wh_text.specs.declared.fault.LoadFault.{LoadFault}
 use Rattle.wh_text.specs.declared.fault.LoadFault.TheVariants.{Header}

@@ -3,7 +3,6 @@ use Rattle.std.specs.Prelude.{◌≡◌, ◌≢◌, ◌<◌, ℕ, ◌+◌, ◌&&
 use Rattle.std.specs.Cmp.Lexicographic.{pointwise}
 use Rattle.std.specs.Str.{bytes_eq}
 use Rattle.wh_dag.specs.Written.{is_named, name_of, number_of}
-use Rattle.wh_strategy.specs.declared.sizes.SizeRow.{SizeRow}
 use Rattle.wh_text.specs.FirstFault.{EndsByFirst, Place, fault_if}
 use Rattle.wh_text.specs.WholeNumber.{whole_number}
 use Rattle.wh_text.specs.declared.fault.LoadFault.{LoadFault}

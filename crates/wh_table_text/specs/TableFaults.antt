@@ -1,5 +1,5 @@
 -- What is wrong with a part of a table or of changes, each fault by itself and at its place.
-use Rattle.std.specs.Prelude.{◌&&◌, ◌++◌, ◌+ℤ◌, ℕ, ℤ, pos, Bool, true, false, not, List, [], ◌∷◌, Option, Some, None, is_some, unwrap_or, if◌then◌else◌}
+use Rattle.std.specs.Prelude.{◌&&◌, ◌++◌, ◌+ℤ◌, ℕ, ℤ, pos, Bool, true, false, not, List, [], ◌∷◌, Option, Some, is_some, unwrap_or, if◌then◌else◌}
 use Rattle.std.specs.Ordering.{int_cmp, is_eq}
 use Rattle.std.specs.Str.{bytes_eq}
 use Rattle.wh_text.specs.Columns.{NamedKind, kinds_of, names_of}
