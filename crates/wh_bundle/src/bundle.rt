@@ -1,5 +1,5 @@
 //! The parts of a bundle.
-ghost use Rattle.std.specs.Prelude.{◌≡◌, None, IfOk, IfErr, OnOk};
+ghost use Rattle.std.specs.Prelude.{◌≡◌, ◌≢◌, [], None, IfOk, IfErr, OnOk, OnErr};
 ghost use Rattle.wh_bundle.specs.Bundle.{fault_of, parts_of};
 ghost use Rattle.wh_bundle.specs.Cut.{bytes_of, cut};
 ghost use Rattle.wh_bundle.specs.PartFault.{Names};
@@ -81,7 +81,8 @@ impl<'a> Bundle<'a> {
     }
 }
 
-/// Cuts a bundle into its parts, or finds the first fault from the top of its text.
+/// Cuts a bundle into its parts, or finds the first fault from the top of its text. Empty bytes have no part, no fault and
+/// take no memory.
 #[tactic(auto, using(crate::proofs::CutLemmas::cut_whole))]
 pub fn parts<'a>(alloc: Global, bytes: &'a [u8], nights: Nights) -> Result<Bundle<'a>, PartFault>
     // The lines above the parts, the parts' headings and their bodies, put together, are the bytes.
@@ -89,6 +90,7 @@ pub fn parts<'a>(alloc: Global, bytes: &'a [u8], nights: Nights) -> Result<Bundl
     ensures parts { IfOk result (λ bundle. bundle ≡ parts_of bytes.now) }
     ensures sound { OnOk result (fault_of nights bytes.now ≡ None) }
     ensures fault { IfErr result (λ fault. Names fault (fault_of nights bytes.now)) }
+    ensures memory { OnErr result (bytes.now ≢ []) }
 {
     let (preface, text) = bytes.split_at(preface_len(bytes));
     if !is_blank_text(preface) {

@@ -1,3 +1,4 @@
+pub mod CatalogueFaults
 pub mod CatalogueLengths
 pub mod CatalogueNames
 pub mod CatalogueTexts
@@ -5,6 +6,7 @@ pub mod CatalogueViews
 pub mod ColumnsNamed
 pub mod DefinitionsFit
 pub mod Document
+pub mod FormulaFaults
 pub mod FormulaForms
 pub mod FormulaSteps
 pub mod FormulasFit
@@ -12,6 +14,7 @@ pub mod FreshNames
 pub mod JoinSteps
 pub mod OutputsFit
 pub mod ShapesRead
+pub mod ViewFaults
 pub mod WrittenBases
 pub mod WrittenCatalogues
 pub mod WrittenExprs

@@ -99,7 +99,7 @@ compound-only (string word ∷ parts) form e = headed-only word parts form e
 compound-only _ form e = cc e
 
 -- what has the form of a predicate is written so
-pred-form : (value : Data) (form : WrittenPred) → pred_form value ≡ Some form → IsOfTest form value
+pub pred-form : (value : Data) (form : WrittenPred) → pred_form value ≡ Some form → IsOfTest form value
 pred-form (boolean true) form e = let same : level.Always ≡ form = cc in rw (← same) refl
 pred-form (array parts) form e = rw (items-elements parts) at (compound-only (elements parts) form e)
 pred-form _ form e = cc e

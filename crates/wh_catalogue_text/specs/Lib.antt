@@ -1,5 +1,6 @@
 pub mod BaseColumns
 pub mod Catalogue
+pub mod CatalogueFaults
 pub mod ColumnNames
 pub mod Definitions
 pub mod ExprForm
@@ -14,6 +15,7 @@ pub mod Pairs
 pub mod PredForm
 pub mod ReadCatalog
 pub mod Reference
+pub mod ViewFaults
 pub mod WrittenCatalogue
 pub mod WrittenFormula
 pub mod WrittenHeader

@@ -6,6 +6,7 @@
 
 mod catalogue;
 mod definitions;
+mod laws;
 mod name_form;
 
 pub use catalogue::read_shape;
@@ -17,3 +18,4 @@ pub use definitions::written_law::{
     views_read_back_law,
 };
 pub use definitions::{definitions_fit_law, read_definitions};
+pub use laws::{definitions_end_by_first_law, shapes_end_by_first_law};

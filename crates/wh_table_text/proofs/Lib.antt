@@ -1,11 +1,16 @@
 pub mod Cells
 pub mod ChangesReadingBack
 pub mod NamesText
+pub mod PartFaults
 pub mod PartReads
+pub mod PassingPlaces
 pub mod RecordLists
 pub mod RecordReads
 pub mod RecordsReadBack
 pub mod SizeLimits
+pub mod SizesFaults
+pub mod SizesReadingBack
+pub mod TableFaults
 pub mod TableLines
 pub mod TableReadingBack
 pub mod TableRow

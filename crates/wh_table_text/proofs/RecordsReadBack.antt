@@ -46,3 +46,14 @@ records-back cells rows some =
     ∙ sym (from-start (text_of_records ((codes "#" ∷ cells) ∷ rows)))
     ∙ after-written ((codes "#" ∷ cells) ∷ rows)
     ∙ ap (λ rest. (codes "#" ∷ cells) ∷ rest) some
+
+-- the same where the first record begins with `view`
+view-first : (cells : List (List ℕ)) (rows : List (List (List ℕ))) → strip_bom (text_of_records ((codes "view" ∷ cells) ∷ rows)) ≡ text_of_records ((codes "view" ∷ cells) ∷ rows)
+view-first cells rows = no-mark 118 _ refl
+
+pub view-back : (cells : List (List ℕ)) (rows : List (List (List ℕ))) → map read_back rows ≡ rows → records_of (text_of_records ((codes "view" ∷ cells) ∷ rows)) ≡ (codes "view" ∷ cells) ∷ rows
+view-back cells rows some =
+    ap (records default_config) (view-first cells rows)
+    ∙ sym (from-start (text_of_records ((codes "view" ∷ cells) ∷ rows)))
+    ∙ after-written ((codes "view" ∷ cells) ∷ rows)
+    ∙ ap (λ rest. (codes "view" ∷ cells) ∷ rest) some

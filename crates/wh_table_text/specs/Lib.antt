@@ -1,8 +1,12 @@
 pub mod ChangesReadBack
+pub mod FaultPlaces
 pub mod Part
 pub mod Records
 pub mod RowSizes
+pub mod SizesFaults
+pub mod SizesReadBack
 pub mod SizesText
+pub mod TableFaults
 pub mod TableRead
 pub mod TableReadsBack
 pub mod TableText

@@ -3,12 +3,14 @@
 //! [`read_table`], [`read_changes`] and [`read_sizes`] read a record at a time; [`write_table`] writes a table.
 #![tactic(auto)]
 
+mod laws;
 mod part;
 mod records;
 mod sizes;
 mod table;
 
-pub use sizes::read_sizes;
+pub use laws::{sizes_end_by_first_law, tables_end_by_first_law};
+pub use sizes::{read_sizes, sizes_read_back_law};
 pub use table::{
     changes_read_back_law, read_changes, read_table, table_reads_back_law, write_table,
 };

@@ -6,6 +6,7 @@ ghost use Rattle.csv.specs.Records.{fields_of};
 ghost use Rattle.wh_dag.specs.Written.{number_of};
 ghost use Rattle.wh_strategy.specs.declared.sizes.SizeRow.{SizeRow};
 ghost use Rattle.wh_table_text.specs.RowSizes.{counts_of, size_of};
+ghost use Rattle.wh_table_text.specs.SizesReadBack.{SizesReadBack};
 ghost use Rattle.wh_table_text.specs.SizesText.{fresh_view, missing_fault, placed, size_written, sizes_of_text, sizes_scheme};
 
 use crate::part::{PartReader, read_part};
@@ -215,3 +216,9 @@ pub fn read_sizes(alloc: Global, shape: &Shape, text: &[u8]) -> Result<Sizes, Lo
         Err(_) => unreachable!(),
     }
 }
+
+/// A law of the definitions: sizes that are written as a header and a record for each view, in the order of their numbers,
+/// are read back as they were. It asks for distinct names in UTF-8, as a shape has, and for sizes within their limits.
+pub fn sizes_read_back_law()
+    ensures { SizesReadBack }
+{}

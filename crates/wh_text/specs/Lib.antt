@@ -1,6 +1,7 @@
 pub mod Columns
 pub mod Dict
 pub mod FaultText
+pub mod FirstFault
 pub mod Line
 pub mod NameForm
 pub mod Names

@@ -1,5 +1,5 @@
 //! The parts in the bytes of a bundle.
-ghost use Rattle.std.specs.Prelude.{◌≡◌, Some, None, [], ◌∷◌, ◌++◌, List, IfOk, IfErr, OnOk, OnSome, IfSome, MatchOption, true, false};
+ghost use Rattle.std.specs.Prelude.{◌≡◌, ◌≢◌, Some, None, [], ◌∷◌, ◌++◌, List, IfOk, IfErr, OnOk, OnErr, OnSome, IfSome, MatchOption, true, false};
 ghost use Rattle.wh_bundle.specs.Cut.{RawPart, cut};
 ghost use Rattle.wh_bundle.specs.Heading.{fault_word, heading_of, heading_text};
 ghost use Rattle.wh_bundle.specs.Bundle.{is_bad_night, is_at_fault, first_fault, parts_below};
@@ -75,6 +75,7 @@ pub fn read_parts<'a>(
     ensures parts { IfOk result (λ parts. parts.items ≡ parts_below [] (cut text.now).parts) }
     ensures sound { OnOk result (first_fault nights [] (cut text.now).parts ≡ None) }
     ensures fault { IfErr result (λ fault. Names fault (first_fault nights [] (cut text.now).parts)) }
+    ensures memory { OnErr result (text.now ≢ []) }
 {
     let mut parts = Vec::new(alloc);
     let mut seen = Seen::new(alloc);
