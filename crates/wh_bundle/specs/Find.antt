@@ -7,8 +7,8 @@ use Rattle.wh_bundle.specs.declared.bundle.heading.Scope.TheVariants as scope
 use Rattle.wh_bundle.specs.declared.bundle.part.Part.{Part}
 
 -- the parts of a night
-abbrev pub night_of : ℕ → List Part → List Part
-night_of night parts = filter (λ p. p.night == night) parts
+abbrev pub parts_of_night : ℕ → List Part → List Part
+parts_of_night night parts = filter (λ p. p.night == night) parts
 
 -- how many nights there are: one from the start, and one for each `@night`
 abbrev pub nights_of : List Part → ℕ
@@ -17,8 +17,8 @@ nights_of parts = count_by (λ p. is_night p.heading) parts + 1
 -- where a heading of this scope is looked for: in the bundle where it may stand once there, else in the night
 abbrev pub searched : Scope → ℕ → List Part → List Part
 searched scope.Bundle night parts = parts
-searched scope.Night night parts = night_of night parts
-searched scope.Any night parts = night_of night parts
+searched scope.Night night parts = parts_of_night night parts
+searched scope.Any night parts = parts_of_night night parts
 
 -- the part with this heading
 abbrev pub found : Heading → ℕ → List Part → Option Part

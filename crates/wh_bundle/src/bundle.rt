@@ -47,7 +47,7 @@ impl<'a> Model for Bundle<'a> {
 
 impl<'a> Bundle<'a> {
     ghost use Rattle.std.specs.Prelude.{◌≡◌, option_copied};
-    ghost use Rattle.wh_bundle.specs.Find.{found, night_of, nights_of};
+    ghost use Rattle.wh_bundle.specs.Find.{found, parts_of_night, nights_of};
 
     /// The parts in the order in which they stand.
     pub fn parts(&self) -> &[Part<'a>]
@@ -65,7 +65,7 @@ impl<'a> Bundle<'a> {
 
     /// The parts of a night, which counts from 0, in the order in which they stand.
     pub fn night(&self, night: usize) -> &[Part<'a>]
-        ensures { result.now ≡ night_of night self.now }
+        ensures { result.now ≡ parts_of_night night self.now }
     {
         parts_of_night(&self.parts, night)
     }

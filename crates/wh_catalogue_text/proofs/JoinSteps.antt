@@ -3,7 +3,8 @@ use Rattle.std.proofs.Common.{◌≡◌, ℕ, ◌+◌, ◌<◌, List, [], ◌∷
 use Rattle.std.proofs.lemmas.List.{drop_more}
 use Rattle.wh_text.specs.Columns.{NamedKind}
 use Rattle.wh_catalogue_text.specs.Header.{HeaderOf}
-use Rattle.wh_catalogue_text.specs.Join.{joined, joined_link, seen_link, unknown_in_link, unknown_in_links}
+use Rattle.wh_catalogue_text.specs.Join.{joined, joined_link, unknown_in_link, unknown_in_links}
+use Rattle.wh_catalogue_text.specs.Inner.Join.{seen_link}
 use Rattle.wh_catalogue_text.specs.declared.definitions.join.Link.{Link}
 
 -- a link whose references are known is passed by

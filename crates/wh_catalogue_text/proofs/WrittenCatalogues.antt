@@ -10,7 +10,8 @@ use Rattle.std.proofs.lemmas.Slice.Eq.{bytes_eq-Decides}
 use Rattle.toml.specs.Data.{Data, get}
 use Rattle.wh_dag.specs.Shape.{Views}
 use Rattle.wh_text.specs.Columns.{AreNamed}
-use Rattle.wh_text.specs.Dict.{BeginsWith, with_texts}
+use Rattle.wh_text.specs.Dict.{with_texts}
+use Rattle.wh_text.specs.Inner.Dict.{BeginsWith}
 use Rattle.wh_text.specs.declared.fault.Key.TheVariants as key
 use Rattle.wh_text.specs.declared.fault.LoadFault.TheVariants as fault
 use Rattle.wh_text.proofs.DictGrowth.{begins-same, begins-texts, begins-trans}

@@ -6,7 +6,8 @@ use Rattle.std.specs.Str.{bytes_eq}
 use Rattle.toml.specs.Data.{Data, string}
 use Rattle.wh_formula.specs.Expr.{ExprTree, Column, Number, Add, Sub, Mul, depth}
 use Rattle.wh_text.specs.Columns.{NamedKind}
-use Rattle.wh_text.specs.Dict.{BeginsWith, number_of_text, with_text, with_texts}
+use Rattle.wh_text.specs.Dict.{number_of_text, with_text, with_texts}
+use Rattle.wh_text.specs.Inner.Dict.{BeginsWith}
 use Rattle.wh_text.specs.declared.columns.Kind.{Kind}
 use Rattle.wh_text.specs.declared.columns.Kind.TheVariants.{Int, Text}
 use Rattle.wh_text.specs.declared.fault.LoadFault.{LoadFault}

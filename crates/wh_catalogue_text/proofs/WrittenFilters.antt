@@ -5,7 +5,8 @@ use Rattle.std.specs.List.{IsDistinct}
 use Rattle.std.specs.Str.{bytes_eq}
 use Rattle.toml.specs.Data.{Data, get}
 use Rattle.wh_formula.specs.Pred.{PredTree, True, depth}
-use Rattle.wh_text.specs.Dict.{BeginsWith, with_texts}
+use Rattle.wh_text.specs.Dict.{with_texts}
+use Rattle.wh_text.specs.Inner.Dict.{BeginsWith}
 use Rattle.wh_text.proofs.DictGrowth.{begins-same}
 use Rattle.wh_catalogue_text.specs.Filter.{filter_at}
 use Rattle.wh_catalogue_text.specs.FormulaKinds.{Texts}

@@ -18,7 +18,8 @@ use Rattle.std.proofs.lemmas.Slice.Eq.{bytes_eq-Decides}
 use Rattle.toml.specs.View.{items_of}
 use Rattle.toml.specs.Data.{Data, string, integer, array, table, Items, no_items, item, Members, no_members, member, as_str}
 use Rattle.wh_text.specs.Columns.{NamedKind, names_of}
-use Rattle.wh_text.specs.Dict.{BeginsWith, number_of_text, text_of_cell, with_text}
+use Rattle.wh_text.specs.Dict.{number_of_text, text_of_cell, with_text}
+use Rattle.wh_text.specs.Inner.Dict.{BeginsWith}
 use Rattle.wh_text.specs.NameForm.{begins_name, continues_name, is_name}
 use Rattle.wh_text.specs.declared.columns.Kind.{Kind}
 use Rattle.wh_text.specs.declared.columns.Kind.TheVariants.{Int}

@@ -11,7 +11,8 @@ use Rattle.toml.specs.Data.{Data, string, array, as_str, get}
 use Rattle.wh_dag.specs.Catalog.{OutputOf, Keep, Sums}
 use Rattle.wh_formula.specs.Expr.{ExprTree, Column, depth}
 use Rattle.wh_text.specs.Columns.{AreNamed, NamedKind, names_of}
-use Rattle.wh_text.specs.Dict.{BeginsWith, with_texts}
+use Rattle.wh_text.specs.Dict.{with_texts}
+use Rattle.wh_text.specs.Inner.Dict.{BeginsWith}
 use Rattle.wh_text.specs.NameForm.{is_name}
 use Rattle.wh_text.specs.declared.columns.Kind.{Kind}
 use Rattle.wh_text.specs.declared.columns.Kind.TheVariants.{Int, Text}

@@ -12,7 +12,8 @@ use Rattle.wh_formula.specs.declared.comparison.Comparison.TheVariants.{Equal, N
 use Rattle.wh_formula.specs.Expr.{ExprTree}
 use Rattle.wh_formula.specs.Pred.{PredTree, PredTrees, True, Cmp, AllOf, AnyOf, Not, no_more, one_more, depth, most_levels, parts_of}
 use Rattle.wh_text.specs.Columns.{NamedKind}
-use Rattle.wh_text.specs.Dict.{BeginsWith, with_texts}
+use Rattle.wh_text.specs.Dict.{with_texts}
+use Rattle.wh_text.specs.Inner.Dict.{BeginsWith}
 use Rattle.wh_text.specs.declared.columns.Kind.{Kind}
 use Rattle.wh_text.specs.declared.columns.Kind.TheVariants.{Int, Text}
 use Rattle.wh_text.specs.declared.fault.Key.TheVariants as key

@@ -5,7 +5,8 @@ use Rattle.toml.specs.Data.{Data, get}
 use Rattle.wh_dag.specs.Catalog.{DefinitionOf}
 use Rattle.wh_formula.specs.Pred.{PredTree}
 use Rattle.wh_text.specs.Columns.{NamedKind}
-use Rattle.wh_text.specs.Dict.{BeginsWith, with_texts}
+use Rattle.wh_text.specs.Dict.{with_texts}
+use Rattle.wh_text.specs.Inner.Dict.{BeginsWith}
 use Rattle.wh_text.proofs.DictGrowth.{begins-same, begins-texts, begins-trans}
 use Rattle.wh_catalogue_text.specs.Definitions.{ViewOf}
 use Rattle.wh_catalogue_text.specs.Filter.{filter_of}

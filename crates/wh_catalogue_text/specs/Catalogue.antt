@@ -1,6 +1,5 @@
 -- What the text of a catalogue says of its views: their names, and which views each is over.
-use Rattle.std.specs.Prelude.{ℕ, Bool, if◌then◌else◌, List, [], ◌∷◌, map, codes, Option, Some, None, is_some, ok_or, option_map, option_and_then, Result, Ok, Err, String, Vec}
-use Rattle.std.specs.declared.alloc.Global.{Global}
+use Rattle.std.specs.Prelude.{ℕ, Bool, if◌then◌else◌, List, [], ◌∷◌, map, codes, Option, Some, None, is_some, ok_or, option_map, option_and_then, Result, Ok, Err}
 use Rattle.std.specs.List.{list_all}
 use Rattle.std.specs.Option.{option_transpose}
 use Rattle.std.specs.Str.{is_utf8}
@@ -17,6 +16,7 @@ use Rattle.wh_text.specs.declared.fault.LoadFault.TheVariants as fault
 
 -- what comes of the value, or the fault that stands in its place
 infixl 10 ◌>>=◌
+
 abbrev pub ◌>>=◌ : {A B : Type 0} → Result A LoadFault → (A → Result B LoadFault) → Result B LoadFault
 Ok value >>= next = next value
 Err first >>= next = Err first
@@ -71,10 +71,6 @@ view_over value = option_transpose (option_map over_in (get (codes "over") value
 pub record WrittenViews : Type 0 where
   pub names : List (List ℕ)
   pub over : List (Option (List (List ℕ)))
-
--- the written views that these vectors hold
-abbrev pub seen : List (String Global) → List (Option (Vec (String Global) Global)) → WrittenViews
-seen names over = record { names = texts names; over = written over }
 
 -- the views of these tables, or the first fault, view by view: its name, then what it is over
 abbrev pub written_views : List Data → Result WrittenViews LoadFault

@@ -1,12 +1,9 @@
 -- The form of an expression, level by level.
 use Rattle.std.specs.Prelude.{ℕ, ℤ, zero, suc, List, [], ◌∷◌, Bool, true, false, ◌==◌, ◌&&◌, if◌then◌else◌, Option, Some, None, option_map, option_and_then, codes}
 use Rattle.std.specs.Str.{bytes_eq}
-use Rattle.toml.specs.View.{view}
 use Rattle.toml.specs.Data.{Data, string, integer, array, table, Members, no_members, member, as_str, get_member}
 use Rattle.wh_catalogue_text.specs.Catalogue.{elements}
 use Rattle.wh_catalogue_text.specs.Reference.{is_reference}
-use Rattle.wh_catalogue_text.specs.declared.definitions.expr_form.ExprForm.{ExprForm}
-use Rattle.wh_catalogue_text.specs.declared.definitions.expr_form.ExprForm.TheVariants as lent
 use Rattle.wh_catalogue_text.specs.declared.definitions.expr_form.Sign.{Sign}
 use Rattle.wh_catalogue_text.specs.declared.definitions.expr_form.Sign.TheVariants.{Plus, Minus, Times}
 
@@ -16,13 +13,6 @@ pub data WrittenExpr : Type 0 where
   Reference : List ℕ → WrittenExpr
   Literal : List ℕ → WrittenExpr
   Operation : Sign → Data → Data → WrittenExpr
-
--- the level that lent parts make
-abbrev pub seen : ExprForm → WrittenExpr
-seen (lent.Number n) = Number n
-seen (lent.Reference text) = Reference text.now
-seen (lent.Literal text) = Literal text.now
-seen (lent.Operation sign left right) = Operation sign (view left.now) (view right.now)
 
 -- the operation that a text stands for
 abbrev pub sign_of : List ℕ → Option Sign

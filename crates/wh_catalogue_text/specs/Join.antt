@@ -8,23 +8,18 @@ use Rattle.wh_text.specs.declared.columns.Kind.TheVariants.{Int, Text}
 use Rattle.wh_text.specs.declared.fault.Key.TheVariants as key
 use Rattle.wh_text.specs.declared.fault.LoadFault.{LoadFault}
 use Rattle.wh_text.specs.declared.fault.LoadFault.TheVariants as fault
-use Rattle.wh_catalogue_text.specs.Catalogue.{◌>>=◌, array_of}
+use Rattle.wh_catalogue_text.specs.Catalogue.{array_of}
 use Rattle.wh_catalogue_text.specs.ColumnNames.{checked, unless_unknown}
 use Rattle.wh_catalogue_text.specs.FormulaColumns.{unknown}
 use Rattle.wh_catalogue_text.specs.FormulaKinds.{unfit}
 use Rattle.wh_catalogue_text.specs.Header.{HeaderOf, cell_of}
 use Rattle.wh_catalogue_text.specs.Pairs.{reference_in}
 use Rattle.wh_catalogue_text.specs.declared.definitions.header.Cell.{Cell}
-use Rattle.wh_catalogue_text.specs.declared.definitions.join.Link.{Link}
 
 -- two references whose columns are equal
 pub record WrittenLink : Type 0 where
   pub left : List ℕ
   pub right : List ℕ
-
--- the link that lent parts make
-abbrev pub seen_link : Link → WrittenLink
-seen_link link = record { left = link.left.now; right = link.right.now }
 
 -- a link of two references
 abbrev pub linked : Option (List ℕ) → Option (List ℕ) → Option WrittenLink

@@ -22,3 +22,4 @@ pub mod WrittenHeader
 pub mod WrittenLaws
 pub mod WrittenOutput
 pub mod WrittenView
+pub mod Inner

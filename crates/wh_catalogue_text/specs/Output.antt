@@ -8,14 +8,13 @@ use Rattle.wh_text.specs.declared.fault.Key.TheVariants as key
 use Rattle.wh_text.specs.declared.fault.LoadFault.{LoadFault}
 use Rattle.wh_text.specs.declared.fault.LoadFault.TheVariants as fault
 use Rattle.wh_catalogue_text.specs.BaseColumns.{is_few}
-use Rattle.wh_catalogue_text.specs.Catalogue.{◌>>=◌, name_in}
+use Rattle.wh_catalogue_text.specs.Catalogue.{name_in}
 use Rattle.wh_catalogue_text.specs.ColumnNames.{Seen, checked, fresh_name}
 use Rattle.wh_catalogue_text.specs.FormulaKinds.{Texts}
 use Rattle.wh_catalogue_text.specs.Header.{HeaderOf}
 use Rattle.wh_catalogue_text.specs.Pairs.{WrittenPair, TypedColumns, GroupColumns, are_exprs, are_references, group_columns, grouped, known_pairs, pairs_written, typed_columns, typed_pairs}
 use Rattle.wh_catalogue_text.specs.declared.definitions.output.WrittenOutput.{WrittenOutput}
 use Rattle.wh_catalogue_text.specs.declared.definitions.output.WrittenOutput.TheVariants as written
-use Rattle.wh_catalogue_text.specs.declared.definitions.output.Outcome.{Outcome}
 use Rattle.wh_catalogue_text.specs.declared.definitions.typed_pairs.KindRule.TheVariants.{AnyKind, Numbers}
 
 -- a derived view's columns, and what they are made of
@@ -27,10 +26,6 @@ pub record ColumnsOf : Type 0 where
 abbrev pub shown_output : WrittenOutput → OutputOf
 shown_output (written.Keep kept) = Keep kept.items
 shown_output (written.Sums group sums) = Sums group.items sums.items
-
--- the columns and output that lists in memory make
-abbrev pub shown_outcome : Outcome → ColumnsOf
-shown_outcome outcome = record { columns = outcome.columns.items; output = shown_output outcome.output }
 
 -- columns and their output, and the texts once all literals have numbers
 abbrev pub OutputOutcome : Type 0

@@ -1,8 +1,7 @@
 -- Arrays of pairs of a name and a formula, as `keep`, `group` and `sum` write them.
-use Rattle.std.specs.Prelude.{ℕ, List, [], ◌∷◌, ◌++◌, Bool, true, if◌then◌else◌, is_some, Option, Some, None, ok_or, option_map, option_and_then, Result, Ok}
+use Rattle.std.specs.Prelude.{ℕ, List, [], ◌∷◌, ◌++◌, Bool, true, if◌then◌else◌, is_some, Option, Some, None, ok_or, option_and_then, Result, Ok}
 use Rattle.std.specs.List.{list_all}
 use Rattle.toml.specs.Data.{Data, string, as_str}
-use Rattle.toml.specs.View.{view}
 use Rattle.wh_formula.specs.Expr.{ExprTree}
 use Rattle.wh_text.specs.Columns.{NamedKind}
 use Rattle.wh_text.specs.NameForm.{is_name}
@@ -10,7 +9,7 @@ use Rattle.wh_text.specs.declared.columns.Kind.{Kind}
 use Rattle.wh_text.specs.declared.fault.Key.{Key}
 use Rattle.wh_text.specs.declared.fault.LoadFault.{LoadFault}
 use Rattle.wh_text.specs.declared.fault.LoadFault.TheVariants as fault
-use Rattle.wh_catalogue_text.specs.Catalogue.{◌>>=◌, array_of}
+use Rattle.wh_catalogue_text.specs.Catalogue.{array_of}
 use Rattle.wh_catalogue_text.specs.ColumnNames.{Seen, checked, fresh_name, unless_unknown}
 use Rattle.wh_catalogue_text.specs.Formula.{is_whole_expr, unknown_column, whole_expr}
 use Rattle.wh_catalogue_text.specs.FormulaKinds.{ExprOutcome, Texts, is_int, unfit}
@@ -18,7 +17,6 @@ use Rattle.wh_catalogue_text.specs.Header.{HeaderOf, cell_of}
 use Rattle.wh_catalogue_text.specs.Reference.{is_reference}
 use Rattle.wh_catalogue_text.specs.declared.definitions.formula_kinds.TypedExpr.{TypedExpr}
 use Rattle.wh_catalogue_text.specs.declared.definitions.header.Cell.{Cell}
-use Rattle.wh_catalogue_text.specs.declared.definitions.pairs.Pair.{Pair}
 use Rattle.wh_catalogue_text.specs.declared.definitions.typed_pairs.KindRule.{KindRule}
 use Rattle.wh_catalogue_text.specs.declared.definitions.typed_pairs.KindRule.TheVariants.{AnyKind, Numbers}
 
@@ -26,10 +24,6 @@ use Rattle.wh_catalogue_text.specs.declared.definitions.typed_pairs.KindRule.The
 pub record WrittenPair : Type 0 where
   pub name : List ℕ
   pub value : Data
-
--- the pair that lent parts make
-abbrev pub seen_pair : Pair → WrittenPair
-seen_pair pair = record { name = pair.name.now; value = view pair.value.now }
 
 -- a pair whose name has the form of a name
 abbrev pub named_pair : List ℕ → Data → Option WrittenPair
@@ -64,10 +58,6 @@ reference_in value = option_and_then referring (as_str value)
 -- the formula of each pair is a reference
 abbrev pub are_references : List WrittenPair → Bool
 are_references pairs = list_all (λ pair. is_some (reference_in pair.value)) pairs
-
--- the fault of a formula that names no column
-abbrev pub unknown_fault : List NamedKind → Data → Option LoadFault
-unknown_fault columns value = option_map fault.Column (unknown_column columns value)
 
 -- the names of some pairs after those seen, pair by pair: its name is new, then all of its references name columns
 abbrev pub known_pairs : List NamedKind → Seen → List WrittenPair → Result Seen LoadFault

@@ -1,15 +1,12 @@
 -- The form of a predicate, level by level.
-use Rattle.std.specs.Prelude.{map, ℕ, zero, suc, List, [], ◌∷◌, Bool, true, false, ◌&&◌, if◌then◌else◌, Option, Some, None, option_map, codes}
+use Rattle.std.specs.Prelude.{ℕ, zero, suc, List, [], ◌∷◌, Bool, true, false, ◌&&◌, if◌then◌else◌, Option, Some, None, option_map, codes}
 use Rattle.std.specs.List.{list_all}
 use Rattle.std.specs.Str.{bytes_eq}
-use Rattle.toml.specs.View.{view}
 use Rattle.toml.specs.Data.{Data, string, boolean, array}
 use Rattle.wh_formula.specs.declared.comparison.Comparison.{Comparison}
 use Rattle.wh_formula.specs.declared.comparison.Comparison.TheVariants as op
 use Rattle.wh_catalogue_text.specs.Catalogue.{elements}
 use Rattle.wh_catalogue_text.specs.ExprForm.{is_expr}
-use Rattle.wh_catalogue_text.specs.declared.definitions.pred_form.PredForm.{PredForm}
-use Rattle.wh_catalogue_text.specs.declared.definitions.pred_form.PredForm.TheVariants as lent
 
 -- the first level of a predicate
 pub data WrittenPred : Type 0 where
@@ -18,14 +15,6 @@ pub data WrittenPred : Type 0 where
   All : List Data → WrittenPred
   Any : List Data → WrittenPred
   Not : Data → WrittenPred
-
--- the level that lent parts make
-abbrev pub seen : PredForm → WrittenPred
-seen lent.Always = Always
-seen (lent.Compare comparison left right) = Compare comparison (view left.now) (view right.now)
-seen (lent.All parts) = All (map view parts.now)
-seen (lent.Any parts) = Any (map view parts.now)
-seen (lent.Not part) = Not (view part.now)
 
 -- the comparison that a text stands for
 abbrev pub comparison_of : List ℕ → Option Comparison

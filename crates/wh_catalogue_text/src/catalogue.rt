@@ -5,7 +5,8 @@ ghost use Rattle.toml.specs.Data.{get_member};
 ghost use Rattle.toml.specs.View.{table_view, view};
 ghost use Rattle.wh_dag.specs.Written.{texts, written_list};
 ghost use Rattle.wh_text.specs.NameForm.{is_name};
-ghost use Rattle.wh_catalogue_text.specs.Catalogue.{document_of, array_of, is_table, views_of, view_name, named, texts_of, over_in, view_over, seen, written_views, shape_written, shape_of};
+ghost use Rattle.wh_catalogue_text.specs.Catalogue.{document_of, array_of, is_table, views_of, view_name, named, texts_of, over_in, view_over, written_views, shape_written, shape_of};
+ghost use Rattle.wh_catalogue_text.specs.Inner.Catalogue.{seen};
 
 use crate::name_form::is_name;
 use std::alloc::{AllocError, Global};

@@ -1,7 +1,7 @@
 //! The columns of a catalogue's views, and what its derived views are made of.
 ghost use Rattle.std.specs.Prelude.{◌≡◌, ◌⊎◌, [], length, map, Ok, Err, IfOk, IfErr, OnErr};
 ghost use Rattle.toml.specs.View.{view};
-ghost use Rattle.wh_text.specs.Dict.{BeginsWith, Grows};
+ghost use Rattle.wh_text.specs.Inner.Dict.{BeginsWith, Grows};
 ghost use Rattle.wh_catalogue_text.specs.Catalogue.{shape_of};
 ghost use Rattle.wh_catalogue_text.specs.Definitions.{definitions_of, shown_view, views_after};
 ghost use Rattle.wh_catalogue_text.specs.ReadCatalog.{AreDefinitions, DefinitionsFit};

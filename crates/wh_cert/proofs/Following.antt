@@ -12,7 +12,7 @@ use Rattle.wh_strategy.specs.Sizes.{Size}
 use Rattle.wh_cert.specs.Certificate.{DifferFirst, line_of}
 use Rattle.wh_cert.specs.declared.certificate.PairMin.{PairMin}
 use Rattle.wh_cert.specs.declared.lines.Followed.{Followed}
-use Rattle.wh_cert.specs.Followed.{Follows, lines_among}
+use Rattle.wh_cert.specs.Inner.Followed.{Follows, lines_among}
 
 at_end : (xs : List PairMin) (y : PairMin) → slice_get (xs ++ y ∷ []) (length xs) ≡ Some y
 at_end [] y = refl

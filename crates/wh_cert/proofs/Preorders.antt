@@ -4,7 +4,7 @@ use Rattle.std.proofs.lemmas.List.{append-nil, append_assoc, append_cancel_left,
 use Rattle.wh_strategy.specs.declared.expression.Expression.{Expression}
 use Rattle.wh_dag.specs.declared.siblings.Couple.{Couple}
 use Rattle.wh_cert.specs.Tree.{CaseTree, Bound, Cycle, Branch, preorder, depth, joined, forest_of, first_tree, tree_of, IsTreeOf}
-use Rattle.wh_cert.specs.Preorder.{IsTreeFirst, NoTreeFirst}
+use Rattle.wh_cert.specs.Inner.Preorder.{IsTreeFirst, NoTreeFirst}
 use Rattle.wh_cert.specs.declared.tree.TreeNode.{TreeNode}
 use Rattle.wh_cert.specs.declared.tree.TreeNode.TheVariants as node
 

@@ -12,7 +12,8 @@ use Rattle.wh_dag.proofs.Sums.{sum_by-same, sum_by-plus}
 use Rattle.wh_strategy.specs.declared.sizes.SizeRow.{SizeRow}
 use Rattle.wh_strategy.specs.Sizes.{Size, AreSizes, sizes_of}
 use Rattle.wh_strategy.specs.Sums.{sum_below}
-use Rattle.wh_cert.specs.Bound.{in_order, pair_min, sum_pairs, rows_by, decided_value, decided_bound_of, more_under}
+use Rattle.wh_cert.specs.Bound.{in_order, pair_min, sum_pairs, rows_by, decided_value, decided_bound_of}
+use Rattle.wh_cert.specs.Inner.Bound.{more_under}
 use Rattle.wh_cert.specs.Graph.{decides}
 use Rattle.wh_cert.proofs.DesiredOrder.{pair_min-swap}
 use Rattle.wh_cert.proofs.Sums.{sum_below-add}

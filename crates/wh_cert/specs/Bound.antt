@@ -1,7 +1,7 @@
 -- The pair bound: what the Comps of a night cost at least, pair by pair of the views that a view is over, and the Insts.
-use Rattle.std.specs.Prelude.{ℕ, ◌+◌, ◌*◌, List, [], ◌∷◌, length, min, if◌then◌else◌, ◌&&◌}
+use Rattle.std.specs.Prelude.{ℕ, ◌+◌, ◌*◌, List, [], ◌∷◌, length, min, if◌then◌else◌}
 use Rattle.std.specs.List.{sum_by}
-use Rattle.wh_dag.specs.Shape.{has, children_of}
+use Rattle.wh_dag.specs.Shape.{children_of}
 use Rattle.wh_strategy.specs.Sizes.{Size}
 use Rattle.wh_strategy.specs.Sums.{sum_below}
 use Rattle.wh_cert.specs.Graph.{decides}
@@ -41,7 +41,3 @@ decided_value sizes decided u w =
 -- the decided bound: the same with each decided couple at its decision's value, under every common parent
 abbrev pub decided_bound_of : List (List ℕ) → (ℕ → Size) → ℕ → ℕ → List (ℕ × ℕ) → ℕ
 decided_bound_of shape sizes comp inst decided = cost_by (decided_value sizes decided) shape sizes comp inst
-
--- what is read more under a view that is over both, where that is so much
-abbrev pub more_under : List (List ℕ) → ℕ → ℕ → ℕ → ℕ → ℕ
-more_under shape first second more v = if has (children_of shape v) first && has (children_of shape v) second then more else 0

@@ -1,11 +1,9 @@
 pub mod Bound
 pub mod Certificate
-pub mod Descent
 pub mod Examples
-pub mod Followed
 pub mod Graph
 pub mod Order
-pub mod Preorder
 pub mod Relations
 pub mod Search
 pub mod Tree
+pub mod Inner

@@ -10,7 +10,8 @@ ghost use Rattle.wh_strategy.specs.Sizes.{AreSizes, sizes_of};
 ghost use Rattle.wh_strategy.specs.Work.{work_of};
 ghost use Rattle.wh_strategy.specs.Sums.{sum_below};
 ghost use Rattle.wh_cert.specs.Graph.{decides};
-ghost use Rattle.wh_cert.specs.Bound.{more_under, in_order, pair_min, decided_value, rows_by, decided_bound_of, pair_bound_of};
+ghost use Rattle.wh_cert.specs.Bound.{in_order, pair_min, decided_value, rows_by, decided_bound_of, pair_bound_of};
+ghost use Rattle.wh_cert.specs.Inner.Bound.{more_under};
 
 use crate::decisions::Decisions;
 use wh_dag::{ChildLists, Shape};

@@ -1,7 +1,7 @@
 //! The way down a tree.
 
 ghost use Rattle.std.specs.Prelude.{◌≡◌, ◌<◌, ◌≤◌, ◌∷◌, [], length};
-ghost use Rattle.wh_cert.specs.Descent.{past, turned};
+ghost use Rattle.wh_cert.specs.Inner.Descent.{past, turned};
 
 use crate::tree::{MAX_DEPTH, TreeNode};
 use std::marker::Model;

@@ -5,7 +5,7 @@ ghost use Rattle.wh_dag.specs.Siblings.{triples_with, triples_of};
 ghost use Rattle.wh_strategy.specs.Sizes.{sizes_of};
 ghost use Rattle.wh_cert.specs.declared.certificate.PairMin.{PairMin};
 ghost use Rattle.wh_cert.specs.Certificate.{DifferFirst, line_of, lines_of};
-ghost use Rattle.wh_cert.specs.Followed.{Follows, lines_among};
+ghost use Rattle.wh_cert.specs.Inner.Followed.{Follows, lines_among};
 
 use crate::bound::pair_min;
 use crate::certificate::PairMin;

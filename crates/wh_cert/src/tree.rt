@@ -2,7 +2,7 @@
 
 ghost use Rattle.std.specs.Prelude.{◌≡◌, ◌≤◌, ◌++◌, MatchOption, IsTrue, ◌↔◌};
 ghost use Rattle.wh_cert.specs.Tree.{CaseTree, IsTreeOf, tree_of};
-ghost use Rattle.wh_cert.specs.Preorder.{IsTreeFirst, NoTreeFirst};
+ghost use Rattle.wh_cert.specs.Inner.Preorder.{IsTreeFirst, NoTreeFirst};
 
 use std::marker::Model;
 use wh_dag::Couple;

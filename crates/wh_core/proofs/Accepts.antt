@@ -17,7 +17,8 @@ use Rattle.wh_core.specs.Laws.{IsSetup, PublishedAreWellFormed}
 use Rattle.wh_core.specs.Log.{Log, Paged_in}
 use Rattle.wh_core.specs.Nights.{Setup, page_in_turn, published, turn}
 use Rattle.wh_core.specs.Replies.{IsLegalLog, IsReply, more}
-use Rattle.wh_core.specs.Standing.{Stands, page_in}
+use Rattle.wh_core.specs.Standing.{Stands}
+use Rattle.wh_core.specs.Inner.Standing.{page_in}
 use Rattle.wh_core.proofs.Moves.{page_done, page_in_turn_there, page_there}
 
 -- the last number stands in no page's way

@@ -4,8 +4,8 @@ use Rattle.std.specs.Prelude.{◌≢◌, ◌^◌, ◌==◌, is_some, is_none, na
 use mathlib.Core.Logic.{◌⊎◌, inl, inr}
 use Rattle.wh_store.specs.Pages.{Shown, page_of}
 use Rattle.wh_store.specs.Versions.{number, is_active, is_unexpired, version, table_of}
-use Rattle.wh_course.specs.Night.{Night, ArePassedAt, places_from}
-use Rattle.wh_course.specs.Legs.{Turn, In_wave, At_page, Over, legs_of, turn_of, reach}
+use Rattle.wh_course.specs.Night.{Night, ArePassedAt, places_from, AreAllowed}
+use Rattle.wh_course.specs.Legs.{Turn, In_wave, At_page, Over, legs_of, turn_of, carried_up_to}
 use Rattle.wh_row.specs.Weigh.{Counted}
 use Rattle.wh_core.specs.declared.event.Event.{Event}
 use Rattle.wh_core.specs.declared.event.Event.TheVariants.{Begin, Take, Done, PageIn, Commit, GiveUp, Open, Read, Close}
@@ -15,20 +15,20 @@ use Rattle.wh_core.specs.declared.reply.Reply.{Reply}
 use Rattle.wh_core.specs.declared.reply.Reply.TheVariants as reply
 use Rattle.wh_core.specs.Log.{Deed, Log, Began, Drew, Finished, Paged_in, Committed, Gave_up, Sat_down, Turned, Left, SessionOf, logged, nights_begun, is_open, draws, ends, pages, holding, session}
 use Rattle.wh_core.specs.Nights.{Setup, next_night, night, turn, versions}
-use Rattle.wh_core.specs.Replies.{AreAllowed, IsCarried, IsLegalLog, IsReply, IsRuled, Ruling, Says, Takes, Carries, Starts, nothing, more, unless, goes_on, read_ruling, take_ruling, done_by, done_ruling, page_ruling, commit_ruling, ruling}
+use Rattle.wh_core.specs.Replies.{IsCarried, IsLegalLog, IsReply, IsRuled, Ruling, Says, Takes, Carries, Starts, nothing, more, unless, goes_on, read_ruling, take_ruling, done_by, done_ruling, page_ruling, commit_ruling, ruling}
 
 -- what was known when a deed was done
 abbrev pub IsDeed : Setup → Log → Deed → Type 0
 IsDeed s log Began =
     (is_open log ≡ false) × (nights_begun log < length s.nights) × AreAllowed (next_night s log)
-    × ArePassedAt (next_night s log) (places_from 0 (reach (next_night s log) (turn_of (legs_of (next_night s log)) 0 0 0)))
+    × ArePassedAt (next_night s log) (places_from 0 (carried_up_to (next_night s log) (turn_of (legs_of (next_night s log)) 0 0 0)))
 IsDeed s log (Drew w n) = (is_open log ≡ true) × (holding log w ≡ None) × (place : ℕ) × (jobs : ℕ) × (turn s log ≡ In_wave place jobs n) × (n < jobs)
 IsDeed s log (Finished w) =
     (is_open log ≡ true) × (job : ℕ) × (holding log w ≡ Some job) × (place : ℕ) × (jobs : ℕ) × (drawn : ℕ) × (turn s log ≡ In_wave place jobs drawn)
-    × ArePassedAt (night s log) ((place + job) ∷ places_from (place + jobs) (reach (night s log) (turn_of (legs_of (night s log)) (draws log) (ends log + 1) (pages log))))
+    × ArePassedAt (night s log) ((place + job) ∷ places_from (place + jobs) (carried_up_to (night s log) (turn_of (legs_of (night s log)) (draws log) (ends log + 1) (pages log))))
 IsDeed s log Paged_in =
     (is_open log ≡ true) × (place : ℕ) × (view : ℕ) × (rows : Counted) × (turn s log ≡ At_page place view rows)
-    × ArePassedAt (night s log) (places_from (place + 1) (reach (night s log) (turn_of (legs_of (night s log)) (draws log) (ends log) (pages log + 1))))
+    × ArePassedAt (night s log) (places_from (place + 1) (carried_up_to (night s log) (turn_of (legs_of (night s log)) (draws log) (ends log) (pages log + 1))))
 IsDeed s log Committed = (is_open log ≡ true) × (turn s log ≡ Over)
 IsDeed s log Gave_up = is_open log ≡ true
 IsDeed s log (Sat_down d v) = (session log d ≡ None) × (v ≡ number (versions s log))
@@ -102,7 +102,7 @@ take_leaves s log w (reply.Job n) h =
 take_leaves s log w r h = inl refl
 
 done_turn : (n : Night) (now next : Turn) (held : Option ℕ) → IsRuled (done_by n now next held) reply.Done
-    → (job : ℕ) × (held ≡ Some job) × (place : ℕ) × (jobs : ℕ) × (drawn : ℕ) × (now ≡ In_wave place jobs drawn) × ArePassedAt n ((place + job) ∷ places_from (place + jobs) (reach n next))
+    → (job : ℕ) × (held ≡ Some job) × (place : ℕ) × (jobs : ℕ) × (drawn : ℕ) × (now ≡ In_wave place jobs drawn) × ArePassedAt n ((place + job) ∷ places_from (place + jobs) (carried_up_to n next))
 done_turn n (In_wave place jobs drawn) next (Some job) h =
     let a = carried n _ reply.Done reply.Done (λ c e. cc) h in (job, refl, place, jobs, drawn, refl, a.0)
 done_turn n (At_page place view rows) next (Some job) h = cc
@@ -119,7 +119,7 @@ done_leaves s log w reply.Done h =
 done_leaves s log w r h = inl refl
 
 page_turn : (n : Night) (now next : Turn) (k : ℕ) → IsRuled (page_ruling n now next) (reply.Paged k)
-    → (place : ℕ) × (view : ℕ) × (rows : Counted) × (now ≡ At_page place view rows) × ArePassedAt n (places_from (place + 1) (reach n next))
+    → (place : ℕ) × (view : ℕ) × (rows : Counted) × (now ≡ At_page place view rows) × ArePassedAt n (places_from (place + 1) (carried_up_to n next))
 page_turn n (At_page place view rows) next k h =
     let a = carried n _ (reply.Paged (length rows)) (reply.Paged k) (λ c e. cc) h in (place, view, rows, refl, a.0)
 page_turn n (In_wave place jobs drawn) next k h = cc

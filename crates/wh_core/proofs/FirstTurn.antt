@@ -19,10 +19,9 @@ use Rattle.wh_night.specs.Carry.{State, change_in, tables_after}
 use Rattle.wh_night.specs.Refused.{IsOf, IsRuledOut, Reason, RowIsLacking, BaseIsLarge, ChangeIsLarge, ChangeHasNoValue, CompIsLarge, CompMeetsNoValue, PendingIsLarge, TableIsLarge}
 use Rattle.wh_night.proofs.Prefixes.{place_within}
 use Rattle.wh_night.proofs.StepRows.{table_at}
-use Rattle.wh_course.specs.Night.{Night, ArePassedAt, IsPassedAt, places_from, state_at}
-use Rattle.wh_course.specs.Legs.{Leg, Wave, Page, legs_of, reach, turn_of}
+use Rattle.wh_course.specs.Night.{Night, ArePassedAt, IsPassedAt, places_from, state_at, AreAllowed}
+use Rattle.wh_course.specs.Legs.{Leg, Wave, Page, legs_of, carried_up_to, turn_of}
 use Rattle.wh_core.specs.Laws.{IsCompAt}
-use Rattle.wh_core.specs.Replies.{AreAllowed}
 use Rattle.wh_core.proofs.Legs.{Covers, are_covered, have_jobs}
 use Rattle.wh_core.proofs.Underway.{come_to, fresh, reach_is}
 
@@ -92,9 +91,9 @@ module _ (n : Night) (ok : IsCorrect n.catalog.views.children n.list) (allowed :
   passes p l (Inst v) at reason of = inst_passes p v l at reason of
 
   -- so a night whose base changes are allowed begins
-  pub first_passed : ArePassedAt n (places_from 0 (reach n (turn_of (legs_of n) 0 0 0)))
+  pub first_passed : ArePassedAt n (places_from 0 (carried_up_to n (turn_of (legs_of n) 0 0 0)))
   first_passed =
-      let end : ℕ = reach n (turn_of (legs_of n) 0 0 0) in
+      let end : ℕ = carried_up_to n (turn_of (legs_of n) 0 0 0) in
       let same : end ≡ first_turn n = reach_is n (legs_of n) 0 0 (fresh (legs_of n) (have_jobs n)) in
       λ k d l.
       let small : k < end - 0 = subst (λ m. k < m) (length-range_with_len 0 (end - 0)) l in

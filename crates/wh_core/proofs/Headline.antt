@@ -17,7 +17,7 @@ use Rattle.wh_store.specs.Versions.{Versions, is_active, is_unexpired, kept_coun
 use Rattle.wh_maint.specs.declared.fault.MaintFault.{MaintFault}
 use Rattle.wh_maint.specs.declared.fault.MaintFault.TheVariants as fault
 use Rattle.wh_course.specs.Night.{Night, places_from}
-use Rattle.wh_course.specs.Legs.{Turn, In_wave, At_page, Over, legs_of, reach, turn_of}
+use Rattle.wh_course.specs.Legs.{Turn, In_wave, At_page, Over, legs_of, carried_up_to, turn_of}
 use Rattle.wh_core.specs.declared.event.Event.{Event}
 use Rattle.wh_core.specs.declared.event.Event.TheVariants.{Begin, Take, Done, PageIn, Commit, GiveUp, Open, Read, Close}
 use Rattle.wh_core.specs.declared.reply.Cause.{Cause}
@@ -402,7 +402,7 @@ module _ (join : PagesJoin) (stay : VersionsStay) (s : Setup) (events : List Eve
       let more : nights_begun (at i) < length s.nights = subst (λ n. n < length s.nights) (sym (begun_is i closed)) left in
       let b = skip (nat_le (length s.nights) (nights_begun (at i))) cause.NoNight _ r (le_false (length s.nights) (nights_begun (at i)) more) a in
       let n : Night = next_night s (at i) in
-      begun_so (at i) (number (versions s (at i)) + 1 == 2 ^ 64) n (places_from 0 (reach n (turn_of (legs_of n) 0 0 0))) r (λ e. ap (λ n. n + 1) (ended_is s (at i)) ∙ eq_true (number (versions s (at i)) + 1) (2 ^ 64) e) b
+      begun_so (at i) (number (versions s (at i)) + 1 == 2 ^ 64) n (places_from 0 (carried_up_to n (turn_of (legs_of n) 0 0 0))) r (λ e. ap (λ n. n + 1) (ended_is s (at i)) ∙ eq_true (number (versions s (at i)) + 1) (2 ^ 64) e) b
 
   commit_made : (i k : ℕ) → IsAnswered events replies i Commit (reply.Version k) → (is_open (at i) ≡ true) × (k ≡ nights_ended (at i) + 1) × CarriesOver s made (nights_ended (at i))
   commit_made i k there =

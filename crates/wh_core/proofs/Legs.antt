@@ -13,7 +13,7 @@ use Rattle.wh_row.specs.Weigh.{Counted}
 use Rattle.wh_store.specs.Operations.{Operation, Opens, Writes, Commits, Gives_up}
 use Rattle.wh_store.specs.Versions.{Versions, after, opened, versions_from, versions_of}
 use Rattle.wh_core.specs.Log.{Deed, Log, Began, Drew, Finished, Paged_in, Committed, Gave_up, Sat_down, Turned, Left, nights_begun, is_open, draws, ends, pages, holding}
-use Rattle.wh_core.specs.Nights.{Setup, next_night, night, night_from, night_of, page_in_turn, published, turn, turn_in, versions}
+use Rattle.wh_core.specs.Nights.{Setup, next_night, night, night_from, last_night, page_in_turn, published, turn, turn_in, versions}
 use Rattle.wh_core.proofs.Stages.{stages_join}
 use Rattle.wh_core.proofs.Deeds.{AreDeeds, IsDeed, none, one_more}
 use Rattle.wh_row.specs.Bag.{Bag}
@@ -27,10 +27,10 @@ use Rattle.wh_night.specs.declared.stages.Stage.TheVariants as stage
 use Rattle.wh_night.specs.Carry.{State, at_first}
 use Rattle.wh_night.specs.Waves.{comp_of, expressions_of, is_target_among, stages_after, stages_of, wave_of}
 use Rattle.wh_night.specs.NightList.{inst_pages}
-use Rattle.wh_core.specs.Laws.{IsCompAt, done_places, drawn_places, falls, held_place, place_of}
+use Rattle.wh_core.specs.Laws.{IsCompAt, done_places, drawn_places, falls, held_place, job_place}
 use Rattle.wh_core.specs.Standing.{HaveJobs, IsWithin}
 use Rattle.wh_course.specs.Night.{Night, ArePassedAt, IsPassedAt, places_from}
-use Rattle.wh_course.specs.Legs.{Leg, Wave, Page, Turn, In_wave, At_page, Over, legs_after, legs_of, turn_of, reach}
+use Rattle.wh_course.specs.Legs.{Leg, Wave, Page, Turn, In_wave, At_page, Over, legs_after, legs_of, turn_of, carried_up_to}
 
 -- the places of the legs rise, from this one on
 abbrev pub IsRising : ℕ → List Leg → Type 0

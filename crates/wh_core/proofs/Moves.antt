@@ -11,8 +11,8 @@ use Rattle.wh_store.specs.Operations.{Operation, Opens, Writes, Commits, Gives_u
 use Rattle.wh_store.specs.Versions.{Versions, after, is_active, number, versions_from, versions_of, written_over}
 use Rattle.wh_store.specs.Windows.{Window, Shows}
 use Rattle.wh_course.specs.declared.course.Part.{Part}
-use Rattle.wh_course.specs.Night.{Night, ArePassedAt, IsPassedAt, IsFaultAt, IsFirstFaultOf, places_from}
-use Rattle.wh_course.specs.Legs.{Leg, Turn, In_wave, At_page, Over, legs_of, turn_of, reach}
+use Rattle.wh_course.specs.Night.{Night, ArePassedAt, IsPassedAt, IsFaultAt, IsFirstFaultOf, places_from, AreAllowed}
+use Rattle.wh_course.specs.Legs.{Leg, Turn, In_wave, At_page, Over, legs_of, turn_of, carried_up_to}
 use Rattle.wh_course.specs.Course.{AreParts, IsOutcome}
 use Rattle.wh_core.specs.declared.event.Event.{Event}
 use Rattle.wh_core.specs.declared.event.Event.TheVariants as event
@@ -22,9 +22,10 @@ use Rattle.wh_core.specs.declared.reply.Cause.TheVariants as cause
 use Rattle.wh_core.specs.declared.reply.Reply.{Reply}
 use Rattle.wh_core.specs.declared.reply.Reply.TheVariants as reply
 use Rattle.wh_core.specs.Log.{Log, Began, Drew, Finished, Paged_in, Committed, Gave_up, Sat_down, Turned, Left, draws, ends, holding, is_open, logged, nights_begun, pages}
-use Rattle.wh_core.specs.Nights.{Setup, night, next_night, page_in_turn, published, turn, turn_in, versions, night_of}
-use Rattle.wh_core.specs.Replies.{AreAllowed, IsCarried, IsLegalLog, IsMemory, IsReply, IsRuled, Ruling, Says, Takes, Carries, Starts, cause_of, commit_ruling, done_by, done_ruling, more, page_ruling, take_ruling, unless}
-use Rattle.wh_core.specs.Standing.{GoesOn, Stands, page_in, wave_in}
+use Rattle.wh_core.specs.Nights.{Setup, night, next_night, page_in_turn, published, turn, turn_in, versions, last_night}
+use Rattle.wh_core.specs.Replies.{IsCarried, IsLegalLog, IsMemory, IsReply, IsRuled, Ruling, Says, Takes, Carries, Starts, cause_of, commit_ruling, done_by, done_ruling, more, page_ruling, take_ruling, unless}
+use Rattle.wh_core.specs.Standing.{AreLeft, Stands}
+use Rattle.wh_core.specs.Inner.Standing.{page_in, wave_in}
 use Rattle.wh_core.proofs.Legs.{have_jobs}
 use Rattle.wh_core.proofs.Underway.{come_to, fresh, reach_is, night-began, night-paged, versions_from-append}
 use Rattle.wh_core.proofs.Steps.{AreLast, AtPage, InWave, IsKind, next_in_wave, wave, page, over, kind_here, refuse, onward, le_false, le_true, drop_one, wave_here, wave_turn_here, page_here, page_turn_here, end_turn_here, drew, ended_one, wave_over, page_over, reach_after_wave, reach_after_page, comes_on, is_stopped, held_within, last_done, all_are_passed}
@@ -75,11 +76,11 @@ module _ (s : Setup) (log : Log) (m : Machine) (h : Stands s log m) where
   take_here w r l o k =
       onward (nat_le s.workers w) cause.NoWorker _ r (le_false s.workers w (let f = h.workers in omega (arith, f, l))) (onward (not (is_open log)) cause.NoNight _ r (ap not (sym open_here ∙ o)) k)
 
-  pub goes_here : is_some m.store.draft ≡ true → GoesOn (night s log) (draws log) (ends log) (pages log) (drop m.place m.course.parts.items) m.course.stop m.drawn m.ended
+  pub goes_here : is_some m.store.draft ≡ true → AreLeft (night s log) (draws log) (ends log) (pages log) (drop m.place m.course.parts.items) m.course.stop m.drawn m.ended
   goes_here o = h.night (sym open_here ∙ o)
 
 -- no wave is in turn
-pub no_wave : (n : Night) (d e p : ℕ) (parts : List Part) (stop : Option MaintFault) (drawn ended : ℕ) → GoesOn n d e p parts stop drawn ended → wave_in parts ≡ None
+pub no_wave : (n : Night) (d e p : ℕ) (parts : List Part) (stop : Option MaintFault) (drawn ended : ℕ) → AreLeft n d e p parts stop drawn ended → wave_in parts ≡ None
     → IsRuled (take_ruling (turn_of (legs_of n) d e p)) (reply.Refused cause.NoJob)
 no_wave n d e p parts stop drawn ended g none = by_kind (kind_here n d e p parts stop drawn ended g)
   where
@@ -153,7 +154,7 @@ module _ (s : Setup) (log : Log) (m : Machine) (h : Stands s log m) (w : ℕ) (l
       (subst (λ held. IsRuled (done_by (night s log) (turn s log) (turn_of (legs_of (night s log)) (draws log) (ends log + 1) (pages log)) held) r) (sym e) k))
 
   module _ (active : is_some m.store.draft ≡ true) where
-    abbrev goes : GoesOn (night s log) (draws log) (ends log) (pages log) (drop m.place m.course.parts.items) m.course.stop m.drawn m.ended
+    abbrev goes : AreLeft (night s log) (draws log) (ends log) (pages log) (drop m.place m.course.parts.items) m.course.stop m.drawn m.ended
     goes = goes_here s log m h active
 
     pub no_wave_to_do : (job : ℕ) → wave_in (drop m.place m.course.parts.items) ≡ None → holding log w ≡ Some job → IsReply s log (event.Done w) (reply.Refused cause.Idle)
@@ -173,7 +174,7 @@ module _ (s : Setup) (log : Log) (m : Machine) (h : Stands s log m) (w : ℕ) (l
       in_turn = wave_turn_here (night s log) (draws log) (ends log) (pages log) (drop m.place m.course.parts.items) m.course.stop m.drawn m.ended (goes_here s log m h active) os first
 
       -- what is answered by the wave in turn
-      by_wave : (r : Reply) → IsRuled (Carries (night s log) ((here.place + job) ∷ places_from (here.place + length os) (reach (night s log) (turn_of (legs_of (night s log)) (draws log) (ends log + 1) (pages log)))) reply.Done) r
+      by_wave : (r : Reply) → IsRuled (Carries (night s log) ((here.place + job) ∷ places_from (here.place + length os) (carried_up_to (night s log) (turn_of (legs_of (night s log)) (draws log) (ends log + 1) (pages log)))) reply.Done) r
           → IsReply s log (event.Done w) r
       by_wave r k = done_here r (Some job) active held
           (subst (λ t. IsRuled (done_ruling (night s log) t (turn_of (legs_of (night s log)) (draws log) (ends log + 1) (pages log)) job) r) (sym in_turn) k)
@@ -191,8 +192,8 @@ module _ (s : Setup) (log : Log) (m : Machine) (h : Stands s log m) (w : ℕ) (l
         pub job_done : m.ended + 1 < length os → IsReply s log (event.Done w) reply.Done
         job_done k =
             let t = next_in_wave (night s log) (draws log) (ends log) (pages log) (drop m.place m.course.parts.items) m.course.stop m.drawn m.ended (goes_here s log m h active) os first k in
-            let e : places_from (here.place + length os) (reach (night s log) (turn_of (legs_of (night s log)) (draws log) (ends log + 1) (pages log))) ≡ [] =
-            ap (λ t. places_from (here.place + length os) (reach (night s log) t)) t ∙ none_between here.place (length os) in
+            let e : places_from (here.place + length os) (carried_up_to (night s log) (turn_of (legs_of (night s log)) (draws log) (ends log + 1) (pages log))) ≡ [] =
+            ap (λ t. places_from (here.place + length os) (carried_up_to (night s log) t)) t ∙ none_between here.place (length os) in
             by_wave reply.Done (inl (inl (All-cons (IsPassedAt (night s log)) (here.place + job) _ passed_own (subst (ArePassedAt (night s log)) (sym e) (All-nil (IsPassedAt (night s log)))), refl)))
 
         module _ (lasts : m.ended + 1 ≡ length os) where
@@ -205,7 +206,7 @@ module _ (s : Setup) (log : Log) (m : Machine) (h : Stands s log m) (w : ℕ) (l
           pub all_passed : list_all is_none os ≡ true
           all_passed = all_are_passed (night s log) here.place m.drawn job os here.outcomes own last
 
-          tail_at : reach (night s log) (turn_of (legs_of (night s log)) (draws log) (ends log + 1) (pages log)) ≡ come_to (length (night s log).list) here.later
+          tail_at : carried_up_to (night s log) (turn_of (legs_of (night s log)) (draws log) (ends log + 1) (pages log)) ≡ come_to (length (night s log).list) here.later
           tail_at = reach_after_wave (night s log) (draws log) (ends log) (pages log) (drop m.place m.course.parts.items) m.course.stop m.drawn m.ended (goes_here s log m h active) os first lasts all_drawn
 
           pub wave_done : (drop 1 (drop m.place m.course.parts.items) ≢ []) ⊎ (m.course.stop ≡ None) → IsReply s log (event.Done w) reply.Done
@@ -248,11 +249,11 @@ module _ (s : Setup) (log : Log) (m : Machine) (h : Stands s log m) (active : is
     pub page_in_turn_there : turn s log ≡ At_page page_there.place page_there.view page_there.rows
     page_in_turn_there = page_turn_here (night s log) (draws log) (ends log) (pages log) (drop m.place m.course.parts.items) m.course.stop m.drawn m.ended (goes_here s log m h active) op first
 
-    by_page : (r : Reply) → IsRuled (Carries (night s log) (places_from (page_there.place + 1) (reach (night s log) (turn_of (legs_of (night s log)) (draws log) (ends log) (pages log + 1)))) (reply.Paged (length page_there.rows))) r
+    by_page : (r : Reply) → IsRuled (Carries (night s log) (places_from (page_there.place + 1) (carried_up_to (night s log) (turn_of (legs_of (night s log)) (draws log) (ends log) (pages log + 1)))) (reply.Paged (length page_there.rows))) r
         → IsReply s log event.PageIn r
     by_page r k = paged_here r (subst (λ t. IsRuled (page_ruling (night s log) t (turn_of (legs_of (night s log)) (draws log) (ends log) (pages log + 1))) r) (sym page_in_turn_there) k)
 
-    tail_there : reach (night s log) (turn_of (legs_of (night s log)) (draws log) (ends log) (pages log + 1)) ≡ come_to (length (night s log).list) page_there.later
+    tail_there : carried_up_to (night s log) (turn_of (legs_of (night s log)) (draws log) (ends log) (pages log + 1)) ≡ come_to (length (night s log).list) page_there.later
     tail_there = reach_after_page (night s log) (draws log) (ends log) (pages log) (drop m.place m.course.parts.items) m.course.stop m.drawn m.ended (goes_here s log m h active) op first
 
     pub no_memory_to_page : IsReply s log event.PageIn (reply.Refused cause.Memory)
@@ -312,10 +313,10 @@ module _ (s : Setup) (log : Log) (m : Machine) (h : Stands s log m) (idle : is_s
 
 module _ (s : Setup) (log : Log) (closed : is_open log ≡ false) (left : nights_begun log < length s.nights) (few : number (versions s log) + 1 ≢ 2 ^ 64) (allowed : AreAllowed (next_night s log))
     (parts : List Part) (stop : Option MaintFault) (are : AreParts (next_night s log) 0 (legs_of (next_night s log)) parts stop) where
-  reaches : reach (next_night s log) (turn_of (legs_of (next_night s log)) 0 0 0) ≡ come_to (length (next_night s log).list) (legs_of (next_night s log))
+  reaches : carried_up_to (next_night s log) (turn_of (legs_of (next_night s log)) 0 0 0) ≡ come_to (length (next_night s log).list) (legs_of (next_night s log))
   reaches = reach_is (next_night s log) (legs_of (next_night s log)) 0 0 (fresh (legs_of (next_night s log)) (have_jobs (next_night s log)))
 
-  started : (r : Reply) → IsCarried (next_night s log) (places_from 0 (reach (next_night s log) (turn_of (legs_of (next_night s log)) 0 0 0))) reply.Begun r ⊎ IsMemory r → IsReply s log event.Begin r
+  started : (r : Reply) → IsCarried (next_night s log) (places_from 0 (carried_up_to (next_night s log) (turn_of (legs_of (next_night s log)) 0 0 0))) reply.Begun r ⊎ IsMemory r → IsReply s log event.Begin r
   started r k =
       onward (is_open log) cause.NightOpen _ r closed
       (onward (nat_le (length s.nights) (nights_begun log)) cause.NoNight _ r (le_false (length s.nights) (nights_begun log) left)
@@ -337,7 +338,7 @@ module _ (s : Setup) (log : Log) (closed : is_open log ≡ false) (left : nights
         refl,
       )))
 
-  pub goes_from_first : (parts ≢ []) ⊎ (stop ≡ None) → GoesOn (next_night s log) 0 0 0 parts stop 0 0
+  pub goes_from_first : (parts ≢ []) ⊎ (stop ≡ None) → AreLeft (next_night s log) 0 0 0 parts stop 0 0
   goes_from_first on = record {
     from = 0;
     legs = legs_of (next_night s log);

@@ -11,7 +11,7 @@ use Rattle.wh_night.proofs.NewValues.{passed_have_values}
 use Rattle.wh_night.proofs.Prefixes.{place_within}
 use Rattle.wh_store.specs.Operations.{Operation, Opens, Commits, Gives_up}
 use Rattle.wh_store.specs.Versions.{number, opened as opened_by, versions_from, versions_of}
-use Rattle.wh_course.specs.Night.{Night, IsPassedAt}
+use Rattle.wh_course.specs.Night.{Night, IsPassedAt, AreAllowed}
 use Rattle.wh_course.specs.Legs.{Over, legs_of, turn_of}
 use Rattle.wh_core.specs.declared.event.Event.TheVariants as event
 use Rattle.wh_core.specs.declared.reply.Cause.TheVariants as cause
@@ -19,7 +19,7 @@ use Rattle.wh_core.specs.declared.reply.Reply.TheVariants as reply
 use Rattle.wh_core.specs.Laws.{IsSetup}
 use Rattle.wh_core.specs.Log.{Log, SessionOf, Began, Committed, Gave_up, Sat_down, draws, ends, holding, is_open, nights_begun, pages, session}
 use Rattle.wh_core.specs.Nights.{GivenNight, Setup, next_night, night, published, turn, versions}
-use Rattle.wh_core.specs.Replies.{AreAllowed, IsLegalLog, IsReply, IsRuled, commit_ruling, more}
+use Rattle.wh_core.specs.Replies.{IsLegalLog, IsReply, IsRuled, commit_ruling, more}
 use Rattle.wh_core.proofs.Deeds.{deeds_of}
 use Rattle.wh_core.proofs.FirstTurn.{first_passed}
 use Rattle.wh_core.proofs.Moves.{not_equal}

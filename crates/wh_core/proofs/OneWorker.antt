@@ -4,7 +4,7 @@ use mathlib.Core.Logic.{inl}
 use Rattle.std.specs.Prelude.{is_some, nat_le, slice_index_or}
 use Rattle.wh_row.specs.Weigh.{Counted}
 use Rattle.wh_course.specs.Night.{Night, ArePassedAt, IsPassedAt, places_from}
-use Rattle.wh_course.specs.Legs.{Leg, Wave, Page, Turn, In_wave, At_page, legs_of, reach, turn_of}
+use Rattle.wh_course.specs.Legs.{Leg, Wave, Page, Turn, In_wave, At_page, legs_of, carried_up_to, turn_of}
 use Rattle.wh_core.specs.declared.event.Event.TheVariants as event
 use Rattle.wh_core.specs.declared.reply.Cause.TheVariants as cause
 use Rattle.wh_core.specs.declared.reply.Reply.TheVariants as reply
@@ -66,7 +66,7 @@ module _ (s : Setup) (some : 1 ≤ s.workers) (n : Night) (passed : (p : ℕ) �
         let said : IsReply s next (event.Done 0) reply.Done =
         onward (nat_le s.workers 0) cause.NoWorker _ reply.Done (le_false s.workers 0 (omega (arith, some)))
         (onward (not (is_open next)) cause.NoNight _ reply.Done (ap not u.opened)
-        (subst (λ t. IsRuled (done_by (night s next) t after (Some k)) reply.Done) (sym now) (inl (inl (all_passed log u.is ((place + k) ∷ places_from (place + jobs) (reach (night s next) after)), refl))))) in
+        (subst (λ t. IsRuled (done_by (night s next) t after (Some k)) reply.Done) (sym now) (inl (inl (all_passed log u.is ((place + k) ∷ places_from (place + jobs) (carried_up_to (night s next) after)), refl))))) in
         more next (event.Done 0) reply.Done (drawn k log l u) said
 
     job_done : (k : ℕ) (log : Log) → k < jobs → IsUpTo s n from (Wave place jobs ∷ legs) k log → IsUpTo s n from (Wave place jobs ∷ legs) (k + 1) (Finished 0 ∷ Drew 0 k ∷ log)

@@ -9,15 +9,15 @@ use Rattle.wh_strategy.specs.declared.expression.Expression.{Expression}
 use Rattle.wh_maint.specs.declared.fault.MaintFault.{MaintFault}
 use Rattle.wh_maint.specs.declared.fault.MaintFault.TheVariants as fault
 use Rattle.wh_night.specs.Carry.{State}
-use Rattle.wh_night.specs.Refused.{ComesBefore, IsAnswer, IsBaseFault, IsEarlier, IsFirstReason, IsStepFault, Reason, RowIsLacking, BaseIsLarge, ChangeIsLarge, ChangeHasNoValue, CompIsLarge, CompMeetsNoValue, PendingIsLarge, TableIsLarge, turn}
-use Rattle.wh_course.specs.Night.{Night, ArePassedAt, IsFaultAt, IsFirstFaultOf, IsPassedAt, state_at}
+use Rattle.wh_night.specs.Refused.{ComesBefore, IsAnswer, IsBaseFault, IsEarlier, IsFirstReason, IsStepFault, Reason, RowIsLacking, BaseIsLarge, ChangeIsLarge, ChangeHasNoValue, CompIsLarge, CompMeetsNoValue, PendingIsLarge, TableIsLarge, rank}
+use Rattle.wh_course.specs.Night.{Night, ArePassedAt, IsFaultAt, IsFirstFaultOf, IsPassedAt, state_at, AreAllowed}
 use Rattle.wh_core.proofs.Underway.{all-head, all-tail}
 use Rattle.wh_core.specs.declared.reply.Cause.{Cause}
 use Rattle.wh_core.specs.declared.reply.Cause.TheVariants as cause
 use Rattle.wh_core.specs.declared.reply.Reply.{Reply}
 use Rattle.wh_core.specs.declared.reply.Reply.TheVariants as reply
 use Rattle.wh_core.specs.Laws.{AreOne, RepliesAreOne}
-use Rattle.wh_core.specs.Replies.{AreAllowed, IsCarried, IsLarge, IsMemory, IsRuled, Ruling, Says, Takes, Carries, Starts, cause_of, ruling}
+use Rattle.wh_core.specs.Replies.{IsCarried, IsLarge, IsMemory, IsRuled, Ruling, Says, Takes, Carries, Starts, cause_of, ruling}
 
 -- ---- reasons
 
@@ -30,7 +30,7 @@ cause_at (suc j) (suc zero) = cause.Range
 cause_at (suc j) (suc (suc k)) = cause.Large
 
 answered : (tables changes : ℕ → Bag) (reason : Reason) (f : MaintFault) → IsAnswer tables changes reason f
-    → (f ≡ fault.Memory) ⊎ (cause_of f ≡ cause_at (turn reason).0 (turn reason).2)
+    → (f ≡ fault.Memory) ⊎ (cause_of f ≡ cause_at (rank reason).0 (rank reason).2)
 unfolding cause_at
 answered tables changes (RowIsLacking b) (fault.Absent v row) h = inr refl
 answered tables changes (RowIsLacking b) (fault.Large v) h = inl h
@@ -62,7 +62,7 @@ one_cause : (catalog : CatalogOf) (changes : ℕ → Bag) (s : State) (Asked : R
     → IsFirstReason catalog changes s Asked ComesBefore a → IsFirstReason catalog changes s Asked ComesBefore b → IsAnswer s.tables changes a f → IsAnswer s.tables changes b g
     → (cause_of f ≡ cause_of g) ⊎ ((f ≡ fault.Memory) ⊎ (g ≡ fault.Memory))
 one_cause catalog changes s Asked a b f g first other told said =
-    let same = same_turn (turn a) (turn b) (λ l. first.stands (other.earlier a first.asked l)) (λ l. other.stands (first.earlier b other.asked l)) in
+    let same = same_turn (rank a) (rank b) (λ l. first.stands (other.earlier a first.asked l)) (λ l. other.stands (first.earlier b other.asked l)) in
     ⊎_elim
     (λ m. inr (inl m))
     (λ e. ⊎_elim (λ m. inr (inr m)) (λ h. inl (e ∙ (λ i. cause_at (same.0 i) (same.1 i)) ∙ sym h)) (answered s.tables changes b g said))

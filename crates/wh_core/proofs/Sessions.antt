@@ -13,7 +13,7 @@ use Rattle.wh_store.specs.Pages.{Shown, page_of, rows_after}
 use Rattle.wh_store.specs.Versions.{number, table_in, table_of, version, versions_of}
 use Rattle.wh_core.specs.Laws.{SessionsReadTables, goes_on_from, pages_read}
 use Rattle.wh_core.specs.Log.{Deed, Log, Began, Drew, Finished, Paged_in, Committed, Gave_up, Sat_down, Turned, Left, Bookmark, SessionOf, bookmark_after, session}
-use Rattle.wh_core.specs.Nights.{Setup, night_of, page_in_turn, published, turn_in, versions}
+use Rattle.wh_core.specs.Nights.{Setup, last_night, page_in_turn, published, turn_in, versions}
 use Rattle.wh_core.specs.Replies.{goes_on}
 use Rattle.wh_core.proofs.Deeds.{AreDeeds, IsDeed, none, one_more, deeds_of}
 
@@ -22,7 +22,7 @@ use Rattle.wh_core.proofs.Deeds.{AreDeeds, IsDeed, none, one_more, deeds_of}
 pub grows : (s : Setup) (d : Deed) (log : Log) → (rest : List Operation) × (published s (d ∷ log) ≡ published s log ++ rest)
 unfolding published
 grows s Began log = (Opens ∷ [], refl)
-grows s Paged_in log = (page_in_turn (turn_in (night_of s log (published s log)) log), refl)
+grows s Paged_in log = (page_in_turn (turn_in (last_night s log (published s log)) log), refl)
 grows s Committed log = (Commits ∷ [], refl)
 grows s Gave_up log = (Gives_up ∷ [], refl)
 grows s (Drew w n) log = ([], sym (append-nil (published s log)))

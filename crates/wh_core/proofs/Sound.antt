@@ -27,12 +27,11 @@ use Rattle.wh_store.specs.Laws.{VersionsStay}
 use Rattle.wh_store.specs.Operations.{Operation, Opens, Writes, Commits, Gives_up}
 use Rattle.wh_store.specs.Pages.{Contents}
 use Rattle.wh_store.specs.Versions.{Versions, after, number, opened as opened_by, table_in, written_over, version, versions_from, versions_of}
-use Rattle.wh_course.specs.Night.{Night}
+use Rattle.wh_course.specs.Night.{Night, AreAllowed}
 use Rattle.wh_course.specs.Legs.{Leg, Wave, Page, Turn, In_wave, At_page, Over, legs_of, turn_of}
 use Rattle.wh_core.specs.Laws.{CommitsMakeContents, IsGivenNight, IsSetup, VersionsAreContents}
 use Rattle.wh_core.specs.Log.{Deed, Log, Began, Drew, Finished, Paged_in, Committed, Gave_up, Sat_down, Turned, Left, nights_begun, is_open, draws, ends, pages, holding}
-use Rattle.wh_core.specs.Nights.{GivenNight, Setup, next_night, night, night_from, night_of, page_in_turn, published, turn, turn_in, versions}
-use Rattle.wh_core.specs.Replies.{AreAllowed}
+use Rattle.wh_core.specs.Nights.{GivenNight, Setup, next_night, night, night_from, last_night, page_in_turn, published, turn, turn_in, versions}
 use Rattle.wh_core.proofs.Deeds.{AreDeeds, IsDeed, deeds_of, none, one_more}
 use Rattle.wh_core.proofs.Nights.{begun_once, night-start, whole_puts}
 use Rattle.wh_core.proofs.Sessions.{version_stays}
@@ -225,7 +224,7 @@ module _ (stay : VersionsStay) (s : Setup) (setup : IsSetup s) where
   sound _ (one_more log (Finished w) before deed) = let r = sound log before in no_version (Finished w) log r refl r.allowed r.begun
   sound _ (one_more log Paged_in before deed) =
       let r = sound log before in
-      let t : Turn = turn_in (night_of s log (published s log)) log in
+      let t : Turn = turn_in (last_night s log (published s log)) log in
       no_version Paged_in log r (ap number (versions_from-append (opened_by s.opening) (published s log) (page_in_turn t)) ∙ number-paged (versions s log) t)
       (λ e. subst AreAllowed (sym (night-paged s log)) (r.allowed e)) r.begun
   sound _ (one_more log Committed before deed) =

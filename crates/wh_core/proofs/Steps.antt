@@ -14,7 +14,7 @@ use Rattle.wh_store.specs.Operations.{Operation, Writes, operation}
 use Rattle.wh_course.specs.declared.course.Part.{Part}
 use Rattle.wh_course.specs.declared.course.Part.TheVariants as part
 use Rattle.wh_course.specs.Night.{Night, ArePassedAt, IsPassedAt, IsFaultAt, IsFirstFaultOf, places_from}
-use Rattle.wh_course.specs.Legs.{Leg, Wave, Page, Turn, In_wave, At_page, Over, legs_of, turn_of, reach}
+use Rattle.wh_course.specs.Legs.{Leg, Wave, Page, Turn, In_wave, At_page, Over, legs_of, turn_of, carried_up_to}
 use Rattle.wh_course.specs.Course.{AreParts, IsOutcome, IsPart, IsStop, is_passed, start_of, end_of}
 use Rattle.wh_core.specs.declared.reply.Cause.{Cause}
 use Rattle.wh_core.specs.declared.reply.Cause.TheVariants as cause
@@ -23,7 +23,8 @@ use Rattle.wh_core.specs.declared.reply.Reply.TheVariants as reply
 use Rattle.wh_core.specs.Log.{Log, draws, ends, holding, is_open, pages}
 use Rattle.wh_core.specs.Nights.{Setup, night, turn}
 use Rattle.wh_core.specs.Replies.{IsLegalLog, IsRuled, Ruling, Says, Takes, Carries, cause_of, take_ruling, done_by, page_ruling, commit_ruling, unless}
-use Rattle.wh_core.specs.Standing.{GoesOn, HaveJobs, IsWithin, page_in, wave_in}
+use Rattle.wh_core.specs.Standing.{AreLeft, HaveJobs, IsWithin}
+use Rattle.wh_core.specs.Inner.Standing.{page_in, wave_in}
 use Rattle.wh_core.proofs.Deeds.{deeds_of}
 use Rattle.wh_core.proofs.Underway.{IsAt, all_below, come_to, few, fresh, ge_false, head_or, lt_true, now, reach_is, underway, wave_legs, wave_place, wave_turn}
 
@@ -149,7 +150,7 @@ is_stopped n from legs parts stop fault are e s = none_first legs (subst (λ ps.
 
 -- ---- turns
 
-pub turn_here : (n : Night) (d e p : ℕ) (parts : List Part) (stop : Option MaintFault) (drawn ended : ℕ) (g : GoesOn n d e p parts stop drawn ended)
+pub turn_here : (n : Night) (d e p : ℕ) (parts : List Part) (stop : Option MaintFault) (drawn ended : ℕ) (g : AreLeft n d e p parts stop drawn ended)
     → turn_of (legs_of n) d e p ≡ turn_of g.legs drawn ended 0
 turn_here n d e p parts stop drawn ended g =
     let x : d ≡ d + 0 = omega arith in
@@ -159,7 +160,7 @@ turn_here n d e p parts stop drawn ended g =
     let v : ended + 0 ≡ ended = omega arith in
     (λ i. turn_of (legs_of n) (x i) (y i) (z i)) ∙ g.ahead 0 0 0 ∙ (λ i. turn_of g.legs (u i) (v i) 0)
 
-module _ (n : Night) (d e p : ℕ) (parts : List Part) (stop : Option MaintFault) (drawn ended : ℕ) (g : GoesOn n d e p parts stop drawn ended) where
+module _ (n : Night) (d e p : ℕ) (parts : List Part) (stop : Option MaintFault) (drawn ended : ℕ) (g : AreLeft n d e p parts stop drawn ended) where
   pub wave_here : (os : List (Option MaintFault)) → wave_in parts ≡ Some os → InWave n g.legs parts os stop drawn ended
   wave_here os w = in_wave n g.from g.legs parts os stop drawn ended g.are w g.within
 
@@ -185,7 +186,7 @@ pub data IsKind (n : Night) (d e p : ℕ) (parts : List Part) (drawn : ℕ) : Ty
   page : (place view : ℕ) (rows : Counted) (op : Op) → page_in parts ≡ Some op → turn_of (legs_of n) d e p ≡ At_page place view rows → IsKind n d e p parts drawn
   over : parts ≡ [] → turn_of (legs_of n) d e p ≡ Over → IsKind n d e p parts drawn
 
-pub kind_here : (n : Night) (d e p : ℕ) (parts : List Part) (stop : Option MaintFault) (drawn ended : ℕ) → GoesOn n d e p parts stop drawn ended → IsKind n d e p parts drawn
+pub kind_here : (n : Night) (d e p : ℕ) (parts : List Part) (stop : Option MaintFault) (drawn ended : ℕ) → AreLeft n d e p parts stop drawn ended → IsKind n d e p parts drawn
 kind_here n d e p [] stop drawn ended g = over refl (end_turn_here n d e p [] stop drawn ended g refl)
 kind_here n d e p (part.Wave v ∷ parts) stop drawn ended g =
     wave (wave_here n d e p (part.Wave v ∷ parts) stop drawn ended g v.items refl).place (length v.items) v.items refl (wave_turn_here n d e p (part.Wave v ∷ parts) stop drawn ended g v.items refl)
@@ -195,8 +196,8 @@ kind_here n d e p (part.Page op ∷ parts) stop drawn ended g =
 
 -- ---- one deed more
 
-module _ (n : Night) (d e p : ℕ) (parts : List Part) (stop : Option MaintFault) (drawn ended : ℕ) (g : GoesOn n d e p parts stop drawn ended) where
-  pub drew : (os : List (Option MaintFault)) → wave_in parts ≡ Some os → drawn < length os → GoesOn n (d + 1) e p parts stop (drawn + 1) ended
+module _ (n : Night) (d e p : ℕ) (parts : List Part) (stop : Option MaintFault) (drawn ended : ℕ) (g : AreLeft n d e p parts stop drawn ended) where
+  pub drew : (os : List (Option MaintFault)) → wave_in parts ≡ Some os → drawn < length os → AreLeft n (d + 1) e p parts stop (drawn + 1) ended
   drew os w l =
       let v = wave_here n d e p parts stop drawn ended g os w in
       record {
@@ -210,7 +211,7 @@ module _ (n : Night) (d e p : ℕ) (parts : List Part) (stop : Option MaintFault
         over = g.over;
       }
 
-  pub ended_one : (os : List (Option MaintFault)) → wave_in parts ≡ Some os → ended + 1 < length os → GoesOn n d (e + 1) p parts stop drawn (ended + 1)
+  pub ended_one : (os : List (Option MaintFault)) → wave_in parts ≡ Some os → ended + 1 < length os → AreLeft n d (e + 1) p parts stop drawn (ended + 1)
   ended_one os w l =
       let v = wave_here n d e p parts stop drawn ended g os w in
       record {
@@ -250,7 +251,7 @@ module _ (n : Night) (d e p : ℕ) (parts : List Part) (stop : Option MaintFault
   later_jobs os w = (subst HaveJobs (wave_here n d e p parts stop drawn ended g os w).is g.some).1
 
   pub wave_over : (os : List (Option MaintFault)) → wave_in parts ≡ Some os → ended + 1 ≡ length os → drawn ≡ length os → list_all is_none os ≡ true → (drop 1 parts ≢ []) ⊎ (stop ≡ None)
-      → GoesOn n d (e + 1) p (drop 1 parts) stop 0 0
+      → AreLeft n d (e + 1) p (drop 1 parts) stop 0 0
   wave_over os w l m all on =
       let v = wave_here n d e p parts stop drawn ended g os w in
       record {
@@ -264,13 +265,13 @@ module _ (n : Night) (d e p : ℕ) (parts : List Part) (stop : Option MaintFault
       }
 
   pub reach_after_wave : (os : List (Option MaintFault)) (w : wave_in parts ≡ Some os) → ended + 1 ≡ length os → drawn ≡ length os
-      → reach n (turn_of (legs_of n) d (e + 1) p) ≡ come_to (length n.list) (wave_here n d e p parts stop drawn ended g os w).later
+      → carried_up_to n (turn_of (legs_of n) d (e + 1) p) ≡ come_to (length n.list) (wave_here n d e p parts stop drawn ended g os w).later
   reach_after_wave os w l m =
       let v = wave_here n d e p parts stop drawn ended g os w in
       let x : d ≡ d + 0 = omega arith in
       let y : e + 1 ≡ e + 1 + 0 = omega arith in
       let z : p ≡ p + 0 = omega arith in
-      ap (reach n) ((λ i. turn_of (legs_of n) (x i) (y i) (z i)) ∙ after_wave os w l m 0 0 0) ∙ reach_is n v.later 0 0 (fresh v.later (later_jobs os w))
+      ap (carried_up_to n) ((λ i. turn_of (legs_of n) (x i) (y i) (z i)) ∙ after_wave os w l m 0 0 0) ∙ reach_is n v.later 0 0 (fresh v.later (later_jobs os w))
 
   -- and when the page is put
   pub after_page : (op : Op) (w : page_in parts ≡ Some op) → (x y z : ℕ) → turn_of (legs_of n) (d + x) (e + y) (p + 1 + z) ≡ turn_of (page_here n d e p parts stop drawn ended g op w).later (0 + x) (0 + y) z
@@ -284,7 +285,7 @@ module _ (n : Night) (d e p : ℕ) (parts : List Part) (stop : Option MaintFault
   page_jobs : (op : Op) (w : page_in parts ≡ Some op) → HaveJobs (page_here n d e p parts stop drawn ended g op w).later
   page_jobs op w = subst HaveJobs (page_here n d e p parts stop drawn ended g op w).is g.some
 
-  pub page_over : (op : Op) → page_in parts ≡ Some op → (drop 1 parts ≢ []) ⊎ (stop ≡ None) → GoesOn n d e (p + 1) (drop 1 parts) stop 0 0
+  pub page_over : (op : Op) → page_in parts ≡ Some op → (drop 1 parts ≢ []) ⊎ (stop ≡ None) → AreLeft n d e (p + 1) (drop 1 parts) stop 0 0
   page_over op w on =
       let v = page_here n d e p parts stop drawn ended g op w in
       record {
@@ -297,13 +298,13 @@ module _ (n : Night) (d e p : ℕ) (parts : List Part) (stop : Option MaintFault
         over = λ none. ⊎_elim (λ no. absurd (no none)) (λ e. e) on;
       }
 
-  pub reach_after_page : (op : Op) (w : page_in parts ≡ Some op) → reach n (turn_of (legs_of n) d e (p + 1)) ≡ come_to (length n.list) (page_here n d e p parts stop drawn ended g op w).later
+  pub reach_after_page : (op : Op) (w : page_in parts ≡ Some op) → carried_up_to n (turn_of (legs_of n) d e (p + 1)) ≡ come_to (length n.list) (page_here n d e p parts stop drawn ended g op w).later
   reach_after_page op w =
       let v = page_here n d e p parts stop drawn ended g op w in
       let x : d ≡ d + 0 = omega arith in
       let y : e ≡ e + 0 = omega arith in
       let z : p + 1 ≡ p + 1 + 0 = omega arith in
-      ap (reach n) ((λ i. turn_of (legs_of n) (x i) (y i) (z i)) ∙ after_page op w 0 0 0) ∙ reach_is n v.later 0 0 (fresh v.later (page_jobs op w))
+      ap (carried_up_to n) ((λ i. turn_of (legs_of n) (x i) (y i) (z i)) ∙ after_page op w 0 0 0) ∙ reach_is n v.later 0 0 (fresh v.later (page_jobs op w))
 
 -- ---- the last job of a wave
 
@@ -359,7 +360,7 @@ held_within s log w job place jobs drawn legal o h t =
     subst (λ k. job < k) v.2 (a.held w job h).0
 
 pub last_done : (s : Setup) (log : Log) (parts : List Part) (stop : Option MaintFault) (drawn ended w job : ℕ) (os : List (Option MaintFault)) → IsLegalLog s log → is_open log ≡ true
-    → (g : GoesOn (night s log) (draws log) (ends log) (pages log) parts stop drawn ended) (first : wave_in parts ≡ Some os) → holding log w ≡ Some job → ended + 1 ≡ length os
+    → (g : AreLeft (night s log) (draws log) (ends log) (pages log) parts stop drawn ended) (first : wave_in parts ≡ Some os) → holding log w ≡ Some job → ended + 1 ≡ length os
     → AreLast (night s log) (wave_here (night s log) (draws log) (ends log) (pages log) parts stop drawn ended g os first).place (length os) drawn job
 unfolding Distinct
 last_done s log parts stop drawn ended w job os legal o g first h l =

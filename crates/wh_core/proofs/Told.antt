@@ -7,8 +7,8 @@ use Rattle.wh_dag.specs.Shape.{Distinct, has}
 use Rattle.wh_maint.specs.declared.fault.MaintFault.{MaintFault}
 use Rattle.wh_store.specs.Pages.{page_of}
 use Rattle.wh_store.specs.Versions.{is_active, is_unexpired, number, table_of, version}
-use Rattle.wh_course.specs.Night.{Night, ArePassedAt, IsFaultAt, IsFirstFaultOf, IsPassedAt, places_from}
-use Rattle.wh_course.specs.Legs.{Leg, Wave, Turn, In_wave, At_page, Over, legs_of, reach, turn_of}
+use Rattle.wh_course.specs.Night.{Night, ArePassedAt, IsFaultAt, IsFirstFaultOf, IsPassedAt, places_from, AreAllowed}
+use Rattle.wh_course.specs.Legs.{Leg, Wave, Turn, In_wave, At_page, Over, legs_of, carried_up_to, turn_of}
 use Rattle.wh_core.specs.declared.event.Event.{Event}
 use Rattle.wh_core.specs.declared.event.Event.TheVariants.{Begin, Take, Done, PageIn, Commit, GiveUp, Open, Read, Close}
 use Rattle.wh_core.specs.declared.reply.Cause.{Cause}
@@ -18,7 +18,7 @@ use Rattle.wh_core.specs.declared.reply.Reply.TheVariants as reply
 use Rattle.wh_core.specs.Laws.{IsBefore, IsToldInTurn, RefusalsAreToldInTurn, after_inst, after_wave, before_first, is_of_rows, of_base, of_job}
 use Rattle.wh_core.specs.Log.{Log, SessionOf, draws, ends, holding, is_open, nights_begun, pages, session}
 use Rattle.wh_core.specs.Nights.{Setup, next_night, night, published, turn, versions}
-use Rattle.wh_core.specs.Replies.{AreAllowed, IsCarried, IsLegalLog, IsReply, IsRuled, Ruling, Says, Takes, Carries, cause_of, commit_ruling, done_by, goes_on, page_ruling, read_ruling, take_ruling, unless}
+use Rattle.wh_core.specs.Replies.{IsCarried, IsLegalLog, IsReply, IsRuled, Ruling, Says, Takes, Carries, cause_of, commit_ruling, done_by, goes_on, page_ruling, read_ruling, take_ruling, unless}
 use Rattle.wh_core.specs.Standing.{IsWithin}
 use Rattle.wh_core.proofs.Deeds.{deeds_of, not_false}
 use Rattle.wh_core.proofs.Underway.{Underway, all-head, all-tail, all_below, head_or, night-began, night-paged, now, start_of, underway, wave_legs, wave_place, wave_turn}
@@ -91,7 +91,7 @@ one_or_later n x xs f first = by first.earlier first.place first.later first.spl
           },
         )
 
-before_turn : (n : Night) (t : Turn) (p : ℕ) → p < reach n t → IsBefore n t p
+before_turn : (n : Night) (t : Turn) (p : ℕ) → p < carried_up_to n t → IsBefore n t p
 before_turn n (In_wave first jobs drawn) p l = l
 before_turn n (At_page inst view rows) p l = omega (arith, l)
 before_turn n Over p l = l
@@ -140,9 +140,9 @@ module _ (s : Setup) (log : Log) (why : Cause) (is : is_of_rows why ≡ true) wh
       named : (c : Cause) → reply.Refused why ≡ reply.Refused c → c ≡ why
       named c e = cc
 
-      of_first : AreAllowed (next_night s log) → (f : MaintFault) × IsFirstFaultOf (next_night s log) (places_from 0 (reach (next_night s log) (turn_of (legs_of (next_night s log)) 0 0 0))) f × (cause_of f ≡ why) → Told s log Begin why
+      of_first : AreAllowed (next_night s log) → (f : MaintFault) × IsFirstFaultOf (next_night s log) (places_from 0 (carried_up_to (next_night s log) (turn_of (legs_of (next_night s log)) 0 0 0))) f × (cause_of f ≡ why) → Told s log Begin why
       of_first allowed f =
-          let stop = stop_of (next_night s log) 0 (reach (next_night s log) (turn_of (legs_of (next_night s log)) 0 0 0)) f.0 f.1 in
+          let stop = stop_of (next_night s log) 0 (carried_up_to (next_night s log) (turn_of (legs_of (next_night s log)) 0 0 0)) f.0 f.1 in
           let before : IsBefore (next_night s log) (turn_of (legs_of (next_night s log)) 0 0 0) stop.place = before_turn (next_night s log) (turn_of (legs_of (next_night s log)) 0 0 0) stop.place stop.below in
           let passed : (q : ℕ) → q < stop.place → IsPassedAt (next_night s log) q = λ q l. stop.passed q (omega arith) l in
           (f.0, f.2, before_first stop.place allowed (subst (λ m. IsBefore (next_night s log) (turn_of (legs_of m) 0 0 0) stop.place) (sym (night-began s log)) before) (record { passed = passed; refused = stop.refused }))
@@ -170,8 +170,8 @@ module _ (s : Setup) (log : Log) (why : Cause) (is : is_of_rows why ≡ true) wh
     now_is = now n (start_of s log) (published s log) (draws log) (ends log) (pages log) (holding log) _ _ a
 
     -- what stands before the turn is passed
-    passed_before : (t : Turn) → turn s log ≡ t → (q : ℕ) → q < reach n t → IsPassedAt n q
-    passed_before t e q l = a.passes q (subst (λ t. q < reach n t) (sym e ∙ now_is) l)
+    passed_before : (t : Turn) → turn s log ≡ t → (q : ℕ) → q < carried_up_to n t → IsPassedAt n q
+    passed_before t e q l = a.passes q (subst (λ t. q < carried_up_to n t) (sym e ∙ now_is) l)
 
     module _ (w job first jobs drawn : ℕ) (at : turn s log ≡ In_wave first jobs drawn) (held : holding log w ≡ Some job) where
       abbrev next : Turn
@@ -191,12 +191,12 @@ module _ (s : Setup) (log : Log) (why : Cause) (is : is_of_rows why ≡ true) wh
           (λ i. turn_of (legs_of n) (x i) (ends log + 1) (z i)) ∙ a.ahead 0 1 0 ∙ (λ i. turn_of a.rest (u i) (a.ended + 1) 0)
 
       -- a place behind the wave stands before the next turn only where this job is the last that was not done
-      last_job : (p : ℕ) → first + jobs ≤ p → p < reach n next → a.ended + 1 ≡ jobs
+      last_job : (p : ℕ) → first + jobs ≤ p → p < carried_up_to n next → a.ended + 1 ≡ jobs
       last_job p l k =
           ⊎_elim
           (λ more.
           let still : next ≡ In_wave first jobs a.drawn = next_is ∙ ap (λ r. turn_of r a.drawn (a.ended + 1) 0) wave.1 ∙ wave_turn first jobs a.drawn (a.ended + 1) wave.0 more in
-          let under : p < first = subst (λ t. p < reach n t) still k in
+          let under : p < first = subst (λ t. p < carried_up_to n t) still k in
           absurd (omega (arith, l, under)))
           (λ all. let e = within.1 in omega (arith, all, e))
           (cases_lt (a.ended + 1) jobs)
@@ -216,17 +216,17 @@ module _ (s : Setup) (log : Log) (why : Cause) (is : is_of_rows why ≡ true) wh
           (λ q t. ⊎_elim (λ e. (let b = mine.0 in omega (arith, b, e, most))) (λ t. (let b = a.below q t in omega (arith, b, most))) (head_or job q a.done t))
           (let each = a.each in omega (arith, each, last)) l))
 
-      own_or_after : (f : MaintFault) → IsFirstFaultOf n ((first + job) ∷ places_from (first + jobs) (reach n next)) f → IsToldInTurn s log f (Done w)
+      own_or_after : (f : MaintFault) → IsFirstFaultOf n ((first + job) ∷ places_from (first + jobs) (carried_up_to n next)) f → IsToldInTurn s log f (Done w)
       unfolding published
       own_or_after f fault =
           ⊎_elim
           (λ own. of_job w first jobs drawn job at held (record { passed = passed_before (In_wave first jobs drawn) at; refused = own }))
           (λ later.
-          let stop = stop_of n (first + jobs) (reach n next) f later.1 in
+          let stop = stop_of n (first + jobs) (carried_up_to n next) f later.1 in
           let last = last_job stop.place stop.least stop.below in
           after_wave w first jobs drawn job stop.place at held stop.least (before_turn n next stop.place stop.below)
           (record { passed = passed_below stop.place stop.passed (job_passed last later.0); refused = stop.refused }))
-          (one_or_later n (first + job) (places_from (first + jobs) (reach n next)) f fault)
+          (one_or_later n (first + job) (places_from (first + jobs) (carried_up_to n next)) f fault)
         where
           passed_below : (p : ℕ) → ((q : ℕ) → first + jobs ≤ q → q < p → IsPassedAt n q) → ((j : ℕ) → j < jobs → IsPassedAt n (first + j)) → (q : ℕ) → q < p → IsPassedAt n q
           passed_below p behind amid q l =
@@ -253,7 +253,7 @@ module _ (s : Setup) (log : Log) (why : Cause) (is : is_of_rows why ≡ true) wh
     page_told_at (At_page inst view rows) at h =
         let after : Turn = turn_of (legs_of n) (draws log) (ends log) (pages log + 1) in
         let f = carries_fault n _ (reply.Paged (length rows)) why is (λ e. cc) h in
-        let stop = stop_of n (inst + 1) (reach n after) f.0 f.1 in
+        let stop = stop_of n (inst + 1) (carried_up_to n after) f.0 f.1 in
         let least = stop.least in
         let passed : (q : ℕ) → q < stop.place → IsPassedAt n q =
         λ q l. ⊎_elim (λ under. passed_before (At_page inst view rows) at q under) (λ over. stop.passed q over l) (cases_lt q (inst + 1)) in (

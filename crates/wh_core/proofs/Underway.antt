@@ -13,7 +13,7 @@ use Rattle.wh_row.specs.Weigh.{Counted}
 use Rattle.wh_store.specs.Operations.{Operation, Opens, Writes, Commits, Gives_up}
 use Rattle.wh_store.specs.Versions.{Versions, after, opened, versions_from, versions_of}
 use Rattle.wh_core.specs.Log.{Deed, Log, Began, Drew, Finished, Paged_in, Committed, Gave_up, Sat_down, Turned, Left, nights_begun, is_open, draws, ends, pages, holding}
-use Rattle.wh_core.specs.Nights.{Setup, next_night, night, night_from, night_of, page_in_turn, published, turn, turn_in, versions}
+use Rattle.wh_core.specs.Nights.{Setup, next_night, night, night_from, last_night, page_in_turn, published, turn, turn_in, versions}
 use Rattle.wh_core.proofs.Stages.{stages_join}
 use Rattle.wh_core.proofs.Deeds.{AreDeeds, IsDeed, none, one_more}
 use Rattle.wh_row.specs.Bag.{Bag}
@@ -27,10 +27,10 @@ use Rattle.wh_night.specs.declared.stages.Stage.TheVariants as stage
 use Rattle.wh_night.specs.Carry.{State, at_first}
 use Rattle.wh_night.specs.Waves.{comp_of, expressions_of, is_target_among, stages_after, stages_of, wave_of}
 use Rattle.wh_night.specs.NightList.{inst_pages}
-use Rattle.wh_core.specs.Laws.{IsCompAt, done_places, drawn_places, falls, held_place, place_of}
+use Rattle.wh_core.specs.Laws.{IsCompAt, done_places, drawn_places, falls, held_place, job_place}
 use Rattle.wh_core.specs.Standing.{HaveJobs, IsWithin}
 use Rattle.wh_course.specs.Night.{Night, ArePassedAt, IsPassedAt, places_from}
-use Rattle.wh_course.specs.Legs.{Leg, Wave, Page, Turn, In_wave, At_page, Over, legs_after, legs_of, turn_of, reach}
+use Rattle.wh_course.specs.Legs.{Leg, Wave, Page, Turn, In_wave, At_page, Over, legs_after, legs_of, turn_of, carried_up_to}
 use Rattle.wh_core.proofs.Legs.{Covers, IsRising, are_covered, are_rising, have_jobs}
 
 -- what the pages among these legs publish
@@ -73,7 +73,7 @@ pub record IsAt (n : Night) (start ops : List Operation) (draws ends pages : ℕ
   pub below : (j : ℕ) → has done j ≡ true → j < drawn
   pub held : (w j : ℕ) → hold w ≡ Some j → (j < drawn) × (has done j ≡ false)
   pub alone : (w u j : ℕ) → hold w ≡ Some j → hold u ≡ Some j → w ≡ u
-  pub passes : (p : ℕ) → p < reach n (turn_of rest drawn ended 0) → IsPassedAt n p
+  pub passes : (p : ℕ) → p < carried_up_to n (turn_of rest drawn ended 0) → IsPassedAt n p
   pub jobs_pass : (j : ℕ) → has done j ≡ true → IsPassedAt n (wave_place rest + j)
   pub whole : ops ≡ start ++ Opens ∷ ops_of over
   pub paged : length (ops_of over) ≡ pages
@@ -148,10 +148,10 @@ come_to end [] = end
 come_to end (Wave place jobs ∷ legs) = place
 come_to end (Page place view rows ∷ legs) = place + 1
 
-pub reach_is : (n : Night) (legs : List Leg) (drawn ended : ℕ) → IsWithin legs drawn ended → reach n (turn_of legs drawn ended 0) ≡ come_to (length n.list) legs
+pub reach_is : (n : Night) (legs : List Leg) (drawn ended : ℕ) → IsWithin legs drawn ended → carried_up_to n (turn_of legs drawn ended 0) ≡ come_to (length n.list) legs
 reach_is n [] drawn ended w = refl
 reach_is n (Page q v r ∷ legs) drawn ended w = refl
-reach_is n (Wave q m ∷ legs) drawn ended w = ap (λ b. reach n (cond b (In_wave q m drawn) (turn_of legs (drawn - m) (ended - m) 0))) (lt_true ended m w.1)
+reach_is n (Wave q m ∷ legs) drawn ended w = ap (λ b. carried_up_to n (cond b (In_wave q m drawn) (turn_of legs (drawn - m) (ended - m) 0))) (lt_true ended m w.1)
 
 -- legs of which nothing is drawn
 pub fresh : (legs : List Leg) → HaveJobs legs → IsWithin legs 0 0
@@ -225,7 +225,7 @@ abbrev pub holds_at : ℕ → Option ℕ → (ℕ → Option ℕ) → ℕ → Op
 holds_at w o hold u = cond (eqb w u) o (hold u)
 
 module _ (n : Night) where
-  pub begins : (ops : List Operation) → HaveJobs (legs_of n) → IsRising 0 (legs_of n) → Covers n.list 0 (legs_of n) → ArePassedAt n (places_from 0 (reach n (turn_of (legs_of n) 0 0 0))) → IsAt n ops (ops ++ Opens ∷ []) 0 0 0 (λ _. None) [] []
+  pub begins : (ops : List Operation) → HaveJobs (legs_of n) → IsRising 0 (legs_of n) → Covers n.list 0 (legs_of n) → ArePassedAt n (places_from 0 (carried_up_to n (turn_of (legs_of n) 0 0 0))) → IsAt n ops (ops ++ Opens ∷ []) 0 0 0 (λ _. None) [] []
   unfolding Distinct has
   begins ops jobs rising covers passed = record {
     over = [];
@@ -242,7 +242,7 @@ module _ (n : Night) where
     below = λ j e. absurd (false≢true e);
     held = λ w j e. cc;
     alone = λ w u j e f. cc;
-    passes = λ p l. among (IsPassedAt n) 0 (reach n (turn_of (legs_of n) 0 0 0)) p passed (omega arith) l;
+    passes = λ p l. among (IsPassedAt n) 0 (carried_up_to n (turn_of (legs_of n) 0 0 0)) p passed (omega arith) l;
     jobs_pass = λ j e. absurd (false≢true e);
     whole = refl;
     paged = refl;
@@ -345,8 +345,8 @@ module _ (n : Night) where
       left : a.ended < jobs
       left = (subst (λ l. IsWithin l a.drawn a.ended) legs.1 a.within).1
 
-      same_reach : reach n (turn_of a.rest (a.drawn + 1) a.ended 0) ≡ reach n (turn_of a.rest a.drawn a.ended 0)
-      same_reach = ap (reach n) (wave_now a.rest legs.0 place jobs (a.drawn + 1) a.ended legs.1 left) ∙ sym (ap (reach n) (wave_now a.rest legs.0 place jobs a.drawn a.ended legs.1 left))
+      same_reach : carried_up_to n (turn_of a.rest (a.drawn + 1) a.ended 0) ≡ carried_up_to n (turn_of a.rest a.drawn a.ended 0)
+      same_reach = ap (carried_up_to n) (wave_now a.rest legs.0 place jobs (a.drawn + 1) a.ended legs.1 left) ∙ sym (ap (carried_up_to n) (wave_now a.rest legs.0 place jobs a.drawn a.ended legs.1 left))
 
       not_yet : (j : ℕ) → a.drawn ≤ j → has a.done j ≡ false
       not_yet j l = elim (has a.done j) as (λ b. has a.done j ≡ b → b ≡ false) [
@@ -370,7 +370,7 @@ module _ (n : Night) where
       ] refl
 
   module _ (start ops : List Operation) (d e p : ℕ) (hold : ℕ → Option ℕ) (us vs : List ℕ) (w place jobs drawn job : ℕ) (a : IsAt n start ops d e p hold us vs) (is : turn_of (legs_of n) d e p ≡ In_wave place jobs drawn) (mine : hold w ≡ Some job)
-      (passed : ArePassedAt n ((place + job) ∷ places_from (place + jobs) (reach n (turn_of (legs_of n) d (e + 1) p)))) where
+      (passed : ArePassedAt n ((place + job) ∷ places_from (place + jobs) (carried_up_to n (turn_of (legs_of n) d (e + 1) p)))) where
     legs : (later : List Leg) × (a.rest ≡ Wave place jobs ∷ later) × (a.drawn ≡ drawn)
     legs = wave_legs a.rest a.drawn a.ended place jobs drawn a.within (sym (now n start ops d e p hold us vs a) ∙ is)
 
@@ -402,7 +402,7 @@ module _ (n : Night) where
     drawn_more = let f = few (job ∷ a.done) a.drawn distinct_now below_now in let each = a.each in omega (arith, f, each)
 
     jobs_pass_now : (j : ℕ) → has (job ∷ a.done) j ≡ true → IsPassedAt n (place + j)
-    jobs_pass_now j t = ⊎_elim (λ same. subst (λ k. IsPassedAt n (place + k)) same (all-head (IsPassedAt n) (place + job) (places_from (place + jobs) (reach n (turn_of (legs_of n) d (e + 1) p))) passed))
+    jobs_pass_now j t = ⊎_elim (λ same. subst (λ k. IsPassedAt n (place + k)) same (all-head (IsPassedAt n) (place + job) (places_from (place + jobs) (carried_up_to n (turn_of (legs_of n) d (e + 1) p))) passed))
         (λ m. subst (λ l. IsPassedAt n (wave_place l + j)) legs.1 (a.jobs_pass j m)) (member j t)
 
     -- another worker's job is not this one
@@ -473,7 +473,7 @@ module _ (n : Night) where
       below = below_now;
       held = held_now;
       alone = alone_now;
-      passes = λ q m. a.passes q (subst (λ k. q < k) (ap (reach n) (wave_now a.rest legs.0 place jobs a.drawn (a.ended + 1) legs.1 l) ∙ sym (ap (reach n) (wave_now a.rest legs.0 place jobs a.drawn a.ended legs.1 counts.1))) m);
+      passes = λ q m. a.passes q (subst (λ k. q < k) (ap (carried_up_to n) (wave_now a.rest legs.0 place jobs a.drawn (a.ended + 1) legs.1 l) ∙ sym (ap (carried_up_to n) (wave_now a.rest legs.0 place jobs a.drawn a.ended legs.1 counts.1))) m);
       jobs_pass = λ j t. subst (λ r. IsPassedAt n (wave_place r + j)) (sym legs.1) (jobs_pass_now j t);
       whole = a.whole;
       paged = a.paged;
@@ -519,14 +519,14 @@ module _ (n : Night) where
           let z : p ≡ p + 0 = omega arith in
           (λ i. turn_of (legs_of n) (x i) (y i) (z i)) ∙ next 0 0 0
 
-      passes_now : (q : ℕ) → q < reach n (turn_of legs.0 0 0 0) → IsPassedAt n q
+      passes_now : (q : ℕ) → q < carried_up_to n (turn_of legs.0 0 0 0) → IsPassedAt n q
       passes_now q l =
           ⊎_elim
-          (λ m. a.passes q (subst (λ k. q < k) (sym (ap (reach n) (wave_now a.rest legs.0 place jobs a.drawn a.ended legs.1 counts.1))) m))
+          (λ m. a.passes q (subst (λ k. q < k) (sym (ap (carried_up_to n) (wave_now a.rest legs.0 place jobs a.drawn a.ended legs.1 counts.1))) m))
           (λ m. ⊎_elim
           (λ k. let at : place + (q - place) ≡ q = omega arith in subst (IsPassedAt n) at (jobs_pass_now (q - place) (all_done (q - place) (omega arith))))
-          (λ k. among (IsPassedAt n) (place + jobs) (reach n (turn_of (legs_of n) d (e + 1) p)) q (all-tail (IsPassedAt n) (place + job) (places_from (place + jobs) (reach n (turn_of (legs_of n) d (e + 1) p))) passed) k
-          (subst (λ k. q < k) (sym (ap (reach n) next_now)) l))
+          (λ k. among (IsPassedAt n) (place + jobs) (carried_up_to n (turn_of (legs_of n) d (e + 1) p)) q (all-tail (IsPassedAt n) (place + job) (places_from (place + jobs) (carried_up_to n (turn_of (legs_of n) d (e + 1) p))) passed) k
+          (subst (λ k. q < k) (sym (ap (carried_up_to n) next_now)) l))
           (cases_lt q (place + jobs)))
           (cases_lt q place)
 
@@ -582,7 +582,7 @@ module _ (n : Night) where
     finished = ⊎_elim (λ l. finished_one l) (λ l. let c = counts.1 in finished_all (omega (arith, c, l))) (cases_lt (a.ended + 1) jobs)
 
   pub paged : (start ops : List Operation) (d e p : ℕ) (hold : ℕ → Option ℕ) (us vs : List ℕ) (place view : ℕ) (rows : Counted) → IsAt n start ops d e p hold us vs → turn_of (legs_of n) d e p ≡ At_page place view rows
-      → ArePassedAt n (places_from (place + 1) (reach n (turn_of (legs_of n) d e (p + 1)))) → IsAt n start (ops ++ Writes view rows ∷ []) d e (p + 1) hold us vs
+      → ArePassedAt n (places_from (place + 1) (carried_up_to n (turn_of (legs_of n) d e (p + 1)))) → IsAt n start (ops ++ Writes view rows ∷ []) d e (p + 1) hold us vs
   unfolding Distinct has
   paged start ops d e p hold us vs place view rows a is passed = record {
     over = a.over ++ Page place view rows ∷ [];
@@ -648,11 +648,11 @@ module _ (n : Night) where
           let v : a.ended + 0 ≡ a.ended = omega arith in
           (λ i. turn_of (legs_of n) (x i) (y i) (z i)) ∙ next 0 0 0 ∙ (λ i. turn_of legs.0 (u i) (v i) 0)
 
-      passes_now : (q : ℕ) → q < reach n (turn_of legs.0 a.drawn a.ended 0) → IsPassedAt n q
+      passes_now : (q : ℕ) → q < carried_up_to n (turn_of legs.0 a.drawn a.ended 0) → IsPassedAt n q
       passes_now q l =
           ⊎_elim
-          (λ m. a.passes q (subst (λ r. q < reach n (turn_of r a.drawn a.ended 0)) (sym legs.1) m))
-          (λ m. among (IsPassedAt n) (place + 1) (reach n (turn_of (legs_of n) d e (p + 1))) q passed m (subst (λ k. q < k) (sym (ap (reach n) next_now)) l))
+          (λ m. a.passes q (subst (λ r. q < carried_up_to n (turn_of r a.drawn a.ended 0)) (sym legs.1) m))
+          (λ m. among (IsPassedAt n) (place + 1) (carried_up_to n (turn_of (legs_of n) d e (p + 1))) q passed m (subst (λ k. q < k) (sym (ap (carried_up_to n) next_now)) l))
           (cases_lt q (place + 1))
 
 -- ---- the log
@@ -676,7 +676,7 @@ night-began s log =
 pub night-paged : (s : Setup) (log : Log) → night s (Paged_in ∷ log) ≡ night s log
 unfolding published
 night-paged s log =
-    let t : Turn = turn_in (night_of s log (published s log)) log in
+    let t : Turn = turn_in (last_night s log (published s log)) log in
     (λ i. night_from s ((ap (λ (v : Versions). v.newest) (versions_from-append (opened s.opening) (published s log) (page_in_turn t)) ∙ newest-paged (versions s log) t) i) (nights_begun log - 1))
 
 -- what was published when the night that began last began
@@ -695,7 +695,7 @@ underway s _ none e = cc
 underway s _ (one_more log Began before deed) e =
     subst (λ n. IsAt n (published s log) (published s log ++ Opens ∷ []) 0 0 0 (λ _. None) [] []) (sym (night-began s log)) (begins (next_night s log) (published s log) (have_jobs (next_night s log)) (are_rising (next_night s log)) (are_covered (next_night s log)) deed.3)
 underway s _ (one_more log (Drew w k) before deed) e =
-    subst (λ q. IsAt (night s log) (start_of s log) (published s log) (draws log + 1) (ends log) (pages log) (holds_at w (Some k) (holding log)) (q ∷ drawn_places s log) (done_places s log)) (sym (ap (λ t. place_of t k) deed.4))
+    subst (λ q. IsAt (night s log) (start_of s log) (published s log) (draws log + 1) (ends log) (pages log) (holds_at w (Some k) (holding log)) (q ∷ drawn_places s log) (done_places s log)) (sym (ap (λ t. job_place t k) deed.4))
     (drew (night s log) (start_of s log) (published s log) (draws log) (ends log) (pages log) (holding log) (drawn_places s log) (done_places s log) w deed.2 deed.3 k (underway s log before deed.0) deed.4 deed.5 deed.1)
 underway s _ (one_more log (Finished w) before deed) e =
     subst (λ qs. IsAt (night s log) (start_of s log) (published s log) (draws log) (ends log + 1) (pages log) (holds_at w None (holding log)) (drawn_places s log) (qs ++ done_places s log)) (sym (λ i. held_place (deed.6 i) (deed.2 i)))

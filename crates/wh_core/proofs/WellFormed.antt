@@ -34,7 +34,7 @@ use Rattle.wh_store.specs.Versions.{is_well_formed, is_well_formed_from, may_com
 use Rattle.wh_course.specs.Legs.{Turn, In_wave, At_page, Over}
 use Rattle.wh_core.specs.Laws.{IsSetup, PublishedAreWellFormed}
 use Rattle.wh_core.specs.Log.{Log, Began, Drew, Finished, Paged_in, Committed, Gave_up, Sat_down, Turned, Left, nights_begun, is_open, draws, ends, pages, holding}
-use Rattle.wh_core.specs.Nights.{GivenNight, Setup, night, night_of, page_in_turn, published, turn_in, versions}
+use Rattle.wh_core.specs.Nights.{GivenNight, Setup, night, last_night, page_in_turn, published, turn_in, versions}
 use Rattle.wh_core.proofs.Deeds.{AreDeeds, deeds_of, none, one_more}
 use Rattle.wh_core.proofs.Nights.{beginning, begun_once}
 use Rattle.wh_core.proofs.Puts.{puts-append}
@@ -151,7 +151,7 @@ open_so s (Began ∷ log) = open-append false (published s log) (Opens ∷ [])
 open_so s (Drew w k ∷ log) = open_so s log
 open_so s (Finished w ∷ log) = open_so s log
 open_so s (Paged_in ∷ log) =
-    let t : Turn = turn_in (night_of s log (published s log)) log in
+    let t : Turn = turn_in (last_night s log (published s log)) log in
     open-append false (published s log) (page_in_turn t) ∙ still_open (open_after false (published s log)) t ∙ open_so s log
 open_so s (Committed ∷ log) = open-append false (published s log) (Commits ∷ [])
 open_so s (Gave_up ∷ log) = open-append false (published s log) (Gives_up ∷ [])

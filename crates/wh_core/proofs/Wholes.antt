@@ -18,7 +18,7 @@ use Rattle.wh_maint.specs.declared.fault.MaintFault.TheVariants as fault
 use Rattle.wh_night.specs.Refused.{AreAllowedBelow, IsBaseFault}
 use Rattle.wh_store.specs.Pages.{Contents}
 use Rattle.wh_store.specs.Versions.{number, version, versions_of}
-use Rattle.wh_course.specs.Night.{Night}
+use Rattle.wh_course.specs.Night.{Night, AreAllowed}
 use Rattle.wh_core.specs.declared.event.Event.TheVariants as event
 use Rattle.wh_core.specs.declared.machine.Machine.{Machine}
 use Rattle.wh_core.specs.declared.reply.Cause.TheVariants as cause
@@ -27,7 +27,7 @@ use Rattle.wh_core.specs.declared.reply.Reply.TheVariants as reply
 use Rattle.wh_core.specs.Laws.{IsGivenNight, IsSetup, VersionsAreContents}
 use Rattle.wh_core.specs.Log.{Log, is_open, nights_begun}
 use Rattle.wh_core.specs.Nights.{GivenNight, Setup, next_night, versions}
-use Rattle.wh_core.specs.Replies.{AreAllowed, IsLegalLog, IsReply, cause_of}
+use Rattle.wh_core.specs.Replies.{IsLegalLog, IsReply, cause_of}
 use Rattle.wh_core.specs.Standing.{Stands, given_of, nights_of}
 use Rattle.wh_core.proofs.Steps.{le_false, le_true, onward, refuse}
 use Rattle.wh_core.proofs.Moves.{not_equal, number_here, open_here}

@@ -20,7 +20,7 @@ use Rattle.wh_night.specs.Refused.{IsBaseFault}
 use Rattle.wh_store.specs.Operations.{Operation, Commits}
 use Rattle.wh_store.specs.Pages.{Shown}
 use Rattle.wh_store.specs.Versions.{is_well_formed, number, table_of, version, versions_of}
-use Rattle.wh_course.specs.Night.{Night, IsFaultAt, IsPassedAt}
+use Rattle.wh_course.specs.Night.{Night, IsFaultAt, IsPassedAt, AreAllowed}
 use Rattle.wh_course.specs.Legs.{Turn, In_wave, At_page, Over}
 use Rattle.wh_core.specs.Log.{Deed, Log, Began, Drew, Finished, Paged_in, Committed, Gave_up, Sat_down, Turned, Left, SessionOf, holding, is_open, logged, nights_begun, pages, session}
 use Rattle.wh_core.specs.Nights.{GivenNight, Setup, next_night, night, night_from, published, turn, versions}
@@ -30,7 +30,7 @@ use Rattle.wh_core.specs.declared.reply.Cause.{Cause}
 use Rattle.wh_core.specs.declared.reply.Cause.TheVariants as cause
 use Rattle.wh_core.specs.declared.reply.Reply.{Reply}
 use Rattle.wh_core.specs.declared.reply.Reply.TheVariants as reply
-use Rattle.wh_core.specs.Replies.{AreAllowed, IsLegalLog, IsMemory, IsReply, IsRunFrom, cause_of}
+use Rattle.wh_core.specs.Replies.{IsLegalLog, IsMemory, IsReply, IsRunFrom, cause_of}
 
 -- ---- what a machine is given
 
@@ -100,10 +100,10 @@ CommitsMakeContents =
 -- ---- jobs
 
 -- the place of the strategy where the job of this number stands, while this is in turn
-abbrev pub place_of : Turn → ℕ → ℕ
-place_of (In_wave place jobs drawn) job = place + job
-place_of (At_page place view rows) job = place
-place_of Over job = job
+abbrev pub job_place : Turn → ℕ → ℕ
+job_place (In_wave place jobs drawn) job = place + job
+job_place (At_page place view rows) job = place
+job_place Over job = job
 
 -- the places of the Comps that are drawn in the open night, the latest first
 abbrev pub drawn_places : Setup → Log → List ℕ
@@ -111,12 +111,12 @@ drawn_places s [] = []
 drawn_places s (Began ∷ log) = []
 drawn_places s (Committed ∷ log) = []
 drawn_places s (Gave_up ∷ log) = []
-drawn_places s (Drew w n ∷ log) = place_of (turn s log) n ∷ drawn_places s log
+drawn_places s (Drew w n ∷ log) = job_place (turn s log) n ∷ drawn_places s log
 drawn_places s (d ∷ log) = drawn_places s log
 
 abbrev pub held_place : Turn → Option ℕ → List ℕ
 held_place t None = []
-held_place t (Some job) = place_of t job ∷ []
+held_place t (Some job) = job_place t job ∷ []
 
 -- the places of those that are done, the latest first: what a worker has done is what it drew last
 abbrev pub done_places : Setup → Log → List ℕ
@@ -176,7 +176,7 @@ latest_of (d ∷ log) w = latest_of log w
 abbrev pub WorkersDoTheirJobs : Type 0
 WorkersDoTheirJobs =
     (s : Setup) (log : Log) (w : ℕ) → IsLegalLog s (Finished w ∷ log)
-    → (n : ℕ) × (latest_of log w ≡ Some (Drew w n)) × (done_places s (Finished w ∷ log) ≡ place_of (turn s log) n ∷ done_places s log)
+    → (n : ℕ) × (latest_of log w ≡ Some (Drew w n)) × (done_places s (Finished w ∷ log) ≡ job_place (turn s log) n ∷ done_places s log)
 
 -- ---- sessions
 

@@ -4,3 +4,4 @@ pub mod Replies
 pub mod Laws
 pub mod Headline
 pub mod Standing
+pub mod Inner

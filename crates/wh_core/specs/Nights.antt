@@ -43,8 +43,8 @@ page_in_turn (At_page place view rows) = Writes view rows ∷ []
 page_in_turn t = []
 
 -- the night that began last, where these operations are published: while it is open, the newest contents are those that it began from
-abbrev pub night_of : Setup → Log → List Operation → Night
-night_of s log ops = night_from s (versions_of s.opening ops).newest (nights_begun log - 1)
+abbrev pub last_night : Setup → Log → List Operation → Night
+last_night s log ops = night_from s (versions_of s.opening ops).newest (nights_begun log - 1)
 
 -- what is in turn in it
 abbrev pub turn_in : Night → Log → Turn
@@ -54,7 +54,7 @@ turn_in night log = turn_of (legs_of night) (draws log) (ends log) (pages log)
 unfoldable pub published : Setup → Log → List Operation
 published s [] = []
 published s (Began ∷ log) = published s log ++ Opens ∷ []
-published s (Paged_in ∷ log) = published s log ++ page_in_turn (turn_in (night_of s log (published s log)) log)
+published s (Paged_in ∷ log) = published s log ++ page_in_turn (turn_in (last_night s log (published s log)) log)
 published s (Committed ∷ log) = published s log ++ Commits ∷ []
 published s (Gave_up ∷ log) = published s log ++ Gives_up ∷ []
 published s (d ∷ log) = published s log
@@ -65,7 +65,7 @@ versions s log = versions_of s.opening (published s log)
 
 -- the open night, and what is in turn in it
 abbrev pub night : Setup → Log → Night
-night s log = night_of s log (published s log)
+night s log = last_night s log (published s log)
 
 abbrev pub turn : Setup → Log → Turn
 turn s log = turn_in (night s log) log

@@ -4,11 +4,11 @@ use Rattle.wh_dag.specs.Catalog.{CatalogOf}
 use Rattle.wh_row.specs.Row.{Row}
 use Rattle.wh_maint.specs.declared.fault.MaintFault.{MaintFault}
 use Rattle.wh_maint.specs.declared.fault.MaintFault.TheVariants as fault
-use Rattle.wh_night.specs.Refused.{AreAllowedBelow, IsBaseFault}
+use Rattle.wh_night.specs.Refused.{IsBaseFault}
 use Rattle.wh_store.specs.Pages.{Contents, Shown, page_of}
 use Rattle.wh_store.specs.Versions.{Versions, number, is_active, is_unexpired, version, table_of}
-use Rattle.wh_course.specs.Night.{Night, ArePassedAt, IsFirstFaultOf, places_from}
-use Rattle.wh_course.specs.Legs.{Turn, In_wave, At_page, Over, legs_of, turn_of, reach}
+use Rattle.wh_course.specs.Night.{Night, ArePassedAt, IsFirstFaultOf, places_from, AreAllowed}
+use Rattle.wh_course.specs.Legs.{Turn, In_wave, At_page, Over, legs_of, turn_of, carried_up_to}
 use Rattle.wh_core.specs.declared.event.Event.{Event}
 use Rattle.wh_core.specs.declared.event.Event.TheVariants.{Begin, Take, Done, PageIn, Commit, GiveUp, Open, Read, Close}
 use Rattle.wh_core.specs.declared.reply.Cause.{Cause}
@@ -55,7 +55,7 @@ take_ruling Over = Says (reply.Refused cause.NoJob)
 
 -- the job's own expression is carried out, and where it is the last of its wave, those that come up to the next turn
 abbrev pub done_ruling : Night → Turn → Turn → ℕ → Ruling
-done_ruling n (In_wave place jobs drawn) next job = Carries n ((place + job) ∷ places_from (place + jobs) (reach n next)) reply.Done
+done_ruling n (In_wave place jobs drawn) next job = Carries n ((place + job) ∷ places_from (place + jobs) (carried_up_to n next)) reply.Done
 done_ruling n (At_page place view rows) next job = Says (reply.Refused cause.Idle)
 done_ruling n Over next job = Says (reply.Refused cause.Idle)
 
@@ -67,7 +67,7 @@ done_by n now next (Some job) = done_ruling n now next job
 
 -- the next page; where it is the last one of its Inst, the expressions up to the next turn are carried out with it
 abbrev pub page_ruling : Night → Turn → Turn → Ruling
-page_ruling n (At_page place view rows) next = Carries n (places_from (place + 1) (reach n next)) (reply.Paged (length rows))
+page_ruling n (At_page place view rows) next = Carries n (places_from (place + 1) (carried_up_to n next)) (reply.Paged (length rows))
 page_ruling n (In_wave place jobs drawn) next = Says (reply.Refused cause.NotReady)
 page_ruling n Over next = Says (reply.Refused cause.NotReady)
 
@@ -84,7 +84,7 @@ ruling s log Begin =
     unless (is_open log) cause.NightOpen
     (unless (nat_le (length s.nights) (nights_begun log)) cause.NoNight
     (unless (number (versions s log) + 1 == 2 ^ 64) cause.LastVersion
-    (Starts (next_night s log) (places_from 0 (reach (next_night s log) (turn_of (legs_of (next_night s log)) 0 0 0))) reply.Begun)))
+    (Starts (next_night s log) (places_from 0 (carried_up_to (next_night s log) (turn_of (legs_of (next_night s log)) 0 0 0))) reply.Begun)))
 ruling s log (Take w) =
     unless (nat_le s.workers w) cause.NoWorker
     (unless (not (is_open log)) cause.NoNight
@@ -133,10 +133,6 @@ IsLarge f = (v : ℕ) × (f ≡ fault.Large v)
 -- the expressions at these places are all passed and the reply is this one, or it is the first refusal among them
 abbrev pub IsCarried : Night → List ℕ → Reply → Reply → Type 0
 IsCarried n places said r = (ArePassedAt n places × (r ≡ said)) ⊎ ((f : MaintFault) × IsFirstFaultOf n places f × (r ≡ reply.Refused (cause_of f)))
-
--- the base changes of a night are allowed
-abbrev pub AreAllowed : Night → Type 0
-AreAllowed n = AreAllowedBelow n.catalog n.tables n.changes (length n.catalog.views.children)
 
 -- The reply is as it is ruled. A Begin is refused for memory where the base changes are allowed, or where one of them is too large: to find
 -- that out may take memory

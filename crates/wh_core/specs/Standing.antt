@@ -1,13 +1,11 @@
 -- Where a machine stands after what was done.
-use Rattle.std.specs.Prelude.{◌≡◌, ℕ, ◌+◌, ◌<◌, ◌≤◌, Vec, List, [], ◌∷◌, length, map, drop, slice_get, Option, Some, None, option_map, Bool, true}
+use Rattle.std.specs.Prelude.{◌≡◌, ℕ, ◌+◌, ◌<◌, ◌≤◌, Vec, List, [], ◌∷◌, length, map, drop, slice_get, Option, Some, None, option_map, true}
 use Rattle.wh_dag.specs.Catalog.{CatalogOf}
 use Rattle.wh_strategy.specs.Rules.{Judged}
 use Rattle.wh_row.specs.Bag.{Bag}
 use Rattle.wh_maint.specs.declared.fault.MaintFault.{MaintFault}
 use Rattle.wh_store.specs.Windows.{Shows}
-use Rattle.wh_store.specs.declared.operation.Op.{Op}
 use Rattle.wh_course.specs.declared.course.Part.{Part}
-use Rattle.wh_course.specs.declared.course.Part.TheVariants as part
 use Rattle.wh_course.specs.Night.{Night}
 use Rattle.wh_course.specs.Legs.{Leg, Wave, Page, legs_of, turn_of}
 use Rattle.wh_course.specs.Course.{AreParts}
@@ -39,20 +37,9 @@ HaveJobs [] = Unit {0}
 HaveJobs (Wave place jobs ∷ legs) = (1 ≤ jobs) × HaveJobs legs
 HaveJobs (Page place view rows ∷ legs) = HaveJobs legs
 
--- what becomes of the jobs of the wave that is the first part, and the operation that puts the page which is
-abbrev pub wave_in : List Part → Option (List (Option MaintFault))
-wave_in [] = None
-wave_in (part.Wave outcomes ∷ parts) = Some outcomes.items
-wave_in (part.Page op ∷ parts) = None
-
-abbrev pub page_in : List Part → Option Op
-page_in [] = None
-page_in (part.Wave outcomes ∷ parts) = None
-page_in (part.Page op ∷ parts) = Some op
-
 -- after so many jobs drawn, jobs done and pages put in the whole night: these parts are left, and of the first so many jobs are drawn and
 -- done; whatever is drawn, done and put from here on, the same is in turn
-pub record GoesOn (n : Night) (draws ends pages : ℕ) (parts : List Part) (stop : Option MaintFault) (drawn ended : ℕ) : Type 0 where
+pub record AreLeft (n : Night) (draws ends pages : ℕ) (parts : List Part) (stop : Option MaintFault) (drawn ended : ℕ) : Type 0 where
   pub from : ℕ
   pub legs : List Leg
   pub ahead : (x y z : ℕ) → turn_of (legs_of n) (draws + x) (ends + y) (pages + z) ≡ turn_of legs (drawn + x) (ended + y) z
@@ -71,14 +58,7 @@ pub record Stands (s : Setup) (log : Log) (m : Machine) : Type 0 where
   pub sessions : (d : ℕ) → d < s.desks → slice_get (map (option_map session_of) m.seats.items) d ≡ Some (session log d)
   pub workers : length m.holders.items ≡ s.workers
   pub holders : (w : ℕ) → w < s.workers → slice_get m.holders.items w ≡ Some (holding log w)
-  pub night : is_open log ≡ true → GoesOn (night s log) (draws log) (ends log) (pages log) (drop m.place m.course.parts.items) m.course.stop m.drawn m.ended
-
--- some legal run leaves it so
-pub record IsRunning (m : Machine) : Type 0 where
-  pub setup : Setup
-  pub log : Log
-  pub is_setup : IsSetup setup
-  pub stands : Stands setup log m
+  pub night : is_open log ≡ true → AreLeft (night s log) (draws log) (ends log) (pages log) (drop m.place m.course.parts.items) m.course.stop m.drawn m.ended
 
 -- a night as it is given in code
 abbrev pub given_of : Vec Bag Global × Judged → GivenNight

@@ -12,8 +12,10 @@ ghost use Rattle.wh_course.specs.Legs.{legs_of};
 ghost use Rattle.wh_course.specs.Course.{AreParts};
 ghost use Rattle.wh_core.specs.Log.{Log, is_open, logged, nights_begun};
 ghost use Rattle.wh_core.specs.Nights.{Setup, next_night, versions};
-ghost use Rattle.wh_core.specs.Replies.{AreAllowed, IsReply};
-ghost use Rattle.wh_core.specs.Standing.{IsRunning, Stands, page_in, wave_in};
+ghost use Rattle.wh_core.specs.Replies.{IsReply};
+ghost use Rattle.wh_course.specs.Night.{AreAllowed};
+ghost use Rattle.wh_core.specs.Standing.{Stands};
+ghost use Rattle.wh_core.specs.Inner.Standing.{IsRunning, page_in, wave_in};
 
 use crate::event::Event;
 use crate::laws::published_are_well_formed;

@@ -6,7 +6,7 @@ use Rattle.wh_row.specs.Stored.{plain}
 use Rattle.wh_night.specs.NightList.{pages_of, pages_within}
 use Rattle.wh_course.specs.declared.course.Part.{Part}
 use Rattle.wh_course.specs.declared.course.Part.TheVariants as part
-use Rattle.wh_course.specs.Standing.{ArePages, PutsPages}
+use Rattle.wh_course.specs.Inner.Standing.{ArePages, PutsPages}
 use Rattle.std.specs.Global.{Vec}
 use Rattle.std.proofs.Common.{ℤ}
 use Rattle.wh_course.proofs.Waves.{take_all}

@@ -27,7 +27,8 @@ use Rattle.wh_night.specs.declared.stages.Stage.TheVariants as stage
 use Rattle.wh_night.specs.Carry.{State, before, carried, step}
 use Rattle.wh_night.specs.Kept.{IsFirst, Kept, finished, installed}
 use Rattle.wh_night.specs.NightList.{inst_pages, new_counts, pages_of}
-use Rattle.wh_night.specs.Refused.{IsPassed, IsPassedIn, IsStepFaultIn}
+use Rattle.wh_night.specs.Refused.{IsPassed}
+use Rattle.wh_night.specs.Inner.Refused.{IsPassedIn, IsStepFaultIn}
 use Rattle.wh_night.specs.Waves.{comp_of, expressions_of, stages_of}
 use Rattle.wh_night.proofs.Agreeing.{agrees_first, inst_done}
 use Rattle.wh_night.proofs.AnyOrder.{carried_on}
@@ -44,7 +45,8 @@ use Rattle.wh_course.specs.declared.course.Part.TheVariants as part
 use Rattle.wh_course.specs.Night.{Night, ArePassedAt, IsFaultAt, IsFirstFaultOf, IsPassedAt, places_from, state_at}
 use Rattle.wh_course.specs.Legs.{Leg, Page, legs_after, legs_of}
 use Rattle.wh_course.specs.Course.{AreParts, IsOutcome, IsStop, start_of}
-use Rattle.wh_course.specs.Standing.{ArePages, GoesOn, IsStageIn, IsWaveAt, PutsPages, StandsAt, legs_at, place_of}
+use Rattle.wh_course.specs.Standing.{IsStageIn, place_behind}
+use Rattle.wh_course.specs.Inner.Standing.{ArePages, GoesPast, IsWaveAt, PutsPages, StandsAt, legs_at}
 
 -- ---- places
 
@@ -154,20 +156,20 @@ map_length : (jobs : List Job) → length (map comp_of jobs) ≡ length jobs
 map_length [] = refl
 map_length (job ∷ jobs) = ap suc (map_length jobs)
 
-pub place_next : (before : List Stage) (x : Stage) → place_of (before ++ x ∷ []) ≡ place_of before + length (expressions_of x)
+pub place_next : (before : List Stage) (x : Stage) → place_behind (before ++ x ∷ []) ≡ place_behind before + length (expressions_of x)
 place_next before x =
     let a = ap length (flat_append before (x ∷ [])) in
     let b = length_append (flat_map expressions_of before) (flat_map expressions_of (x ∷ [])) in
     let c = length_append (expressions_of x) [] in
     let d : length (flat_map expressions_of (x ∷ [])) ≡ length (expressions_of x) = c ∙ (let z : length (expressions_of x) + 0 ≡ length (expressions_of x) = omega arith in z) in
-    a ∙ b ∙ ap (λ k. place_of before + k) d
+    a ∙ b ∙ ap (λ k. place_behind before + k) d
 
 module _ (n : Night) (before after : List Stage) (x : Stage) (split : stages_of n.list ≡ before ++ x ∷ after) where
   joined : flat_map expressions_of before ++ (expressions_of x ++ flat_map expressions_of after) ≡ n.list
   joined = sym (flat_append before (x ∷ after)) ∙ ap (flat_map expressions_of) (sym split) ∙ (lists_have_one_stages n.list).0.joined
 
   -- what is left fits behind
-  pub fits_behind : place_of before + length (expressions_of x) + length (flat_map expressions_of after) ≤ length n.list
+  pub fits_behind : place_behind before + length (expressions_of x) + length (flat_map expressions_of after) ≤ length n.list
   fits_behind =
       let a = ap length joined in
       let b = length_append (flat_map expressions_of before) (expressions_of x ++ flat_map expressions_of after) in
@@ -180,29 +182,29 @@ at_place (x ∷ es) fs e = at_place es fs e
 
 -- ---- a wave
 
-pub wave_at : (n : Night) (before after : List Stage) (jobs : List Job) (k : Kept) → StandsAt n (place_of before) k → stages_of n.list ≡ before ++ stage.Wave jobs ∷ after → IsWaveAt n.catalog jobs n (place_of before)
+pub wave_at : (n : Night) (before after : List Stage) (jobs : List Job) (k : Kept) → StandsAt n (place_behind before) k → stages_of n.list ≡ before ++ stage.Wave jobs ∷ after → IsWaveAt n.catalog jobs n (place_behind before)
 wave_at n before after jobs k stands split =
     let law = waves_are_side_by_side n.catalog.views.children n.list stands.correct before after jobs split in
     record { same = refl; are = law.0; side = law.1 }
 
-module _ (n : Night) (before after : List Stage) (jobs : List Job) (k : Kept) (stands : StandsAt n (place_of before) k) (split : stages_of n.list ≡ before ++ stage.Wave jobs ∷ after) where
-  wave_end : place_of (before ++ stage.Wave jobs ∷ []) ≡ place_of before + length jobs
-  wave_end = place_next before (stage.Wave jobs) ∙ ap (λ m. place_of before + m) (map_length jobs)
+module _ (n : Night) (before after : List Stage) (jobs : List Job) (k : Kept) (stands : StandsAt n (place_behind before) k) (split : stages_of n.list ≡ before ++ stage.Wave jobs ∷ after) where
+  wave_end : place_behind (before ++ stage.Wave jobs ∷ []) ≡ place_behind before + length jobs
+  wave_end = place_next before (stage.Wave jobs) ∙ ap (λ m. place_behind before + m) (map_length jobs)
 
-  pub stands_behind_wave : (next : Kept) → StandsAt n (place_of before + length jobs) next → StandsAt n (place_of (before ++ stage.Wave jobs ∷ [])) next
+  pub stands_behind_wave : (next : Kept) → StandsAt n (place_behind before + length jobs) next → StandsAt n (place_behind (before ++ stage.Wave jobs ∷ [])) next
   stands_behind_wave next s = subst (λ p. StandsAt n p next) (sym wave_end) s
 
-  wave_state : carried (graph_of n.catalog) n.changes (map comp_of jobs) (state_at n (place_of before)) ≡ state_at n (place_of (before ++ stage.Wave jobs ∷ []))
+  wave_state : carried (graph_of n.catalog) n.changes (map comp_of jobs) (state_at n (place_behind before)) ≡ state_at n (place_behind (before ++ stage.Wave jobs ∷ []))
   wave_state =
       let wave = wave_at n before after jobs k stands split in
-      ap (λ es. carried (graph_of n.catalog) n.changes es (state_at n (place_of before))) (sym wave.are) ∙ carried_on (graph_of n.catalog) n.changes n.list n.tables (place_of before) (length jobs) ∙ ap (state_at n) (sym wave_end)
+      ap (λ es. carried (graph_of n.catalog) n.changes es (state_at n (place_behind before))) (sym wave.are) ∙ carried_on (graph_of n.catalog) n.changes n.list n.tables (place_behind before) (length jobs) ∙ ap (state_at n) (sym wave_end)
 
   pub wave_goes : (next : Kept) (was is : Course) (outcomes : Vec (Option MaintFault)) (goes : Bool) → length outcomes.items ≡ length jobs
-      → ((j : ℕ) (o : Option MaintFault) → slice_get outcomes.items j ≡ Some o → IsOutcome n (place_of before + j) o) → (list_all is_none outcomes.items ≡ true → StandsAt n (place_of before + length jobs) next)
-      → goes ≡ list_all is_none outcomes.items → is.parts.items ≡ was.parts.items ++ part.Wave outcomes ∷ [] → is.stop ≡ was.stop → GoesOn n before (stage.Wave jobs) after goes k next was is
+      → ((j : ℕ) (o : Option MaintFault) → slice_get outcomes.items j ≡ Some o → IsOutcome n (place_behind before + j) o) → (list_all is_none outcomes.items ≡ true → StandsAt n (place_behind before + length jobs) next)
+      → goes ≡ list_all is_none outcomes.items → is.parts.items ≡ was.parts.items ++ part.Wave outcomes ∷ [] → is.stop ≡ was.stop → GoesPast n before (stage.Wave jobs) after goes k next was is
   unfolding AreParts legs_after
   wave_goes next was is outcomes goes each outcome stand goes_is parts stop =
-      let p : ℕ = place_of before in
+      let p : ℕ = place_behind before in
       let g : ViewGraph = graph_of n.catalog in
       record {
         stands = λ s t. stands_behind_wave next (stand (sym goes_is ∙ t));
@@ -213,36 +215,36 @@ module _ (n : Night) (before after : List Stage) (jobs : List Job) (k : Kept) (s
           none_passed n p,
           (each, outcome),
           λ passed. subst (λ q. AreParts n q (legs_after g n.changes n.keys q (carried g n.changes (map comp_of jobs) (state_at n p)) after) rest stop) wave_end
-              (subst (λ st. AreParts n (place_of (before ++ stage.Wave jobs ∷ [])) (legs_after g n.changes n.keys (place_of (before ++ stage.Wave jobs ∷ [])) st after) rest stop) (sym wave_state) are),
+              (subst (λ st. AreParts n (place_behind (before ++ stage.Wave jobs ∷ [])) (legs_after g n.changes n.keys (place_behind (before ++ stage.Wave jobs ∷ [])) st after) rest stop) (sym wave_state) are),
         );
         ending = λ s t. (none_passed n p, (each, outcome), λ passed. absurd (false≢true (sym t ∙ goes_is ∙ passed)));
       }
 
 -- ---- an Inst
 
-module _ (n : Night) (before after : List Stage) (v : ℕ) (k : Kept) (stands : StandsAt n (place_of before) k) (split : stages_of n.list ≡ before ++ stage.Inst v ∷ after) where
-  pub inst_at : At n.list (place_of before) (Inst v)
-  inst_at = subst (λ l. At l (place_of before) (Inst v)) (joined n before after (stage.Inst v) split) (at_place (flat_map expressions_of before) (flat_map expressions_of after) (Inst v))
+module _ (n : Night) (before after : List Stage) (v : ℕ) (k : Kept) (stands : StandsAt n (place_behind before) k) (split : stages_of n.list ≡ before ++ stage.Inst v ∷ after) where
+  pub inst_at : At n.list (place_behind before) (Inst v)
+  inst_at = subst (λ l. At l (place_behind before) (Inst v)) (joined n before after (stage.Inst v) split) (at_place (flat_map expressions_of before) (flat_map expressions_of after) (Inst v))
 
-  inst_end : place_of (before ++ stage.Inst v ∷ []) ≡ place_of before + 1
+  inst_end : place_behind (before ++ stage.Inst v ∷ []) ≡ place_behind before + 1
   inst_end = place_next before (stage.Inst v)
 
-  behind : (place_of before + 1) + length (flat_map expressions_of after) ≤ length n.list
+  behind : (place_behind before + 1) + length (flat_map expressions_of after) ≤ length n.list
   behind = fits_behind n before after (stage.Inst v) split
 
-  inst_state : step (graph_of n.catalog) n.changes (Inst v) (state_at n (place_of before)) ≡ state_at n (place_of before + 1)
+  inst_state : step (graph_of n.catalog) n.changes (Inst v) (state_at n (place_behind before)) ≡ state_at n (place_behind before + 1)
   inst_state =
-      let e : suc (place_of before) ≡ place_of before + 1 = omega arith in
-      sym (before_next (graph_of n.catalog) n.changes n.list n.tables (place_of before) (Inst v) inst_at) ∙ ap (state_at n) e
+      let e : suc (place_behind before) ≡ place_behind before + 1 = omega arith in
+      sym (before_next (graph_of n.catalog) n.changes n.list n.tables (place_behind before) (Inst v) inst_at) ∙ ap (state_at n) e
 
-  later : place_of before + 1 ≤ first_start (length n.list) (legs_after (graph_of n.catalog) n.changes n.keys (place_of before + 1) (step (graph_of n.catalog) n.changes (Inst v) (state_at n (place_of before))) after)
-  later = legs_start (graph_of n.catalog) n.changes n.keys (place_of before + 1) (step (graph_of n.catalog) n.changes (Inst v) (state_at n (place_of before))) after (length n.list) behind
+  later : place_behind before + 1 ≤ first_start (length n.list) (legs_after (graph_of n.catalog) n.changes n.keys (place_behind before + 1) (step (graph_of n.catalog) n.changes (Inst v) (state_at n (place_behind before))) after)
+  later = legs_start (graph_of n.catalog) n.changes n.keys (place_behind before + 1) (step (graph_of n.catalog) n.changes (Inst v) (state_at n (place_behind before))) after (length n.list) behind
 
   pub inst_passes : (next : Kept) (was is : Course) → IsPassedIn n.catalog k (Inst v) → next ≡ installed v (finished n.catalog (λ u. eqb v u) k)
-      → PutsPages v (pages_of n.keys (new_counts (k.tables v) ((finished n.catalog (λ u. eqb v u) k).changes v))) was.parts.items is.parts.items → is.stop ≡ was.stop → GoesOn n before (stage.Inst v) after true k next was is
+      → PutsPages v (pages_of n.keys (new_counts (k.tables v) ((finished n.catalog (λ u. eqb v u) k).changes v))) was.parts.items is.parts.items → is.stop ≡ was.stop → GoesPast n before (stage.Inst v) after true k next was is
   unfolding AreParts legs_after
   inst_passes next was is passed done puts stop =
-      let p : ℕ = place_of before in
+      let p : ℕ = place_behind before in
       let g : ViewGraph = graph_of n.catalog in
       let cat = n.catalog in
       let here : IsPassedAt n p = λ e a. subst (IsPassed cat n.changes (state_at n p)) (same_Some (Inst v) e (sym inst_at ∙ a)) (passed_here cat n.list n.tables n.changes stands.catalogue stands.correct p (Inst v) k inst_at stands.agrees stands.told passed) in
@@ -268,9 +270,9 @@ module _ (n : Night) (before after : List Stage) (v : ℕ) (k : Kept) (stands : 
         ending = λ s t. absurd (false≢true (sym t));
       }
 
-  inst_fault : (f : MaintFault) → f ≢ fault.Memory → IsStepFaultIn n.catalog k (Inst v) f → IsFaultAt n (place_of before) f
+  inst_fault : (f : MaintFault) → f ≢ fault.Memory → IsStepFaultIn n.catalog k (Inst v) f → IsFaultAt n (place_behind before) f
   inst_fault f other h =
-      let p : ℕ = place_of before in
+      let p : ℕ = place_behind before in
       let cat = n.catalog in
       let s : State = state_at n p in
       let done = inst_done cat n.list n.tables n.changes stands.catalogue stands.correct p v k inst_at stands.agrees in
@@ -287,7 +289,7 @@ module _ (n : Night) (before after : List Stage) (v : ℕ) (k : Kept) (stands : 
       ))
       h))
 
-  pub inst_stops : (next : Kept) (was is : Course) (f : MaintFault) → f ≢ fault.Memory → IsStepFaultIn n.catalog k (Inst v) f → is.parts.items ≡ was.parts.items → is.stop ≡ Some f → GoesOn n before (stage.Inst v) after false k next was is
+  pub inst_stops : (next : Kept) (was is : Course) (f : MaintFault) → f ≢ fault.Memory → IsStepFaultIn n.catalog k (Inst v) f → is.parts.items ≡ was.parts.items → is.stop ≡ Some f → GoesPast n before (stage.Inst v) after false k next was is
   unfolding legs_after
   inst_stops next was is f other h parts stop = record {
     stands = λ s t. absurd (false≢true t);
@@ -295,9 +297,9 @@ module _ (n : Night) (before after : List Stage) (v : ℕ) (k : Kept) (stands : 
     parts = parts ∙ sym (append-nil was.parts.items);
     stop = λ t. absurd (false≢true t);
     going = λ s t. absurd (false≢true t);
-    ending = λ s t. subst (λ st. AreParts n (place_of before) (legs_at n (place_of before) (stage.Inst v ∷ after)) [] st) (sym stop)
-        (fault_stops n (place_of before) (map (Page (place_of before) v) (inst_pages (graph_of n.catalog) n.changes n.keys (state_at n (place_of before)) v) ++ legs_after (graph_of n.catalog) n.changes n.keys (place_of before + 1) (step (graph_of n.catalog) n.changes (Inst v) (state_at n (place_of before))) after) f
-        (let l = past_pages n (place_of before) v (inst_pages (graph_of n.catalog) n.changes n.keys (state_at n (place_of before)) v) (legs_after (graph_of n.catalog) n.changes n.keys (place_of before + 1) (step (graph_of n.catalog) n.changes (Inst v) (state_at n (place_of before))) after) later in omega arith)
+    ending = λ s t. subst (λ st. AreParts n (place_behind before) (legs_at n (place_behind before) (stage.Inst v ∷ after)) [] st) (sym stop)
+        (fault_stops n (place_behind before) (map (Page (place_behind before) v) (inst_pages (graph_of n.catalog) n.changes n.keys (state_at n (place_behind before)) v) ++ legs_after (graph_of n.catalog) n.changes n.keys (place_behind before + 1) (step (graph_of n.catalog) n.changes (Inst v) (state_at n (place_behind before))) after) f
+        (let l = past_pages n (place_behind before) v (inst_pages (graph_of n.catalog) n.changes n.keys (state_at n (place_behind before)) v) (legs_after (graph_of n.catalog) n.changes n.keys (place_behind before + 1) (step (graph_of n.catalog) n.changes (Inst v) (state_at n (place_behind before))) after) later in omega arith)
         (inst_fault f other h));
   }
 
@@ -312,11 +314,11 @@ drop_stage [] i x e = cc
 drop_stage (y ∷ ys) zero x e = let f : y ≡ x = same_Some y x e in ap (λ z. z ∷ ys) f
 drop_stage (y ∷ ys) (suc i) x e = let f : suc (i + 1) ≡ suc i + 1 = omega arith in drop_stage ys i x e ∙ ap (λ k. x ∷ drop k (y ∷ ys)) f
 
-pub ends_so : (n : Night) (stages : List Stage) → stages ≡ stages_of n.list → AreParts n (place_of stages) (legs_at n (place_of stages) []) [] None
+pub ends_so : (n : Night) (stages : List Stage) → stages ≡ stages_of n.list → AreParts n (place_behind stages) (legs_at n (place_behind stages) []) [] None
 unfolding AreParts legs_after
 ends_so n stages e =
-    let whole : place_of stages ≡ length n.list = ap length (ap (flat_map expressions_of) e ∙ (lists_have_one_stages n.list).0.joined) in
-    subst (λ p. ArePassedAt n (places_from (place_of stages) p)) whole (none_passed n (place_of stages))
+    let whole : place_behind stages ≡ length n.list = ap length (ap (flat_map expressions_of) e ∙ (lists_have_one_stages n.list).0.joined) in
+    subst (λ p. ArePassedAt n (places_from (place_behind stages) p)) whole (none_passed n (place_behind stages))
 
 -- each stage is one of the catalogue's views
 pub stages_in : (catalog : CatalogOf) (list : List Expression) → IsCorrect catalog.views.children list → (stages : List Stage) → stages ≡ stages_of list → (i : ℕ) (x : Stage) → slice_get stages i ≡ Some x → IsStageIn catalog x
@@ -325,11 +327,11 @@ stages_in catalog list ok stages e i x here = by_stage x (sym e ∙ sym (split_a
     by_stage : (x : Stage) → stages_of list ≡ take i stages ++ x ∷ drop (suc i) stages → IsStageIn catalog x
     by_stage (stage.Wave jobs) split = λ j job is.
         let law = waves_are_side_by_side catalog.views.children list ok (take i stages) (drop (suc i) stages) jobs split in
-        expression_of catalog list ok (place_of (take i stages) + j) (comp_of job) (job_at list (place_of (take i stages)) jobs law.0 j job is)
+        expression_of catalog list ok (place_behind (take i stages) + j) (comp_of job) (job_at list (place_behind (take i stages)) jobs law.0 j job is)
     by_stage (stage.Inst v) split =
         let whole : flat_map expressions_of (take i stages) ++ (Inst v ∷ flat_map expressions_of (drop (suc i) stages)) ≡ list =
         sym (flat_append (take i stages) (stage.Inst v ∷ drop (suc i) stages)) ∙ ap (flat_map expressions_of) (sym split) ∙ (lists_have_one_stages list).0.joined in
-        ok.views (place_of (take i stages)) v (subst (λ l. At l (place_of (take i stages)) (Inst v)) whole (at_place (flat_map expressions_of (take i stages)) (flat_map expressions_of (drop (suc i) stages)) (Inst v)))
+        ok.views (place_behind (take i stages)) v (subst (λ l. At l (place_behind (take i stages)) (Inst v)) whole (at_place (flat_map expressions_of (take i stages)) (flat_map expressions_of (drop (suc i) stages)) (Inst v)))
 
 pub stands_first : (catalog : CatalogOf) (list : List Expression) (tables changes : ℕ → Bag) (keys : ℕ) (k : Kept) → IsCatalog catalog → IsCorrect catalog.views.children list → IsFirst catalog tables changes k
     → StandsAt (record { catalog = catalog; list = list; tables = tables; changes = changes; keys = keys }) 0 k

@@ -20,14 +20,16 @@ use Rattle.wh_night.specs.Kept.{Kept, CanFinish, finished}
 use Rattle.wh_night.specs.Refused.{CanBeFinishedIn, IsUnfinishedIn}
 use Rattle.wh_night.proofs.Storing.{can_finish_after}
 use Rattle.wh_night.specs.Waves.{comp_of}
-use Rattle.wh_night.proofs.Agreeing.{Agrees, source_within}
+use Rattle.wh_night.proofs.Agreeing.{source_within}
+use Rattle.wh_night.specs.Inner.Agreeing.{Agrees, AreTold}
 use Rattle.wh_night.proofs.Amid.{IsSource, source_in, sources_finished}
 use Rattle.wh_night.proofs.AnyOrder.{at_drop, at_take}
-use Rattle.wh_night.proofs.Reasons.{CanBeFinished}
-use Rattle.wh_night.proofs.Refusals.{AreTold, same_fit, unfinished}
+use Rattle.wh_night.specs.Inner.Reasons.{CanBeFinished}
+use Rattle.wh_night.proofs.Refusals.{same_fit, unfinished}
 use Rattle.wh_night.proofs.StepRows.{whole_at}
 use Rattle.wh_course.specs.Night.{Night, state_at}
-use Rattle.wh_course.specs.Standing.{IsSourceOutcome, IsWaveAt, StandsAt, answer_of, is_source}
+use Rattle.wh_course.specs.Standing.{is_source}
+use Rattle.wh_course.specs.Inner.Standing.{IsSourceOutcome, IsWaveAt, StandsAt, answer_of}
 use Rattle.wh_course.specs.declared.wave.Refusal.{Refusal}
 
 -- a job of the wave stands in the list

@@ -20,22 +20,24 @@ use Rattle.wh_maint.specs.Refused.{MergedFit}
 use Rattle.wh_night.specs.declared.stages.Job.{Job}
 use Rattle.wh_night.specs.AnyOrder.{IsSameAt, expressions_from}
 use Rattle.wh_night.specs.Carry.{carried}
-use Rattle.wh_night.specs.Kept.{Kept, AreKnown, CanFinish, computed}
+use Rattle.wh_night.specs.Kept.{Kept, AreKnown, CanFinish}
+use Rattle.wh_night.specs.Inner.Kept.{computed}
 use Rattle.wh_row.specs.Bag.{Bag}
 use Rattle.wh_maint.specs.Fit.{IsFitTable}
 use Rattle.wh_maint.specs.Finishing.{kind_in}
-use Rattle.wh_night.specs.Refused.{CanBeComputed, IsAddFaultIn, IsPassed, IsStepFault}
+use Rattle.wh_night.specs.Refused.{CanBeComputed, IsPassed, IsStepFault}
+use Rattle.wh_night.specs.Inner.Refused.{IsAddFaultIn}
 use Rattle.wh_night.specs.Waves.{comp_of}
-use Rattle.wh_night.proofs.Agreeing.{Agrees}
+use Rattle.wh_night.specs.Inner.Agreeing.{Agrees, AreTold}
 use Rattle.wh_night.proofs.Amid.{IsSource, next_amid, passed_amid, refused_amid, source_in, wave_over, waves_have_no_order}
 use Rattle.wh_night.proofs.AnyOrder.{carried_on}
 use Rattle.wh_night.proofs.Reasons.{comp_reason}
-use Rattle.wh_night.proofs.Refusals.{AreTold}
 use Rattle.wh_course.specs.declared.wave.Refusal.{Refusal}
 use Rattle.wh_course.specs.declared.wave.Refusal.TheVariants as refusal
 use Rattle.wh_course.specs.Night.{Night, state_at}
 use Rattle.wh_course.specs.Course.{IsOutcome}
-use Rattle.wh_course.specs.Standing.{IsAmid, IsFirstOf, IsSourceOutcome, IsWaveAt, StandsAt, answer_of, is_source}
+use Rattle.wh_course.specs.Standing.{is_source}
+use Rattle.wh_course.specs.Inner.Standing.{IsAmid, IsFirstOf, IsSourceOutcome, IsWaveAt, StandsAt, answer_of}
 use Rattle.wh_course.proofs.Sources.{job_at, source_finishes}
 
 -- ---- lists

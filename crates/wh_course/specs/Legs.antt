@@ -45,7 +45,7 @@ turn_of (Page place view rows ∷ legs) drawn ended zero = At_page place view ro
 turn_of (Page place view rows ∷ legs) drawn ended (suc paged) = turn_of legs drawn ended paged
 
 -- how many expressions of the list are carried out where this is in turn: those before a wave, and those up to an Inst whose pages are put
-abbrev pub reach : Night → Turn → ℕ
-reach night (In_wave place jobs drawn) = place
-reach night (At_page place view rows) = place + 1
-reach night Over = length night.list
+abbrev pub carried_up_to : Night → Turn → ℕ
+carried_up_to night (In_wave place jobs drawn) = place
+carried_up_to night (At_page place view rows) = place + 1
+carried_up_to night Over = length night.list

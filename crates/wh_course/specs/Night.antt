@@ -1,5 +1,5 @@
 -- A night that is to be carried out, and where carrying out can be refused.
-use Rattle.std.specs.Prelude.{◌≡◌, ℕ, ◌-◌, List, ◌∷◌, ◌++◌}
+use Rattle.std.specs.Prelude.{◌≡◌, ℕ, ◌-◌, List, ◌∷◌, ◌++◌, length}
 use Rattle.std.specs.List.{All, range_with_len}
 use Rattle.wh_strategy.specs.declared.expression.Expression.{Expression}
 use Rattle.wh_strategy.specs.Expression.{At}
@@ -8,7 +8,7 @@ use Rattle.wh_dag.specs.Catalog.{CatalogOf}
 use Rattle.wh_maint.specs.declared.fault.MaintFault.{MaintFault}
 use Rattle.wh_maint.specs.Definition.{graph_of}
 use Rattle.wh_night.specs.Carry.{State, before}
-use Rattle.wh_night.specs.Refused.{IsPassed, IsStepFault}
+use Rattle.wh_night.specs.Refused.{AreAllowedBelow, IsPassed, IsStepFault}
 
 -- the strategy that is carried out, from which tables, with which changes of the base views, and how many rows a page has at most
 pub record Night : Type 0 where
@@ -21,6 +21,10 @@ pub record Night : Type 0 where
 -- what the expressions before this place have made of the tables
 abbrev pub state_at : Night → ℕ → State
 state_at night place = before (graph_of night.catalog) night.changes night.list night.tables place
+
+-- no base change is refused
+abbrev pub AreAllowed : Night → Type 0
+AreAllowed night = AreAllowedBelow night.catalog night.tables night.changes (length night.catalog.views.children)
 
 -- at this place nothing but memory can be refused
 abbrev pub IsPassedAt : Night → ℕ → Type 0

@@ -5,7 +5,7 @@ ghost use Rattle.std.specs.List.{list_all};
 ghost use Rattle.wh_maint.specs.Asked.{AreBags};
 ghost use Rattle.wh_maint.specs.Comp.{bag_at};
 ghost use Rattle.wh_night.specs.Fit.{AreFitTables};
-ghost use Rattle.wh_night.specs.Kept.{kept, AreParts as AreKeptParts, CanFinish};
+ghost use Rattle.wh_night.specs.Kept.{kept, HaveParts as AreKeptParts, CanFinish};
 ghost use Rattle.wh_night.specs.Refused.{AreAllowedBelow, IsBaseFault};
 ghost use Rattle.wh_night.specs.Waves.{stages_of};
 ghost use Rattle.wh_night.specs.declared.stages.Stage.{Stage as StageOf};
@@ -13,7 +13,8 @@ ghost use Rattle.wh_night.specs.declared.stages.Stage.TheVariants as stage;
 ghost use Rattle.wh_course.specs.Night.{Night};
 ghost use Rattle.wh_course.specs.Legs.{legs_of};
 ghost use Rattle.wh_course.specs.Course.{AreParts};
-ghost use Rattle.wh_course.specs.Standing.{GoesOn, IsStageIn, StandsAt, place_of};
+ghost use Rattle.wh_course.specs.Standing.{IsStageIn, place_behind};
+ghost use Rattle.wh_course.specs.Inner.Standing.{GoesPast, StandsAt};
 
 use crate::inst::inst_of;
 use crate::wave::wave_of;
@@ -131,8 +132,8 @@ fn stage_of<F: RowTest, G: RowValue>(
     requires stage { IsStageIn catalog.now stage.now }
     ensures parts { OnOk result (AreKeptParts catalog.now state.new) }
     ensures fit { OnOk result (CanFinish catalog.now (kept state.new)) }
-    ensures goes { IfOk result (λ goes. (n : Night) (before after : List StageOf) → n.catalog ≡ catalog.now → n.keys ≡ keys → stages_of n.list ≡ before ++ stage.now ∷ after → StandsAt n (place_of before) (kept state.old)
-        → GoesOn n before stage.now after goes (kept state.old) (kept state.new) course.old course.new) }
+    ensures goes { IfOk result (λ goes. (n : Night) (before after : List StageOf) → n.catalog ≡ catalog.now → n.keys ≡ keys → stages_of n.list ≡ before ++ stage.now ∷ after → StandsAt n (place_behind before) (kept state.old)
+        → GoesPast n before stage.now after goes (kept state.old) (kept state.new) course.old course.new) }
 {
     match stage {
         Stage::Wave(jobs) => {
@@ -158,8 +159,8 @@ fn wave_part<F: RowTest, G: RowValue>(
     requires jobs { IsStageIn catalog.now (stage.Wave jobs.now) }
     ensures parts { OnOk result (AreKeptParts catalog.now state.new) }
     ensures fit { OnOk result (CanFinish catalog.now (kept state.new)) }
-    ensures goes { IfOk result (λ goes. (n : Night) (before after : List StageOf) → n.catalog ≡ catalog.now → stages_of n.list ≡ before ++ stage.Wave jobs.now ∷ after → StandsAt n (place_of before) (kept state.old)
-        → GoesOn n before (stage.Wave jobs.now) after goes (kept state.old) (kept state.new) course.old course.new) }
+    ensures goes { IfOk result (λ goes. (n : Night) (before after : List StageOf) → n.catalog ≡ catalog.now → stages_of n.list ≡ before ++ stage.Wave jobs.now ∷ after → StandsAt n (place_behind before) (kept state.old)
+        → GoesPast n before (stage.Wave jobs.now) after goes (kept state.old) (kept state.new) course.old course.new) }
 {
     let outcomes = wave_of(alloc, catalog, jobs, state)?;
     let goes = none_refused(outcomes.as_slice());
@@ -181,8 +182,8 @@ fn inst_part<F: RowTest, G: RowValue>(
     requires view { view < length catalog.now.views.children }
     ensures parts { OnOk result (AreKeptParts catalog.now state.new) }
     ensures fit { OnOk result (CanFinish catalog.now (kept state.new)) }
-    ensures goes { IfOk result (λ goes. (n : Night) (before after : List StageOf) → n.catalog ≡ catalog.now → n.keys ≡ keys → stages_of n.list ≡ before ++ stage.Inst view ∷ after → StandsAt n (place_of before) (kept state.old)
-        → GoesOn n before (stage.Inst view) after goes (kept state.old) (kept state.new) course.old course.new) }
+    ensures goes { IfOk result (λ goes. (n : Night) (before after : List StageOf) → n.catalog ≡ catalog.now → n.keys ≡ keys → stages_of n.list ≡ before ++ stage.Inst view ∷ after → StandsAt n (place_behind before) (kept state.old)
+        → GoesPast n before (stage.Inst view) after goes (kept state.old) (kept state.new) course.old course.new) }
 {
     match inst_of(alloc, catalog, view, keys, state, &mut course.parts)? {
         None => Ok(true),

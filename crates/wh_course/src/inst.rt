@@ -4,11 +4,11 @@ ghost use Rattle.std.specs.Prelude.{◌≡◌, ◌≢◌, ◌≤◌, ◌<◌, �
 ghost use Rattle.wh_row.specs.Bag.{count, written};
 ghost use Rattle.wh_row.specs.Stored.{plain};
 ghost use Rattle.wh_maint.specs.declared.fault.MaintFault.{MaintFault as Fault};
-ghost use Rattle.wh_night.specs.Kept.{kept, finished, installed, AreParts, CanFinish};
+ghost use Rattle.wh_night.specs.Kept.{kept, finished, installed, HaveParts, CanFinish};
 ghost use Rattle.wh_night.specs.NightList.{new_counts, pages_of};
-ghost use Rattle.wh_night.specs.Refused.{IsPassedIn, IsStepFaultIn};
+ghost use Rattle.wh_night.specs.Inner.Refused.{IsPassedIn, IsStepFaultIn};
 ghost use Rattle.wh_strategy.specs.declared.expression.Expression.TheVariants.{Inst};
-ghost use Rattle.wh_course.specs.Standing.{PutsPages, PutsSome};
+ghost use Rattle.wh_course.specs.Inner.Standing.{PutsPages, PutsSome};
 
 use crate::course::Part;
 use std::alloc::{AllocError, Global};
@@ -116,11 +116,11 @@ pub(crate) fn inst_of<F: RowTest, G: RowValue>(
     state: &mut NightState,
     parts: &mut Vec<Part>,
 ) -> Result<Option<MaintFault>, AllocError>
-    requires parts { AreParts catalog.now state.old }
+    requires parts { HaveParts catalog.now state.old }
     requires fit { CanFinish catalog.now (kept state.old) }
     requires view { view < length catalog.now.views.children }
     requires some { 1 ≤ keys }
-    ensures parts { OnOk result (AreParts catalog.now state.new) }
+    ensures parts { OnOk result (HaveParts catalog.now state.new) }
     ensures fit { OnOk result (CanFinish catalog.now (kept state.new)) }
     ensures done { IfOk result (λ fault. fault ≡ None → kept state.new ≡ installed view (finished catalog.now (λ u. view == u) (kept state.old))) }
     ensures passed { IfOk result (λ fault. fault ≡ None → IsPassedIn catalog.now (kept state.old) (Inst view)) }

@@ -8,14 +8,17 @@ ghost use Rattle.wh_maint.specs.Comp.{comp_columns};
 ghost use Rattle.wh_maint.specs.Definition.{view_of};
 ghost use Rattle.wh_maint.specs.Refused.{MergedFit};
 ghost use Rattle.wh_maint.specs.declared.fault.MaintFault.{MaintFault as Fault};
-ghost use Rattle.wh_night.specs.Kept.{Kept, kept, computed, finished, AreKnown, AreParts, CanFinish, IsExpressionOf};
-ghost use Rattle.wh_night.specs.Refused.{CanBeComputed, CanBeFinishedIn, IsAddFaultIn, IsUnfinishedIn};
+ghost use Rattle.wh_night.specs.Kept.{Kept, kept, finished, AreKnown, HaveParts, CanFinish, IsExpressionOf};
+ghost use Rattle.wh_night.specs.Inner.Kept.{computed};
+ghost use Rattle.wh_night.specs.Refused.{CanBeComputed, CanBeFinishedIn, IsUnfinishedIn};
+ghost use Rattle.wh_night.specs.Inner.Refused.{IsAddFaultIn};
 ghost use Rattle.wh_night.specs.Waves.{comp_of};
 ghost use Rattle.wh_night.specs.declared.stages.Job.{Job as JobOf};
 ghost use Rattle.wh_course.specs.Night.{Night, state_at};
 ghost use Rattle.wh_course.specs.Course.{IsOutcome};
 ghost use Rattle.wh_course.specs.declared.wave.Refusal.{Refusal as RefusalOf};
-ghost use Rattle.wh_course.specs.Standing.{AreOutcomes, StandsAt, IsAmid, IsFirstOf, IsWaveAt, IsSourceOutcome, answer_of, is_source};
+ghost use Rattle.wh_course.specs.Standing.{is_source};
+ghost use Rattle.wh_course.specs.Inner.Standing.{AreOutcomes, StandsAt, IsAmid, IsFirstOf, IsWaveAt, IsSourceOutcome, answer_of};
 
 use std::alloc::{AllocError, Global};
 use wh_dag::{Catalog, has_view};
@@ -66,10 +69,10 @@ fn finish_source<F: RowTest, G: RowValue>(
     view: usize,
     state: &mut NightState,
 ) -> Result<Option<Refusal>, AllocError>
-    requires parts { AreParts catalog.now state.old }
+    requires parts { HaveParts catalog.now state.old }
     requires fit { CanFinish catalog.now (kept state.old) }
     requires view { view < length catalog.now.views.children }
-    ensures parts { AreParts catalog.now state.new }
+    ensures parts { HaveParts catalog.now state.new }
     ensures done { IfOk result (λ refusal. refusal ≡ None → kept state.new ≡ finished catalog.now (λ u. view == u) (kept state.old)) }
     ensures passed { IfOk result (λ refusal. refusal ≡ None → CanBeFinishedIn catalog.now (kept state.old) view) }
     ensures stays { IfOk result (λ refusal. (r : RefusalOf) → refusal ≡ Some r → state.new ≡ state.old) }
@@ -89,10 +92,10 @@ fn finish_for<F: RowTest, G: RowValue>(
     view: usize,
     state: &mut NightState,
 ) -> Result<Option<Refusal>, AllocError>
-    requires parts { AreParts catalog.now state.old }
+    requires parts { HaveParts catalog.now state.old }
     requires fit { CanFinish catalog.now (kept state.old) }
     requires view { view < length catalog.now.views.children }
-    ensures parts { AreParts catalog.now state.new }
+    ensures parts { HaveParts catalog.now state.new }
     ensures fit { OnOk result (CanFinish catalog.now (kept state.new)) }
     ensures known { OnOk result ((u : ℕ) → (kept state.old).known u ≡ true → (kept state.new).known u ≡ true) }
     ensures stands { OnOk result ((n : Night) (place : ℕ) → IsWaveAt catalog.now jobs.now n place → StandsAt n place (kept state.old) → StandsAt n place (kept state.new)) }
@@ -114,9 +117,9 @@ fn finish_sources<F: RowTest, G: RowValue>(
     jobs: &[Job],
     state: &mut NightState,
 ) -> Result<Vec<Option<Refusal>>, AllocError>
-    requires parts { AreParts catalog.now state.old }
+    requires parts { HaveParts catalog.now state.old }
     requires fit { CanFinish catalog.now (kept state.old) }
-    ensures parts { OnOk result (AreParts catalog.now state.new) }
+    ensures parts { OnOk result (HaveParts catalog.now state.new) }
     ensures fit { OnOk result (CanFinish catalog.now (kept state.new)) }
     ensures each { IfOk result (λ refusals. length refusals.items ≡ length catalog.now.views.children) }
     ensures stands { OnOk result ((n : Night) (place : ℕ) → IsWaveAt catalog.now jobs.now n place → StandsAt n place (kept state.old) → StandsAt n place (kept state.new)) }
@@ -167,10 +170,10 @@ fn tried<F: RowTest, G: RowValue>(
     state: &mut NightState,
     keeps: bool,
 ) -> Result<Option<Refusal>, AllocError>
-    requires parts { AreParts catalog.now state.old }
+    requires parts { HaveParts catalog.now state.old }
     requires job { IsExpressionOf catalog.now (comp_of job.now) }
     requires known { AreKnown (kept state.old) job.now.from }
-    ensures parts { AreParts catalog.now state.new }
+    ensures parts { HaveParts catalog.now state.new }
     ensures computed { IfOk result (λ refusal. refusal ≡ None
         → CanBeComputed (view_of (definition_of catalog.now job.now.view)) (children_of catalog.now.views.children job.now.view) job.now.from (kept state.old).tables (kept state.old).changes) }
     ensures fits { IfOk result (λ refusal. refusal ≡ None → MergedFit ((kept state.old).pending job.now.view)
@@ -201,10 +204,10 @@ pub(crate) fn wave_of<F: RowTest, G: RowValue>(
     jobs: &[Job],
     state: &mut NightState,
 ) -> Result<Vec<Option<MaintFault>>, AllocError>
-    requires parts { AreParts catalog.now state.old }
+    requires parts { HaveParts catalog.now state.old }
     requires fit { CanFinish catalog.now (kept state.old) }
     requires jobs { (j : ℕ) (job : JobOf) → slice_get jobs.now j ≡ Some job → IsExpressionOf catalog.now (comp_of job) }
-    ensures parts { OnOk result (AreParts catalog.now state.new) }
+    ensures parts { OnOk result (HaveParts catalog.now state.new) }
     ensures fit { OnOk result (CanFinish catalog.now (kept state.new)) }
     ensures each { IfOk result (λ outcomes. length outcomes.items ≡ length jobs.now) }
     ensures outcomes { IfOk result (λ outcomes. (n : Night) (place : ℕ) → IsWaveAt catalog.now jobs.now n place → StandsAt n place (kept state.old)
@@ -232,12 +235,12 @@ fn job_of<F: RowTest, G: RowValue>(
     state: &mut NightState,
     keeps: bool,
 ) -> Result<Option<Refusal>, AllocError>
-    requires parts { AreParts catalog.now state.old }
+    requires parts { HaveParts catalog.now state.old }
     requires fit { CanFinish catalog.now (kept state.old) }
     requires job { IsExpressionOf catalog.now (comp_of job.now) }
     requires each { length refusals.now ≡ length catalog.now.views.children }
     requires known { (u : ℕ) → has job.now.from u ≡ true → slice_get refusals.now u ≡ Some None → (kept state.old).known u ≡ true }
-    ensures parts { AreParts catalog.now state.new }
+    ensures parts { HaveParts catalog.now state.new }
     ensures fit { OnOk result (CanFinish catalog.now (kept state.new)) }
     ensures known { OnOk result ((kept state.new).known ≡ (kept state.old).known) }
     ensures outcome { IfOk result (λ refusal. (n : Night) (place : ℕ) (jobs : List JobOf) (j : ℕ) (first : Kept) → IsWaveAt catalog.now jobs n place → slice_get jobs j ≡ Some job.now

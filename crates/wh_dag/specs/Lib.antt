@@ -1,9 +1,7 @@
 pub mod Catalog
-pub mod CatalogCode
 pub mod CatalogParts
 pub mod Fault
 pub mod FirstFault
-pub mod Kept
 pub mod Level
 pub mod Lists
 pub mod Output
@@ -13,3 +11,4 @@ pub mod Shape
 pub mod Siblings
 pub mod WellFormed
 pub mod Written
+pub mod Inner

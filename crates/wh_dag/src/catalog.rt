@@ -21,7 +21,7 @@ pub struct Catalog<F: RowTest, G: RowValue> {
 
 impl<F: RowTest, G: RowValue> Model for Catalog<F, G> {
     ghost use Rattle.wh_dag.specs.Catalog.{CatalogOf, IsCatalog};
-    ghost use Rattle.wh_dag.specs.CatalogCode.{catalog_code};
+    ghost use Rattle.wh_dag.specs.Inner.CatalogCode.{catalog_code};
 
     ghost Value = { CatalogOf };
 

@@ -19,7 +19,7 @@ pub struct Definition<F: RowTest, G: RowValue> {
 
 impl<F: RowTest, G: RowValue> Model for Definition<F, G> {
     ghost use Rattle.wh_dag.specs.Catalog.{DefinitionOf};
-    ghost use Rattle.wh_dag.specs.CatalogCode.{definition_code};
+    ghost use Rattle.wh_dag.specs.Inner.CatalogCode.{definition_code};
     ghost use Rattle.wh_dag.specs.Output.{definition_from, OfOneWidth};
 
     ghost Value = { DefinitionOf };

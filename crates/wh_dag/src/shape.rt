@@ -26,7 +26,7 @@ pub struct Shape {
 
 impl Model for Shape {
     ghost use Rattle.wh_dag.specs.Shape.{Views};
-    ghost use Rattle.wh_dag.specs.Kept.{IsKept};
+    ghost use Rattle.wh_dag.specs.Inner.Kept.{IsKept};
     ghost use Rattle.wh_dag.specs.Siblings.{couples_of, sibling_pairs_of};
     ghost use Rattle.wh_dag.specs.Written.{texts};
 

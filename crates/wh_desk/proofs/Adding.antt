@@ -6,8 +6,8 @@ use mathlib.Core.List.{IsPrefix}
 use prog.Atomic.{either}
 use Rattle.logbook.specs.Pages.{Cell, cell, keeps, no_nib, step, Moves, Goes}
 use Rattle.wh_desk.specs.declared.history.Chapter.{Chapter}
-use Rattle.wh_desk.specs.Known.{IsLog}
-use Rattle.wh_desk.specs.Histories.{IsKept, Adds}
+use Rattle.wh_desk.specs.Inner.Known.{IsLog}
+use Rattle.wh_desk.specs.Inner.Histories.{IsKept, Adds}
 use Rattle.wh_desk.proofs.Prefixes.{prefix_whole}
 
 abbrev pub shown : List Chapter → List Chapter

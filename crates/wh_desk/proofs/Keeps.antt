@@ -13,7 +13,8 @@ use Rattle.wh_publish.specs.Ledgers.{window_in}
 use Rattle.wh_desk.specs.declared.kept.Kept.{Kept}
 use Rattle.wh_desk.specs.declared.kept.Publication.{Publication}
 use Rattle.wh_desk.specs.Known.{Begins, IsStory, Known, known}
-use Rattle.wh_desk.specs.Rules.{Fits, Follows, Holds, IsCopy, Sees, taken_in}
+use Rattle.wh_desk.specs.Rules.{Fits, Follows, IsCopy, Sees, taken_in}
+use Rattle.wh_desk.specs.Inner.Rules.{Holds}
 use Rattle.wh_desk.proofs.Prefixes.{prefix_self, prefix_trans}
 
 abbrev Each : Known → List (Option Known) → Type 0

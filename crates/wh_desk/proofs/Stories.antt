@@ -8,7 +8,8 @@ use Rattle.wh_store.specs.Operations.{operation}
 use Rattle.wh_store.specs.declared.operation.Op.{Op}
 use Rattle.wh_desk.specs.declared.history.Chapter.{Chapter}
 use Rattle.wh_desk.specs.declared.history.Chapter.TheVariants.{Opened, Done}
-use Rattle.wh_desk.specs.Known.{Begins, IsLog, IsStory, Known, known, operations, told, warehouse_of}
+use Rattle.wh_desk.specs.Known.{Begins, IsStory, Known, known, operations, told, warehouse_of}
+use Rattle.wh_desk.specs.Inner.Known.{IsLog}
 use Rattle.wh_desk.proofs.Prefixes.{prefix_shorter}
 
 pub operations-append : (xs ys : List Chapter) → operations (xs ++ ys) ≡ operations xs ++ operations ys

@@ -8,7 +8,8 @@ use Rattle.wh_desk.specs.declared.kept.Kept.{Kept}
 use Rattle.wh_desk.specs.declared.kept.Publication.{Publication}
 use Rattle.wh_desk.specs.Known.{IsStory, Known}
 use Rattle.wh_desk.specs.Rules.{IsCopy, taken_in}
-use Rattle.wh_desk.specs.Writers.{IsWriter, Waits, and_held, copy_of, end_of_held, held_of, ledger_in, waiting, writing, writing_of}
+use Rattle.wh_desk.specs.Writers.{and_held, copy_of, held_of, ledger_in, waiting, writing, writing_of}
+use Rattle.wh_desk.specs.Inner.Writers.{IsWriter, Waits, end_of_held}
 use Rattle.wh_desk.proofs.Keeps.{copy_next}
 
 pub none_pending : {A : Type 0} (b : Bool) (xs : List A) → IsTrue b ↔ (0 < length xs) → b ≡ false → xs ≡ []

@@ -1,6 +1,5 @@
 -- What callers see of a desk, and how it is answered.
-use Rattle.std.specs.Prelude.{◌≡◌, ◌≢◌, ◌<◌, ◌≤◌, ℕ, false, Bool, IsTrue, List, [], length, Option, Some, None, refl}
-use Rattle.std.specs.Coded.{Coded, code_by, coded×, coded_ℕ, coded_option}
+use Rattle.std.specs.Prelude.{◌≡◌, ◌≢◌, ◌<◌, ◌≤◌, ℕ, false, Bool, IsTrue, List, [], length, Option, Some, None}
 use mathlib.Core.List.{IsPrefix}
 use Rattle.left_right.specs.Sides.{view}
 use Rattle.logbook.specs.Pages.{Book}
@@ -12,7 +11,7 @@ use Rattle.wh_publish.specs.Ledgers.{Warehouse, versions_in}
 use Rattle.wh_desk.specs.declared.chair.Chair.{Chair}
 use Rattle.wh_desk.specs.declared.chair.DeskFault.{DeskFault}
 use Rattle.wh_desk.specs.declared.chair.DeskFault.TheVariants.{NoSession, SessionOpen, Expired, NoView, Memory, Away}
-use Rattle.wh_desk.specs.Known.{Known, Begins, IsStory, coded_known}
+use Rattle.wh_desk.specs.Known.{Known}
 
 -- at which warehouse, what it began with, the longest beginning of its published list that was seen or told, and the version of the
 -- session, if one is open
@@ -25,20 +24,8 @@ pub record Sitting : Type 0 where
 abbrev pub sitting : Known → Option ℕ → Sitting
 sitting k session = record { book = k.book; of = k.of; list = k.list; session = session }
 
-abbrev pub coded_sitting : Coded Sitting
-coded_sitting =
-    code_by (Known × Option ℕ) (coded× coded_known (coded_option coded_ℕ)) (λ s. (record { book = s.book; of = s.of; list = s.list }, s.session))
-    (λ t. sitting t.0 t.1) (λ _. refl)
-
 abbrev pub sitting_of : Chair → Sitting
 sitting_of c = sitting c.front c.session
-
--- the reader saw a beginning of f
-abbrev pub Knows : Option Known → Known → Type 0
-Knows v f = (k : Known) × (v ≡ Some k) × Begins k f
-
-abbrev pub IsDesk : Chair → Type 0
-IsDesk c = Knows (view c.reader.place) c.front × IsStory c.front
 
 -- at the same warehouse, and all that was seen and told stays
 abbrev pub Grows : Sitting → Sitting → Type 0

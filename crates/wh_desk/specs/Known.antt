@@ -1,13 +1,11 @@
 -- What was seen of a warehouse: a beginning of its published list.
-use Rattle.std.specs.Prelude.{◌≡◌, ◌≤◌, IsTrue, List, [], ◌∷◌, length, refl}
-use Rattle.std.specs.Coded.{Coded, code_by, coded×, coded_list}
+use Rattle.std.specs.Prelude.{◌≡◌, ◌≤◌, IsTrue, List, [], ◌∷◌, length}
 use mathlib.Core.List.{IsPrefix}
-use Rattle.logbook.specs.Pages.{Book, book_coded}
+use Rattle.logbook.specs.Pages.{Book}
 use Rattle.wh_store.specs.Operations.{Operation, operation}
 use Rattle.wh_store.specs.Versions.{is_well_formed}
 use Rattle.wh_store.specs.Windows.{current}
 use Rattle.wh_publish.specs.Ledgers.{Warehouse}
-use Rattle.wh_publish.specs.Codes.{coded_operation, coded_warehouse}
 use Rattle.wh_desk.specs.declared.history.Chapter.{Chapter}
 use Rattle.wh_desk.specs.declared.history.Chapter.TheVariants.{Opened, Done}
 
@@ -42,12 +40,3 @@ Begins k f = (k.book ≡ f.book) × (k.of ≡ f.of) × IsPrefix k.list f.list
 -- the operations are well formed, and of the current version and the one before it at least the contents are kept
 abbrev pub IsStory : Known → Type 0
 IsStory k = (2 ≤ k.of.limit) × IsTrue (is_well_formed (length k.of.opening) k.list)
-
--- the same of a history
-abbrev pub IsLog : List Chapter → Type 0
-IsLog log = (2 ≤ (warehouse_of log).limit) × IsTrue (is_well_formed (length (warehouse_of log).opening) (operations log))
-
-abbrev pub coded_known : Coded Known
-coded_known =
-    code_by (Book × (Warehouse × List Operation)) (coded× book_coded (coded× coded_warehouse (coded_list coded_operation))) (λ k. (k.book, (k.of, k.list)))
-    (λ t. record { book = t.0; of = t.1.0; list = t.1.1 }) (λ _. refl)

@@ -1,5 +1,5 @@
 pub mod Known
-pub mod Histories
 pub mod Rules
 pub mod Writers
 pub mod Desks
+pub mod Inner

@@ -1,7 +1,5 @@
 -- The rule of the published store.
-use Rattle.std.specs.Prelude.{◌≡◌, ℕ, List, [], ◌∷◌, ◌++◌, Option, Some, None}
-use mathlib.Core.Option.{some}
-use lib.ListN.{get_elem?}
+use Rattle.std.specs.Prelude.{◌≡◌, List, [], ◌∷◌, ◌++◌, Option, Some, None}
 use Rattle.wh_store.specs.Operations.{operation}
 use Rattle.wh_store.specs.Refusals.{refusal}
 use Rattle.wh_store.specs.Windows.{applied}
@@ -21,11 +19,6 @@ IsCopy x = (x.store ≡ window_in x.front.of x.front.list) × IsStory x.front
 -- what a place knows, if anything, is a beginning of f
 abbrev pub Fits : Known → Option Known → Type 0
 Fits f v = (k : Known) → v ≡ Some k → Begins k f
-
--- the store shows its list, and each place knows a beginning of that
-pub record Holds (x : Kept) (views : List (Option Known)) : Type 0 where
-  pub copy : IsCopy x
-  pub each : (seat : ℕ) (v : Option Known) → get_elem? views seat ≡ some v → Fits x.front v
 
 -- what was known begins what is seen, which the store shows
 abbrev pub Sees : Option Known → Kept → Option Known → Type 0

@@ -7,7 +7,8 @@ ghost use Rattle.wh_store.specs.Versions.{number};
 ghost use Rattle.wh_publish.specs.Ledgers.{versions_in};
 ghost use Rattle.wh_desk.specs.Known.{Begins};
 ghost use Rattle.wh_desk.specs.Rules.{IsCopy};
-ghost use Rattle.wh_desk.specs.Desks.{sitting, sitting_of, Knows, IsDesk, Grows, IsPage, NoPage, OpensAt, NotOpened, Reads, NotRead, ShowsRows};
+ghost use Rattle.wh_desk.specs.Desks.{sitting, sitting_of, Grows, IsPage, NoPage, OpensAt, NotOpened, Reads, NotRead, ShowsRows};
+ghost use Rattle.wh_desk.specs.Inner.Desks.{Knows, IsDesk};
 
 use crate::chair::{Chair, DeskFault};
 use crate::history::Told;
@@ -25,7 +26,8 @@ pub struct Desk {
 }
 
 impl Model for Desk {
-    ghost use Rattle.wh_desk.specs.Desks.{Sitting, coded_sitting, sitting_of, IsDesk};
+    ghost use Rattle.wh_desk.specs.Desks.{Sitting, sitting_of};
+    ghost use Rattle.wh_desk.specs.Inner.Desks.{coded_sitting, IsDesk};
 
     ghost Value = { Sitting };
 

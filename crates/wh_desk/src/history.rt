@@ -6,7 +6,7 @@ ghost use Rattle.wh_store.specs.Operations.{operation};
 ghost use Rattle.wh_store.specs.Versions.{is_well_formed};
 ghost use Rattle.wh_store.specs.Windows.{current};
 ghost use Rattle.wh_desk.specs.Known.{Begins, IsStory, Known, known};
-ghost use Rattle.wh_desk.specs.Histories.{word_of};
+ghost use Rattle.wh_desk.specs.Inner.Histories.{word_of};
 
 use logbook::{Gain, Offer, Opening, Plain, Play, Rule, Seen, Start, Word};
 use std::marker::Model;
@@ -26,7 +26,7 @@ pub struct Law;
 impl Rule<Chapter, u64> for Law {
     ghost use Rattle.std.specs.Prelude.{[]};
     ghost use base.Fml.{ftrue};
-    ghost use Rattle.wh_desk.specs.Histories.{IsKept};
+    ghost use Rattle.wh_desk.specs.Inner.Histories.{IsKept, Adds, word_of};
 
     ghost holds = { λ cells log. IsKept cells log };
 
@@ -64,7 +64,6 @@ impl Gain<Chapter, u64> for Nothing {
 pub struct Add;
 
 impl Play<Chapter, u64> for Add {
-    ghost use Rattle.wh_desk.specs.Histories.{Adds};
 
     ghost then = { Adds };
 }
@@ -87,7 +86,8 @@ pub struct Told {
 
 impl Model for Told {
     ghost use Rattle.std.specs.Prelude.{◌≡◌, ◌+◌, length};
-    ghost use Rattle.wh_desk.specs.Known.{Known, coded_known, told, IsStory};
+    ghost use Rattle.wh_desk.specs.Known.{Known, told, IsStory};
+    ghost use Rattle.wh_desk.specs.Inner.Known.{coded_known};
 
     ghost Value = { Known };
 
@@ -160,8 +160,7 @@ pub struct History {
 
 impl Model for History {
     ghost use Rattle.std.specs.Prelude.{◌≡◌};
-    ghost use Rattle.wh_desk.specs.Known.{Known, coded_known};
-    ghost use Rattle.wh_desk.specs.Histories.{word_of};
+    ghost use Rattle.wh_desk.specs.Known.{Known};
 
     ghost Value = { Known };
 

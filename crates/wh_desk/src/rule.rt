@@ -1,7 +1,8 @@
 //! What each place at the store knows, and what each step tells it.
 
 ghost use Rattle.std.specs.Prelude.{◌≡◌, None, Some};
-ghost use Rattle.wh_desk.specs.Rules.{Holds, Sees};
+ghost use Rattle.wh_desk.specs.Rules.{Sees};
+ghost use Rattle.wh_desk.specs.Inner.Rules.{Holds};
 
 use crate::history::Told;
 use crate::kept::Kept;

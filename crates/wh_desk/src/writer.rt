@@ -9,7 +9,8 @@ ghost use Rattle.wh_publish.specs.Faults.{publish_refusal, refused, IsOkUnlessMe
 ghost use Rattle.wh_publish.specs.Ledgers.{ledger, gone_out, versions_in, with_held};
 ghost use Rattle.wh_desk.specs.Known.{IsStory, known};
 ghost use Rattle.wh_desk.specs.Rules.{IsCopy};
-ghost use Rattle.wh_desk.specs.Writers.{IsWriter, Publishes, Waits, end_of, end_of_held, held_of, ledger_in, writing, writing_of};
+ghost use Rattle.wh_desk.specs.Writers.{held_of, ledger_in, writing, writing_of};
+ghost use Rattle.wh_desk.specs.Inner.Writers.{IsWriter, Publishes, Waits, end_of, end_of_held};
 
 use crate::history::{History, Told};
 use crate::inner::Inner;
@@ -30,7 +31,8 @@ pub struct Writer {
 }
 
 impl Model for Writer {
-    ghost use Rattle.wh_desk.specs.Writers.{IsWriter, Writing, coded_writing, writing_of};
+    ghost use Rattle.wh_desk.specs.Writers.{Writing, writing_of};
+    ghost use Rattle.wh_desk.specs.Inner.Writers.{IsWriter, coded_writing};
 
     ghost Value = { Writing };
 

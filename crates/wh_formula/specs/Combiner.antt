@@ -1,8 +1,6 @@
 -- What a stored closure knows: that it answers an expression on each row of a width.
-use Rattle.std.specs.Prelude.{◌≡◌, ℕ, List, ℤ, Option, length, refl}
-use Rattle.std.specs.Coded.{Coded, code_by, coded×, coded_ℕ}
+use Rattle.std.specs.Prelude.{◌≡◌, ℕ, List, ℤ, Option, length}
 use Rattle.wh_formula.specs.Expr.{ExprTree, value}
-use Rattle.wh_formula.specs.ExprCode.{expr_code}
 
 -- what a `Combiner` is seen as: the expression that it answers, and how many cells its rows have
 pub record CombinerOf : Type 0 where
@@ -13,7 +11,3 @@ pub record CombinerOf : Type 0 where
 abbrev pub AnswersExpr : ExprTree → ℕ → (List ℤ → Option ℤ → Type 0) → Type 0
 AnswersExpr expr width gives =
     (row : List ℤ) (answer : Option ℤ) → length row ≡ width → gives row answer → answer ≡ value row expr
-
--- it is stored as the pair of its fields
-abbrev pub combiner_code : Coded CombinerOf
-combiner_code = code_by (ExprTree × ℕ) (coded× expr_code coded_ℕ) (λ c. (c.expr, c.width)) (λ p. record { expr = p.0; width = p.1 }) (λ _. refl)

@@ -1,12 +1,9 @@
 pub mod Expr
-pub mod ExprCode
 pub mod ExprNode
-pub mod ExprFalls
 pub mod Comparison
 pub mod Pred
 pub mod PredNode
-pub mod PredFalls
-pub mod PredCode
 pub mod Filter
 pub mod Combiner
 pub mod Native
+pub mod Inner

@@ -20,7 +20,8 @@ impl<G: RowValue> Model for Combiner<G> {
     ghost use Rattle.std.specs.Prelude.{IsTrue};
     ghost use Rattle.wh_formula.specs.Expr.{fits};
     ghost use Rattle.wh_formula.specs.Native.{CallableOnRows};
-    ghost use Rattle.wh_formula.specs.Combiner.{CombinerOf, combiner_code, AnswersExpr};
+    ghost use Rattle.wh_formula.specs.Combiner.{CombinerOf, AnswersExpr};
+    ghost use Rattle.wh_formula.specs.Inner.Combiner.{combiner_code};
 
     ghost Value = { CombinerOf };
 

@@ -28,7 +28,7 @@ enum ExprNode {
 impl Model for Expr {
     ghost use Rattle.std.specs.Prelude.{◌≤◌};
     ghost use Rattle.wh_formula.specs.Expr.{ExprTree, depth};
-    ghost use Rattle.wh_formula.specs.ExprCode.{expr_code};
+    ghost use Rattle.wh_formula.specs.Inner.ExprCode.{expr_code};
 
     ghost Value = { ExprTree };
 
@@ -42,7 +42,7 @@ impl Model for Expr {
 
     ghost size = { depth };
 
-    ghost use Rattle.wh_formula.specs.ExprFalls.{deep_le-depth};
+    ghost use Rattle.wh_formula.specs.Inner.ExprFalls.{deep_le-depth};
 
     ghost size_decreases = { λ e h. deep_le-depth e.node };
 }

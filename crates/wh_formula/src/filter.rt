@@ -20,7 +20,8 @@ impl<F: RowTest> Model for Filter<F> {
     ghost use Rattle.std.specs.Prelude.{IsTrue};
     ghost use Rattle.wh_formula.specs.Pred.{fits};
     ghost use Rattle.wh_formula.specs.Native.{CallableOnRows};
-    ghost use Rattle.wh_formula.specs.Filter.{FilterOf, filter_code, AnswersPred};
+    ghost use Rattle.wh_formula.specs.Filter.{FilterOf, AnswersPred};
+    ghost use Rattle.wh_formula.specs.Inner.Filter.{filter_code};
 
     ghost Value = { FilterOf };
 

@@ -28,7 +28,7 @@ enum PredNode {
 impl Model for Pred {
     ghost use Rattle.std.specs.Prelude.{◌≤◌};
     ghost use Rattle.wh_formula.specs.Pred.{PredTree, depth};
-    ghost use Rattle.wh_formula.specs.PredCode.{pred_code};
+    ghost use Rattle.wh_formula.specs.Inner.PredCode.{pred_code};
 
     ghost Value = { PredTree };
 
@@ -42,7 +42,7 @@ impl Model for Pred {
 
     ghost size = { depth };
 
-    ghost use Rattle.wh_formula.specs.PredFalls.{deep_le-depth};
+    ghost use Rattle.wh_formula.specs.Inner.PredFalls.{deep_le-depth};
 
     ghost size_decreases = { λ p h. deep_le-depth p.node };
 }

@@ -5,3 +5,4 @@ pub mod ReadingParts
 pub mod ReadingPlan
 pub mod ReadingReplay
 pub mod ReadingShown
+pub mod Inner

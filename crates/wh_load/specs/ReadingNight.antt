@@ -159,5 +159,5 @@ night_in parts = do
   night_over parts shape written.0 written.1 strategy
 
 -- what the bytes of a bundle of one night say, or their first fault
-abbrev pub night_of : List ℕ → Result Night LoadFault
-night_of bytes = parts_in nights.First bytes >>= night_in
+abbrev pub night_read : List ℕ → Result Night LoadFault
+night_read bytes = parts_in nights.First bytes >>= night_in

@@ -1,5 +1,4 @@
 -- What was read, as it lies in memory.
-use Rattle.std.specs.Cow.{cow_slice_items}
 use Rattle.std.specs.Prelude.{map}
 use Rattle.wh_catalogue_text.specs.Definitions.{shown_view}
 use Rattle.wh_load.specs.ReadingCheck as check
@@ -14,9 +13,6 @@ use Rattle.wh_load.specs.declared.reading.inputs.NightInput.{NightInput}
 use Rattle.wh_load.specs.declared.reading.inputs.GivenNight.{GivenNight}
 use Rattle.wh_load.specs.declared.reading.inputs.Opening.{Opening}
 use Rattle.wh_load.specs.declared.reading.inputs.ReplayInput.{ReplayInput}
-use Rattle.wh_load.specs.declared.reading.texts.CheckTexts.{CheckTexts}
-use Rattle.wh_load.specs.declared.reading.texts.ClaimTexts.{ClaimTexts}
-use Rattle.wh_load.specs.declared.reading.texts.MeasuredTexts.{MeasuredTexts}
 
 -- ---- what the calls that read a bundle answer
 
@@ -55,14 +51,3 @@ shown_replay r = record { shape = r.shape; opening = shown_opening r.opening; ni
 -- the views make a catalogue over the shape, there is a table of each, and there are changes of each in each night
 abbrev pub IsReadReplay : ReplayInput → Type 0
 IsReadReplay r = replay.AreReadForNights r.shape (map shown_view r.opening.views.items) r.opening.tables.items (map shown_given r.nights.items)
-
--- ---- the texts of parts, lent or not
-
-abbrev pub shown_measured_texts : MeasuredTexts → plan.MeasuredTexts
-shown_measured_texts t = record { catalogue = cow_slice_items t.catalogue; sizes = cow_slice_items t.sizes }
-
-abbrev pub shown_check_texts : CheckTexts → check.CheckTexts
-shown_check_texts t = record { measured = shown_measured_texts t.measured; strategy = cow_slice_items t.strategy }
-
-abbrev pub shown_claim_texts : ClaimTexts → claim.ClaimTexts
-shown_claim_texts t = record { measured = shown_measured_texts t.measured; plan = cow_slice_items t.plan }

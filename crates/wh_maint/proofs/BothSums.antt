@@ -17,7 +17,7 @@ use Rattle.wh_row.specs.declared.fault.BagFault as bag
 use Rattle.wh_row.specs.declared.fault.BagFault.TheVariants as bag_fault
 use Rattle.wh_row.proofs.BagLaws.{itself}
 use Rattle.wh_maint.specs.Comp.{bag_at, merged, PendingOf}
-use Rattle.wh_maint.specs.Fault.{bag_fault_of}
+use Rattle.wh_maint.specs.Inner.Fault.{bag_fault_of}
 use Rattle.wh_maint.specs.Refused.{SumsTogetherFit, MergedFit, BringsNothing, IsMergeFault}
 use Rattle.wh_maint.specs.declared.fault.MaintFault.{MaintFault}
 use Rattle.wh_maint.proofs.FirstAbsent.{rows_of}

@@ -4,12 +4,12 @@ use Rattle.std.proofs.lemmas.Bool.{false≢true, cases_order}
 use Rattle.wh_row.specs.Row.{Row, is_row}
 use Rattle.wh_row.specs.Weigh.{Counted}
 use Rattle.wh_row.specs.Bag.{Bag, count, written}
-use Rattle.wh_row.specs.Room.{has_row}
+use Rattle.wh_row.specs.Inner.Room.{has_row}
 use Rattle.wh_row.proofs.BagLaws.{same_row}
 use Rattle.wh_maint.specs.View.{Summed}
 use Rattle.wh_maint.specs.Summary.{is_nonzero}
 use Rattle.wh_maint.specs.Value.{NewCountsFit}
-use Rattle.wh_maint.specs.Finishing.{GroupCountFits, CountsFitIn, stands_within}
+use Rattle.wh_maint.specs.Inner.Finishing.{GroupCountFits, CountsFitIn, stands_within}
 use Rattle.wh_maint.proofs.NewRows.{touched_at}
 use Rattle.wh_maint.proofs.DoneGroups.{AreRest, rest_start, rest_next, or_false, absent_from, touched_stands}
 

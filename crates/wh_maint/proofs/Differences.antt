@@ -11,9 +11,10 @@ use Rattle.wh_row.specs.Weigh.{Counted, weigh}
 use Rattle.wh_row.specs.Bag.{Bag, written, sum_of, difference_of, count, empty, number}
 use Rattle.wh_row.proofs.WeighLaws.{weigh-append}
 use Rattle.wh_row.proofs.BagLaws.{same_bag, count-sum_of, count-difference_of, count-weigh, weigh-bag_of, weigh-sum_of}
-use Rattle.wh_maint.specs.Product.{combined, over}
+use Rattle.wh_maint.specs.Product.{combined}
+use Rattle.wh_maint.specs.Inner.Product.{over}
 use Rattle.wh_maint.specs.View.{Fold, value}
-use Rattle.wh_maint.specs.Share.{sum_over, share}
+use Rattle.wh_maint.specs.Inner.Share.{sum_over, share}
 use Rattle.wh_maint.specs.Comp.{at_set, term_rows, changed_rows, comp}
 use Rattle.wh_maint.specs.Laws.{AreAmong, changed, CompsAreDifferences, comps_in_turn, joined, CompsInAnyOrder}
 use Rattle.wh_maint.proofs.Products.{passing, row_itself, weigh-matching, count-combined}

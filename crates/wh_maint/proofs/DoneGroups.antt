@@ -9,7 +9,7 @@ use Rattle.std.specs.Ordering.{is_eq}
 use Rattle.wh_row.specs.Row.{Row, row_cmp, is_row, AreRising}
 use Rattle.wh_row.specs.Weigh.{Counted, count_in, negated}
 use Rattle.wh_row.specs.Bag.{Bag, count, written, empty}
-use Rattle.wh_row.specs.Room.{has_row}
+use Rattle.wh_row.specs.Inner.Room.{has_row}
 use Rattle.wh_row.proofs.BagLaws.{same_bag, same_row, itself, each_entry, rising-written, count_in-written}
 use Rattle.wh_maint.specs.View.{Summed}
 use Rattle.wh_maint.specs.Summary.{group_of, is_nonzero, is_touched, summary_change}
@@ -17,7 +17,7 @@ use Rattle.wh_maint.specs.SummaryLaws.{row_change}
 use Rattle.wh_maint.specs.Value.{ChangeHasValue}
 use Rattle.wh_maint.specs.Fit.{IsSummaryTable}
 use Rattle.wh_maint.specs.Comp.{bag_at}
-use Rattle.wh_maint.specs.Finishing.{IsOldRow, row_after, row_before, AfterFits, GroupHasValue, stands_within, with_group, AreMade}
+use Rattle.wh_maint.specs.Inner.Finishing.{IsOldRow, row_after, row_before, AfterFits, GroupHasValue, stands_within, with_group, AreMade}
 use Rattle.wh_maint.proofs.BagLemmas.{zero_or_not}
 use Rattle.wh_maint.proofs.FirstAbsent.{rows_of, tail_rises}
 use Rattle.wh_maint.proofs.NewRows.{change_told, value_told, far_change, own_change, no_change, nonzero_is, untouched_where}

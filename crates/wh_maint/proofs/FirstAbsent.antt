@@ -12,7 +12,8 @@ use Rattle.wh_row.specs.Weigh.{Counted, count_in}
 use Rattle.wh_row.specs.Bag.{Bag, count, written}
 use Rattle.wh_row.proofs.BagLaws.{rows_total, rows_exact, same_row, each_entry}
 use Rattle.wh_maint.specs.Fit.{IsAbsent, IsFirstAbsent}
-use Rattle.wh_maint.specs.Refused.{NoneAbsent, IsFirstAbsentIn}
+use Rattle.wh_maint.specs.Refused.{NoneAbsent}
+use Rattle.wh_maint.specs.Inner.Refused.{IsFirstAbsentIn}
 use lib.IntN.{+ℤ_idl}
 
 abbrev pub rows_of : Counted → List Row

@@ -13,7 +13,8 @@ use Rattle.wh_row.specs.Bag.{Bag, count, written, empty, IsTable, HasWidth}
 use Rattle.wh_maint.proofs.BagLemmas.{zero_or_not}
 use Rattle.wh_row.proofs.BagLaws.{same_row, itself, each_entry, from_entry, rising-written, count-bag_of}
 use Rattle.wh_maint.specs.Summary.{group_of, is_nonzero}
-use Rattle.wh_maint.specs.Fit.{IsSummaryTable, IsSummaryRow}
+use Rattle.wh_maint.specs.Fit.{IsSummaryTable}
+use Rattle.wh_maint.specs.Inner.Fit.{IsSummaryRow}
 use Rattle.wh_maint.proofs.FirstAbsent.{rows_of}
 
 -- one of the rows is the group's

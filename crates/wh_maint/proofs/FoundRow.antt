@@ -6,10 +6,10 @@ use Rattle.std.proofs.lemmas.List.{length-take-le}
 use Rattle.wh_row.specs.Row.{Row, is_row}
 use Rattle.wh_row.specs.Weigh.{Counted, starts_with, starting}
 use Rattle.wh_row.specs.Bag.{Bag, count, written}
-use Rattle.wh_row.specs.Room.{has_row}
+use Rattle.wh_row.specs.Inner.Room.{has_row}
 use Rattle.wh_row.proofs.BagLaws.{same_row, itself, each_entry}
 use Rattle.wh_maint.specs.Summary.{group_of}
-use Rattle.wh_maint.specs.Finishing.{HasNoRow}
+use Rattle.wh_maint.specs.Inner.Finishing.{HasNoRow}
 use Rattle.wh_maint.proofs.DoneGroups.{absent_from}
 
 -- the rows that are still to come count in the table and start with the group, and each row of the group is among them

@@ -12,7 +12,7 @@ use Rattle.wh_row.specs.Weigh.{Counted, count_in}
 use Rattle.wh_row.specs.Bag.{Bag}
 use Rattle.wh_row.proofs.BagLaws.{count_in-append}
 use Rattle.wh_maint.specs.Summary.{if_positive, group_of}
-use Rattle.wh_maint.specs.Finishing.{cell_after, row_after}
+use Rattle.wh_maint.specs.Inner.Finishing.{cell_after, row_after}
 
 -- one more cell
 one_more : (f : ℕ → ℤ) (n a : ℕ) → map f (range_with_len a (suc n)) ≡ map f (range_with_len a n) ++ f (a + n) ∷ []

@@ -13,7 +13,7 @@ use Rattle.wh_maint.specs.Summary.{if_positive, group_row, summary, group_of, ce
 use Rattle.wh_maint.specs.SummaryLaws.{row_change}
 use Rattle.wh_maint.specs.Fit.{IsSummaryTable}
 use Rattle.wh_maint.specs.Comp.{bag_at}
-use Rattle.wh_maint.specs.Finishing.{cell_after, row_after, row_before, AfterFits, IsOldRow, GroupHasValue}
+use Rattle.wh_maint.specs.Inner.Finishing.{cell_after, row_after, row_before, AfterFits, IsOldRow, GroupHasValue}
 use Rattle.wh_maint.proofs.BagLemmas.{zero_or_not}
 use Rattle.wh_maint.proofs.FitTables.{told_whole, positive_row}
 use Rattle.wh_maint.proofs.Summaries.{group_of-row, count-summary, count_in-negated, count-change}

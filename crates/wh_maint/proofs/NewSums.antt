@@ -9,7 +9,7 @@ use Rattle.wh_row.specs.Weigh.{Counted, count_in}
 use Rattle.wh_row.specs.Bag.{Bag, plus, count, empty, sum_of, written, HasRowsOf}
 use Rattle.wh_row.proofs.BagLaws.{same_bag, same_row, itself, count-plus, count-sum_of, count_in-written, written_lists}
 use Rattle.wh_maint.specs.Refused.{SumsTogetherFit}
-use Rattle.wh_maint.specs.NewSums.{AreNewRows}
+use Rattle.wh_maint.specs.Inner.NewSums.{AreNewRows}
 use Rattle.wh_maint.proofs.BagLemmas.{zero_or_not}
 use Rattle.wh_maint.proofs.FirstAbsent.{rows_of}
 use Rattle.wh_maint.proofs.BothSums.{once, none_in}

@@ -11,7 +11,7 @@ use Rattle.wh_row.proofs.Ring.{mul-assoc}
 use Rattle.wh_row.proofs.BagLaws.{each_entry}
 use Rattle.wh_maint.specs.Product.{beside, product}
 use Rattle.wh_maint.specs.View.{View, Joined, Summed, column, weight_of}
-use Rattle.wh_maint.specs.Share.{row_test, share}
+use Rattle.wh_maint.specs.Inner.Share.{row_test, share}
 use Rattle.wh_maint.specs.Summary.{shown, summary, if_positive, cells, group_of}
 use Rattle.wh_maint.specs.Value.{accumulators, view_value}
 use Rattle.wh_maint.specs.SummaryLaws.{AreDetermined}

@@ -7,7 +7,7 @@ use Rattle.wh_row.specs.Bag.{Bag, count}
 use Rattle.wh_row.proofs.BagLaws.{count-sum_of, each_entry}
 use Rattle.wh_maint.specs.Summary.{cells, if_positive, group_row, group_of, cell_of, read_back, new_accumulators}
 use Rattle.wh_maint.specs.Fit.{IsSummaryTable}
-use Rattle.wh_maint.specs.Finishing.{HasNoRow}
+use Rattle.wh_maint.specs.Inner.Finishing.{HasNoRow}
 use Rattle.wh_maint.proofs.FitTables.{told, row_told, told_none}
 use lib.IntN.{+ℤ_idl}
 

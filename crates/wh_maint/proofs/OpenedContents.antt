@@ -10,7 +10,8 @@ use Rattle.wh_maint.specs.Asked.{AreBags}
 use Rattle.wh_maint.specs.Comp.{bag_at}
 use Rattle.wh_maint.specs.Contents.{IsFromScratch, contents}
 use Rattle.wh_maint.specs.Definition.{graph_of, view_of}
-use Rattle.wh_maint.specs.Opening.{AreOpenedTo, CanBeEvaluated, HasNoContents, HasRowsToMeet}
+use Rattle.wh_maint.specs.Opening.{CanBeEvaluated, HasNoContents, HasRowsToMeet}
+use Rattle.wh_maint.specs.Inner.Opening.{AreOpenedTo}
 use Rattle.wh_maint.specs.Product.{combined}
 use Rattle.wh_maint.specs.Size.{HaveRows, HaveTooMany, product_of}
 use Rattle.wh_maint.specs.Value.{HasValue, accumulators, view_value}

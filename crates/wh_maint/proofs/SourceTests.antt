@@ -4,7 +4,7 @@ use Rattle.std.specs.Prelude.{◌==◌}
 use Rattle.std.proofs.lemmas.Bool.{and_parts, and_from, or_cases, eqb-true, false≢true, not_from_false, cases_Bool, both_ways, not_from_true}
 use Rattle.wh_dag.specs.Shape.{has, Distinct}
 use Rattle.wh_maint.specs.Laws.{AreAmong}
-use Rattle.wh_maint.specs.Asked.{are_among, are_distinct}
+use Rattle.wh_maint.specs.Inner.Asked.{are_among, are_distinct}
 use Rattle.wh_maint.proofs.Telescope.{has_first, has_rest}
 
 among_all : (us others : List ℕ) → are_among us others ≡ true → AreAmong us others

@@ -1,7 +1,7 @@
 -- What calls over a catalogue ask of their tables, changes and sources.
-use Rattle.std.specs.Prelude.{◌≡◌, ℕ, ◌<◌, ◌≤◌, ◌&&◌, not, Bool, true, List, [], ◌∷◌, length}
+use Rattle.std.specs.Prelude.{◌≡◌, ℕ, ◌<◌, ◌≤◌, List, length}
 use Rattle.wh_row.specs.Bag.{Bag, HasWidth}
-use Rattle.wh_dag.specs.Shape.{has, Distinct}
+use Rattle.wh_dag.specs.Shape.{Distinct}
 use Rattle.wh_dag.specs.Catalog.{CatalogOf, width_of}
 use Rattle.wh_maint.specs.Comp.{bag_at}
 use Rattle.wh_maint.specs.Laws.{AreAmong}
@@ -16,13 +16,3 @@ pub record AreSources (children sources : List ℕ) : Type 0 where
   pub some : 1 ≤ length sources
   pub distinct : Distinct sources
   pub among : AreAmong sources children
-
--- a test of each of these being among the others
-abbrev pub are_among : List ℕ → List ℕ → Bool
-are_among [] others = true
-are_among (u ∷ us) others = has others u && are_among us others
-
--- a test of none standing twice in the list
-abbrev pub are_distinct : List ℕ → Bool
-are_distinct [] = true
-are_distinct (u ∷ us) = not (has us u) && are_distinct us

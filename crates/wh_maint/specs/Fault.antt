@@ -1,7 +1,5 @@
 -- The numbers of refusals.
 use Rattle.std.specs.Prelude.{ℕ}
-use Rattle.wh_row.specs.declared.fault.BagFault as bag
-use Rattle.wh_row.specs.declared.fault.BagFault.TheVariants as bag_fault
 use Rattle.wh_maint.specs.declared.fault.MaintFault as maint
 use Rattle.wh_maint.specs.declared.fault.MaintFault.TheVariants as maint_fault
 use Rattle.wh_maint.specs.declared.fault.RowFault as rows
@@ -18,8 +16,3 @@ fault_number (maint_fault.Absent view row) = 4
 abbrev pub fault_of : ℕ → rows.RowFault → maint.MaintFault
 fault_of view rows_fault.Memory = maint_fault.Memory
 fault_of view rows_fault.Range = maint_fault.Range view
-
--- and where a bag of it was not changed
-abbrev pub bag_fault_of : ℕ → bag.BagFault → maint.MaintFault
-bag_fault_of view bag_fault.Memory = maint_fault.Memory
-bag_fault_of view bag_fault.Large = maint_fault.Large view

@@ -13,12 +13,6 @@ pub record IsSummaryTable (sums : ℕ) (table : Bag) : Type 0 where
   pub one_per_group : (row other : Row) → count table row ≢ pos 0 → count table other ≢ pos 0 → group_of sums row ≡ group_of sums other → row ≡ other
   pub positive : (row : Row) → count table row ≢ pos 0 → pos 1 ≤ℤ cell_of sums 0 row
 
--- a row of a summary: it has a count and all sums, stands once, and its group counts
-pub record IsSummaryRow (sums : ℕ) (row : Row) (count : ℤ) : Type 0 where
-  pub wide : sums < length row
-  pub once : count ≡ pos 1
-  pub positive : pos 1 ≤ℤ cell_of sums 0 row
-
 -- a table is fit where no count is negative and, of a summary, its rows are as a summary has them
 abbrev pub IsFitTable : Kind → Bag → Type 0
 IsFitTable Joined table = IsTable table

@@ -1,5 +1,5 @@
 -- The contents of a base, worked out view by view, and why a base has none.
-use Rattle.std.specs.Prelude.{◌≡◌, ◌<◌, ◌≤◌, ℕ, [], map}
+use Rattle.std.specs.Prelude.{◌≡◌, ◌<◌, ℕ, [], map}
 use Rattle.wh_row.specs.Bag.{Bag}
 use Rattle.wh_maint.specs.View.{ViewGraph}
 use Rattle.wh_maint.specs.Contents.{contents}
@@ -37,9 +37,3 @@ pub record HasRowsToMeet (g : ViewGraph) (base : ℕ → Bag) : Type 0 where
   pub derived : ¬ (g.children view ≡ [])
   pub before : HaveContentsBelow g base view
   pub rows : HaveRows (g.children view) (contents g base)
-
--- the tables of the views below this number are the contents of this base, and the others those of the base
-pub record AreOpenedTo (g : ViewGraph) (base : ℕ → Bag) (n : ℕ) (tables : ℕ → Bag) : Type 0 where
-  pub done : (v : ℕ) → v < n → tables v ≡ contents g base v
-  pub rest : (v : ℕ) → n ≤ v → tables v ≡ base v
-  pub valued : HaveContentsBelow g base n

@@ -1,8 +1,7 @@
 -- Why changes are refused.
-use Rattle.std.specs.Prelude.{◌≡◌, ℕ, suc, ◌+ℤ◌, ◌≤ℤ◌, negsuc, List, FitsSigned}
+use Rattle.std.specs.Prelude.{◌≡◌, ℕ, suc, ◌+ℤ◌, List, FitsSigned}
 use Rattle.std.specs.Int.{w128}
-use Rattle.std.specs.declared.cmp.Ordering.TheVariants.{Less}
-use Rattle.wh_row.specs.Row.{Row, row_cmp}
+use Rattle.wh_row.specs.Row.{Row}
 use Rattle.wh_row.specs.Bag.{Bag, SumFits, HasRowsOf, count}
 use Rattle.wh_maint.specs.declared.fault.MaintFault.{MaintFault}
 use Rattle.wh_maint.specs.declared.fault.MaintFault.TheVariants.{Large, Range, Memory, Absent}
@@ -15,11 +14,6 @@ use Rattle.wh_maint.specs.Fit.{IsAbsent, IsFirstAbsent}
 -- the change takes of no row more than the table has
 abbrev pub NoneAbsent : Bag → Bag → Type 0
 NoneAbsent table change = (row : Row) → ¬ (IsAbsent table change row)
-
--- it takes too much of this row, and of no row below it that counts below zero in the first of the two bags
-pub record IsFirstAbsentIn (bag other : Bag) (first : Row) : Type 0 where
-  pub absent : IsAbsent bag other first
-  pub others : (row : Row) → row_cmp row first ≡ Less → count bag row ≤ℤ negsuc 0 → ¬ (IsAbsent bag other row)
 
 -- of a base change: the first row that it takes below zero comes first, then that some count leaves i64; memory is wanted for that row alone
 abbrev pub IsChangeFault : ℕ → Bag → Bag → MaintFault → Type 0

@@ -4,8 +4,10 @@ ghost use Rattle.std.specs.Prelude.{◌≡◌, ◌↔◌, ◌<◌, length, IsTru
 ghost use Rattle.wh_dag.specs.Shape.{children_of};
 ghost use Rattle.wh_dag.specs.Catalog.{is_base};
 ghost use Rattle.wh_maint.specs.View.{Summed};
-ghost use Rattle.wh_maint.specs.Asked.{AreBags, AreSources, are_among, are_distinct};
-ghost use Rattle.wh_maint.specs.Fit.{IsFitTable, HasGroups, IsSummaryRow};
+ghost use Rattle.wh_maint.specs.Asked.{AreBags, AreSources};
+ghost use Rattle.wh_maint.specs.Inner.Asked.{are_among, are_distinct};
+ghost use Rattle.wh_maint.specs.Fit.{IsFitTable, HasGroups};
+ghost use Rattle.wh_maint.specs.Inner.Fit.{IsSummaryRow};
 ghost use Rattle.wh_maint.specs.Finishing.{kind_in, IsPendingFor};
 
 use crate::combined::sums_in;

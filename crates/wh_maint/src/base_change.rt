@@ -3,7 +3,8 @@
 ghost use Rattle.std.specs.Prelude.{◌≡◌, ◌≢◌, ◌↔◌, ℤ, pos, negsuc, ◌+ℤ◌, ◌≤ℤ◌, List, IsTrue, OnOk, IfErr, MatchOption};
 ghost use Rattle.wh_row.specs.Bag.{count as count_of, SumFits};
 ghost use Rattle.wh_maint.specs.Fit.{IsAbsent, IsFirstAbsent};
-ghost use Rattle.wh_maint.specs.Refused.{NoneAbsent, IsFirstAbsentIn, IsChangeFault};
+ghost use Rattle.wh_maint.specs.Refused.{NoneAbsent, IsChangeFault};
+ghost use Rattle.wh_maint.specs.Inner.Refused.{IsFirstAbsentIn};
 
 use crate::fault::{MaintFault, NamedRow};
 use std::alloc::Global;

@@ -8,7 +8,7 @@ ghost use mir.Syntax.{w128};
 ghost use Rattle.wh_row.specs.Bag.{empty, sum_of, plus, count as count_of, HasRowsOf};
 ghost use Rattle.wh_maint.specs.Comp.{merged};
 ghost use Rattle.wh_maint.specs.Refused.{SumsTogetherFit, MergedFit, BringsNothing};
-ghost use Rattle.wh_maint.specs.NewSums.{AreNewRows};
+ghost use Rattle.wh_maint.specs.Inner.NewSums.{AreNewRows};
 
 use crate::column::{add_new, add_others, fit, new_rows, take_back};
 use std::alloc::Global;

@@ -5,7 +5,7 @@ ghost use mir.Syntax.{w128};
 ghost use Rattle.wh_row.specs.Row.{is_row};
 ghost use Rattle.wh_row.specs.Bag.{empty, plus, count as count_of, HasRowsOf};
 ghost use Rattle.wh_maint.specs.Refused.{SumsTogetherFit};
-ghost use Rattle.wh_maint.specs.NewSums.{AreNewRows};
+ghost use Rattle.wh_maint.specs.Inner.NewSums.{AreNewRows};
 
 use std::alloc::{AllocError, Global};
 use wh_row::{BagFault, Sums};

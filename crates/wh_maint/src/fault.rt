@@ -1,7 +1,8 @@
 //! Why a view's rows were not computed.
 
 ghost use Rattle.std.specs.Prelude.{◌≡◌};
-ghost use Rattle.wh_maint.specs.Fault.{fault_number, fault_of, bag_fault_of};
+ghost use Rattle.wh_maint.specs.Fault.{fault_number, fault_of};
+ghost use Rattle.wh_maint.specs.Inner.Fault.{bag_fault_of};
 
 use std::alloc::{AllocError, AllocFailed};
 use std::marker::Model;

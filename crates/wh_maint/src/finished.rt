@@ -9,7 +9,8 @@ ghost use Rattle.wh_maint.specs.Summary.{summary_change, change_of};
 ghost use Rattle.wh_maint.specs.Value.{NewCountsFit, ChangeHasValue};
 ghost use Rattle.wh_maint.specs.Fit.{IsFitTable, IsSummaryTable};
 ghost use Rattle.wh_maint.specs.Refused.{IsFinishFault};
-ghost use Rattle.wh_maint.specs.Finishing.{kind_in, IsPendingFor, CountsFitIn, stands_within, AreMade};
+ghost use Rattle.wh_maint.specs.Finishing.{kind_in, IsPendingFor};
+ghost use Rattle.wh_maint.specs.Inner.Finishing.{CountsFitIn, stands_within, AreMade};
 
 use crate::fault::{MaintFault, RowFault};
 use crate::group_change::{add_group, count_fits};

@@ -11,7 +11,7 @@ ghost use Rattle.wh_maint.specs.Comp.{bag_at, AreEmpty};
 ghost use Rattle.wh_maint.specs.Summary.{group_of, is_nonzero};
 ghost use Rattle.wh_maint.specs.Value.{NewCountsFit, ChangeHasValue};
 ghost use Rattle.wh_maint.specs.Fit.{IsSummaryTable};
-ghost use Rattle.wh_maint.specs.Finishing.{cell_before, cell_after, IsWide, AfterFits, row_after, row_before, made_row, IsOldRow, GroupCountFits, stands_within, with_group, AreMade};
+ghost use Rattle.wh_maint.specs.Inner.Finishing.{cell_before, cell_after, IsWide, AfterFits, row_after, row_before, made_row, IsOldRow, GroupCountFits, stands_within, with_group, AreMade};
 
 use crate::fault::RowFault;
 use crate::pending::Pending;

@@ -25,7 +25,8 @@ pub struct Pending {
 
 impl Model for Pending {
     ghost use Rattle.std.specs.Prelude.{◌∷◌};
-    ghost use Rattle.wh_maint.specs.Comp.{PendingOf, pending_code};
+    ghost use Rattle.wh_maint.specs.Comp.{PendingOf};
+    ghost use Rattle.wh_maint.specs.Inner.Comp.{pending_code};
 
     ghost Value = { PendingOf };
 

@@ -3,7 +3,7 @@ use Rattle.std.proofs.Common.{◌≡◌, ◌≢◌, ℕ, zero, suc, ◌+◌, ◌
 use Rattle.std.specs.List.{list_any, remove, All}
 use Rattle.std.proofs.lemmas.Option.{none-some, same_Some}
 use Rattle.std.proofs.lemmas.Bool.{eqb-true, eq-eqb, false≢true, or_cases, or_parts, or_from, and_parts, and_from, cases_Bool, cond-true, cond-false, false_from_ne_true}
-use Rattle.wh_minwork.specs.Nodes.{one_if, same_node, one, times}
+use Rattle.wh_minwork.specs.Inner.Nodes.{one_if, same_node, one, times}
 use Rattle.wh_minwork.specs.declared.node.Node.{Node}
 use Rattle.wh_minwork.specs.declared.node.Node.TheVariants.{Comp, Inst}
 

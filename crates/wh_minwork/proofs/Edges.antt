@@ -4,7 +4,7 @@ use Rattle.std.proofs.lemmas.Bool.{eqb-true, eq-eqb, false≢true, or_left, or_r
 use Rattle.wh_strategy.specs.declared.expression.Expression.{Expression}
 use Rattle.wh_strategy.specs.declared.expression.Expression.TheVariants.{Comp as comp, Inst as inst}
 use Rattle.wh_cert.specs.Graph.{decides, IsNode, HasEdge}
-use Rattle.wh_minwork.specs.Nodes.{expression_of, is_node, leads}
+use Rattle.wh_minwork.specs.Inner.Nodes.{expression_of, is_node, leads}
 use Rattle.wh_minwork.specs.declared.node.Node.{Node}
 use Rattle.wh_minwork.specs.declared.node.Node.TheVariants.{Comp, Inst}
 

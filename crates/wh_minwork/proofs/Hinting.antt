@@ -2,9 +2,9 @@
 use Rattle.std.proofs.Common.{◌≡◌, ℕ, zero, suc, ◌+◌, ◌<◌, List, [], ◌∷◌, ◌++◌, Bool, true, false, not, ◌&&◌, ◌||◌, eqb, refl, sym, ap, ◌∙◌, subst, length, slice_get, Some, ⊎_elim, ◌⊎◌, inl, inr, arith}
 use Rattle.std.proofs.lemmas.Bool.{cases_Bool, false≢true, both_ways, and_parts, and_from, or_left, or_right, or_cases, eqb-true}
 use Rattle.std.proofs.lemmas.Option.{none-some}
-use Rattle.wh_minwork.specs.Nodes.{one_if, one, same_node, times}
-use Rattle.wh_minwork.specs.Left.{AreHints, AreNodesLeft, ArePlaced, AreTurned, IsFree, IsLed, is_hinted, is_left, is_node_by, leads_by}
-use Rattle.wh_minwork.specs.Sets.{in_set, in_rows}
+use Rattle.wh_minwork.specs.Inner.Nodes.{one_if, one, same_node, times}
+use Rattle.wh_minwork.specs.Inner.Left.{AreHints, AreNodesLeft, ArePlaced, AreTurned, IsFree, IsLed, is_hinted, is_left, is_node_by, leads_by}
+use Rattle.wh_minwork.specs.Inner.Sets.{in_set, in_rows}
 use Rattle.wh_minwork.specs.declared.node.Node.{Node}
 use Rattle.wh_minwork.specs.declared.node.Node.TheVariants.{Comp, Inst}
 use Rattle.wh_minwork.proofs.Counting.{is_one, is_none, times_push, found, get_within, get_left, get_pushed, same_is}

@@ -3,7 +3,7 @@ use Rattle.std.proofs.Common.{◌≡◌, ℕ, ◌+◌, ◌<◌, ◌⊎◌, List,
 use Rattle.std.proofs.lemmas.Bool.{eqb-true, eq-eqb, or_left, or_right, or_cases, or_from, and_parts, and_from, and_right, cases_eq, cases_Bool, ltb-true, lt-ltb, le-ltb, cond-true, cond-false, both_ways}
 use Rattle.wh_dag.specs.Shape.{has, children_of, IsShape}
 use Rattle.wh_strategy.proofs.Found.{has_within}
-use Rattle.wh_minwork.specs.Nodes.{one_if, same_node, is_node, one, times, AreNodes}
+use Rattle.wh_minwork.specs.Inner.Nodes.{one_if, same_node, is_node, one, times, AreNodes}
 use Rattle.wh_minwork.specs.declared.node.Node.{Node}
 use Rattle.wh_minwork.specs.declared.node.Node.TheVariants.{Comp, Inst}
 use Rattle.wh_minwork.proofs.Counting.{times_push, same_is, same_itself}

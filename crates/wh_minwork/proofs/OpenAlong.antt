@@ -10,8 +10,9 @@ use Rattle.wh_strategy.specs.Expression.{At}
 use Rattle.wh_cert.specs.Graph.{HasEdge}
 use Rattle.wh_cert.specs.Search.{IsOpen}
 use Rattle.wh_minwork.specs.Draft.{IsFirstOpen}
-use Rattle.wh_minwork.specs.Left.{AreOf, IsBetween, IsRound, IsRoundTo, Passes, PassesTo}
-use Rattle.wh_minwork.specs.Nodes.{expression_of, leads}
+use Rattle.wh_minwork.specs.Left.{AreOf}
+use Rattle.wh_minwork.specs.Inner.Left.{IsBetween, IsRound, IsRoundTo, Passes, PassesTo}
+use Rattle.wh_minwork.specs.Inner.Nodes.{expression_of, leads}
 use Rattle.wh_minwork.specs.declared.node.Node.{Node}
 use Rattle.wh_minwork.specs.declared.node.Node.TheVariants.{Comp, Inst}
 use Rattle.wh_minwork.proofs.Edges.{leads_edge}

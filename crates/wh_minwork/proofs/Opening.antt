@@ -9,7 +9,7 @@ use Rattle.wh_strategy.proofs.Found.{has_within}
 use Rattle.wh_cert.specs.Graph.{decides, DecidesAll}
 use Rattle.wh_cert.specs.Search.{IsOpen}
 use Rattle.wh_minwork.specs.Draft.{completed}
-use Rattle.wh_minwork.specs.Nodes.{leads}
+use Rattle.wh_minwork.specs.Inner.Nodes.{leads}
 use Rattle.wh_minwork.specs.declared.node.Node.{Node}
 use Rattle.wh_minwork.specs.declared.node.Node.TheVariants.{Comp, Inst}
 use Rattle.wh_minwork.proofs.Drafting.{completed_decides}

@@ -11,7 +11,7 @@ use Rattle.wh_strategy.proofs.Found.{has_within}
 use Rattle.wh_cert.specs.Graph.{decides, HasEdge, Leads, IsCycle, IsOrdered}
 use Rattle.wh_cert.specs.Order.{comes_first, ComesFirst}
 use Rattle.wh_cert.proofs.DesiredOrder.{one_comes, not_both_come}
-use Rattle.wh_minwork.specs.Desired.{in_desired_order}
+use Rattle.wh_minwork.specs.Inner.Desired.{in_desired_order}
 use Rattle.wh_minwork.specs.Plan.{IsSortedAsDesired, IsAcyclicAsDesired}
 use Rattle.wh_minwork.specs.Sorted.{IsSorted, IsAcyclic}
 use Rattle.wh_minwork.proofs.Decisions.{decides_kept, decides_new, decides_was}

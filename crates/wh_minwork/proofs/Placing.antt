@@ -5,7 +5,7 @@ use Rattle.std.proofs.lemmas.Option.{none-some}
 use Rattle.std.proofs.lemmas.Bool.{cases_eq, both_ways, true_from_ne_false}
 use Rattle.wh_cert.specs.Graph.{IsNode, HasEdge}
 use Rattle.wh_minwork.specs.Sorted.{IsSorted}
-use Rattle.wh_minwork.specs.Nodes.{one_if, expression_of, is_node, leads, times, AreNodes, AreStuck}
+use Rattle.wh_minwork.specs.Inner.Nodes.{one_if, expression_of, is_node, leads, times, AreNodes, AreStuck}
 use Rattle.wh_minwork.proofs.Counting.{is_one, is_none, at_most_one, times_push, times_remove, times_get, found, twice, not_any, get_within, get_left, get_pushed, get_mapped, get_map, get_value}
 use Rattle.wh_minwork.proofs.Edges.{expression_same, node_of, node_is, edge_leads}
 use Rattle.wh_minwork.specs.declared.node.Node.{Node}

@@ -4,8 +4,8 @@ use Rattle.std.specs.List.{All}
 use Rattle.std.proofs.lemmas.Option.{none-some, same_Some}
 use Rattle.std.proofs.lemmas.Bool.{cases_Bool, both_ways, and_from}
 use Rattle.wh_cert.specs.Graph.{Leads, IsCycle}
-use Rattle.wh_minwork.specs.Nodes.{expression_of, is_node, leads, one, same_node, times}
-use Rattle.wh_minwork.specs.Left.{IsRound, Passes, is_left}
+use Rattle.wh_minwork.specs.Inner.Nodes.{expression_of, is_node, leads, one, same_node, times}
+use Rattle.wh_minwork.specs.Inner.Left.{IsRound, Passes, is_left}
 use Rattle.wh_minwork.specs.declared.node.Node.{Node}
 use Rattle.wh_minwork.proofs.Counting.{one_itself, same_is, times_none, get_value, get_some}
 use Rattle.wh_minwork.proofs.Edges.{node_is, leads_edge}

@@ -6,7 +6,7 @@ use Rattle.wh_strategy.specs.declared.expression.Expression.{Expression}
 use Rattle.wh_strategy.specs.declared.expression.Expression.TheVariants.{Comp as comp, Inst as inst}
 use Rattle.wh_strategy.proofs.Found.{has_within}
 use Rattle.wh_cert.specs.Graph.{IsNode, IsCycle}
-use Rattle.wh_minwork.specs.Nodes.{one_if, is_node, times, AreNodes}
+use Rattle.wh_minwork.specs.Inner.Nodes.{one_if, is_node, times, AreNodes}
 use Rattle.wh_minwork.specs.declared.node.Node.{Node}
 use Rattle.wh_minwork.specs.declared.node.Node.TheVariants.{Comp, Inst}
 use Rattle.wh_minwork.proofs.Counting.{times_get}

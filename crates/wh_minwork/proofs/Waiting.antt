@@ -7,7 +7,7 @@ use Rattle.std.proofs.lemmas.List.{get_or-set_same, get_or-set_other, length-set
 use Rattle.std.proofs.lemmas.List.Sums.{sum_by-cons, sum_by-remove}
 use Rattle.std.proofs.lemmas.List.Edits.{length-remove}
 use Rattle.std.proofs.lemmas.Bool.{cases_Bool, cases_eq, or_left, or_right, or_from}
-use Rattle.wh_minwork.specs.Nodes.{one_if, leads, waits_for, AreCounts, AreCountsWith}
+use Rattle.wh_minwork.specs.Inner.Nodes.{one_if, leads, waits_for, AreCounts, AreCountsWith}
 use Rattle.wh_minwork.specs.declared.node.Node.{Node}
 use Rattle.wh_minwork.proofs.Counting.{is_one, is_none, get_value, get_within, get_some}
 

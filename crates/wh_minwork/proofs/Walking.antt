@@ -6,7 +6,7 @@ use Rattle.std.proofs.lemmas.List.{take-map}
 use Rattle.wh_strategy.specs.declared.expression.Expression.{Expression}
 use Rattle.wh_strategy.specs.Expression.{At}
 use Rattle.wh_cert.specs.Graph.{IsNode, HasEdge, Leads, IsCycle}
-use Rattle.wh_minwork.specs.Nodes.{expression_of, leads, one, times, AreStuck}
+use Rattle.wh_minwork.specs.Inner.Nodes.{expression_of, leads, one, times, AreStuck}
 use Rattle.wh_minwork.specs.Sorted.{IsSimpleCycle}
 use Rattle.wh_minwork.proofs.Counting.{one_itself, times_remove, times_get, times_none, twice, get_map, get_mapped, get_value, get_some}
 use Rattle.wh_minwork.proofs.Edges.{expression_same, node_is, leads_edge}

@@ -1,15 +1,13 @@
 -- Graphs of which couples are decided one after another.
-use Rattle.std.specs.Prelude.{◌≡◌, ℕ, ◌+◌, ◌<◌, List, [], ◌∷◌, ◌++◌, Bool, true, false, not, ◌||◌, filter}
-use Rattle.wh_dag.specs.Shape.{IsShape}
+use Rattle.std.specs.Prelude.{◌≡◌, ℕ, ◌+◌, ◌<◌, List, [], ◌∷◌, ◌++◌, Bool, true, not, ◌||◌, filter}
 use Rattle.wh_dag.specs.Siblings.{IsCouple}
 use Rattle.wh_dag.specs.declared.siblings.Couple.{Couple}
 use Rattle.wh_strategy.specs.declared.expression.Expression.{Expression}
 use Rattle.wh_strategy.specs.declared.expression.Expression.TheVariants.{Comp, Inst}
 use Rattle.wh_strategy.specs.Expression.{At}
-use Rattle.wh_cert.specs.Graph.{decides, DecidesAll, HasEdge, IsCycle}
+use Rattle.wh_cert.specs.Graph.{decides, HasEdge, IsCycle}
 use Rattle.wh_cert.specs.Search.{IsOpen}
-use Rattle.wh_minwork.specs.Left.{AreEdges, AreOf}
-use Rattle.wh_minwork.specs.Sets.{in_rows}
+use Rattle.wh_minwork.specs.Left.{AreOf}
 use Rattle.wh_minwork.specs.Sorted.{IsSorted}
 use Rattle.wh_minwork.specs.declared.draft.Found.{Found}
 use Rattle.wh_minwork.specs.declared.draft.Found.TheVariants.{Sorted, Cycle, Open}
@@ -61,17 +59,3 @@ abbrev pub IsFound : List (List ℕ) → List (ℕ × ℕ) → List (ℕ × ℕ)
 IsFound shape ordered decided (Sorted list) = IsSorted shape (completed ordered decided) list
 IsFound shape ordered decided (Cycle cycle) = IsCycle shape decided cycle
 IsFound shape ordered decided (Open couple) = OpensCycle shape ordered decided couple
-
--- of no couple both orders are in the list
-abbrev pub DecidesOneWay : List (ℕ × ℕ) → Type 0
-DecidesOneWay decided = (u w : ℕ) → decides decided u w ≡ true → decides decided w u ≡ false
-
--- the sets of a draft tell of its graph, of the order of all couples, and of what is decided
-pub record AreDraftSets (views : ℕ) (over under before desired settled : List ℕ) (shape : List (List ℕ)) (ordered decided : List (ℕ × ℕ)) : Type 0 where
-  pub shape_is : IsShape shape
-  pub edges : AreEdges views over under before shape (completed ordered decided)
-  pub desired_are : (u w : ℕ) → in_rows desired w u ≡ decides ordered u w
-  pub settled_are : (u w : ℕ) → in_rows settled u w ≡ (decides decided u w || decides decided w u)
-  pub ordered_all : DecidesAll shape ordered
-  pub ordered_once : DecidesOneWay ordered
-  pub decided_couples : DecidesCouples shape decided

@@ -3,7 +3,6 @@ pub mod Desired
 pub mod Draft
 pub mod Drawn
 pub mod Left
-pub mod Nodes
 pub mod Plan
-pub mod Sets
 pub mod Sorted
+pub mod Inner

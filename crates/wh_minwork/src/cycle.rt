@@ -2,7 +2,7 @@
 
 ghost use Rattle.std.specs.Prelude.{◌≡◌, ◌≢◌, ◌<◌, ℕ, length, map, true, false, Some, slice_get, slice_index_or, IfOk, MatchOption, All};
 ghost use Rattle.std.specs.List.{list_any};
-ghost use Rattle.wh_minwork.specs.Nodes.{leads, expression_of, AreStuck};
+ghost use Rattle.wh_minwork.specs.Inner.Nodes.{leads, expression_of, AreStuck};
 ghost use Rattle.wh_minwork.specs.Sorted.{IsSimpleCycle};
 ghost use Rattle.wh_minwork.specs.declared.node.Node.{Node};
 

@@ -4,7 +4,7 @@ ghost use Rattle.std.specs.Prelude.{◌≡◌, ◌≢◌, ◌<◌, [], ◌∷◌
 ghost use Rattle.wh_dag.specs.Siblings.{IsCouple};
 ghost use Rattle.wh_strategy.specs.Sizes.{sizes_of};
 ghost use Rattle.wh_cert.specs.Graph.{decides, IsOrdered};
-ghost use Rattle.wh_minwork.specs.Desired.{in_desired_order};
+ghost use Rattle.wh_minwork.specs.Inner.Desired.{in_desired_order};
 ghost use Rattle.wh_minwork.specs.Decided.{AreDecisions};
 
 use std::alloc::{AllocError, Global};

@@ -8,9 +8,10 @@ ghost use Rattle.wh_cert.specs.Graph.{decides, IsOrdered};
 ghost use Rattle.wh_cert.specs.Search.{IsOpen};
 ghost use Rattle.wh_minwork.specs.Decided.{AreDecisions};
 ghost use Rattle.wh_minwork.specs.Draft.{completed, DecidesCouples, IsFound};
-ghost use Rattle.wh_minwork.specs.Left.{AreEdges, AreOf, AreTurned, IsBetween, IsRound, IsRoundTo};
-ghost use Rattle.wh_minwork.specs.Nodes.{is_node, leads};
-ghost use Rattle.wh_minwork.specs.Sets.{in_set, in_rows};
+ghost use Rattle.wh_minwork.specs.Left.{AreOf};
+ghost use Rattle.wh_minwork.specs.Inner.Left.{AreEdges, AreTurned, IsBetween, IsRound, IsRoundTo};
+ghost use Rattle.wh_minwork.specs.Inner.Nodes.{is_node, leads};
+ghost use Rattle.wh_minwork.specs.Inner.Sets.{in_set, in_rows};
 ghost use Rattle.wh_minwork.specs.declared.node.Node.{Node};
 
 use crate::decided::Decided;
@@ -40,7 +41,8 @@ pub struct Draft<'a> {
 }
 
 impl<'a> Model for Draft<'a> {
-    ghost use Rattle.wh_minwork.specs.Draft.{Drafted, AreDraftSets};
+    ghost use Rattle.wh_minwork.specs.Draft.{Drafted};
+    ghost use Rattle.wh_minwork.specs.Inner.Draft.{AreDraftSets};
 
     ghost Value = { Drafted };
 

@@ -1,9 +1,9 @@
 //! The edges of a graph as sets of views.
 
 ghost use Rattle.std.specs.Prelude.{◌≡◌, ◌+◌, ◌<◌, ◌==◌, ◌&&◌, ℕ, true, false, not, MatchOption, sum};
-ghost use Rattle.wh_minwork.specs.Left.{AreTurned, IsWithin, is_left, is_node_by, leads_by};
-ghost use Rattle.wh_minwork.specs.Nodes.{same_node};
-ghost use Rattle.wh_minwork.specs.Sets.{in_set, in_rows};
+ghost use Rattle.wh_minwork.specs.Inner.Left.{AreTurned, IsWithin, is_left, is_node_by, leads_by};
+ghost use Rattle.wh_minwork.specs.Inner.Nodes.{same_node};
+ghost use Rattle.wh_minwork.specs.Inner.Sets.{in_set, in_rows};
 ghost use Rattle.wh_minwork.specs.declared.node.Node.{Node};
 
 use crate::node::Node;

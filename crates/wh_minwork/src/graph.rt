@@ -2,7 +2,7 @@
 
 ghost use Rattle.std.specs.Prelude.{◌≡◌, ◌<◌, length, IfOk, IfErr, OnErr};
 ghost use Rattle.wh_dag.specs.Shape.{IsShape};
-ghost use Rattle.wh_minwork.specs.Nodes.{leads, AreNodes};
+ghost use Rattle.wh_minwork.specs.Inner.Nodes.{leads, AreNodes};
 
 use crate::cycle;
 use crate::decided::Decided;

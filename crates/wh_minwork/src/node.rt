@@ -1,7 +1,7 @@
 //! The nodes of a graph.
 
 ghost use Rattle.std.specs.Prelude.{◌≡◌, ◌<◌, length, IfOk, OnErr, map};
-ghost use Rattle.wh_minwork.specs.Nodes.{expression_of};
+ghost use Rattle.wh_minwork.specs.Inner.Nodes.{expression_of};
 
 use std::alloc::{AllocError, Global};
 use wh_strategy::{Expression, Sources};

@@ -1,8 +1,8 @@
 //! Placing nodes, each after those that lead to it.
 
 ghost use Rattle.std.specs.Prelude.{◌≡◌, ◌<◌, ◌⊎◌, ℕ, true, IfOk, MatchOption, OnErr};
-ghost use Rattle.wh_minwork.specs.Left.{AreHints, AreNodesLeft, ArePlaced, AreTurned, IsFree, IsLed, IsWithin, is_hinted, is_left, is_node_by, leads_by};
-ghost use Rattle.wh_minwork.specs.Sets.{in_set, in_rows};
+ghost use Rattle.wh_minwork.specs.Inner.Left.{AreHints, AreNodesLeft, ArePlaced, AreTurned, IsFree, IsLed, IsWithin, is_hinted, is_left, is_node_by, leads_by};
+ghost use Rattle.wh_minwork.specs.Inner.Sets.{in_set, in_rows};
 ghost use Rattle.wh_minwork.specs.declared.node.Node.{Node};
 
 use crate::edge_sets::{Edges, Rest};

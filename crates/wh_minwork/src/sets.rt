@@ -1,7 +1,7 @@
 //! Sets of views, a bit for each.
 
 ghost use Rattle.std.specs.Prelude.{◌≡◌, ◌<◌, ◌==◌, ◌&&◌, ◌||◌, ℕ, true, false, not, MatchOption, sum};
-ghost use Rattle.wh_minwork.specs.Sets.{in_set, in_rows};
+ghost use Rattle.wh_minwork.specs.Inner.Sets.{in_set, in_rows};
 
 use wh_dag::MAX_VIEWS;
 

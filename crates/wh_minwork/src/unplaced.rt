@@ -2,7 +2,7 @@
 
 ghost use Rattle.std.specs.Prelude.{◌≡◌, ◌≢◌, ◌<◌, length, slice_index, slice_index_or, IfOk, OnErr, MatchOption, All};
 ghost use Rattle.std.specs.List.{remove};
-ghost use Rattle.wh_minwork.specs.Nodes.{waits_for, AreCounts, AreCountsWith};
+ghost use Rattle.wh_minwork.specs.Inner.Nodes.{waits_for, AreCounts, AreCountsWith};
 
 use crate::graph::Graph;
 use crate::node::Node;

@@ -1,7 +1,7 @@
 //! The cycle of a graph that cannot be sorted, from the nodes that are left.
 
 ghost use Rattle.std.specs.Prelude.{◌≡◌, true, IfOk};
-ghost use Rattle.wh_minwork.specs.Left.{AreNodesLeft, AreTurned, IsLed, IsRound, IsWithin, is_left, is_node_by, leads_by};
+ghost use Rattle.wh_minwork.specs.Inner.Left.{AreNodesLeft, AreTurned, IsLed, IsRound, IsWithin, is_left, is_node_by, leads_by};
 ghost use Rattle.wh_minwork.specs.declared.node.Node.{Node};
 
 use crate::cycle::place_of;

@@ -28,10 +28,12 @@ use Rattle.wh_maint.proofs.Differences.{sum-empty}
 use Rattle.wh_maint.proofs.FromScratch.{based, derived}
 use lib.IntN.{*ℤ-zero}
 use Rattle.wh_night.specs.Carry.{State, change_in, step, carried, before, tables_after}
-use Rattle.wh_night.specs.Kept.{Kept, IsFirst, finished, computed, installed, stepped}
+use Rattle.wh_night.specs.Kept.{Kept, IsFirst, finished, installed}
+use Rattle.wh_night.specs.Inner.Kept.{computed, stepped}
 use Rattle.wh_night.proofs.Prefixes.{before_next, new_next}
 use Rattle.wh_night.proofs.StepRows.{change_at_inst, change_at_comp}
 use Rattle.wh_night.proofs.PartReads.{parts_among, all_mono, sum_by-each}
+use Rattle.wh_night.specs.Inner.Agreeing.{gain, Agrees}
 
 -- ---- only the changes of its sources count in a Comp
 
@@ -135,17 +137,6 @@ none_at (suc n) k zero = refl
 none_at (suc n) k (suc j) = none_at n (k + 1) j
 
 -- ---- agreement
-
--- what the view gains in the night
-abbrev pub gain : CatalogOf → (ℕ → Bag) → List Expression → (ℕ → Bag) → ℕ → Bag
-gain catalog changes list old u = difference_of (tables_after (graph_of catalog) changes list old u) (old u)
-
-pub record Agrees (catalog : CatalogOf) (list : List Expression) (old given : ℕ → Bag) (p : ℕ) (s : State) (k : Kept) : Type 0 where
-  pub tables : (u : ℕ) → k.tables u ≡ s.tables u
-  pub pending : (v : ℕ) → v < length catalog.views.children → (j : ℕ) → bag_at (k.pending v) j ≡ s.pending v j
-  pub long : (v : ℕ) → v < length catalog.views.children → length (k.pending v) ≡ suc (sums_of (kind_in catalog v))
-  pub known : (v : ℕ) → v < length catalog.views.children → k.known v ≡ true → k.changes v ≡ gain catalog given list old v
-  pub unknown : (v : ℕ) → v < length catalog.views.children → k.known v ≡ false → (is_base catalog v ≡ false) × (is_new list p v ≡ false)
 
 not_base : (us : List ℕ) → is_empty us ≡ false → ¬ (us ≡ [])
 not_base [] e = absurd (false≢true (sym e))

@@ -24,14 +24,18 @@ use Rattle.wh_maint.specs.Summary.{change_of}
 use Rattle.wh_maint.specs.Contents.{if_base}
 use Rattle.wh_maint.specs.Finishing.{kind_in}
 use Rattle.wh_night.specs.Carry.{State, before, carried, change_in}
-use Rattle.wh_night.specs.Refused.{AddedFit, CanBeComputed, IsAddFaultIn, Reason, RowIsLacking, BaseIsLarge, ChangeIsLarge, ChangeHasNoValue, CompIsLarge, CompMeetsNoValue, PendingIsLarge, TableIsLarge, IsRuledOut, IsOf, IsAnswer, IsPassed, IsStepFault, HasValueAt}
-use Rattle.wh_night.specs.Kept.{Kept, AreKnown, finished, computed}
+use Rattle.wh_night.specs.Refused.{AddedFit, CanBeComputed, Reason, RowIsLacking, BaseIsLarge, ChangeIsLarge, ChangeHasNoValue, CompIsLarge, CompMeetsNoValue, PendingIsLarge, TableIsLarge, IsRuledOut, IsOf, IsAnswer, IsPassed, IsStepFault, HasValueAt}
+use Rattle.wh_night.specs.Inner.Refused.{IsAddFaultIn}
+use Rattle.wh_night.specs.Kept.{Kept, AreKnown, finished}
+use Rattle.wh_night.specs.Inner.Kept.{computed}
 use Rattle.wh_night.specs.AnyOrder.{AreSideBySide, IsSameAt, WavesHaveNoOrder, expressions_from}
 use Rattle.wh_night.proofs.Prefixes.{carried-append, new_next}
 use Rattle.wh_night.proofs.StepRows.{change_at, whole_at}
-use Rattle.wh_night.proofs.Reasons.{CanAllBeFinished, comp_reason}
-use Rattle.wh_night.proofs.Refusals.{AreTold, added, comp_passed, computes as computes_as, fits, same_fit}
-use Rattle.wh_night.proofs.Agreeing.{Agrees, gain, agrees_added, agrees_finished, same_changed, same_reach, same_values, source_within}
+use Rattle.wh_night.proofs.Reasons.{comp_reason}
+use Rattle.wh_night.specs.Inner.Reasons.{CanAllBeFinished}
+use Rattle.wh_night.proofs.Refusals.{added, comp_passed, computes as computes_as, fits, same_fit}
+use Rattle.wh_night.specs.Inner.Agreeing.{AreTold, Agrees, gain}
+use Rattle.wh_night.proofs.Agreeing.{agrees_added, agrees_finished, same_changed, same_reach, same_values, source_within}
 use Rattle.wh_night.proofs.AnyOrder.{AreApart, IsApart, all_left, all_mid, apart_permuted, at_drop, at_take, bit, carried_on, computes, done_elsewhere, in_any_order, is_comp, one_of, pending_stays, side_by_side_apart, tables_stay, adds_same}
 
 -- ---- a Comp is refused alike where its tables and what is pending of its sources and of its view are the same

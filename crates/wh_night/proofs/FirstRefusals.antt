@@ -19,7 +19,7 @@ use Rattle.wh_night.specs.Carry.{State, at_first, before}
 use Rattle.wh_night.specs.Laws.{RefusalsAreOne}
 use Rattle.wh_night.proofs.Prefixes.{place_within}
 use Rattle.wh_night.proofs.Reasons.{turns}
-use Rattle.wh_night.specs.Refused.{Reason, RowIsLacking, BaseIsLarge, ChangeIsLarge, ChangeHasNoValue, CompIsLarge, CompMeetsNoValue, PendingIsLarge, TableIsLarge, IsAnswer, IsFirstReason, IsOf, IsOfBaseBelow, turn, ComesBefore, IsPassed, ArePassedBelow, AreAllowedBelow, IsStepFault, IsListFault, IsBaseFault, IsNightFault}
+use Rattle.wh_night.specs.Refused.{Reason, RowIsLacking, BaseIsLarge, ChangeIsLarge, ChangeHasNoValue, CompIsLarge, CompMeetsNoValue, PendingIsLarge, TableIsLarge, IsAnswer, IsFirstReason, IsOf, IsOfBaseBelow, rank, ComesBefore, IsPassed, ArePassedBelow, AreAllowedBelow, IsStepFault, IsListFault, IsBaseFault, IsNightFault}
 
 -- ---- of one list of reasons
 
@@ -65,7 +65,7 @@ sources_in : Expression → List ℕ
 sources_in (Comp v ys) = ys
 sources_in (Inst v) = []
 
-told_by_turn : (e : Expression) (r : Reason) → IsOf e r → r ≡ of_turn (sources_in e) (turn r).0 (turn r).1 (turn r).2
+told_by_turn : (e : Expression) (r : Reason) → IsOf e r → r ≡ of_turn (sources_in e) (rank r).0 (rank r).1 (rank r).2
 unfolding of_turn sources_in
 told_by_turn (Comp v ys) (RowIsLacking b) asked = refl
 told_by_turn (Comp v ys) (BaseIsLarge b) asked = refl
@@ -84,7 +84,7 @@ told_by_turn (Inst v) (CompMeetsNoValue w zs) asked = absurd asked
 told_by_turn (Inst v) (PendingIsLarge w zs) asked = absurd asked
 told_by_turn (Inst v) (TableIsLarge u) asked = refl
 
-base_by_turn : (catalog : CatalogOf) (n : ℕ) (r : Reason) → IsOfBaseBelow catalog n r → r ≡ of_turn [] (turn r).0 (turn r).1 (turn r).2
+base_by_turn : (catalog : CatalogOf) (n : ℕ) (r : Reason) → IsOfBaseBelow catalog n r → r ≡ of_turn [] (rank r).0 (rank r).1 (rank r).2
 unfolding of_turn
 base_by_turn catalog n (RowIsLacking b) asked = refl
 base_by_turn catalog n (BaseIsLarge b) asked = refl
@@ -96,7 +96,7 @@ base_by_turn catalog n (PendingIsLarge u ys) asked = absurd asked
 base_by_turn catalog n (TableIsLarge u) asked = absurd asked
 
 -- of reasons that their turns tell apart, one is the first
-one_reason : (catalog : CatalogOf) (changes : ℕ → Bag) (s : State) (Asked : Reason → Type 0) (ys : List ℕ) → ((r : Reason) → Asked r → r ≡ of_turn ys (turn r).0 (turn r).1 (turn r).2)
+one_reason : (catalog : CatalogOf) (changes : ℕ → Bag) (s : State) (Asked : Reason → Type 0) (ys : List ℕ) → ((r : Reason) → Asked r → r ≡ of_turn ys (rank r).0 (rank r).1 (rank r).2)
     → (q r : Reason) → IsFirstReason catalog changes s Asked ComesBefore q → IsFirstReason catalog changes s Asked ComesBefore r → q ≡ r
 one_reason catalog changes s Asked ys told q r a b = ⊎_elim
     (λ l. absurd (a.stands (b.earlier q a.asked l)))
@@ -104,7 +104,7 @@ one_reason catalog changes s Asked ys told q r a b = ⊎_elim
     (λ l. absurd (b.stands (a.earlier r b.asked l)))
     (λ e. told q a.asked ∙ (λ i. of_turn ys (e.0 i) (e.1 i) (e.2 i)) ∙ sym (told r b.asked))
     other)
-    (turns (turn q) (turn r))
+    (turns (rank q) (rank r))
 
 -- ---- of an expression
 

@@ -3,7 +3,8 @@ use Rattle.std.proofs.Common.{◌≡◌, refl, sym, ap, subst, ◌∙◌, ℕ, z
 use Rattle.wh_dag.specs.Catalog.{CatalogOf}
 use Rattle.wh_row.specs.Bag.{Bag}
 use Rattle.wh_maint.specs.Comp.{bag_at}
-use Rattle.wh_night.specs.Kept.{AreFirstParts, KeptLists}
+use Rattle.wh_night.specs.Kept.{KeptLists}
+use Rattle.wh_night.specs.Inner.Kept.{AreFirstParts}
 
 pub one_more : (tables : List Bag) (v : ℕ) → v < length tables → take (v + 1) tables ≡ take v tables ++ bag_at tables v ∷ []
 one_more [] v l = absurd (omega arith)

@@ -29,13 +29,17 @@ use Rattle.wh_night.specs.Kept.{KeptLists}
 use Rattle.wh_night.specs.Carry.{at_first, change_in, carried, before, tables_after}
 use Rattle.wh_night.specs.Carry as definition
 use Rattle.wh_night.specs.Fit.{AreFitTables}
-use Rattle.wh_night.specs.Kept.{Kept, kept, pending_at, is_known, AreParts, AreFirstParts, IsFirst, finished, stepped, IsExpressionOf, rows_in}
-use Rattle.wh_night.specs.Refused.{IsPassed, ArePassedBelow, IsListFault, IsPassedIn, IsStepFaultIn}
-use Rattle.wh_night.specs.Steps.{rows_at, AreSteps, AreFirstSteps}
+use Rattle.wh_night.specs.Kept.{Kept, kept, pending_at, is_known, HaveParts, IsFirst, finished, IsExpressionOf}
+use Rattle.wh_night.specs.Inner.Kept.{AreFirstParts, stepped, rows_in}
+use Rattle.wh_night.specs.Refused.{IsPassed, ArePassedBelow, IsListFault}
+use Rattle.wh_night.specs.Inner.Refused.{IsPassedIn, IsStepFaultIn}
+use Rattle.wh_night.specs.Steps.{rows_at, AreSteps}
+use Rattle.wh_night.specs.Inner.Steps.{AreFirstSteps}
 use Rattle.wh_night.proofs.Prefixes.{take_whole, place_within}
 use Rattle.wh_night.proofs.StepRows.{comp_reads, inst_writes}
-use Rattle.wh_night.proofs.Agreeing.{Agrees, after_comp, after_inst, comp_done, inst_done, same_rows, length_range, past, count-empty, none_at}
-use Rattle.wh_night.proofs.Refusals.{AreTold, passed_here, comp_refused, inst_refused}
+use Rattle.wh_night.proofs.Agreeing.{after_comp, after_inst, comp_done, inst_done, same_rows, length_range, past, count-empty, none_at}
+use Rattle.wh_night.specs.Inner.Agreeing.{Agrees, AreTold}
+use Rattle.wh_night.proofs.Refusals.{passed_here, comp_refused, inst_refused}
 
 -- ---- lists that grow
 
@@ -95,7 +99,7 @@ pub first_wide : (b : Bool) (x : Bag) (n : ℕ) → HasWidth x n → HasWidth (c
 first_wide true x n w = w
 first_wide false x n w = none_wide n
 
-pub first_parts_are : (catalog : CatalogOf) (s : KeptLists) → IsCatalog catalog → AreFirstParts catalog (length catalog.views.children) s → AreParts catalog s
+pub first_parts_are : (catalog : CatalogOf) (s : KeptLists) → IsCatalog catalog → AreFirstParts catalog (length catalog.views.children) s → HaveParts catalog s
 first_parts_are catalog s is p = record {
   catalogue = is;
   tables = record { each = p.each_table; widths = p.table_widths };

@@ -14,33 +14,8 @@ use Rattle.wh_maint.specs.Size.{IsTooLarge}
 use Rattle.wh_maint.specs.Finishing.{kind_in}
 use Rattle.wh_maint.specs.Refused.{NoneAbsent, IsChangeFault, IsFinishFault, IsInstallFault}
 use Rattle.wh_night.specs.Carry.{State, at_first, change_in}
-use Rattle.wh_night.specs.Refused.{AddedFit, CanBeComputed, CanHaveChange, Reason, RowIsLacking, BaseIsLarge, ChangeIsLarge, ChangeHasNoValue, CompIsLarge, CompMeetsNoValue, PendingIsLarge, TableIsLarge, IsRuledOut, IsOf, IsOfBaseBelow, IsAnswer, turn, IsEarlier, IsStepFault, IsBaseFault, AreAllowedBelow}
-
--- a derived view can be finished; a base view has its change already
-abbrev pub CanBeFinished : CatalogOf → State → ℕ → Type 0
-CanBeFinished catalog s v = is_base catalog v ≡ false → CanHaveChange (kind_in catalog v) (s.tables v) (s.pending v)
-
-abbrev pub CanAllBeFinished : CatalogOf → State → List ℕ → Type 0
-CanAllBeFinished catalog s ys = (u : ℕ) → has ys u ≡ true → CanBeFinished catalog s u
-
--- of a Comp that is computed and added to what is pending: there are too many combined rows; else a combined row has an expression without a value; else a number leaves its range
-abbrev pub IsAddFault : ℕ → View → List ℕ → List ℕ → (ℕ → Bag) → (ℕ → Bag) → (ℕ → Bag) → MaintFault → Type 0
-IsAddFault v view children ys tables changes pending (Large w) =
-    (w ≡ v) × (IsTooLarge children ys tables changes ⊎ (CanBeComputed view children ys tables changes × ¬ (AddedFit pending (λ j. comp (column view j) children ys tables changes))))
-IsAddFault v view children ys tables changes pending (Range w) = (w ≡ v) × (¬ (IsTooLarge children ys tables changes)) × (¬ (TermsHaveValues view children ys tables changes))
-IsAddFault v view children ys tables changes pending Memory = Unit {0}
-IsAddFault v view children ys tables changes pending (Absent w row) = ⊥
-
--- a derived view's change is refused
-abbrev pub IsUnfinished : CatalogOf → State → ℕ → MaintFault → Type 0
-IsUnfinished catalog s v fault = (is_base catalog v ≡ false) × IsFinishFault v (kind_in catalog v) (s.tables v) (s.pending v) fault
-
--- of these views one's change is refused, and those of the ones with lower numbers are not
-pub record IsFirstUnfinished (catalog : CatalogOf) (s : State) (ys : List ℕ) (fault : MaintFault) : Type 0 where
-  pub view : ℕ
-  pub among : has ys view ≡ true
-  pub lower : (u : ℕ) → u < view → has ys u ≡ true → CanBeFinished catalog s u
-  pub refused : IsUnfinished catalog s view fault
+use Rattle.wh_night.specs.Refused.{AddedFit, CanBeComputed, CanHaveChange, Reason, RowIsLacking, BaseIsLarge, ChangeIsLarge, ChangeHasNoValue, CompIsLarge, CompMeetsNoValue, PendingIsLarge, TableIsLarge, IsRuledOut, IsOf, IsOfBaseBelow, IsAnswer, rank, IsEarlier, IsStepFault, IsBaseFault, AreAllowedBelow}
+use Rattle.wh_night.specs.Inner.Reasons.{CanBeFinished, CanAllBeFinished, IsAddFault, IsUnfinished, IsFirstUnfinished}
 
 -- ---- turns
 
@@ -81,7 +56,7 @@ module _ (catalog : CatalogOf) (changes : ℕ → Bag) (s : State) where
 
   -- a source's change: those of lower sources were made, and where its sums are asked for its counts are in range
   before_change : (v : ℕ) (ys : List ℕ) (u n : ℕ) → ((w : ℕ) → w < u → has ys w ≡ true → CanBeFinished catalog s w) → (0 < n → IsRuledOut catalog changes s (ChangeIsLarge u)) → n ≤ 1
-      → (q : Reason) → IsOf (Comp v ys) q → IsEarlier (turn q) (1, u, n) → IsRuledOut catalog changes s q
+      → (q : Reason) → IsOf (Comp v ys) q → IsEarlier (rank q) (1, u, n) → IsRuledOut catalog changes s q
   before_change v ys u n lower own few (RowIsLacking b) asked e = absurd asked
   before_change v ys u n lower own few (BaseIsLarge b) asked e = absurd asked
   before_change v ys u n lower own few (ChangeIsLarge w) asked e =
@@ -95,7 +70,7 @@ module _ (catalog : CatalogOf) (changes : ℕ → Bag) (s : State) where
 
   -- a Comp's own part: all its sources' changes were made
   before_own : (v : ℕ) (ys : List ℕ) (n : ℕ) → CanAllBeFinished catalog s ys → (0 < n → IsRuledOut catalog changes s (CompIsLarge v ys)) → (1 < n → IsRuledOut catalog changes s (CompMeetsNoValue v ys)) → n ≤ 2
-      → (q : Reason) → IsOf (Comp v ys) q → IsEarlier (turn q) (2, v, n) → IsRuledOut catalog changes s q
+      → (q : Reason) → IsOf (Comp v ys) q → IsEarlier (rank q) (2, v, n) → IsRuledOut catalog changes s q
   before_own v ys n all large values few (RowIsLacking b) asked e = absurd asked
   before_own v ys n all large values few (BaseIsLarge b) asked e = absurd asked
   before_own v ys n all large values few (ChangeIsLarge w) asked e = λ derived. (all w asked derived).counts
@@ -108,7 +83,7 @@ module _ (catalog : CatalogOf) (changes : ℕ → Bag) (s : State) where
   before_own v ys n all large values few (TableIsLarge w) asked e = absurd asked
 
   -- an Inst's change
-  before_own_change : (v n : ℕ) → (0 < n → IsRuledOut catalog changes s (ChangeIsLarge v)) → n ≤ 1 → (q : Reason) → IsOf (Inst v) q → IsEarlier (turn q) (1, v, n) → IsRuledOut catalog changes s q
+  before_own_change : (v n : ℕ) → (0 < n → IsRuledOut catalog changes s (ChangeIsLarge v)) → n ≤ 1 → (q : Reason) → IsOf (Inst v) q → IsEarlier (rank q) (1, v, n) → IsRuledOut catalog changes s q
   before_own_change v n own few (RowIsLacking b) asked e = absurd asked
   before_own_change v n own few (BaseIsLarge b) asked e = absurd asked
   before_own_change v n own few (ChangeIsLarge w) asked e = counts_of v w asked (own (within_view (1, w, 0) (1, v, n) refl asked e))
@@ -119,7 +94,7 @@ module _ (catalog : CatalogOf) (changes : ℕ → Bag) (s : State) where
   before_own_change v n own few (TableIsLarge w) asked e = absurd (past_stage (3, w, 0) (1, v, n) (omega arith) e)
 
   -- and its table: the change was made
-  before_table : (v : ℕ) → CanBeFinished catalog s v → (q : Reason) → IsOf (Inst v) q → IsEarlier (turn q) (3, v, 0) → IsRuledOut catalog changes s q
+  before_table : (v : ℕ) → CanBeFinished catalog s v → (q : Reason) → IsOf (Inst v) q → IsEarlier (rank q) (3, v, 0) → IsRuledOut catalog changes s q
   before_table v can (RowIsLacking b) asked e = absurd asked
   before_table v can (BaseIsLarge b) asked e = absurd asked
   before_table v can (ChangeIsLarge w) asked e = counts_of v w asked (λ derived. (can derived).counts)
@@ -235,7 +210,7 @@ none_allowed catalog tables changes (PendingIsLarge u ys) asked = absurd asked
 none_allowed catalog tables changes (TableIsLarge u) asked = absurd asked
 
 module _ (catalog : CatalogOf) (tables changes : ℕ → Bag) (v : ℕ) (inside : v < length catalog.views.children) (base : is_base catalog v ≡ true) (below : AreAllowedBelow catalog tables changes v) where
-  before_base : (n : ℕ) → (0 < n → NoneAbsent (tables v) (changes v)) → n ≤ 1 → (q : Reason) → IsOfBaseBelow catalog (length catalog.views.children) q → IsEarlier (turn q) (0, v, n)
+  before_base : (n : ℕ) → (0 < n → NoneAbsent (tables v) (changes v)) → n ≤ 1 → (q : Reason) → IsOfBaseBelow catalog (length catalog.views.children) q → IsEarlier (rank q) (0, v, n)
       → IsRuledOut catalog changes (at_first tables) q
   before_base n none few (RowIsLacking b) asked e = ⊎_elim
       (λ l. below (RowIsLacking b) (l, asked.1))

@@ -18,15 +18,15 @@ use Rattle.wh_maint.specs.Size.{IsTooLarge}
 use Rattle.wh_maint.specs.Finishing.{kind_in}
 use Rattle.wh_maint.specs.Refused.{IsFinishFault, IsInstallFault, MergedFit}
 use Rattle.wh_night.specs.Carry.{State, change_in, before}
-use Rattle.wh_night.specs.Kept.{Kept, IsFirst, finished, stepped}
-use Rattle.wh_night.specs.Refused.{AddedFit, CanHaveChange, CanBeComputed, RowIsLacking, BaseIsLarge, ChangeIsLarge, ChangeHasNoValue, CompIsLarge, CompMeetsNoValue, PendingIsLarge, TableIsLarge, IsRuledOut, IsPassed, ArePassedBelow, IsStepFault, IsListFault, CanBeFinishedIn, IsPassedIn, IsUnfinishedIn, IsAddFaultIn, IsStepFaultIn}
-use Rattle.wh_night.proofs.Reasons.{CanBeFinished, CanAllBeFinished, IsAddFault, IsUnfinished, comp_reason, inst_reason}
+use Rattle.wh_night.specs.Kept.{Kept, IsFirst, finished}
+use Rattle.wh_night.specs.Inner.Kept.{stepped}
+use Rattle.wh_night.specs.Refused.{AddedFit, CanHaveChange, CanBeComputed, RowIsLacking, BaseIsLarge, ChangeIsLarge, ChangeHasNoValue, CompIsLarge, CompMeetsNoValue, PendingIsLarge, TableIsLarge, IsRuledOut, IsPassed, ArePassedBelow, IsStepFault, IsListFault, CanBeFinishedIn, IsUnfinishedIn}
+use Rattle.wh_night.specs.Inner.Refused.{IsPassedIn, IsAddFaultIn, IsStepFaultIn}
+use Rattle.wh_night.proofs.Reasons.{comp_reason, inst_reason}
+use Rattle.wh_night.specs.Inner.Reasons.{CanBeFinished, CanAllBeFinished, IsAddFault, IsUnfinished}
 use Rattle.wh_night.proofs.StepRows.{whole_at_inst, whole_at_comp}
-use Rattle.wh_night.proofs.Agreeing.{Agrees, columns_at, comp_done, inst_done, source_within, same_reach, same_values}
-
--- each change that is known could be made where its Inst stands
-abbrev pub AreTold : CatalogOf → List Expression → (ℕ → Bag) → (ℕ → Bag) → Kept → Type 0
-AreTold catalog list old given k = (q v : ℕ) → At list q (Inst v) → k.known v ≡ true → CanBeFinished catalog (before (graph_of catalog) given list old q) v
+use Rattle.wh_night.proofs.Agreeing.{columns_at, comp_done, inst_done, source_within, same_reach, same_values}
+use Rattle.wh_night.specs.Inner.Agreeing.{Agrees, AreTold}
 
 pub same_fit : (kind : Kind) (table other : Bag) (pending others : ℕ → Bag) → table ≡ other → pending ≡ others → CanHaveChange kind table pending → CanHaveChange kind other others
 same_fit kind table other pending others e f c = subst (CanHaveChange kind other) f (subst (λ b. CanHaveChange kind b pending) e c)

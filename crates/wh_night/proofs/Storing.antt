@@ -22,9 +22,11 @@ use Rattle.wh_maint.specs.declared.fault.MaintFault.TheVariants.{Large, Range, M
 use Rattle.wh_maint.specs.Size.{IsTooLarge}
 use Rattle.wh_maint.specs.Fit.{IsFitTable}
 use Rattle.wh_maint.specs.Refused.{AddsNothing, IsMergeFault}
-use Rattle.wh_night.specs.Refused.{CanBeComputed, CanBeFinishedIn, IsUnfinishedIn, IsAddFaultIn, IsCompFaultIn}
+use Rattle.wh_night.specs.Refused.{CanBeComputed, CanBeFinishedIn, IsUnfinishedIn, IsCompFaultIn}
+use Rattle.wh_night.specs.Inner.Refused.{IsAddFaultIn}
 use Rattle.wh_night.specs.Carry.{with_at}
-use Rattle.wh_night.specs.Kept.{Kept, KeptLists, pending_at, is_known, AreKnown, AreParts, CanFinish, IsPendingIn, finished, computed, installed, with_added, with_change, with_pending}
+use Rattle.wh_night.specs.Kept.{Kept, KeptLists, pending_at, is_known, AreKnown, HaveParts, CanFinish, IsPendingIn, finished, installed, with_added, with_change, with_pending}
+use Rattle.wh_night.specs.Inner.Kept.{computed}
 use lib.IntN.{+ℤ_comm}
 use Rattle.wh_night.proofs.Agreeing.{length_range, at_zero, past, count-empty}
 
@@ -67,7 +69,7 @@ defined catalog is v l n = given (definition_of catalog v) (is.derived v l ∙ a
     given (Some d) e = (d, refl)
 
 -- the change of a view has its width
-pub change_wide : (catalog : CatalogOf) (s : KeptLists) (v : ℕ) (pending : PendingOf) → AreParts catalog s → v < length catalog.views.children → is_base catalog v ≡ false → IsPendingIn catalog v pending
+pub change_wide : (catalog : CatalogOf) (s : KeptLists) (v : ℕ) (pending : PendingOf) → HaveParts catalog s → v < length catalog.views.children → is_base catalog v ≡ false → IsPendingIn catalog v pending
     → HasWidth (change_of (kind_in catalog v) (bag_at s.tables v) (bag_at pending.columns)) (width_of catalog v)
 change_wide catalog s v pending p l n q =
     let d = defined catalog p.catalogue v l n in
@@ -78,11 +80,11 @@ change_wide catalog s v pending p l n q =
     (subst (HasWidth (bag_at s.tables v)) w (p.tables.widths v l)) (q.wide d.0 d.1)))
 
 -- what is kept pending of a view is pending of it
-pub pending_in : (catalog : CatalogOf) (s : KeptLists) (v : ℕ) → AreParts catalog s → v < length catalog.views.children → IsPendingIn catalog v (pending_at s.pendings v)
+pub pending_in : (catalog : CatalogOf) (s : KeptLists) (v : ℕ) → HaveParts catalog s → v < length catalog.views.children → IsPendingIn catalog v (pending_at s.pendings v)
 pending_in catalog s v p l = record { for_view = p.pending v l; wide = p.wide v }
 
 -- a view whose change is not known is derived
-pub unknown_is_derived : (catalog : CatalogOf) (s : KeptLists) → AreParts catalog s → (v : ℕ) → v < length catalog.views.children → is_known s.known v ≡ false → is_base catalog v ≡ false
+pub unknown_is_derived : (catalog : CatalogOf) (s : KeptLists) → HaveParts catalog s → (v : ℕ) → v < length catalog.views.children → is_known s.known v ≡ false → is_base catalog v ≡ false
 unknown_is_derived catalog s p v l n = false_from_ne_true (is_base catalog v) (λ t. both_ways (is_known s.known v) n (p.bases v l t))
 
 -- ---- parts
@@ -185,9 +187,9 @@ sum_pending catalog v pending added sum p q of is = record {
 }
 
 -- parts stay parts when something is pending of a view anew
-pub parts_pending : (catalog : CatalogOf) (s next : KeptLists) (v : ℕ) (b : PendingOf) → AreParts catalog s → v < length s.pendings → IsPendingIn catalog v b
+pub parts_pending : (catalog : CatalogOf) (s next : KeptLists) (v : ℕ) (b : PendingOf) → HaveParts catalog s → v < length s.pendings → IsPendingIn catalog v b
     → next.tables ≡ s.tables → next.pendings ≡ set s.pendings v b → next.changes ≡ s.changes → next.known ≡ s.known
-    → AreParts catalog next
+    → HaveParts catalog next
 parts_pending catalog s next v b p inside is t q c k =
     let at : (u : ℕ) → pending_at next.pendings u ≡ cond (eqb v u) b (pending_at s.pendings u) = λ u. ap (λ ps. pending_at ps u) q ∙ set_at s.pendings v u b (record { view = 0; columns = [] }) inside in
     record {
@@ -208,9 +210,9 @@ parts_pending catalog s next v b p inside is t q c k =
     }
 
 -- and when a view has another table of its width
-pub parts_table : (catalog : CatalogOf) (s next : KeptLists) (v : ℕ) (b : Bag) → AreParts catalog s → v < length catalog.views.children → HasWidth b (width_of catalog v)
+pub parts_table : (catalog : CatalogOf) (s next : KeptLists) (v : ℕ) (b : Bag) → HaveParts catalog s → v < length catalog.views.children → HasWidth b (width_of catalog v)
     → next.tables ≡ set s.tables v b → next.pendings ≡ s.pendings → next.changes ≡ s.changes → next.known ≡ s.known
-    → AreParts catalog next
+    → HaveParts catalog next
 parts_table catalog s next v b p inside wide t q c k = record {
   catalogue = p.catalogue;
   tables = subst (AreBags catalog) (sym t) (bags_set catalog s.tables v b p.tables inside wide);

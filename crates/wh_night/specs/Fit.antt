@@ -15,14 +15,14 @@ abbrev pub AreFit : ViewGraph → (ℕ → Bag) → Type 0
 AreFit g tables = (v : ℕ) → IsFitTable (g.views v).kind (tables v)
 
 -- no base change is refused: it takes of no row more than there is, and no count leaves i64
-pub record AreAllowed (g : ViewGraph) (changes tables : ℕ → Bag) : Type 0 where
+pub record AreChangesAllowed (g : ViewGraph) (changes tables : ℕ → Bag) : Type 0 where
   pub none_absent : (b : ℕ) → g.children b ≡ [] → NoneAbsent (tables b) (changes b)
   pub counts_fit : (b : ℕ) → g.children b ≡ [] → SumFits (tables b) (changes b)
 
 -- the tables are fit, and unless a base change is refused, each change that the list makes leaves them so
 pub record AreFitFor (g : ViewGraph) (changes : ℕ → Bag) (list : List Expression) (tables : ℕ → Bag) : Type 0 where
   pub now : AreFit g tables
-  pub later : AreAllowed g changes tables → (place : ℕ) → AreFit g (before g changes list tables place).tables
+  pub later : AreChangesAllowed g changes tables → (place : ℕ) → AreFit g (before g changes list tables place).tables
 
 -- each view of the catalogue has a fit table
 abbrev pub AreFitTables : CatalogOf → List Bag → Type 0

@@ -1,17 +1,14 @@
 -- What the code keeps of a night's state: as in the definition, and beside it the changes that are known.
-use Rattle.std.specs.Prelude.{◌≡◌, refl, ℕ, ◌<◌, ◌==◌, ◌&&◌, ◌||◌, not, Bool, true, false, cond, List, [], length, map, suc, Some, slice_index_or}
+use Rattle.std.specs.Prelude.{◌≡◌, ℕ, ◌<◌, ◌&&◌, ◌||◌, not, Bool, true, false, cond, List, [], length, map, suc, Some, slice_index_or}
 use Rattle.std.specs.List.{range_with_len}
-use Rattle.std.specs.Coded.{Coded, code_by, coded×, coded_bool, coded_list}
 use Rattle.wh_dag.specs.Shape.{has, children_of}
-use Rattle.wh_dag.specs.Catalog.{CatalogOf, IsCatalog, DefinitionOf, definition_of, is_base, width_of}
+use Rattle.wh_dag.specs.Catalog.{CatalogOf, IsCatalog, DefinitionOf, definition_of, is_base}
 use Rattle.wh_strategy.specs.declared.expression.Expression.{Expression}
 use Rattle.wh_strategy.specs.declared.expression.Expression.TheVariants.{Comp, Inst}
-use Rattle.wh_row.specs.Bag.{Bag, HasWidth, sum_of, empty, size, coded_bag}
+use Rattle.wh_row.specs.Bag.{Bag, HasWidth, sum_of, empty}
 use Rattle.wh_maint.specs.View.{sums_of}
-use Rattle.wh_maint.specs.Definition.{view_of}
-use Rattle.wh_maint.specs.Comp.{PendingOf, bag_at, comp_columns, merged, pending_code}
+use Rattle.wh_maint.specs.Comp.{PendingOf, bag_at, merged}
 use Rattle.wh_maint.specs.Summary.{change_of}
-use Rattle.wh_maint.specs.Size.{operand_rows_of}
 use Rattle.wh_maint.specs.Fit.{IsFitTable}
 use Rattle.wh_maint.specs.Finishing.{kind_in, IsPendingFor}
 use Rattle.wh_maint.specs.Width.{key_width}
@@ -38,14 +35,6 @@ pub record KeptLists : Type 0 where
   pub changes : List Bag
   pub known : List Bool
 
--- it is stored as the tuple of its fields
-abbrev pub lists_code : Coded KeptLists
-lists_code =
-    code_by (List Bag × (List PendingOf × (List Bag × List Bool))) (coded× (coded_list coded_bag) (coded× (coded_list pending_code) (coded× (coded_list coded_bag) (coded_list coded_bool))))
-    (λ s. (s.tables, (s.pendings, (s.changes, s.known))))
-    (λ p. record { tables = p.0; pendings = p.1.0; changes = p.1.1.0; known = p.1.1.1 })
-    (λ _. refl)
-
 abbrev pub kept : KeptLists → Kept
 kept s = record {
   tables = bag_at s.tables;
@@ -55,7 +44,7 @@ kept s = record {
 }
 
 -- there is a part for each view, of its width, and the changes of base views are known
-pub record AreParts (catalog : CatalogOf) (s : KeptLists) : Type 0 where
+pub record HaveParts (catalog : CatalogOf) (s : KeptLists) : Type 0 where
   pub catalogue : IsCatalog catalog
   pub tables : AreBags catalog s.tables
   pub changes : AreBags catalog s.changes
@@ -78,15 +67,6 @@ finished catalog test k = record {
   known = λ u. test u || k.known u;
 }
 
--- what a Comp adds is added to what is pending of its view
-abbrev pub computed : CatalogOf → ℕ → List ℕ → Kept → Kept
-computed catalog v ys k = record {
-  tables = k.tables;
-  pending = with_at v (merged (k.pending v) (comp_columns (view_of (definition_of catalog v)) (children_of catalog.views.children v) ys k.tables k.changes)) k.pending;
-  changes = k.changes;
-  known = k.known;
-}
-
 -- a view's change is added to its table
 abbrev pub installed : ℕ → Kept → Kept
 installed v k = record {
@@ -96,11 +76,6 @@ installed v k = record {
   known = k.known;
 }
 
--- an expression finishes the views whose changes it needs, and then does its own part
-abbrev pub stepped : CatalogOf → Expression → Kept → Kept
-stepped catalog (Comp v ys) k = computed catalog v ys (finished catalog (has ys) k)
-stepped catalog (Inst v) k = installed v (finished catalog (λ u. v == u) k)
-
 -- before the first expression: the old tables, nothing pending, and the changes of base views, which alone are known
 pub record IsFirst (catalog : CatalogOf) (old given : ℕ → Bag) (k : Kept) : Type 0 where
   pub tables : (u : ℕ) → k.tables u ≡ old u
@@ -108,26 +83,10 @@ pub record IsFirst (catalog : CatalogOf) (old given : ℕ → Bag) (k : Kept) : 
   pub changes : (v : ℕ) → v < length catalog.views.children → is_base catalog v ≡ true → k.changes v ≡ given v
   pub known : (v : ℕ) → v < length catalog.views.children → k.known v ≡ is_base catalog v
 
--- these are the parts of the first views
-pub record AreFirstParts (catalog : CatalogOf) (n : ℕ) (s : KeptLists) : Type 0 where
-  pub each_table : length s.tables ≡ n
-  pub each_change : length s.changes ≡ n
-  pub each_pending : length s.pendings ≡ n
-  pub each_known : length s.known ≡ n
-  pub table_widths : (v : ℕ) → v < n → HasWidth (bag_at s.tables v) (width_of catalog v)
-  pub change_widths : (v : ℕ) → v < n → HasWidth (bag_at s.changes v) (width_of catalog v)
-  pub pending : (v : ℕ) → v < n → pending_at s.pendings v ≡ record { view = v; columns = map (λ _. empty) (range_with_len 0 (suc (sums_of (kind_in catalog v)))) }
-  pub known : (v : ℕ) → v < n → is_known s.known v ≡ is_base catalog v
-
 -- an expression of the catalogue's views: a Comp is of a derived view, from some of its children
 abbrev pub IsExpressionOf : CatalogOf → Expression → Type 0
 IsExpressionOf catalog (Comp v ys) = (v < length catalog.views.children) × (is_base catalog v ≡ false) × AreSources (children_of catalog.views.children v) ys
 IsExpressionOf catalog (Inst v) = v < length catalog.views.children
-
--- what it reads as a Comp, or writes as an Inst
-abbrev pub rows_in : CatalogOf → Expression → Kept → ℕ
-rows_in catalog (Comp v ys) k = operand_rows_of (children_of catalog.views.children v) ys k.tables (finished catalog (has ys) k).changes
-rows_in catalog (Inst v) k = size ((finished catalog (λ u. v == u) k).changes v)
 
 -- what is pending of a view: a column for its counts and one for each sum, with rows as wide as the view's rows or groups
 pub record IsPendingIn (catalog : CatalogOf) (view : ℕ) (pending : PendingOf) : Type 0 where

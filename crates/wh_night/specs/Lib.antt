@@ -9,3 +9,4 @@ pub mod NightList
 pub mod AnyOrder
 pub mod Stages
 pub mod NightLaws
+pub mod Inner

@@ -1,5 +1,5 @@
 -- Why a night is refused: the reasons, each a condition at a state by itself, and then their order on one thread.
-use Rattle.std.specs.Prelude.{◌≡◌, ◌⊎◌, ℕ, suc, ◌<◌, ◌==◌, cond, true, false, List, length}
+use Rattle.std.specs.Prelude.{◌≡◌, ◌⊎◌, ℕ, suc, ◌<◌, cond, true, false, List, length}
 use Rattle.wh_dag.specs.Shape.{has, children_of}
 use Rattle.wh_dag.specs.Catalog.{CatalogOf, is_base, definition_of}
 use Rattle.wh_strategy.specs.declared.expression.Expression.{Expression}
@@ -11,14 +11,14 @@ use Rattle.wh_maint.specs.declared.fault.MaintFault.TheVariants.{Large, Range, M
 use Rattle.wh_maint.specs.View.{View, Kind, column}
 use Rattle.wh_maint.specs.Value.{NewCountsFit, ChangeHasValue, HaveValues}
 use Rattle.wh_maint.specs.Definition.{graph_of, view_of}
-use Rattle.wh_maint.specs.Comp.{comp, bag_at, comp_columns, changed_rows, TermsHaveValues}
+use Rattle.wh_maint.specs.Comp.{comp, bag_at, changed_rows, TermsHaveValues}
 use Rattle.wh_maint.specs.Fit.{IsFirstAbsent}
 use Rattle.wh_maint.specs.Size.{IsTooLarge}
 use Rattle.wh_maint.specs.Finishing.{kind_in}
-use Rattle.wh_maint.specs.Refused.{AddsNothing, IsInstallFault, IsFinishFault, NoneAbsent, MergedFit, SumsTogetherFit}
+use Rattle.wh_maint.specs.Refused.{AddsNothing, IsFinishFault, NoneAbsent, SumsTogetherFit}
 use Rattle.wh_night.specs.declared.report.CarryFault.{CarryFault}
 use Rattle.wh_night.specs.Carry.{State, at_first, change_in, before}
-use Rattle.wh_night.specs.Kept.{Kept, finished}
+use Rattle.wh_night.specs.Kept.{Kept}
 
 -- what a Comp adds leaves the counts in i64 and the sums in i128
 pub record AddedFit (pending added : ℕ → Bag) : Type 0 where
@@ -107,22 +107,22 @@ IsOf (Inst v) (TableIsLarge u) = u ≡ v
 IsOf (Inst v) reason = ⊥
 
 -- the turn of a reason: base changes first, then the changes of derived views, then Comps, then tables; each by rising number of the view, and of one view in the order of its answers
-abbrev pub turn : Reason → ℕ × ℕ × ℕ
-turn (RowIsLacking b) = (0, b, 0)
-turn (BaseIsLarge b) = (0, b, 1)
-turn (ChangeIsLarge v) = (1, v, 0)
-turn (ChangeHasNoValue v) = (1, v, 1)
-turn (CompIsLarge v ys) = (2, v, 0)
-turn (CompMeetsNoValue v ys) = (2, v, 1)
-turn (PendingIsLarge v ys) = (2, v, 2)
-turn (TableIsLarge v) = (3, v, 0)
+abbrev pub rank : Reason → ℕ × ℕ × ℕ
+rank (RowIsLacking b) = (0, b, 0)
+rank (BaseIsLarge b) = (0, b, 1)
+rank (ChangeIsLarge v) = (1, v, 0)
+rank (ChangeHasNoValue v) = (1, v, 1)
+rank (CompIsLarge v ys) = (2, v, 0)
+rank (CompMeetsNoValue v ys) = (2, v, 1)
+rank (PendingIsLarge v ys) = (2, v, 2)
+rank (TableIsLarge v) = (3, v, 0)
 
 abbrev pub IsEarlier : ℕ × ℕ × ℕ → ℕ × ℕ × ℕ → Type 0
 IsEarlier a b = (a.0 < b.0) ⊎ ((a.0 ≡ b.0) × ((a.1 < b.1) ⊎ ((a.1 ≡ b.1) × (a.2 < b.2))))
 
 -- at one state this reason comes before the other
 abbrev pub ComesBefore : Reason → Reason → Type 0
-ComesBefore reason other = IsEarlier (turn reason) (turn other)
+ComesBefore reason other = IsEarlier (rank reason) (rank other)
 
 -- no base view below this number has a change that is refused
 abbrev pub AreAllowedBelow : CatalogOf → (ℕ → Bag) → (ℕ → Bag) → ℕ → Type 0
@@ -181,13 +181,6 @@ CanBeFinishedIn catalog k v = k.known v ≡ false → CanHaveChange (kind_in cat
 abbrev pub CanAllBeFinishedIn : CatalogOf → Kept → List ℕ → Type 0
 CanAllBeFinishedIn catalog k ys = (u : ℕ) → has ys u ≡ true → CanBeFinishedIn catalog k u
 
-abbrev pub IsPassedIn : CatalogOf → Kept → Expression → Type 0
-IsPassedIn catalog k (Comp v ys) =
-    CanAllBeFinishedIn catalog k ys
-    × CanBeComputed (view_of (definition_of catalog v)) (children_of catalog.views.children v) ys k.tables (finished catalog (has ys) k).changes
-    × MergedFit (k.pending v) (comp_columns (view_of (definition_of catalog v)) (children_of catalog.views.children v) ys k.tables (finished catalog (has ys) k).changes)
-IsPassedIn catalog k (Inst v) = CanBeFinishedIn catalog k v × SumFits (k.tables v) ((finished catalog (λ u. v == u) k).changes v)
-
 abbrev pub IsUnfinishedIn : CatalogOf → Kept → ℕ → MaintFault → Type 0
 IsUnfinishedIn catalog k v fault = (k.known v ≡ false) × IsFinishFault v (kind_in catalog v) (k.tables v) (bag_at (k.pending v)) fault
 
@@ -204,16 +197,3 @@ IsCompFaultIn catalog k v ys (Range w) = (w ≡ v) × (¬ (IsTooLarge (children_
     × (¬ (TermsHaveValues (view_of (definition_of catalog v)) (children_of catalog.views.children v) ys k.tables k.changes))
 IsCompFaultIn catalog k v ys Memory = ¬ (AddsNothing (view_of (definition_of catalog v)) ys k.changes)
 IsCompFaultIn catalog k v ys (Absent w row) = ⊥
-
-abbrev pub IsAddFaultIn : CatalogOf → Kept → ℕ → List ℕ → MaintFault → Type 0
-IsAddFaultIn catalog k v ys (Large w) = (w ≡ v) × (IsTooLarge (children_of catalog.views.children v) ys k.tables k.changes
-    ⊎ (CanBeComputed (view_of (definition_of catalog v)) (children_of catalog.views.children v) ys k.tables k.changes
-    × ¬ (MergedFit (k.pending v) (comp_columns (view_of (definition_of catalog v)) (children_of catalog.views.children v) ys k.tables k.changes))))
-IsAddFaultIn catalog k v ys (Range w) = (w ≡ v) × (¬ (IsTooLarge (children_of catalog.views.children v) ys k.tables k.changes))
-    × (¬ (TermsHaveValues (view_of (definition_of catalog v)) (children_of catalog.views.children v) ys k.tables k.changes))
-IsAddFaultIn catalog k v ys Memory = Unit {0}
-IsAddFaultIn catalog k v ys (Absent w row) = ⊥
-
-abbrev pub IsStepFaultIn : CatalogOf → Kept → Expression → MaintFault → Type 0
-IsStepFaultIn catalog k (Comp v ys) fault = IsFirstUnfinishedIn catalog k ys fault ⊎ (CanAllBeFinishedIn catalog k ys × IsAddFaultIn catalog (finished catalog (has ys) k) v ys fault)
-IsStepFaultIn catalog k (Inst v) fault = IsUnfinishedIn catalog k v fault ⊎ (CanBeFinishedIn catalog k v × IsInstallFault v (k.tables v) ((finished catalog (λ u. v == u) k).changes v) fault)

@@ -1,5 +1,5 @@
 -- What a night reports of each expression.
-use Rattle.std.specs.Prelude.{◌≡◌, ℕ, ◌<◌, List, length, slice_get, Some}
+use Rattle.std.specs.Prelude.{◌≡◌, ℕ, List, length, slice_get, Some}
 use Rattle.wh_strategy.specs.declared.expression.Expression.{Expression}
 use Rattle.wh_strategy.specs.Expression.{At}
 use Rattle.wh_strategy.specs.Sizes.{Size}
@@ -19,8 +19,3 @@ rows_at shape list old new place = capped (cost_at shape (true_sizes old new) 1 
 pub record AreSteps (shape : List (List ℕ)) (list : List Expression) (old new : ℕ → Bag) (steps : List (Expression × ℕ)) : Type 0 where
   pub each : length steps ≡ length list
   pub rows : (place : ℕ) (e : Expression) → At list place e → slice_get steps place ≡ Some (e, rows_at shape list old new place)
-
--- so are the first of them
-pub record AreFirstSteps (shape : List (List ℕ)) (list : List Expression) (old new : ℕ → Bag) (places : ℕ) (steps : List (Expression × ℕ)) : Type 0 where
-  pub each : length steps ≡ places
-  pub rows : (place : ℕ) (e : Expression) → place < places → At list place e → slice_get steps place ≡ Some (e, rows_at shape list old new place)

@@ -11,7 +11,7 @@ ghost use Rattle.wh_maint.specs.Definition.{graph_of};
 ghost use Rattle.wh_maint.specs.Laws.{changed};
 ghost use Rattle.wh_night.specs.Carry.{tables_after};
 ghost use Rattle.wh_night.specs.Fit.{AreFitTables};
-ghost use Rattle.wh_night.specs.Kept.{kept, AreParts, CanFinish, IsFirst};
+ghost use Rattle.wh_night.specs.Kept.{kept, HaveParts, CanFinish, IsFirst};
 ghost use Rattle.wh_night.specs.Refused.{AreAllowedBelow, ArePassedBelow, IsBaseFault, IsListFault, IsNightFault};
 ghost use Rattle.wh_night.specs.Steps.{AreSteps};
 
@@ -112,9 +112,9 @@ fn carry_out<F: RowTest, G: RowValue>(
     state: &mut NightState,
 ) -> Result<Vec<(Expression, u128)>, MaintFault>
     requires correct { IsCorrect catalog.now.views.children list.now }
-    requires parts { AreParts catalog.now state.old }
+    requires parts { HaveParts catalog.now state.old }
     requires fit { CanFinish catalog.now (kept state.old) }
-    ensures parts { OnOk result (AreParts catalog.now state.new) }
+    ensures parts { OnOk result (HaveParts catalog.now state.new) }
     ensures tables { OnOk result ((old changes : ℕ → SignedBag) → IsFirst catalog.now old changes (kept state.old)
         → (v : ℕ) → bag_at state.new.tables v ≡ tables_after (graph_of catalog.now) changes list.now old v) }
     ensures steps { IfOk result (λ steps. (old changes : ℕ → SignedBag) → IsFirst catalog.now old changes (kept state.old)

@@ -6,9 +6,11 @@ use Rattle.std.specs.Cmp.{tied_itself}
 use Rattle.std.specs.declared.cmp.Ordering.{Ordering}
 use Rattle.std.specs.declared.cmp.Ordering.TheVariants.{Less, Equal, Greater}
 use Rattle.wh_pieces.specs.Row.{Row, row_cmp, is_row}
-use Rattle.wh_pieces.specs.Place.{AreRisingRows, IsFirst}
+use Rattle.wh_pieces.specs.Place.{AreRisingRows}
+use Rattle.wh_pieces.specs.Inner.Place.{IsFirst}
 use Rattle.wh_pieces.specs.Pieces.{found, with_entry, without_entry}
-use Rattle.wh_pieces.specs.Merged.{lacking, either, without, IsCombined}
+use Rattle.wh_pieces.specs.Merged.{IsCombined}
+use Rattle.wh_pieces.specs.Inner.Merged.{lacking, either, without}
 use Rattle.wh_pieces.proofs.RowLaws.{rows_exact, rows_total, same_row, itself}
 use Rattle.wh_pieces.proofs.OrderLaws.{turned}
 use Rattle.wh_pieces.proofs.PieceLaws.{found-below}

@@ -3,7 +3,8 @@ use Rattle.std.proofs.Common.{◌≡◌, sym, ap, ◌∙◌, ℕ, zero, suc, ◌
 use Rattle.std.proofs.lemmas.List.{length-take-le, take-append-drop, append_assoc, append-nil}
 use Rattle.wh_pieces.specs.Row.{Row}
 use Rattle.wh_pieces.specs.Flat.{flat}
-use Rattle.wh_pieces.specs.Pieces.{AreNotEmpty, all_of}
+use Rattle.wh_pieces.specs.Pieces.{all_of}
+use Rattle.wh_pieces.specs.Inner.Pieces.{AreNotEmpty}
 use Rattle.wh_pieces.proofs.FlatLaws.{take-flat, drop-flat, place_within}
 use Rattle.wh_pieces.proofs.PieceLaws.{all-append}
 

@@ -6,8 +6,10 @@ use Rattle.std.specs.List.Sorted.{IsStrictlySortedBy}
 use Rattle.std.specs.Map.{keys_of}
 use Rattle.std.specs.declared.cmp.Ordering.TheVariants.{Less}
 use Rattle.wh_pieces.specs.Row.{Row, row_cmp}
-use Rattle.wh_pieces.specs.Place.{AreRisingRows, IsAbove, IsBelowFirst, IsFirst, IsAt, IsGapFor}
-use Rattle.wh_pieces.specs.Pieces.{all_of, above, from, IsPieceFor, piece_at}
+use Rattle.wh_pieces.specs.Place.{AreRisingRows, IsAbove}
+use Rattle.wh_pieces.specs.Inner.Place.{IsBelowFirst, IsFirst, IsAt, IsGapFor}
+use Rattle.wh_pieces.specs.Pieces.{all_of, above, from}
+use Rattle.wh_pieces.specs.Inner.Pieces.{IsPieceFor, piece_at}
 use Rattle.wh_pieces.proofs.RowLaws.{rows_exact}
 use Rattle.wh_pieces.proofs.PieceLaws.{lower_below, rising-back, all-append, all-split, below-append, drop-nth}
 

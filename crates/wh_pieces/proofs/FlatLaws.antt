@@ -6,7 +6,7 @@ use Rattle.std.proofs.lemmas.List.Edits.{length-insert, length-remove}
 use Rattle.std.specs.Map.{keys_of}
 use Rattle.wh_pieces.specs.Row.{Row}
 use Rattle.wh_pieces.specs.Flat.{flat}
-use Rattle.wh_pieces.specs.Place.{set_at}
+use Rattle.wh_pieces.specs.Inner.Place.{set_at}
 
 pub length-flat : {T : Type 0} (w : ℕ) (cells : List ℤ) (vs : List T) → length (flat w cells vs) ≡ length vs
 length-flat w cells [] = refl

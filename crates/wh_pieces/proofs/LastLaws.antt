@@ -5,7 +5,8 @@ use Rattle.std.specs.Map.{keys_of}
 use Rattle.std.specs.declared.cmp.Ordering.TheVariants.{Less, Greater}
 use Rattle.wh_pieces.specs.Row.{Row, row_cmp}
 use Rattle.wh_pieces.specs.Place.{IsAbove}
-use Rattle.wh_pieces.specs.Pieces.{found, with_entry, all_of, ArePieces, piece_at}
+use Rattle.wh_pieces.specs.Pieces.{found, with_entry, all_of}
+use Rattle.wh_pieces.specs.Inner.Pieces.{ArePieces, piece_at}
 use Rattle.wh_pieces.proofs.OrderLaws.{above_to}
 use Rattle.wh_pieces.proofs.PieceLaws.{above-append, above_piece, found-above, rising-nth, some-at, take-suc_piece, with-above}
 

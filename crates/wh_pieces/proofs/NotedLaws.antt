@@ -3,7 +3,7 @@ use Rattle.std.proofs.Common.{◌≡◌, refl, sym, ap, subst, ◌∙◌, List, 
 use Rattle.wh_pieces.specs.Row.{Row, is_row}
 use Rattle.wh_pieces.specs.Place.{AreRisingRows}
 use Rattle.wh_pieces.specs.Pieces.{found}
-use Rattle.wh_pieces.specs.Merged.{lacking, either, without, entry_of}
+use Rattle.wh_pieces.specs.Inner.Merged.{lacking, either, without, entry_of}
 use Rattle.wh_pieces.proofs.RowLaws.{same_row}
 use Rattle.wh_pieces.proofs.MergeLaws.{rising-but}
 use Rattle.wh_pieces.proofs.BringLaws.{found-append, found_first}

@@ -8,7 +8,8 @@ use Rattle.std.specs.declared.cmp.Ordering.{Ordering}
 use Rattle.std.specs.declared.cmp.Ordering.TheVariants.{Less, Equal, Greater}
 use Rattle.wh_pieces.specs.Row.{Row, row_cmp}
 use Rattle.wh_pieces.proofs.RowLaws.{rows_total, rows_exact}
-use Rattle.wh_pieces.specs.Place.{AreRisingRows, IsAbove, IsBelowFirst, IsFirst, IsAt}
+use Rattle.wh_pieces.specs.Place.{AreRisingRows, IsAbove}
+use Rattle.wh_pieces.specs.Inner.Place.{IsBelowFirst, IsFirst, IsAt}
 
 pub turned : (x y : Row) (o : Ordering) → row_cmp x y ≡ o → row_cmp y x ≡ ordering_reverse o
 turned x y o h = rows_total.antisymm y x ∙ ap ordering_reverse h

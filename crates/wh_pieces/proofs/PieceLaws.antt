@@ -9,8 +9,10 @@ use Rattle.std.specs.declared.cmp.Ordering.{Ordering}
 use Rattle.std.specs.declared.cmp.Ordering.TheVariants.{Less, Equal, Greater}
 use Rattle.wh_pieces.specs.Row.{Row, row_cmp, is_row}
 use Rattle.wh_pieces.proofs.RowLaws.{rows_total, rows_exact}
-use Rattle.wh_pieces.specs.Place.{AreRisingRows, IsAbove, IsBelowFirst, IsFirst, IsAt, IsGapFor, set_at}
-use Rattle.wh_pieces.specs.Pieces.{found, with_entry, without_entry, all_of, AreNotEmpty, AreCounted, IsPieceFor, piece_at, before, after}
+use Rattle.wh_pieces.specs.Place.{AreRisingRows, IsAbove}
+use Rattle.wh_pieces.specs.Inner.Place.{IsBelowFirst, IsFirst, IsAt, IsGapFor, set_at}
+use Rattle.wh_pieces.specs.Pieces.{found, with_entry, without_entry, all_of}
+use Rattle.wh_pieces.specs.Inner.Pieces.{AreNotEmpty, AreCounted, IsPieceFor, piece_at, before, after}
 use Rattle.wh_pieces.proofs.OrderLaws.{turned, still_above}
 
 -- ---- entries with others before or after them

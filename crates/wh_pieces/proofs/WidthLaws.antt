@@ -3,7 +3,8 @@ use Rattle.std.proofs.Common.{◌≡◌, ◌≢◌, refl, sym, subst, ◌∙◌,
 use Rattle.std.proofs.lemmas.List.{length-take-le}
 use Rattle.wh_pieces.specs.Row.{Row}
 use Rattle.wh_pieces.specs.Flat.{flat}
-use Rattle.wh_pieces.specs.Pieces.{AreWide, all_of, piece_at}
+use Rattle.wh_pieces.specs.Pieces.{AreWide, all_of}
+use Rattle.wh_pieces.specs.Inner.Pieces.{piece_at}
 use Rattle.wh_pieces.proofs.PieceLaws.{all-split}
 
 pub flat_wide : {T : Type 0} (w : ℕ) (cells : List ℤ) (vs : List T) → length cells ≡ w * length vs → AreWide w (flat w cells vs)

@@ -4,3 +4,4 @@ pub mod Place
 pub mod Pieces
 pub mod Lent
 pub mod Merged
+pub mod Inner

@@ -1,9 +1,9 @@
 -- Places among entries in order.
-use Rattle.std.specs.Prelude.{◌≡◌, ℕ, zero, suc, ◌≤◌, ◌<◌, List, [], ◌∷◌, take, drop, length}
+use Rattle.std.specs.Prelude.{◌≡◌, List}
 use Rattle.std.specs.List.{AllByRecursion}
 use Rattle.std.specs.List.Sorted.{IsStrictlySortedBy}
 use Rattle.std.specs.Map.{keys_of}
-use Rattle.std.specs.declared.cmp.Ordering.TheVariants.{Less, Equal, Greater}
+use Rattle.std.specs.declared.cmp.Ordering.TheVariants.{Greater}
 use Rattle.wh_pieces.specs.Row.{Row, row_cmp}
 
 -- the rows of entries rise
@@ -13,31 +13,3 @@ AreRisingRows es = IsStrictlySortedBy row_cmp (keys_of es)
 -- the row is above each of these
 abbrev pub IsAbove : {T : Type 0} → Row → List (Row × T) → Type 0
 IsAbove row es = AllByRecursion (λ e. row_cmp row e.0 ≡ Greater) es
-
--- the row is below the first of these, if there is one
-abbrev pub IsBelowFirst : {T : Type 0} → Row → List (Row × T) → Type 0
-IsBelowFirst row [] = Unit {0}
-IsBelowFirst row (e ∷ es) = row_cmp row e.0 ≡ Less
-
--- the row is that of the first of these
-abbrev pub IsFirst : {T : Type 0} → Row → List (Row × T) → Type 0
-IsFirst row [] = ⊥
-IsFirst row (e ∷ es) = row_cmp row e.0 ≡ Equal
-
--- the row stands at this place
-pub record IsAt {T : Type 0} (row : Row) (es : List (Row × T)) (place : ℕ) : Type 0 where
-  pub within : place < length es
-  pub above : IsAbove row (take place es)
-  pub same : IsFirst row (drop place es)
-
--- the row would go to this place
-pub record IsGapFor {T : Type 0} (row : Row) (es : List (Row × T)) (place : ℕ) : Type 0 where
-  pub within : place ≤ length es
-  pub above : IsAbove row (take place es)
-  pub below : IsBelowFirst row (drop place es)
-
--- the entries with this value at this place
-abbrev pub set_at : {T : Type 0} → List (Row × T) → ℕ → T → List (Row × T)
-set_at [] place v = []
-set_at (e ∷ es) zero v = (e.0, v) ∷ es
-set_at (e ∷ es) (suc place) v = e ∷ set_at es place v

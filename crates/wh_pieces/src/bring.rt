@@ -4,7 +4,8 @@ ghost use Rattle.std.specs.Prelude.{◌≡◌, ◌++◌, List, ℤ, Some, None, 
 ghost use Rattle.wh_pieces.specs.Row.{is_row};
 ghost use Rattle.wh_pieces.specs.Place.{AreRisingRows, IsAbove};
 ghost use Rattle.wh_pieces.specs.Pieces.{found};
-ghost use Rattle.wh_pieces.specs.Merged.{AreMerged, HaveRowsOf, entry_of, lacking, either, without};
+ghost use Rattle.wh_pieces.specs.Merged.{AreMerged, HaveRowsOf};
+ghost use Rattle.wh_pieces.specs.Inner.Merged.{entry_of, lacking, either, without};
 
 use crate::pieces::Pieces;
 use std::alloc::AllocError;

@@ -2,7 +2,8 @@
 
 ghost use Rattle.std.specs.Prelude.{◌≡◌, ◌≢◌, ◌*◌, [], length, IfOk, OnErr};
 ghost use Rattle.wh_pieces.specs.Flat.{flat};
-ghost use Rattle.wh_pieces.specs.Pieces.{all_of, AreNotEmpty};
+ghost use Rattle.wh_pieces.specs.Pieces.{all_of};
+ghost use Rattle.wh_pieces.specs.Inner.Pieces.{AreNotEmpty};
 
 use crate::piece::Piece;
 use std::alloc::{AllocError, Global};

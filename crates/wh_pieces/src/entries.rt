@@ -4,8 +4,9 @@ ghost use Rattle.std.specs.Prelude.{◌≡◌, ◌<◌, ◌≤◌, ◌↔◌, []
 ghost use Rattle.std.specs.Iterator.{YieldsFirstBy, item_count};
 ghost use Rattle.wh_pieces.specs.Flat.{IsRun};
 ghost use Rattle.wh_pieces.specs.Lent.{lent};
-ghost use Rattle.wh_pieces.specs.Pieces.{all_of, AreNotEmpty, piece_at, BeginsAt};
-ghost use Rattle.wh_pieces.specs.Place.{IsFirst};
+ghost use Rattle.wh_pieces.specs.Pieces.{all_of};
+ghost use Rattle.wh_pieces.specs.Inner.Pieces.{AreNotEmpty, piece_at, BeginsAt};
+ghost use Rattle.wh_pieces.specs.Inner.Place.{IsFirst};
 
 use crate::piece::Piece;
 use std::cmp::Ordering;
@@ -27,7 +28,8 @@ impl<'a, T> Model for Entries<'a, T> {
 
     ghost coded = { coded_list (coded× (coded_list coded_ℤ) T.code) };
 
-    ghost use Rattle.wh_pieces.specs.Pieces.{all_of, BeginsAt};
+    ghost use Rattle.wh_pieces.specs.Pieces.{all_of};
+    ghost use Rattle.wh_pieces.specs.Inner.Pieces.{BeginsAt};
 
     ghost view = { λ e. drop e.place (all_of e.pieces.now) };
 

@@ -5,7 +5,8 @@ ghost use Rattle.std.specs.List.{insert, remove};
 ghost use Rattle.std.specs.Map.{keys_of};
 ghost use Rattle.wh_pieces.specs.Flat.{flat};
 ghost use Rattle.wh_pieces.specs.Pieces.{AreWide};
-ghost use Rattle.wh_pieces.specs.Place.{AreRisingRows, IsAt, IsGapFor, set_at};
+ghost use Rattle.wh_pieces.specs.Place.{AreRisingRows};
+ghost use Rattle.wh_pieces.specs.Inner.Place.{IsAt, IsGapFor, set_at};
 
 use crate::near::{likely_place, longer, place_to_ask};
 use std::alloc::{AllocError, Global};

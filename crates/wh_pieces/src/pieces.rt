@@ -5,7 +5,8 @@ ghost use Rattle.std.specs.List.{insert, remove};
 ghost use Rattle.wh_pieces.specs.Flat.{flat};
 ghost use Rattle.wh_pieces.specs.Row.{is_row};
 ghost use Rattle.wh_pieces.specs.Place.{AreRisingRows, IsAbove};
-ghost use Rattle.wh_pieces.specs.Pieces.{found, with_entry, without_entry, above, from, all_of, AreWide, AreNotEmpty, ArePieces, AreCounted, IsPieceFor, piece_at, before, after};
+ghost use Rattle.wh_pieces.specs.Pieces.{found, with_entry, without_entry, above, from, all_of, AreWide};
+ghost use Rattle.wh_pieces.specs.Inner.Pieces.{AreNotEmpty, ArePieces, AreCounted, IsPieceFor, piece_at, before, after};
 
 use crate::bulk::cut;
 use crate::entries::Entries;
@@ -33,7 +34,8 @@ impl<T> Model for Pieces<T> {
 
     ghost coded = { coded_list (coded× (coded_list coded_ℤ) T.code) };
 
-    ghost use Rattle.wh_pieces.specs.Pieces.{all_of, AreCounted};
+    ghost use Rattle.wh_pieces.specs.Pieces.{all_of};
+    ghost use Rattle.wh_pieces.specs.Inner.Pieces.{AreCounted};
 
     ghost view = { λ r. all_of r.pieces.items };
 

@@ -5,7 +5,8 @@ use Rattle.std.proofs.lemmas.Bool.{and_parts}
 use Rattle.std.proofs.lemmas.List.{append-nil, append_assoc}
 use Rattle.wh_text.specs.declared.fault.LoadFault.{LoadFault}
 use Rattle.wh_plan_text.specs.LineGrammar.{said_below, said_with}
-use Rattle.wh_plan_text.specs.ListedLines.{each_follows, if_follows, listed_grammar, told_by, told_in}
+use Rattle.wh_plan_text.specs.ListedLines.{if_follows, listed_grammar, told_by, told_in}
+use Rattle.wh_plan_text.specs.Inner.ListedLines.{each_follows}
 use Rattle.wh_plan_text.specs.Words.{words_of}
 
 -- ---- what one line says after others

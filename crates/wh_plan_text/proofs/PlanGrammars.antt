@@ -15,7 +15,8 @@ use Rattle.wh_strategy.specs.declared.expression.Expression.{Expression}
 use Rattle.wh_text.specs.declared.fault.LoadFault.{LoadFault}
 use Rattle.wh_text.specs.declared.fault.LoadFault.TheVariants.{Plan as PlanFault}
 use Rattle.wh_plan_text.specs.LineGrammar.{Say, SayWhole, read_by}
-use Rattle.wh_plan_text.specs.ListedLines.{each_follows, told_in}
+use Rattle.wh_plan_text.specs.ListedLines.{told_in}
+use Rattle.wh_plan_text.specs.Inner.ListedLines.{each_follows}
 use Rattle.wh_plan_text.specs.PlanGrammar.{BeginPlan, IsForScope, IsWhole, PlanFaults, PlanGrammar, SayPlan, plan_lines}
 use Rattle.wh_plan_text.specs.PlanLine.{plan_line_of}
 use Rattle.wh_plan_text.specs.PlanText.{listed_in, may_end, may_follow, may_stand, nodes_in, nodes_of, pairs_in, plan_from, plan_grammar, plan_of, plan_said}

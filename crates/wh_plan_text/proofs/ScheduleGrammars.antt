@@ -10,11 +10,13 @@ use Rattle.std.proofs.lemmas.List.{append-nil, length-append}
 use Rattle.wh_text.specs.declared.fault.LoadFault.{LoadFault}
 use Rattle.wh_text.specs.declared.fault.LoadFault.TheVariants.{Schedule as ScheduleFault}
 use Rattle.wh_plan_text.specs.LineGrammar.{Say, SayWhole, read_by}
-use Rattle.wh_plan_text.specs.ListedLines.{each_follows, told_in}
+use Rattle.wh_plan_text.specs.ListedLines.{told_in}
+use Rattle.wh_plan_text.specs.Inner.ListedLines.{each_follows}
 use Rattle.wh_plan_text.specs.Natural.{if_within, natural, number_within}
 use Rattle.wh_plan_text.specs.ScheduleGrammar.{BeginSchedule, SaySchedule, ScheduleFaults, ScheduleGrammar, schedule_lines}
 use Rattle.wh_plan_text.specs.ScheduleLine.{event_of, head_number, line_in, schedule_line_of}
-use Rattle.wh_plan_text.specs.ScheduleText.{IsSized, ScheduleOf, desks_in, events_in, keys_in, may_end, may_follow, schedule_from, schedule_grammar, schedule_of, schedule_said, workers_in}
+use Rattle.wh_plan_text.specs.ScheduleText.{ScheduleOf, desks_in, events_in, keys_in, may_end, may_follow, schedule_from, schedule_grammar, schedule_of, schedule_said, workers_in}
+use Rattle.wh_plan_text.specs.Inner.ScheduleText.{IsSized}
 use Rattle.wh_plan_text.specs.Words.{lines_of, words_of}
 use Rattle.wh_plan_text.specs.declared.schedule.event.ScheduledEvent.{ScheduledEvent}
 use Rattle.wh_plan_text.specs.declared.schedule.line.ScheduleLine.{ScheduleLine}

@@ -16,3 +16,4 @@ pub mod StrategyText
 pub mod TreeGrowth
 pub mod TreeText
 pub mod Words
+pub mod Inner

@@ -1,5 +1,5 @@
 -- Texts whose lines with words each say one thing: what they say is a list, in which each thing may follow those above it.
-use Rattle.std.specs.Prelude.{◌++◌, ◌==◌, ◌&&◌, ℕ, Bool, true, List, [], ◌∷◌, length, Option, Some, None, if◌then◌else◌}
+use Rattle.std.specs.Prelude.{◌++◌, ◌==◌, ℕ, Bool, List, [], ◌∷◌, length, Option, Some, None, if◌then◌else◌}
 use Rattle.std.specs.List.{flat_map}
 use Rattle.wh_text.specs.declared.fault.LoadFault.{LoadFault}
 use Rattle.wh_plan_text.specs.LineGrammar.{LineGrammar}
@@ -21,8 +21,3 @@ told_by line_of line = if length (words_of line) == 0 then [] else line_of line 
 -- what lines say, one after another
 abbrev pub told_in : {Line : Type 0} → (List ℕ → List (List ℕ) → Option Line) → List (List ℕ) → List (Option Line)
 told_in line_of lines = flat_map (told_by line_of) lines
-
--- each of the later may follow those before it
-abbrev pub each_follows : {Line : Type 0} → (List Line → Line → Bool) → List Line → List Line → Bool
-each_follows follows before [] = true
-each_follows follows before (line ∷ lines) = follows before line && each_follows follows (before ++ line ∷ []) lines

@@ -1,5 +1,5 @@
 -- A schedule as text: how large the machine is, and its events.
-use Rattle.std.specs.Prelude.{◌==◌, ◌≤◌, ℕ, Bool, nat_lt, List, [], ◌∷◌, length, Result, Ok, Err}
+use Rattle.std.specs.Prelude.{◌==◌, ℕ, Bool, nat_lt, List, [], ◌∷◌, length, Result, Ok, Err}
 use Rattle.std.specs.List.{flat_map}
 use Rattle.wh_text.specs.declared.fault.LoadFault.{LoadFault}
 use Rattle.wh_text.specs.declared.fault.LoadFault.TheVariants.{Schedule as ScheduleFault}
@@ -16,15 +16,6 @@ pub record ScheduleOf : Type 0 where
   pub workers : ℕ
   pub keys : ℕ
   pub events : List ScheduledEvent
-
--- desks and workers are 1 to 16, and the keys of a page 1 to 256
-pub record IsSized (desks workers keys : ℕ) : Type 0 where
-  pub some_desks : 1 ≤ desks
-  pub most_desks : desks ≤ 16
-  pub some_workers : 1 ≤ workers
-  pub most_workers : workers ≤ 16
-  pub some_keys : 1 ≤ keys
-  pub most_keys : keys ≤ 256
 
 -- a line of this kind may stand after these: first the desks, then the workers, the keys, and at the end the events
 abbrev pub may_follow : List ScheduleLine → ScheduleLine → Bool

@@ -1,7 +1,8 @@
 //! A schedule as text: how large the machine is, and the events that it goes through.
 ghost use Rattle.std.specs.Prelude.{◌≡◌, ◌≢◌, ◌⊎◌, ◌≤◌, [], Ok, Err, IfOk, IfErr};
 ghost use Rattle.wh_plan_text.specs.ScheduleGrammar.{ScheduleFaults, ScheduleGrammar};
-ghost use Rattle.wh_plan_text.specs.ScheduleText.{IsSized, desks_in, keys_in, schedule_from, schedule_of, workers_in};
+ghost use Rattle.wh_plan_text.specs.ScheduleText.{desks_in, keys_in, schedule_from, schedule_of, workers_in};
+ghost use Rattle.wh_plan_text.specs.Inner.ScheduleText.{IsSized};
 
 pub mod event;
 mod line;
@@ -25,7 +26,8 @@ pub struct Schedule {
 }
 
 impl Model for Schedule {
-    ghost use Rattle.wh_plan_text.specs.ScheduleText.{IsSized, ScheduleOf};
+    ghost use Rattle.wh_plan_text.specs.ScheduleText.{ScheduleOf};
+    ghost use Rattle.wh_plan_text.specs.Inner.ScheduleText.{IsSized};
 
     ghost Value = { ScheduleOf };
 

@@ -9,7 +9,8 @@ use Rattle.wh_strategy.specs.Sums.{sum_below}
 use Rattle.wh_cert.specs.Bound.{cost_by, decided_bound_of, decided_value, in_order, pair_min, rows_by, sum_pairs}
 use Rattle.wh_cert.specs.Graph.{decides, DecidesAll, DecidesAsDesired}
 use Rattle.wh_cert.proofs.DesiredOrder.{desired_is_least, pair_min-swap}
-use Rattle.wh_minwork.specs.Draft.{completed, DecidesCouples, DecidesOneWay}
+use Rattle.wh_minwork.specs.Draft.{completed, DecidesCouples}
+use Rattle.wh_minwork.specs.Inner.Draft.{DecidesOneWay}
 use Rattle.wh_minwork.proofs.Drafting.{completed_decides}
 use Rattle.wh_prune.proofs.Deciding.{decides-reverse}
 

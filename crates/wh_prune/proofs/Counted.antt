@@ -12,7 +12,7 @@ use Rattle.wh_minwork.specs.Decided.{AreDecisions}
 use Rattle.wh_minwork.specs.Draft.{DecidesCouples}
 use Rattle.wh_minwork.proofs.Decisions.{decisions_more}
 use Rattle.wh_minwork.proofs.Drafting.{couples_push, decision_stands}
-use Rattle.wh_prune.specs.Searching.{couple_of}
+use Rattle.wh_prune.specs.Inner.Searching.{couple_of}
 use Rattle.wh_prune.proofs.CoupleLists.{counted, not_counted, stands, stands-append, stands-this, couple-stands, is_that}
 use Rattle.wh_prune.proofs.Deciding.{couple_on, is_lower, open_couple, rises, stands_decided}
 

@@ -11,7 +11,7 @@ use Rattle.wh_dag.proofs.CommonParents.{parent_of_both, both_have_parent}
 use Rattle.wh_dag.proofs.FewCouples.{is_of, count_cons}
 use Rattle.wh_cert.specs.Graph.{decides, DecidesAll}
 use Rattle.wh_cert.specs.Search.{IsOpen}
-use Rattle.wh_prune.specs.Searching.{couple_of, AreLeft}
+use Rattle.wh_prune.specs.Inner.Searching.{couple_of, AreLeft}
 use Rattle.wh_prune.proofs.CoupleLists.{counted, is_that, not_counted, stands, stands-append, stands-this, stands-once, stands-couple, couple-stands}
 
 -- the couple of a decision, whichever of the two is first

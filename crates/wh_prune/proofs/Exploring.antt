@@ -34,7 +34,7 @@ use Rattle.wh_prune.specs.declared.fault.PruneFault.{PruneFault}
 use Rattle.wh_prune.specs.declared.fault.PruneFault.TheVariants.{Budget, Memory}
 use Rattle.wh_prune.specs.Branching.{BranchesOnCycle, IsOnCycle, TakesFromCycle}
 use Rattle.wh_prune.specs.Plan.{HasBranchesOnCycles, IsSearchReason, IsWithinBudget}
-use Rattle.wh_prune.specs.Searching.{IsExplored, IsHeld, IsStopped}
+use Rattle.wh_prune.specs.Inner.Searching.{IsExplored, IsHeld, IsStopped}
 use Rattle.wh_prune.specs.Spent.{IsWithinLowest}
 use Rattle.wh_prune.proofs.Bounding.{bound-reverse, bound-completed, completed_all}
 use Rattle.wh_prune.proofs.Branches.{on_cycle-reverse}

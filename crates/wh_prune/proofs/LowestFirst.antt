@@ -8,7 +8,7 @@ use Rattle.wh_cert.specs.Graph.{decides, IsNode, HasEdge, Leads, IsCycle, Decide
 use Rattle.wh_minwork.specs.Sorted.{IsSorted}
 use Rattle.wh_minwork.proofs.Decisions.{decides_was}
 use Rattle.wh_minwork.proofs.Sorting.{sorted_agrees}
-use Rattle.wh_prune.specs.Searching.{DecidesLowerFirst}
+use Rattle.wh_prune.specs.Inner.Searching.{DecidesLowerFirst}
 use Rattle.wh_prune.specs.Spent.{InstallsLowerFirst}
 
 pub lower_none : DecidesLowerFirst []

@@ -1,5 +1,5 @@
 pub mod Branching
 pub mod Fault
 pub mod Plan
-pub mod Searching
 pub mod Spent
+pub mod Inner

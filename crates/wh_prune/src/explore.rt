@@ -11,7 +11,7 @@ ghost use Rattle.wh_cert.specs.declared.tree.TreeNode.{TreeNode};
 ghost use Rattle.wh_minwork.specs.Decided.{AreDecisions};
 ghost use Rattle.wh_minwork.specs.Draft.{DecidesCouples};
 ghost use Rattle.wh_prune.specs.Branching.{IsOnCycle};
-ghost use Rattle.wh_prune.specs.Searching.{AreLeft, DecidesLowerFirst, IsExplored, IsHeld, IsStopped};
+ghost use Rattle.wh_prune.specs.Inner.Searching.{AreLeft, DecidesLowerFirst, IsExplored, IsHeld, IsStopped};
 ghost use Rattle.wh_prune.specs.Spent.{IsWithinLowest};
 
 use crate::fault::PruneFault;

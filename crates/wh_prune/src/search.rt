@@ -11,7 +11,7 @@ ghost use Rattle.wh_cert.specs.Bound.{pair_bound_of};
 ghost use Rattle.wh_cert.specs.Certificate.{IsJudged};
 ghost use Rattle.wh_cert.specs.declared.certificate.Scope.{Scope};
 ghost use Rattle.wh_prune.specs.Plan.{HasBranchesOnCycles, IsSearchReason, IsWithinBudget, accepted_for};
-ghost use Rattle.wh_prune.specs.Searching.{IsExplored};
+ghost use Rattle.wh_prune.specs.Inner.Searching.{IsExplored};
 
 use crate::explore::Search;
 use crate::fault::PruneFault;

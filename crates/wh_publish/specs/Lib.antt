@@ -1,3 +1,3 @@
 pub mod Ledgers
-pub mod Codes
 pub mod Faults
+pub mod Inner

@@ -11,8 +11,7 @@ use Rattle.wh_publish.specs.Faults.{fault_of}
 use Rattle.wh_store.specs.declared.fault.StoreFault.TheVariants.{NightOpen, LastVersion}
 use Rattle.wh_publish.specs.declared.fault.PublishFault.TheVariants.{Held}
 use Rattle.wh_publish.specs.Ledgers.{Ledger, Warehouse, versions_in}
-use Rattle.wh_course.specs.Night.{Night}
-use Rattle.wh_run.specs.Refusals.{AreAllowed}
+use Rattle.wh_course.specs.Night.{Night, AreAllowed}
 use Rattle.wh_run.specs.Tonight.{Begin_it, goes_out, newest_in, tonight}
 use Rattle.wh_core.specs.Nights.{GivenNight, Setup}
 use Rattle.wh_readers.specs.RunningNights.{AreEndedNights, AreRunningNights, CanBegin, ComesNext, GoOn, HasEnded, NightsGoOn, all_ended, night_after, one_more, one_open}

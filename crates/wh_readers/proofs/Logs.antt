@@ -7,14 +7,14 @@ use Rattle.wh_night.specs.NightList.{IsCutNight}
 use Rattle.wh_night.specs.Refused.{ArePassedBelow}
 use Rattle.wh_store.specs.Operations.{Operation, Opens, Gives_up}
 use Rattle.wh_store.specs.Versions.{Versions, number, opened, versions_from, versions_of}
-use Rattle.wh_course.specs.Night.{Night}
+use Rattle.wh_course.specs.Night.{Night, AreAllowed}
 use Rattle.wh_desk.specs.Desks.{SeenVersionsStay, Sitting, versions_seen}
 use Rattle.wh_publish.specs.Ledgers.{Warehouse}
 use Rattle.wh_run.specs.Tonight.{Begin_it, IsWhole}
 use Rattle.wh_core.specs.Laws.{IsSetup}
 use Rattle.wh_core.specs.Log.{Log, SessionOf, Began, Gave_up, nights_begun, session}
 use Rattle.wh_core.specs.Nights.{Setup, next_night, night_from, versions}
-use Rattle.wh_core.specs.Replies.{AreAllowed, nothing}
+use Rattle.wh_core.specs.Replies.{nothing}
 use Rattle.wh_core.proofs.NightLogs.{IsOneMore, all_seated, cut_night, night_ops, open_night, whole_night}
 use Rattle.wh_core.proofs.Underway.{versions_from-append}
 use Rattle.wh_readers.specs.Alike.{AreAlike, AreSeenAlike, row_read}

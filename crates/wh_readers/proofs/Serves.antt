@@ -21,7 +21,7 @@ use Rattle.wh_desk.specs.Desks.{Sitting}
 use Rattle.wh_run.specs.declared.left.NightFault.{NightFault}
 use Rattle.wh_run.proofs.Soundness.{done_number}
 use Rattle.wh_run.specs.Tonight.{newest_in}
-use Rattle.wh_readers.specs.Serving.{IsReady, IsRun, IsSeated, IsServed, newly}
+use Rattle.wh_readers.specs.Inner.Serving.{IsReady, IsRun, IsSeated, IsServed, newly}
 use Rattle.wh_readers.specs.declared.serving.Served.{Served}
 
 -- ---- tables that are fit are tables

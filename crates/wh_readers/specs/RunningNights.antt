@@ -7,9 +7,8 @@ use Rattle.wh_store.specs.Operations.{Operation, Opens}
 use Rattle.wh_store.specs.Versions.{number, versions_of}
 use Rattle.wh_publish.specs.Faults.{publish_refusal}
 use Rattle.wh_publish.specs.Ledgers.{Ledger, Warehouse}
-use Rattle.wh_course.specs.Night.{Night}
+use Rattle.wh_course.specs.Night.{Night, AreAllowed}
 use Rattle.wh_desk.specs.Desks.{Grows, OpensAt, Sitting}
-use Rattle.wh_run.specs.Refusals.{AreAllowed}
 use Rattle.wh_run.specs.Tonight.{Begin_it, IsDone, IsWhole, goes_out, newest_in, tonight}
 use Rattle.wh_core.specs.Laws.{IsSetup}
 use Rattle.wh_core.specs.Log.{Log, SessionOf, is_open, nights_begun, session}

@@ -8,7 +8,8 @@ ghost use Rattle.wh_row.specs.Weigh.{Counted};
 ghost use Rattle.wh_store.specs.Pages.{page_of};
 ghost use Rattle.wh_store.specs.Versions.{table_in};
 ghost use Rattle.wh_publish.specs.Ledgers.{Warehouse};
-ghost use Rattle.wh_readers.specs.Serving.{IsReady, rows_of};
+ghost use Rattle.wh_readers.specs.Serving.{rows_of};
+ghost use Rattle.wh_readers.specs.Inner.Serving.{IsReady};
 
 use crate::watch::Watch;
 use std::alloc::Global;

@@ -18,7 +18,8 @@ ghost use Rattle.wh_publish.specs.Ledgers.{Warehouse};
 ghost use Rattle.wh_run.specs.Refusals.{IsRefused, IsRefusedSo, left_of};
 ghost use Rattle.wh_run.specs.Tonight.{newest_in, night_over};
 ghost use Rattle.wh_store.specs.Windows.{Shows, current};
-ghost use Rattle.wh_readers.specs.Serving.{CanRun, IsReady, IsRun, IsSeated, IsServed, newly, rows_of};
+ghost use Rattle.wh_readers.specs.Serving.{rows_of};
+ghost use Rattle.wh_readers.specs.Inner.Serving.{CanRun, IsReady, IsRun, IsSeated, IsServed, newly};
 
 use crate::reading::read_each;
 use crate::watch::Watch;

@@ -10,7 +10,7 @@ use Rattle.wh_pieces.proofs.OrderLaws.{turned, still_above}
 use Rattle.wh_pieces.proofs.PieceLaws.{rising-pushed}
 use Rattle.wh_row.specs.Row.{Row, row_cmp}
 use Rattle.wh_row.specs.Weigh.{Counted}
-use Rattle.wh_row.specs.Stored.{AreCounts}
+use Rattle.wh_row.specs.Inner.Stored.{AreCounts}
 use Rattle.wh_row.proofs.KeptSums.{all_pushed}
 use Rattle.wh_row.proofs.RunningSums.{next_taken}
 

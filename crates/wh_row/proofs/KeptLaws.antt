@@ -18,8 +18,8 @@ use Rattle.wh_row.proofs.WrittenLaws.{none_found, written-empty, zero_or_not, ea
 use mir.Syntax.{w64}
 use Rattle.wh_pieces.specs.Place.{AreRisingRows}
 use Rattle.wh_row.specs.declared.kept.Kept.{Kept}
-use Rattle.wh_row.specs.Kept.{one_below, rows_below, IsKeptOf, AreKept}
-use Rattle.wh_row.specs.Stored.{AreCounts}
+use Rattle.wh_row.specs.Inner.Kept.{one_below, rows_below, IsKeptOf, AreKept}
+use Rattle.wh_row.specs.Inner.Stored.{AreCounts}
 use Rattle.wh_row.proofs.MapLaws.{nz, whole-nz, entries-set_count, written-from_counts}
 
 -- the entries of a bag, written out

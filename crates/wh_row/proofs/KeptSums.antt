@@ -10,7 +10,7 @@ use lib.IntN.{+ℤ_idl, +ℤ_idr}
 use mir.Syntax.{w64}
 use Rattle.wh_pieces.proofs.PieceLaws.{all_less}
 use Rattle.wh_row.specs.declared.kept.Kept.{Kept}
-use Rattle.wh_row.specs.Kept.{one_below, IsKeptOf}
+use Rattle.wh_row.specs.Inner.Kept.{one_below, IsKeptOf}
 use Rattle.wh_row.specs.Row.{Row, row_cmp, is_row}
 use Rattle.wh_row.specs.Weigh.{Counted, count_in}
 use Rattle.wh_row.specs.Bag.{Bag, count, set_count, bag_of, sum_of, written, SumFits}

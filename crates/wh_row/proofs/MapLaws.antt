@@ -18,8 +18,9 @@ use Rattle.wh_pieces.proofs.BringLaws.{found-with, found-without, found_first, n
 use Rattle.wh_row.specs.Row.{Row, row_cmp, is_row}
 use Rattle.wh_row.specs.Weigh.{Counted}
 use Rattle.wh_row.specs.Bag.{Bag, number, count, set_count, sum_of, NonZero, more, fewer, whole, written, SumFits, HasRowsOf}
-use Rattle.wh_row.specs.Room.{unless_zero}
-use Rattle.wh_row.specs.Stored.{from_counts, AreCountsIn}
+use Rattle.wh_row.specs.Inner.Room.{unless_zero}
+use Rattle.wh_row.specs.Stored.{from_counts}
+use Rattle.wh_row.specs.Inner.Stored.{AreCountsIn}
 use Rattle.wh_row.proofs.RowLaws.{rows_total, same_row, and_first, is_less}
 use Rattle.wh_row.proofs.CountLaws.{count-set_count, count-sum_of, same_bag}
 use Rattle.wh_row.proofs.WrittenLaws.{entries-empty}

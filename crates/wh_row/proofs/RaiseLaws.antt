@@ -8,8 +8,9 @@ use Rattle.wh_pieces.specs.Pieces.{found, with_entry}
 use Rattle.wh_row.specs.Row.{Row}
 use Rattle.wh_row.specs.Weigh.{Counted}
 use Rattle.wh_row.specs.Bag.{Bag, count, set_count, plus}
-use Rattle.wh_row.specs.Room.{IsRaised}
-use Rattle.wh_row.specs.Stored.{from_counts, AreCountsIn}
+use Rattle.wh_row.specs.Inner.Room.{IsRaised}
+use Rattle.wh_row.specs.Stored.{from_counts}
+use Rattle.wh_row.specs.Inner.Stored.{AreCountsIn}
 use Rattle.wh_row.proofs.RowLaws.{itself}
 use Rattle.wh_row.proofs.CountLaws.{count-set_count, set_twice, set_same}
 use Rattle.wh_row.proofs.WrittenLaws.{zero_or_not}

@@ -2,8 +2,8 @@
 
 ghost use Rattle.std.specs.Prelude.{◌≡◌, IfSome, unsigned_abs};
 ghost use Rattle.std.specs.List.{sum_by};
-ghost use Rattle.wh_row.specs.Kept.{one_below};
-ghost use Rattle.wh_row.specs.Stored.{AreCounts};
+ghost use Rattle.wh_row.specs.Inner.Kept.{one_below};
+ghost use Rattle.wh_row.specs.Inner.Stored.{AreCounts};
 
 use crate::kept::{Kept, one_if_below};
 use crate::records::Records;

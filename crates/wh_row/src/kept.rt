@@ -1,7 +1,7 @@
 //! What a bag keeps of its counts.
 
 ghost use Rattle.std.specs.Prelude.{◌≡◌, ◌<◌, ◌≤◌, ◌+◌, ◌^◌, unsigned_abs};
-ghost use Rattle.wh_row.specs.Kept.{one_below};
+ghost use Rattle.wh_row.specs.Inner.Kept.{one_below};
 
 /// What is kept of a bag's counts, so that no row is walked through for it.
 #[derive(Clone, Copy, Drop)]

@@ -21,25 +21,30 @@ use Rattle.wh_maint.specs.Size.{IsTooLarge}
 use Rattle.wh_night.specs.declared.stages.Job.{Job}
 use Rattle.wh_night.specs.AnyOrder.{IsSameAt, expressions_from}
 use Rattle.wh_night.specs.Carry.{State, carried, change_in}
-use Rattle.wh_night.specs.Kept.{Kept, AreKnown, computed, finished, rows_in}
-use Rattle.wh_night.specs.Refused.{CanAllBeFinishedIn, CanBeComputed, CanBeFinishedIn, CompIsLarge, CompMeetsNoValue, IsCompFaultIn, IsFirstUnfinishedIn, IsPassedIn, IsRuledOut, PendingIsLarge}
-use Rattle.wh_night.specs.Steps.{AreFirstSteps}
+use Rattle.wh_night.specs.Kept.{Kept, AreKnown, finished}
+use Rattle.wh_night.specs.Inner.Kept.{computed, rows_in}
+use Rattle.wh_night.specs.Refused.{CanAllBeFinishedIn, CanBeComputed, CanBeFinishedIn, CompIsLarge, CompMeetsNoValue, IsCompFaultIn, IsFirstUnfinishedIn, IsRuledOut, PendingIsLarge}
+use Rattle.wh_night.specs.Inner.Refused.{IsPassedIn}
+use Rattle.wh_night.specs.Inner.Steps.{AreFirstSteps}
 use Rattle.wh_night.specs.Waves.{comp_of}
 use Rattle.wh_night.proofs.Agreeing.{comp_done, same_reach}
 use Rattle.wh_night.proofs.Amid.{IsSource, source_due, source_in, sources_finished, waves_have_no_order}
 use Rattle.wh_night.proofs.AnyOrder.{carried_on}
 use Rattle.wh_night.proofs.Nights.{agrees_next, passed_next, rows_right, steps_next}
-use Rattle.wh_night.proofs.Reasons.{CanBeFinished}
-use Rattle.wh_night.proofs.Refusals.{AreTold, added, computes, same_fit, told_next, unfinished}
+use Rattle.wh_night.specs.Inner.Reasons.{CanBeFinished}
+use Rattle.wh_night.proofs.Refusals.{added, computes, same_fit, told_next, unfinished}
+use Rattle.wh_night.specs.Inner.Agreeing.{AreTold}
 use Rattle.wh_night.proofs.Storing.{merge_refused}
 use Rattle.wh_night.proofs.StepRows.{whole_at}
 use Rattle.wh_course.specs.Night.{Night, state_at}
-use Rattle.wh_course.specs.Standing.{IsWaveAt, StandsAt, is_source}
+use Rattle.wh_course.specs.Standing.{is_source}
+use Rattle.wh_course.specs.Inner.Standing.{IsWaveAt, StandsAt}
 use Rattle.wh_course.proofs.Sources.{all_before, its_inst, its_job, job_at, source_finishes, source_of}
 use Rattle.wh_course.proofs.Waves.{source_among, split_at}
 use Rattle.wh_run.specs.Refusals.{IsWaveFault}
 use Rattle.wh_run.specs.Tonight.{made_by}
-use Rattle.wh_run.specs.Underway.{AreAdded, CanCompute, HasCome, IsFirstUncomputed, Reports, SourcesAreKnown, SourcesFinish}
+use Rattle.wh_run.specs.Underway.{AreAdded, CanCompute, IsFirstUncomputed, SourcesAreKnown}
+use Rattle.wh_run.specs.Inner.Underway.{HasCome, Reports, SourcesFinish}
 use Rattle.wh_run.proofs.Puts.{item}
 use Rattle.wh_run.proofs.WaveFaults.{large_fault, pending_fault, range_fault, source_fault}
 

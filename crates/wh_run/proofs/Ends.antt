@@ -12,12 +12,11 @@ use Rattle.wh_store.specs.Versions.{Versions, after, is_active, versions_from, v
 use Rattle.wh_publish.specs.Ledgers.{Ledger, closed, gone_out, is_busy, ledger, stays_open, versions_in, with_held}
 use Rattle.wh_publish.specs.Faults.{Ends, EndsLater}
 use Rattle.wh_publish.specs.declared.ended.Ended.{Ended}
-use Rattle.wh_course.specs.Night.{Night}
+use Rattle.wh_course.specs.Night.{Night, AreAllowed}
 use Rattle.wh_run.specs.Causes.{cause_of}
 use Rattle.wh_run.specs.declared.cause.NightCause.{NightCause}
-use Rattle.wh_run.specs.Refusals.{AreAllowed}
 use Rattle.wh_run.specs.Tonight.{Begin_it, HasStopped, IsCut, IsDone, IsOpen, IsRefusedThere, goes_out, nothing, out_below, put, commit, give_up}
-use Rattle.wh_run.specs.Underway.{IsPut, IsStopped, WaitsToCommit}
+use Rattle.wh_run.specs.Inner.Underway.{IsPut, IsStopped, WaitsToCommit}
 use Rattle.wh_run.proofs.Outs.{held_behind}
 use Rattle.wh_run.proofs.Puts.{Opens_it, begins_at, begins_open, begins_shorter, front_begins, is_write, whole_out}
 

@@ -19,7 +19,7 @@ use Rattle.wh_maint.specs.Refused.{NoneAbsent}
 use Rattle.wh_maint.specs.View.{Kind, ViewGraph}
 use Rattle.wh_maint.specs.declared.fault.MaintFault.TheVariants.{Memory}
 use Rattle.wh_night.specs.Carry.{State, at_first, before, carried, change_in, step, tables_after}
-use Rattle.wh_night.specs.Fit.{AreAllowed, AreFit, AreFitFor, AreFitTables}
+use Rattle.wh_night.specs.Fit.{AreChangesAllowed, AreFit, AreFitFor, AreFitTables}
 use Rattle.wh_night.specs.Refused.{AreAllowedBelow, BaseIsLarge, ChangeHasNoValue, ChangeIsLarge, CompIsLarge, CompMeetsNoValue, IsBaseFault, IsListFault, IsNightFault, PendingIsLarge, RowIsLacking, TableIsLarge}
 use Rattle.wh_night.specs.declared.report.CarryFault.{CarryFault}
 use Rattle.wh_night.proofs.Agreeing.{a_base, count-empty, past}
@@ -42,7 +42,7 @@ nothing_large : SumFits empty empty
 nothing_large row = let e : count empty row ≡ pos 0 = count-empty row in omega (arith, ints, e)
 
 pub allowed_for : (catalog : CatalogOf) (tables changes : List Bag) → AreBags catalog tables → AreBags catalog changes
-    → AreAllowedBelow catalog (bag_at tables) (bag_at changes) (length catalog.views.children) → AreAllowed (graph_of catalog) (bag_at changes) (bag_at tables)
+    → AreAllowedBelow catalog (bag_at tables) (bag_at changes) (length catalog.views.children) → AreChangesAllowed (graph_of catalog) (bag_at changes) (bag_at tables)
 allowed_for catalog tables changes are given allowed = record {
   none_absent = λ b e. ⊎_elim
       (λ l. allowed (RowIsLacking b) (l, base_of (children_of catalog.views.children b) e))
@@ -55,7 +55,7 @@ allowed_for catalog tables changes are given allowed = record {
 }
 
 -- the other way: where they are allowed, none is refused
-none_refused : (catalog : CatalogOf) (tables changes : ℕ → Bag) → AreAllowed (graph_of catalog) changes tables → AreAllowedBelow catalog tables changes (length catalog.views.children)
+none_refused : (catalog : CatalogOf) (tables changes : ℕ → Bag) → AreChangesAllowed (graph_of catalog) changes tables → AreAllowedBelow catalog tables changes (length catalog.views.children)
 none_refused catalog tables changes allowed (RowIsLacking b) asked = allowed.none_absent b (a_base (children_of catalog.views.children b) asked.1)
 none_refused catalog tables changes allowed (BaseIsLarge b) asked = allowed.counts_fit b (a_base (children_of catalog.views.children b) asked.1)
 none_refused catalog tables changes allowed (ChangeIsLarge v) asked = absurd asked

@@ -23,14 +23,15 @@ use Rattle.wh_night.specs.Waves.{comp_of, expressions_of, stages_of}
 use Rattle.wh_night.proofs.FirstRefusals.{refusals_are_one}
 use Rattle.wh_night.proofs.Reasons.{turns}
 use Rattle.wh_night.proofs.StageLaws.{lists_have_one_stages, waves_are_side_by_side}
-use Rattle.wh_course.specs.Night.{Night, state_at}
-use Rattle.wh_course.specs.Standing.{IsWaveAt, place_of}
+use Rattle.wh_course.specs.Night.{Night, state_at, AreAllowed}
+use Rattle.wh_course.specs.Standing.{place_behind}
+use Rattle.wh_course.specs.Inner.Standing.{IsWaveAt}
 use Rattle.wh_course.proofs.Parts.{fits_behind}
 use Rattle.wh_course.proofs.Sources.{job_at}
 use Rattle.wh_run.specs.declared.left.Left.{Left}
 use Rattle.wh_run.specs.declared.left.Left.TheVariants.{Untouched, GivenUp, StillOpen}
 use Rattle.wh_run.specs.Laws.{NightsHaveOneRefusal}
-use Rattle.wh_run.specs.Refusals.{AreAllowed, ComesBeforeIn, IsFirstStageFault, IsOfJobs, IsRefusedSo, IsStageFault, IsWaveFault, number_of, turn_in}
+use Rattle.wh_run.specs.Refusals.{ComesBeforeIn, IsFirstStageFault, IsOfJobs, IsRefusedSo, IsStageFault, IsWaveFault, number_of, rank_in}
 use Rattle.wh_run.proofs.Comes.{same_place}
 use Rattle.wh_run.proofs.WaveFaults.{number_is}
 
@@ -108,7 +109,7 @@ module _ (n : Night) (is : IsCatalog n.catalog) (ok : IsCorrect n.catalog.views.
     its_job j job w here e = ap (λ v. job_of jobs (number_of jobs v)) e ∙ ap (job_of jobs) (number_is n place jobs wave is ok j job here) ∙ job_found jobs j job here
 
     -- a reason is told by its turn
-    told : (r : Reason) → IsOfJobs jobs r → r ≡ of_turn jobs (turn_in jobs r).0 (turn_in jobs r).1 (turn_in jobs r).2
+    told : (r : Reason) → IsOfJobs jobs r → r ≡ of_turn jobs (rank_in jobs r).0 (rank_in jobs r).1 (rank_in jobs r).2
     unfolding of_turn
     told (RowIsLacking b) asked = absurd asked.3
     told (BaseIsLarge b) asked = absurd asked.3
@@ -134,7 +135,7 @@ module _ (n : Night) (is : IsCatalog n.catalog) (ok : IsCorrect n.catalog.views.
         (λ l. absurd (b.stands (a.earlier r b.asked l)))
         (λ e. told q a.asked ∙ (λ i. of_turn jobs (e.0 i) (e.1 i) (e.2 i)) ∙ sym (told r b.asked))
         other)
-        (turns (turn_in jobs q) (turn_in jobs r))
+        (turns (rank_in jobs q) (rank_in jobs r))
 
     one_wave : (f g : MaintFault) → IsWaveFault n place jobs f → IsWaveFault n place jobs g → f ≡ g
     one_wave f g a b =
@@ -155,38 +156,38 @@ module _ (n : Night) (is : IsCatalog n.catalog) (ok : IsCorrect n.catalog.views.
   -- ---- a stage
 
   module _ (before after : List Stage) where
-    its_wave : (jobs : List Job) → stages_of n.list ≡ before ++ stage.Wave jobs ∷ after → IsWaveAt n.catalog jobs n (place_of before)
+    its_wave : (jobs : List Job) → stages_of n.list ≡ before ++ stage.Wave jobs ∷ after → IsWaveAt n.catalog jobs n (place_behind before)
     its_wave jobs split = let law = waves_are_side_by_side n.catalog.views.children n.list ok before after jobs split in record { same = refl; are = law.0; side = law.1 }
 
-    inst_there : (v : ℕ) → stages_of n.list ≡ before ++ stage.Inst v ∷ after → At n.list (place_of before) (Inst v)
+    inst_there : (v : ℕ) → stages_of n.list ≡ before ++ stage.Inst v ∷ after → At n.list (place_behind before) (Inst v)
     inst_there v split =
-        subst (λ l. At l (place_of before) (Inst v))
+        subst (λ l. At l (place_behind before) (Inst v))
         (sym (flat_map-append expressions_of before (stage.Inst v ∷ after)) ∙ ap (flat_map expressions_of) (sym split) ∙ (lists_have_one_stages n.list).0.joined)
         (at_middle (flat_map expressions_of before) (Inst v) (flat_map expressions_of after))
 
-    stage_passed : (x : Stage) → stages_of n.list ≡ before ++ x ∷ after → ArePassedBelow n.catalog n.list n.tables n.changes (place_of before + length (expressions_of x))
-        → (f : MaintFault) → ¬ (IsStageFault n (place_of before) x f)
+    stage_passed : (x : Stage) → stages_of n.list ≡ before ++ x ∷ after → ArePassedBelow n.catalog n.list n.tables n.changes (place_behind before + length (expressions_of x))
+        → (f : MaintFault) → ¬ (IsStageFault n (place_behind before) x f)
     stage_passed (stage.Wave jobs) split passed f w =
-        wave_passed (place_of before) jobs (its_wave jobs split)
-        (subst (λ k. ArePassedBelow n.catalog n.list n.tables n.changes (place_of before + k)) (length-map jobs comp_of) passed) f w
+        wave_passed (place_behind before) jobs (its_wave jobs split)
+        (subst (λ k. ArePassedBelow n.catalog n.list n.tables n.changes (place_behind before + k)) (length-map jobs comp_of) passed) f w
     stage_passed (stage.Inst v) split passed f w =
-        w.first.stands (passed (place_of before) (Inst v) (omega arith) (inst_there v split) w.reason w.first.asked)
+        w.first.stands (passed (place_behind before) (Inst v) (omega arith) (inst_there v split) w.reason w.first.asked)
 
-    one_stage : AreAllowed n → ArePassedBelow n.catalog n.list n.tables n.changes (place_of before) → (x : Stage) → stages_of n.list ≡ before ++ x ∷ after
-        → (f g : MaintFault) → IsStageFault n (place_of before) x f → IsStageFault n (place_of before) x g → f ≢ Memory → g ≢ Memory → f ≡ g
-    one_stage allowed passed (stage.Wave jobs) split f g a b m o = one_wave (place_of before) jobs (its_wave jobs split) f g a b
+    one_stage : AreAllowed n → ArePassedBelow n.catalog n.list n.tables n.changes (place_behind before) → (x : Stage) → stages_of n.list ≡ before ++ x ∷ after
+        → (f g : MaintFault) → IsStageFault n (place_behind before) x f → IsStageFault n (place_behind before) x g → f ≢ Memory → g ≢ Memory → f ≡ g
+    one_stage allowed passed (stage.Wave jobs) split f g a b m o = one_wave (place_behind before) jobs (its_wave jobs split) f g a b
     one_stage allowed passed (stage.Inst v) split f g a b m o =
         let there = inst_there v split in
         ap (λ (x : CarryFault). x.fault)
         ((refusals_are_one n.catalog n.list n.tables n.changes).one (record { fault = f; started = true }) (record { fault = g; started = true })
-        (allowed, inr (record { place = place_of before; expression = Inst v; there = there; earlier = passed; refused = a }))
-        (allowed, inr (record { place = place_of before; expression = Inst v; there = there; earlier = passed; refused = b }))
+        (allowed, inr (record { place = place_behind before; expression = Inst v; there = there; earlier = passed; refused = a }))
+        (allowed, inr (record { place = place_behind before; expression = Inst v; there = there; earlier = passed; refused = b }))
         m o)
 
   -- ---- stages
 
   -- a list of stages that goes on behind a stage ends behind it
-  ends_behind : (before rest : List Stage) (x : Stage) → place_of before + length (expressions_of x) ≤ place_of (before ++ x ∷ rest)
+  ends_behind : (before rest : List Stage) (x : Stage) → place_behind before + length (expressions_of x) ≤ place_behind (before ++ x ∷ rest)
   ends_behind before rest x =
       let a = ap length (flat_map-append expressions_of before (x ∷ rest)) ∙ length-append (flat_map expressions_of before) (expressions_of x ++ flat_map expressions_of rest) in
       let b = length-append (expressions_of x) (flat_map expressions_of rest) in
@@ -198,7 +199,7 @@ module _ (n : Night) (is : IsCatalog n.catalog) (ok : IsCorrect n.catalog.views.
   not_before : (f g : MaintFault) → (a : IsFirstStageFault n f) (b : IsFirstStageFault n g) → length a.before < length b.before → ⊥
   not_before f g a b l =
       let r = within a.before b.before a.after b.after a.refused b.refused (sym a.split ∙ b.split) l in
-      let passed = subst (λ bs. ArePassedBelow n.catalog n.list n.tables n.changes (place_of bs)) r.is b.passed in
+      let passed = subst (λ bs. ArePassedBelow n.catalog n.list n.tables n.changes (place_behind bs)) r.is b.passed in
       stage_passed a.before a.after a.refused a.split (fewer _ _ (ends_behind a.before r.rest a.refused) passed) f a.is
 
   one_first : AreAllowed n → (f g : MaintFault) → IsFirstStageFault n f → IsFirstStageFault n g → f ≢ Memory → g ≢ Memory → f ≡ g
@@ -209,7 +210,7 @@ module _ (n : Night) (is : IsCatalog n.catalog) (ok : IsCorrect n.catalog.views.
       (λ k. absurd (not_before g f b a k))
       (λ k.
       let same = same_parts a.before b.before a.after b.after a.refused b.refused (sym a.split ∙ b.split) (omega (arith, l, k)) in
-      let moved : IsStageFault n (place_of b.before) b.refused f = subst (λ x. IsStageFault n (place_of b.before) x f) same.1 (subst (λ bs. IsStageFault n (place_of bs) a.refused f) same.0 a.is) in
+      let moved : IsStageFault n (place_behind b.before) b.refused f = subst (λ x. IsStageFault n (place_behind b.before) x f) same.1 (subst (λ bs. IsStageFault n (place_behind bs) a.refused f) same.0 a.is) in
       one_stage b.before b.after allowed b.passed b.refused b.split f g moved b.is m o)
       (cases_lt (length b.before) (length a.before)))
       (cases_lt (length a.before) (length b.before))

@@ -9,7 +9,7 @@ use Rattle.wh_publish.specs.Faults.{refused}
 use Rattle.wh_publish.specs.declared.fault.PublishFault.{PublishFault}
 use Rattle.wh_publish.specs.declared.fault.PublishFault.TheVariants.{NightOpen, NoNight, NoView, BadPage, LastVersion, Held, Memory}
 use Rattle.wh_run.specs.Tonight.{goes_out}
-use Rattle.wh_run.specs.Underway.{IsPartly}
+use Rattle.wh_run.specs.Inner.Underway.{IsPartly}
 
 pub nothing_out : (l : Ledger) → l.held ≡ None → l ≡ goes_out l [] None
 nothing_out l e = λ i. ledger l.of (sym (append-nil l.list) i) (e i)

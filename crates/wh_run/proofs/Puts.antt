@@ -21,7 +21,7 @@ use Rattle.wh_night.proofs.Prefixes.{take_next}
 use Rattle.wh_night.proofs.NewValues.{passed_have_values}
 use Rattle.wh_course.proofs.Sources.{job_at}
 use Rattle.wh_course.specs.Night.{Night, state_at}
-use Rattle.wh_course.specs.Standing.{IsWaveAt}
+use Rattle.wh_course.specs.Inner.Standing.{IsWaveAt}
 use Rattle.wh_run.specs.Tonight.{Begin_it, IsWhole, out_below}
 
 module _ (g : ViewGraph) (changes : ℕ → Bag) (keys : ℕ) where

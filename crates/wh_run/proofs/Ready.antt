@@ -10,7 +10,7 @@ use Rattle.wh_night.specs.Kept.{AreKnown, Kept, is_known}
 use Rattle.wh_night.specs.declared.stages.Job.{Job}
 use Rattle.wh_night.specs.declared.stages.Stage.TheVariants as stage
 use Rattle.wh_course.specs.Standing.{IsStageIn, is_source}
-use Rattle.wh_run.specs.RefusedWaves.{IsReady}
+use Rattle.wh_run.specs.Inner.RefusedWaves.{IsReady}
 use Rattle.wh_run.specs.Underway.{SourcesAreKnown}
 
 -- a list that is matched as its first item and the rest

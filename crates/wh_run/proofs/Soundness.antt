@@ -29,14 +29,13 @@ use Rattle.wh_night.proofs.Agreeing.{past}
 use Rattle.wh_night.proofs.Prefixes.{take_whole}
 use Rattle.wh_night.proofs.NewValues.{changed_base, strategies_end_in_contents}
 use Rattle.wh_night.proofs.NightLists.{night_lists_end_in_contents, night_lists_write_tables}
-use Rattle.wh_course.specs.Night.{Night}
+use Rattle.wh_course.specs.Night.{Night, AreAllowed}
 use Rattle.wh_run.specs.declared.cause.NightCause.{NightCause}
 use Rattle.wh_run.specs.declared.left.Left.{Left}
 use Rattle.wh_run.specs.declared.left.Left.TheVariants.{Untouched, GivenUp, StillOpen}
 use Rattle.wh_run.specs.declared.left.NightFault.{NightFault}
-use Rattle.wh_run.specs.Refusals.{AreAllowed}
 use Rattle.wh_run.specs.Tonight.{Begin_it, IsCut, IsDone, IsOpen, IsSound, Leaves, made_by, newest_in, tonight}
-use Rattle.wh_run.specs.Underway.{AreWide}
+use Rattle.wh_run.specs.Inner.Underway.{AreWide}
 use Rattle.wh_run.proofs.Ends.{versions_append}
 use Rattle.wh_run.proofs.Puts.{begins_open, is_write, puts_write}
 

@@ -19,21 +19,24 @@ use Rattle.wh_night.specs.declared.stages.Job.{Job}
 use Rattle.wh_night.specs.declared.stages.Stage.{Stage}
 use Rattle.wh_night.specs.declared.stages.Stage.TheVariants as stage
 use Rattle.wh_night.specs.Carry.{State}
-use Rattle.wh_night.specs.Kept.{Kept, finished, installed, rows_in}
+use Rattle.wh_night.specs.Kept.{Kept, finished, installed}
+use Rattle.wh_night.specs.Inner.Kept.{rows_in}
 use Rattle.wh_night.specs.NightList.{new_counts, pages_of, puts_at}
-use Rattle.wh_night.specs.Refused.{ArePassedBelow, IsPassedIn, IsStepFault, IsStepFaultIn}
-use Rattle.wh_night.specs.Steps.{AreFirstSteps}
+use Rattle.wh_night.specs.Refused.{ArePassedBelow, IsStepFault}
+use Rattle.wh_night.specs.Inner.Refused.{IsPassedIn, IsStepFaultIn}
+use Rattle.wh_night.specs.Inner.Steps.{AreFirstSteps}
 use Rattle.wh_night.specs.Waves.{comp_of, stages_of}
 use Rattle.wh_night.proofs.Agreeing.{inst_done}
 use Rattle.wh_night.proofs.Nights.{agrees_next, passed_next, rows_right, steps_next}
 use Rattle.wh_night.proofs.Reasons.{inst_reason}
 use Rattle.wh_night.proofs.Refusals.{same_fit, told_next, unfinished}
 use Rattle.wh_course.specs.Night.{Night, state_at}
-use Rattle.wh_course.specs.Standing.{IsWaveAt, StandsAt, place_of}
+use Rattle.wh_course.specs.Standing.{place_behind}
+use Rattle.wh_course.specs.Inner.Standing.{IsWaveAt, StandsAt}
 use Rattle.wh_course.proofs.Parts.{fits_behind, inst_at, place_next, wave_at}
 use Rattle.wh_run.specs.Refusals.{IsFirstStageFault, IsStageFault, IsWaveFault}
 use Rattle.wh_run.specs.Tonight.{IsRefusedThere, goes_out, made_by, out_below}
-use Rattle.wh_run.specs.Underway.{HasCome, IsAt, IsInstStopped, IsPartly, IsStopped, Reports, is_cut, is_refused, puts_in}
+use Rattle.wh_run.specs.Inner.Underway.{HasCome, IsAt, IsInstStopped, IsPartly, IsStopped, Reports, is_cut, is_refused, puts_in}
 use Rattle.wh_run.proofs.Outs.{held_behind, out_more}
 use Rattle.wh_run.proofs.Puts.{out_next, wave_out}
 
@@ -46,9 +49,9 @@ comes_first catalog list tables changes keys k stands = record {
   reported = record { each = refl; rows = λ q e l at. absurd (omega arith) };
 }
 
-module _ (n : Night) (l m : Ledger) (before after : List Stage) (k : Kept) (steps : List (Expression × ℕ)) (here : IsAt n l (place_of before) k steps m) where
+module _ (n : Night) (l m : Ledger) (before after : List Stage) (k : Kept) (steps : List (Expression × ℕ)) (here : IsAt n l (place_behind before) k steps m) where
   abbrev p : ℕ
-  p = place_of before
+  p = place_behind before
 
   -- where it has come to it can stop
   stopped : (x : Stage) → stages_of n.list ≡ before ++ x ∷ after → (fault : MaintFault) → (fault ≡ Memory) ⊎ IsStageFault n p x fault → IsStopped n l fault m
@@ -71,9 +74,9 @@ module _ (n : Night) (l m : Ledger) (before after : List Stage) (k : Kept) (step
     pub its_wave : IsWaveAt n.catalog jobs n p
     its_wave = wave_at n before after jobs k here.come.stands split
 
-    pub wave_goes : (next : Kept) (more : List (Expression × ℕ)) → HasCome n (p + length jobs) next more → IsAt n l (place_of (before ++ stage.Wave jobs ∷ [])) next more m
+    pub wave_goes : (next : Kept) (more : List (Expression × ℕ)) → HasCome n (p + length jobs) next more → IsAt n l (place_behind (before ++ stage.Wave jobs ∷ [])) next more m
     wave_goes next more come =
-        let e : p + length jobs ≡ place_of (before ++ stage.Wave jobs ∷ []) = sym (place_next before (stage.Wave jobs) ∙ ap (λ j. p + j) (length-map jobs comp_of)) in
+        let e : p + length jobs ≡ place_behind (before ++ stage.Wave jobs ∷ []) = sym (place_next before (stage.Wave jobs) ∙ ap (λ j. p + j) (length-map jobs comp_of)) in
         subst (λ q. IsAt n l q next more m) e (record { come = come; out = here.out ∙ ap (λ ops. goes_out l ops None) (sym (wave_out n p jobs its_wave (length jobs) (omega arith))) })
 
     pub wave_stops : (fault : MaintFault) → (fault ≡ Memory) ⊎ IsWaveFault n p jobs fault → IsStopped n l fault m
@@ -113,7 +116,7 @@ module _ (n : Night) (l m : Ledger) (before after : List Stage) (k : Kept) (step
         }
 
     pub inst_goes : (next : Kept) (more : List (Expression × ℕ)) (o : Ledger) → IsPassedIn n.catalog k (Inst v) → next ≡ installed v (finished n.catalog (λ u. eqb v u) k)
-        → Reports (rows_in n.catalog (Inst v) k) (Inst v) steps more → o ≡ goes_out m (puts_in n.catalog n.keys v k) None → IsAt n l (place_of (before ++ stage.Inst v ∷ [])) next more o
+        → Reports (rows_in n.catalog (Inst v) k) (Inst v) steps more → o ≡ goes_out m (puts_in n.catalog n.keys v k) None → IsAt n l (place_behind (before ++ stage.Inst v ∷ [])) next more o
     inst_goes next more o passed done report out =
         subst (λ q. IsAt n l q next more o) (sym (place_next before (stage.Inst v))) (record {
           come = inst_comes next more passed done report;
@@ -178,26 +181,26 @@ stopped_so n l m fault u = ⊎_elim (λ e. inl e) (λ r. inr (first r.2)) u.why
 -- ---- where nothing is published
 
 -- a night that has come to a place, seen as one that has published what it would have
-module _ (n : Night) (l : Ledger) (before after : List Stage) (k : Kept) (steps : List (Expression × ℕ)) (come : HasCome n (place_of before) k steps) where
+module _ (n : Night) (l : Ledger) (before after : List Stage) (k : Kept) (steps : List (Expression × ℕ)) (come : HasCome n (place_behind before) k steps) where
   abbrev so_far : Ledger
-  so_far = goes_out l (out_below n (place_of before)) None
+  so_far = goes_out l (out_below n (place_behind before)) None
 
-  here : IsAt n l (place_of before) k steps so_far
+  here : IsAt n l (place_behind before) k steps so_far
   here = record { come = come; out = refl }
 
-  pub wave_here : (jobs : List Job) → stages_of n.list ≡ before ++ stage.Wave jobs ∷ after → IsWaveAt n.catalog jobs n (place_of before)
+  pub wave_here : (jobs : List Job) → stages_of n.list ≡ before ++ stage.Wave jobs ∷ after → IsWaveAt n.catalog jobs n (place_behind before)
   wave_here jobs split = its_wave n l so_far before after k steps here jobs split
 
-  pub wave_comes : (jobs : List Job) → stages_of n.list ≡ before ++ stage.Wave jobs ∷ after → (next : Kept) (more : List (Expression × ℕ)) → HasCome n (place_of before + length jobs) next more
-      → HasCome n (place_of (before ++ stage.Wave jobs ∷ [])) next more
+  pub wave_comes : (jobs : List Job) → stages_of n.list ≡ before ++ stage.Wave jobs ∷ after → (next : Kept) (more : List (Expression × ℕ)) → HasCome n (place_behind before + length jobs) next more
+      → HasCome n (place_behind (before ++ stage.Wave jobs ∷ [])) next more
   wave_comes jobs split next more come = (wave_goes n l so_far before after k steps here jobs split next more come).come
 
-  pub wave_is_refused : (jobs : List Job) → stages_of n.list ≡ before ++ stage.Wave jobs ∷ after → (fault : MaintFault) → (fault ≡ Memory) ⊎ IsWaveFault n (place_of before) jobs fault
+  pub wave_is_refused : (jobs : List Job) → stages_of n.list ≡ before ++ stage.Wave jobs ∷ after → (fault : MaintFault) → (fault ≡ Memory) ⊎ IsWaveFault n (place_behind before) jobs fault
       → (fault ≡ Memory) ⊎ IsFirstStageFault n fault
   wave_is_refused jobs split fault f = stopped_so n l so_far fault (wave_stops n l so_far before after k steps here jobs split fault f)
 
   pub inst_has_come : (v : ℕ) → stages_of n.list ≡ before ++ stage.Inst v ∷ after → (next : Kept) (more : List (Expression × ℕ)) → IsPassedIn n.catalog k (Inst v)
-      → next ≡ installed v (finished n.catalog (λ u. eqb v u) k) → Reports (rows_in n.catalog (Inst v) k) (Inst v) steps more → HasCome n (place_of (before ++ stage.Inst v ∷ [])) next more
+      → next ≡ installed v (finished n.catalog (λ u. eqb v u) k) → Reports (rows_in n.catalog (Inst v) k) (Inst v) steps more → HasCome n (place_behind (before ++ stage.Inst v ∷ [])) next more
   inst_has_come v split next more passed done report =
       (inst_goes n l so_far before after k steps here v split next more (goes_out so_far (puts_in n.catalog n.keys v k) None) passed done report refl).come
 

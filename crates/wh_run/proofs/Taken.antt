@@ -32,11 +32,11 @@ use Rattle.wh_night.proofs.Agreeing.{inst_done}
 use Rattle.wh_night.proofs.NightLists.{night_lists_write_tables}
 use Rattle.wh_night.proofs.Prefixes.{before_next}
 use Rattle.wh_course.specs.Night.{Night, state_at}
-use Rattle.wh_course.specs.Standing.{place_of}
+use Rattle.wh_course.specs.Standing.{place_behind}
 use Rattle.wh_course.proofs.Pages.{full_page, last_page}
 use Rattle.wh_course.proofs.Parts.{inst_at}
 use Rattle.wh_run.specs.Tonight.{goes_out, out_below}
-use Rattle.wh_run.specs.Underway.{AreFitStages, AreGoodPages, CanPublish, Given, IsAt, TakesPages, night_of}
+use Rattle.wh_run.specs.Inner.Underway.{AreFitStages, AreGoodPages, CanPublish, Given, IsAt, TakesPages, night_given}
 use Rattle.wh_run.proofs.Ends.{versions_append}
 
 -- ---- pages, one after another
@@ -95,7 +95,7 @@ is_table (Summed sums) table fit = fit.0
 
 module _ (catalog : CatalogOf) (keys : ℕ) (t : Given) (stages : List Stage) (fit : AreFitStages catalog keys t stages) (some : 1 ≤ keys) where
   abbrev n : Night
-  n = night_of catalog keys t
+  n = night_given catalog keys t
 
   abbrev g : ViewGraph
   g = graph_of catalog
@@ -117,9 +117,9 @@ module _ (catalog : CatalogOf) (keys : ℕ) (t : Given) (stages : List Stage) (f
       (λ i. if is_some (ap (λ (x : Ledger). x.held) at.out i) then Some publish.Held else option_map fault_of (refusal (window_in m.of m.list) Commits))
       ∙ (λ i. option_map fault_of (if is_some (d.1 i) then None else Some NoNight))
 
-  module _ (before after : List Stage) (k : Kept) (steps : List (Expression × ℕ)) (m : Ledger) (at : IsAt n t.before (place_of before) k steps m) where
+  module _ (before after : List Stage) (k : Kept) (steps : List (Expression × ℕ)) (m : Ledger) (at : IsAt n t.before (place_behind before) k steps m) where
     abbrev p : ℕ
-    p = place_of before
+    p = place_behind before
 
     -- an Inst makes the table that stands behind it
     made_there : (v : ℕ) → At t.list p (Inst v) → sum_of (k.tables v) ((finished catalog (λ u. eqb v u) k).changes v) ≡ (state_at n (suc p)).tables v

@@ -14,13 +14,14 @@ use Rattle.wh_night.specs.declared.stages.Job.{Job}
 use Rattle.wh_night.specs.Carry.{State}
 use Rattle.wh_night.specs.Refused.{Reason, RowIsLacking, BaseIsLarge, ChangeIsLarge, ChangeHasNoValue, CompIsLarge, CompMeetsNoValue, PendingIsLarge, TableIsLarge, IsRuledOut, IsEarlier}
 use Rattle.wh_night.proofs.Amid.{waves_have_no_order}
-use Rattle.wh_night.proofs.Reasons.{CanBeFinished, IsUnfinished}
+use Rattle.wh_night.specs.Inner.Reasons.{CanBeFinished, IsUnfinished}
 use Rattle.wh_course.specs.Night.{Night, state_at}
-use Rattle.wh_course.specs.Standing.{IsWaveAt, is_source}
+use Rattle.wh_course.specs.Standing.{is_source}
+use Rattle.wh_course.specs.Inner.Standing.{IsWaveAt}
 use Rattle.wh_course.proofs.Sources.{job_at}
 use Rattle.wh_course.proofs.Waves.{source_among}
-use Rattle.wh_run.specs.Refusals.{IsOfJobs, IsWaveFault, number_of, turn_in}
-use Rattle.wh_run.specs.Underway.{SourcesFinish}
+use Rattle.wh_run.specs.Refusals.{IsOfJobs, IsWaveFault, number_of, rank_in}
+use Rattle.wh_run.specs.Inner.Underway.{SourcesFinish}
 
 -- ---- turns
 
@@ -84,7 +85,7 @@ module _ (n : Night) (place : ℕ) (jobs : List Job) (wave : IsWaveAt n.catalog 
   -- ---- sources
 
   before_change : (u m : ℕ) → ((w : ℕ) → w < u → is_source jobs w ≡ true → CanBeFinished n.catalog s w) → (0 < m → Out (ChangeIsLarge u)) → m ≤ 1
-      → (q : Reason) → IsOfJobs jobs q → IsEarlier (turn_in jobs q) (1, u, m) → Out q
+      → (q : Reason) → IsOfJobs jobs q → IsEarlier (rank_in jobs q) (1, u, m) → Out q
   before_change u m lower own few (RowIsLacking b) asked e = absurd asked.3
   before_change u m lower own few (BaseIsLarge b) asked e = absurd asked.3
   before_change u m lower own few (ChangeIsLarge w) asked e = ⊎_elim
@@ -128,7 +129,7 @@ module _ (n : Night) (place : ℕ) (jobs : List Job) (wave : IsWaveAt n.catalog 
       its_number w other i there e = ap (number_of jobs) e ∙ number_is i other there
 
       before_comp : (m : ℕ) → ComputedBelow j → (0 < m → Out (CompIsLarge job.view job.from)) → m ≤ 1
-          → (q : Reason) → IsOfJobs jobs q → IsEarlier (turn_in jobs q) (2, number_of jobs job.view, m) → Out q
+          → (q : Reason) → IsOfJobs jobs q → IsEarlier (rank_in jobs q) (2, number_of jobs job.view, m) → Out q
       before_comp m below own few (RowIsLacking b) asked e = absurd asked.3
       before_comp m below own few (BaseIsLarge b) asked e = absurd asked.3
       before_comp m below own few (ChangeIsLarge w) asked e = λ derived. (all w (source_among jobs asked.0 asked.1 asked.2 w asked.3) derived).counts
@@ -171,7 +172,7 @@ module _ (n : Night) (place : ℕ) (jobs : List Job) (wave : IsWaveAt n.catalog 
       -- ---- what is pending
 
       before_pending : ComputedBelow (length jobs) → ((i : ℕ) (other : Job) → i < j → slice_get jobs i ≡ Some other → Out (PendingIsLarge other.view other.from))
-          → (q : Reason) → IsOfJobs jobs q → IsEarlier (turn_in jobs q) (3, number_of jobs job.view, 0) → Out q
+          → (q : Reason) → IsOfJobs jobs q → IsEarlier (rank_in jobs q) (3, number_of jobs job.view, 0) → Out q
       before_pending every below (RowIsLacking b) asked e = absurd asked.3
       before_pending every below (BaseIsLarge b) asked e = absurd asked.3
       before_pending every below (ChangeIsLarge w) asked e = λ derived. (all w (source_among jobs asked.0 asked.1 asked.2 w asked.3) derived).counts

@@ -5,10 +5,10 @@ use Rattle.wh_strategy.specs.Rules.{IsCorrect}
 use Rattle.wh_maint.specs.declared.fault.MaintFault.{MaintFault}
 use Rattle.wh_maint.specs.declared.fault.MaintFault.TheVariants.{Memory}
 use Rattle.wh_night.specs.Refused.{ArePassedBelow}
-use Rattle.wh_course.specs.Night.{Night}
+use Rattle.wh_course.specs.Night.{Night, AreAllowed}
 use Rattle.wh_run.specs.declared.left.Left.{Left}
 use Rattle.wh_run.specs.declared.left.Left.TheVariants.{Untouched}
-use Rattle.wh_run.specs.Refusals.{AreAllowed, IsRefusedSo}
+use Rattle.wh_run.specs.Refusals.{IsRefusedSo}
 
 -- Memory aside, two refusals of a night of a correct strategy are one, and come both before anything is published or both after it; and
 -- there is none where each base change is allowed and each expression is passed

@@ -4,3 +4,4 @@ pub mod Refusals
 pub mod Underway
 pub mod RefusedWaves
 pub mod Laws
+pub mod Inner

@@ -6,10 +6,10 @@ use Rattle.wh_maint.specs.declared.fault.MaintFault.TheVariants.{Memory}
 use Rattle.wh_night.specs.declared.stages.Job.{Job}
 use Rattle.wh_night.specs.declared.stages.Stage.{Stage}
 use Rattle.wh_night.specs.declared.stages.Stage.TheVariants as stage
-use Rattle.wh_night.specs.Refused.{AreAllowedBelow, ArePassedBelow, IsBaseFault, IsAnswer, IsEarlier, IsFirstReason, IsOf, IsStepFault, Reason, RowIsLacking, BaseIsLarge, ChangeIsLarge, ChangeHasNoValue, CompIsLarge, CompMeetsNoValue, PendingIsLarge, TableIsLarge}
+use Rattle.wh_night.specs.Refused.{ArePassedBelow, IsBaseFault, IsAnswer, IsEarlier, IsFirstReason, IsOf, IsStepFault, Reason, RowIsLacking, BaseIsLarge, ChangeIsLarge, ChangeHasNoValue, CompIsLarge, CompMeetsNoValue, PendingIsLarge, TableIsLarge}
 use Rattle.wh_night.specs.Waves.{comp_of, stages_of}
-use Rattle.wh_course.specs.Night.{Night, state_at}
-use Rattle.wh_course.specs.Standing.{place_of}
+use Rattle.wh_course.specs.Night.{Night, state_at, AreAllowed}
+use Rattle.wh_course.specs.Standing.{place_behind}
 use Rattle.wh_run.specs.declared.left.Left.{Left}
 use Rattle.wh_run.specs.declared.left.Left.TheVariants.{Untouched, GivenUp, StillOpen}
 use Rattle.wh_run.specs.declared.left.NightFault.{NightFault}
@@ -22,18 +22,18 @@ number_of (job ∷ jobs) v = if job.view == v then 0 else suc (number_of jobs v)
 
 -- the turn of a reason in a wave: the changes of sources first, by rising number of the view, then what each job computes, in the order of
 -- the jobs, and then what is pending with it, in that order too
-abbrev pub turn_in : List Job → Reason → ℕ × ℕ × ℕ
-turn_in jobs (RowIsLacking v) = (0, v, 0)
-turn_in jobs (BaseIsLarge v) = (0, v, 1)
-turn_in jobs (ChangeIsLarge v) = (1, v, 0)
-turn_in jobs (ChangeHasNoValue v) = (1, v, 1)
-turn_in jobs (CompIsLarge v ys) = (2, number_of jobs v, 0)
-turn_in jobs (CompMeetsNoValue v ys) = (2, number_of jobs v, 1)
-turn_in jobs (PendingIsLarge v ys) = (3, number_of jobs v, 0)
-turn_in jobs (TableIsLarge v) = (4, v, 0)
+abbrev pub rank_in : List Job → Reason → ℕ × ℕ × ℕ
+rank_in jobs (RowIsLacking v) = (0, v, 0)
+rank_in jobs (BaseIsLarge v) = (0, v, 1)
+rank_in jobs (ChangeIsLarge v) = (1, v, 0)
+rank_in jobs (ChangeHasNoValue v) = (1, v, 1)
+rank_in jobs (CompIsLarge v ys) = (2, number_of jobs v, 0)
+rank_in jobs (CompMeetsNoValue v ys) = (2, number_of jobs v, 1)
+rank_in jobs (PendingIsLarge v ys) = (3, number_of jobs v, 0)
+rank_in jobs (TableIsLarge v) = (4, v, 0)
 
 abbrev pub ComesBeforeIn : List Job → Reason → Reason → Type 0
-ComesBeforeIn jobs reason other = IsEarlier (turn_in jobs reason) (turn_in jobs other)
+ComesBeforeIn jobs reason other = IsEarlier (rank_in jobs reason) (rank_in jobs other)
 
 -- one of these jobs can be refused for it
 abbrev pub IsOfJobs : List Job → Reason → Type 0
@@ -56,12 +56,8 @@ pub record IsFirstStageFault (n : Night) (fault : MaintFault) : Type 0 where
   pub refused : Stage
   pub after : List Stage
   pub split : stages_of n.list ≡ before ++ refused ∷ after
-  pub passed : ArePassedBelow n.catalog n.list n.tables n.changes (place_of before)
-  pub is : IsStageFault n (place_of before) refused fault
-
--- no base change is refused
-abbrev pub AreAllowed : Night → Type 0
-AreAllowed n = AreAllowedBelow n.catalog n.tables n.changes (length n.catalog.views.children)
+  pub passed : ArePassedBelow n.catalog n.list n.tables n.changes (place_behind before)
+  pub is : IsStageFault n (place_behind before) refused fault
 
 -- before anything is published a base change is refused; after it, once all base changes were allowed, a stage is
 abbrev pub IsRefusedSo : Night → Left → MaintFault → Type 0

@@ -1,28 +1,12 @@
 -- Why the jobs of a wave are not computed.
-use Rattle.std.specs.Prelude.{◌≡◌, ◌≢◌, ◌⊎◌, ℕ, List, [], Some, slice_get}
+use Rattle.std.specs.Prelude.{◌≡◌, ◌≢◌, ◌⊎◌, List, []}
 use Rattle.wh_dag.specs.Catalog.{CatalogOf}
-use Rattle.wh_maint.specs.Comp.{PendingOf}
-use Rattle.wh_maint.specs.declared.fault.MaintFault.{MaintFault}
 use Rattle.wh_maint.specs.declared.fault.MaintFault.TheVariants.{Memory}
 use Rattle.wh_night.specs.declared.stages.Job.{Job}
-use Rattle.wh_night.specs.Kept.{AreKnown, IsExpressionOf, Kept}
-use Rattle.wh_night.specs.Refused.{IsCompFaultIn}
-use Rattle.wh_night.specs.Waves.{comp_of}
-use Rattle.wh_run.specs.Underway.{IsAdded, IsFirstUncomputed}
+use Rattle.wh_night.specs.Kept.{Kept}
+use Rattle.wh_run.specs.Underway.{IsFirstUncomputed}
 use Rattle.wh_run.specs.declared.waves.WaveFault.{WaveFault}
 use Rattle.wh_run.specs.declared.waves.WaveFault.TheVariants.{Maint, WorkerLost}
-
--- the job can be run: it is a Comp of the catalogue, and the changes of its sources are known
-abbrev pub IsReady : CatalogOf → Kept → Job → Type 0
-IsReady catalog k job = IsExpressionOf catalog (comp_of job) × AreKnown k job.from
-
--- the job of this number adds this
-abbrev pub IsAddedAt : CatalogOf → Kept → List Job → ℕ → PendingOf → Type 0
-IsAddedAt catalog k jobs number added = (job : Job) → slice_get jobs number ≡ Some job → IsAdded catalog k job added
-
--- the job of this number is refused for this
-abbrev pub IsRefusedAt : CatalogOf → Kept → List Job → ℕ → MaintFault → Type 0
-IsRefusedAt catalog k jobs number fault = (job : Job) → slice_get jobs number ≡ Some job → IsCompFaultIn catalog k job.view job.from fault
 
 -- for want of memory, where there is a job, or because the first job that cannot be computed is refused; never because a worker is lost
 abbrev pub IsRefusedWave : CatalogOf → Kept → List Job → WaveFault → Type 0

@@ -17,10 +17,10 @@ use Rattle.wh_night.specs.NightList.{IsBeginning, IsCutNight, IsNightList, night
 use Rattle.wh_night.specs.Refused.{ArePassedBelow}
 use Rattle.wh_night.specs.Waves.{stages_of}
 use Rattle.wh_night.specs.declared.stages.Stage.{Stage}
-use Rattle.wh_course.specs.Night.{Night}
-use Rattle.wh_course.specs.Standing.{place_of}
+use Rattle.wh_course.specs.Night.{Night, AreAllowed}
+use Rattle.wh_course.specs.Standing.{place_behind}
 use Rattle.wh_run.specs.Causes.{cause_of}
-use Rattle.wh_run.specs.Refusals.{AreAllowed, IsStageFault}
+use Rattle.wh_run.specs.Refusals.{IsStageFault}
 use Rattle.wh_run.specs.declared.cause.NightCause.{NightCause}
 use Rattle.wh_run.specs.declared.left.Left.{Left}
 use Rattle.wh_run.specs.declared.left.Left.TheVariants.{Untouched, GivenUp, StillOpen}
@@ -71,7 +71,7 @@ pub record IsRefusedThere (n : Night) (place : ℕ) (fault : MaintFault) : Type 
   pub refused : Stage
   pub after : List Stage
   pub split : stages_of n.list ≡ before ++ refused ∷ after
-  pub here : place ≡ place_of before
+  pub here : place ≡ place_behind before
   pub is : IsStageFault n place refused fault
 
 -- How far a refused night came that has published these operations, and why no further: no base change is refused, each expression before

@@ -9,15 +9,15 @@ ghost use Rattle.wh_maint.specs.Laws.{changed};
 ghost use Rattle.wh_maint.specs.declared.fault.MaintFault.TheVariants.{Memory};
 ghost use Rattle.wh_night.specs.Carry.{tables_after};
 ghost use Rattle.wh_night.specs.Fit.{AreFitTables};
-ghost use Rattle.wh_night.specs.Kept.{kept, AreParts, CanFinish};
+ghost use Rattle.wh_night.specs.Kept.{kept, HaveParts, CanFinish};
 ghost use Rattle.wh_night.specs.Refused.{AreAllowedBelow, ArePassedBelow};
 ghost use Rattle.wh_night.specs.Steps.{AreSteps};
 ghost use Rattle.wh_night.specs.Waves.{stages_of};
 ghost use Rattle.wh_night.specs.declared.stages.Stage.{Stage as StageOf};
-ghost use Rattle.wh_course.specs.Standing.{IsStageIn, place_of};
+ghost use Rattle.wh_course.specs.Standing.{IsStageIn, place_behind};
 ghost use Rattle.wh_run.specs.Refusals.{IsFirstStageFault, IsRefusedSo, left_of};
 ghost use Rattle.wh_run.specs.Tonight.{night_over};
-ghost use Rattle.wh_run.specs.Underway.{Given, HasCome, night_of};
+ghost use Rattle.wh_run.specs.Inner.Underway.{Given, HasCome, night_given};
 
 use crate::gate::Gate;
 use crate::insts::install;
@@ -42,19 +42,19 @@ fn stage_of<F: RowTest, G: RowValue, T: Gate + Sync, R: Threads + Sync>(
     steps: &mut Vec<(Expression, u128)>,
     gate: &T,
 ) -> Result<(), MaintFault>
-    requires parts { AreParts catalog.now state.old }
+    requires parts { HaveParts catalog.now state.old }
     requires fit { CanFinish catalog.now (kept state.old) }
     requires stage { IsStageIn catalog.now stage.now }
     requires least { 1 ≤ workers }
     requires most { workers ≤ 16 }
-    ensures parts { OnOk result (AreParts catalog.now state.new) }
+    ensures parts { OnOk result (HaveParts catalog.now state.new) }
     ensures fit { OnOk result (CanFinish catalog.now (kept state.new)) }
     ensures goes { OnOk result ((keys : ℕ) (t : Given) (before after : List StageOf) → stages_of t.list ≡ before ++ stage.now ∷ after
-        → HasCome (night_of catalog.now keys t) (place_of before) (kept state.old) steps.old.items
-        → HasCome (night_of catalog.now keys t) (place_of (before ++ stage.now ∷ [])) (kept state.new) steps.new.items) }
+        → HasCome (night_given catalog.now keys t) (place_behind before) (kept state.old) steps.old.items
+        → HasCome (night_given catalog.now keys t) (place_behind (before ++ stage.now ∷ [])) (kept state.new) steps.new.items) }
     ensures stops { IfErr result (λ fault. (keys : ℕ) (t : Given) (before after : List StageOf) → stages_of t.list ≡ before ++ stage.now ∷ after
-        → HasCome (night_of catalog.now keys t) (place_of before) (kept state.old) steps.old.items
-        → (fault ≡ Memory) ⊎ IsFirstStageFault (night_of catalog.now keys t) fault) }
+        → HasCome (night_given catalog.now keys t) (place_behind before) (kept state.old) steps.old.items
+        → (fault ≡ Memory) ⊎ IsFirstStageFault (night_given catalog.now keys t) fault) }
 {
     match stage {
         Stage::Wave(jobs) => wave(
@@ -81,18 +81,18 @@ fn through<F: RowTest, G: RowValue, T: Gate + Sync, R: Threads + Sync>(
     state: &mut NightState,
     gate: &T,
 ) -> Result<Vec<(Expression, u128)>, MaintFault>
-    requires parts { AreParts catalog.now state.old }
+    requires parts { HaveParts catalog.now state.old }
     requires fit { CanFinish catalog.now (kept state.old) }
     requires stages { (i : ℕ) (stage : StageOf) → slice_get stages.now i ≡ Some stage → IsStageIn catalog.now stage }
     requires least { 1 ≤ workers }
     requires most { workers ≤ 16 }
-    ensures parts { OnOk result (AreParts catalog.now state.new) }
+    ensures parts { OnOk result (HaveParts catalog.now state.new) }
     ensures goes { IfOk result (λ steps. (keys : ℕ) (t : Given) → stages.now ≡ stages_of t.list
-        → HasCome (night_of catalog.now keys t) 0 (kept state.old) []
-        → HasCome (night_of catalog.now keys t) (length t.list) (kept state.new) steps.items) }
+        → HasCome (night_given catalog.now keys t) 0 (kept state.old) []
+        → HasCome (night_given catalog.now keys t) (length t.list) (kept state.new) steps.items) }
     ensures stops { IfErr result (λ fault. (keys : ℕ) (t : Given) → stages.now ≡ stages_of t.list
-        → HasCome (night_of catalog.now keys t) 0 (kept state.old) []
-        → (fault ≡ Memory) ⊎ IsFirstStageFault (night_of catalog.now keys t) fault) }
+        → HasCome (night_given catalog.now keys t) 0 (kept state.old) []
+        → (fault ≡ Memory) ⊎ IsFirstStageFault (night_given catalog.now keys t) fault) }
 {
     let mut steps = Vec::new(alloc);
     for stage in stages {

@@ -5,10 +5,10 @@ ghost use Rattle.wh_maint.specs.Asked.{AreBags};
 ghost use Rattle.wh_maint.specs.Comp.{bag_at};
 ghost use Rattle.wh_maint.specs.Definition.{graph_of};
 ghost use Rattle.wh_night.specs.Fit.{AreFitFor};
-ghost use Rattle.wh_night.specs.Kept.{kept, AreKnown, AreParts};
+ghost use Rattle.wh_night.specs.Kept.{kept, AreKnown, HaveParts};
 ghost use Rattle.wh_night.specs.declared.stages.Stage.TheVariants as stage;
 ghost use Rattle.wh_course.specs.Standing.{IsStageIn};
-ghost use Rattle.wh_run.specs.RefusedWaves.{IsReady};
+ghost use Rattle.wh_run.specs.Inner.RefusedWaves.{IsReady};
 ghost use Rattle.wh_run.specs.Underway.{SourcesAreKnown};
 
 use std::alloc::{AllocError, Global};
@@ -40,7 +40,7 @@ fn are_known(views: usize, state: &NightState, sources: &[usize]) -> bool
 
 /// Whether this is the Comp of a derived view from some of its children, none twice, whose changes are known.
 fn is_ready<F: RowTest, G: RowValue>(catalog: &Catalog<F, G>, job: &Job, state: &NightState) -> bool
-    requires { AreParts catalog.now state.now }
+    requires { HaveParts catalog.now state.now }
     ensures { IsTrue result ↔ IsReady catalog.now (kept state.now) job.now }
 {
     let views = catalog.shape().len();
@@ -58,7 +58,7 @@ pub fn can_run_wave<F: RowTest, G: RowValue>(
     jobs: &[Job],
     state: &NightState,
 ) -> bool
-    requires { AreParts catalog.now state.now }
+    requires { HaveParts catalog.now state.now }
     ensures { IsTrue result ↔ (IsStageIn catalog.now (stage.Wave jobs.now) × SourcesAreKnown (kept state.now) jobs.now) }
 {
     match jobs {

@@ -8,11 +8,12 @@ ghost use Rattle.wh_strategy.specs.declared.expression.Expression.TheVariants.{I
 ghost use Rattle.wh_maint.specs.declared.fault.MaintFault.TheVariants.{Memory};
 ghost use Rattle.wh_store.specs.Operations.{Operation, Writes};
 ghost use Rattle.wh_store.specs.Pages.{is_page};
-ghost use Rattle.wh_night.specs.Kept.{kept, finished, installed, AreParts, CanFinish, rows_in};
+ghost use Rattle.wh_night.specs.Kept.{kept, finished, installed, HaveParts, CanFinish};
+ghost use Rattle.wh_night.specs.Inner.Kept.{rows_in};
 ghost use Rattle.wh_night.specs.NightList.{new_counts, pages_of};
-ghost use Rattle.wh_night.specs.Refused.{IsPassedIn, IsStepFaultIn};
+ghost use Rattle.wh_night.specs.Inner.Refused.{IsPassedIn, IsStepFaultIn};
 ghost use Rattle.wh_run.specs.Tonight.{goes_out};
-ghost use Rattle.wh_run.specs.Underway.{AreGoodPages, TakesPages, GoesOut, IsInstStopped, IsPartly, Reports, puts_in};
+ghost use Rattle.wh_run.specs.Inner.Underway.{AreGoodPages, TakesPages, GoesOut, IsInstStopped, IsPartly, Reports, puts_in};
 
 use std::alloc::{AllocError, Global};
 use std::sync::Wait;
@@ -144,10 +145,10 @@ pub(crate) fn install<F: RowTest, G: RowValue>(
     state: &mut NightState,
     steps: &mut Vec<(Expression, u128)>,
 ) -> Result<(), MaintFault>
-    requires parts { AreParts catalog.now state.old }
+    requires parts { HaveParts catalog.now state.old }
     requires fit { CanFinish catalog.now (kept state.old) }
     requires view { view < length catalog.now.views.children }
-    ensures parts { OnOk result (AreParts catalog.now state.new) }
+    ensures parts { OnOk result (HaveParts catalog.now state.new) }
     ensures fit { OnOk result (CanFinish catalog.now (kept state.new)) }
     ensures done { OnOk result (kept state.new ≡ installed view (finished catalog.now (λ u. view == u) (kept state.old))) }
     ensures passed { OnOk result (IsPassedIn catalog.now (kept state.old) (Inst view)) }
@@ -179,14 +180,14 @@ pub(crate) fn inst<P: Publish, F: RowTest, G: RowValue, R: Wait>(
     steps: &mut Vec<(Expression, u128)>,
 ) -> Result<(), MaintFault>
     requires takes { TakesPages (P.kept writer.old) view }
-    requires parts { AreParts catalog.now state.old }
+    requires parts { HaveParts catalog.now state.old }
     requires fit { CanFinish catalog.now (kept state.old) }
     requires view { view < length catalog.now.views.children }
     requires table { IsTable (sum_of ((kept state.old).tables view) ((finished catalog.now (λ u. view == u) (kept state.old)).changes view)) }
     requires some { 1 ≤ keys }
     requires few { keys ≤ 256 }
     ensures home { P.home writer.new ≡ P.home writer.old }
-    ensures parts { OnOk result (AreParts catalog.now state.new) }
+    ensures parts { OnOk result (HaveParts catalog.now state.new) }
     ensures fit { OnOk result (CanFinish catalog.now (kept state.new)) }
     ensures done { OnOk result (kept state.new ≡ installed view (finished catalog.now (λ u. view == u) (kept state.old))) }
     ensures passed { OnOk result (IsPassedIn catalog.now (kept state.old) (Inst view)) }

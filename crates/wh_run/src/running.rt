@@ -13,19 +13,19 @@ ghost use Rattle.wh_store.specs.Versions.{number};
 ghost use Rattle.wh_publish.specs.Faults.{publish_refusal};
 ghost use Rattle.wh_publish.specs.Ledgers.{Ledger, versions_in};
 ghost use Rattle.wh_night.specs.Fit.{AreFitFor};
-ghost use Rattle.wh_night.specs.Kept.{kept, AreParts, CanFinish};
+ghost use Rattle.wh_night.specs.Kept.{kept, HaveParts, CanFinish};
 ghost use Rattle.wh_night.specs.NightLaws.{HaveTables};
 ghost use Rattle.wh_night.specs.Refused.{ArePassedBelow};
 ghost use Rattle.wh_night.specs.Steps.{AreSteps};
 ghost use Rattle.wh_night.specs.Waves.{stages_of};
 ghost use Rattle.wh_night.specs.declared.stages.Stage.{Stage as StageOf};
-ghost use Rattle.wh_course.specs.Night.{Night};
-ghost use Rattle.wh_course.specs.Standing.{IsStageIn, place_of};
+ghost use Rattle.wh_course.specs.Night.{Night, AreAllowed};
+ghost use Rattle.wh_course.specs.Standing.{IsStageIn, place_behind};
 ghost use Rattle.wh_run.specs.Causes.{cause_of, cause_of_begin};
 ghost use Rattle.wh_run.specs.declared.left.Left.TheVariants.{Untouched};
-ghost use Rattle.wh_run.specs.Refusals.{AreAllowed, IsRefused};
+ghost use Rattle.wh_run.specs.Refusals.{IsRefused};
 ghost use Rattle.wh_run.specs.Tonight.{IsDone, IsSound, IsWhole, Leaves, goes_out, made_by, newest_in, tonight};
-ghost use Rattle.wh_run.specs.Underway.{AreWide, CanBegin, CanPublish, Given, HasBegun, HasCome, IsAt, IsPut, IsRefusedLater, IsStopped, WaitsToCommit, night_of};
+ghost use Rattle.wh_run.specs.Inner.Underway.{AreWide, CanStart, CanPublish, Given, HasBegun, HasCome, IsAt, IsPut, IsRefusedLater, IsStopped, WaitsToCommit, night_given};
 
 use crate::gate::Gate;
 use crate::insts::inst;
@@ -167,7 +167,7 @@ fn stage_of<P: Publish, F: RowTest, G: RowValue, T: Gate + Sync, R: Threads + Wa
     gate: &T,
 ) -> Result<(), MaintFault>
     requires held { (P.kept writer.old).held ≡ None }
-    requires parts { AreParts catalog.now state.old }
+    requires parts { HaveParts catalog.now state.old }
     requires fit { CanFinish catalog.now (kept state.old) }
     requires stage { IsStageIn catalog.now stage.now }
     requires publishes { CanPublish catalog.now stage.now (kept state.old) (P.kept writer.old) }
@@ -177,14 +177,14 @@ fn stage_of<P: Publish, F: RowTest, G: RowValue, T: Gate + Sync, R: Threads + Wa
     requires most { workers ≤ 16 }
     ensures home { P.home writer.new ≡ P.home writer.old }
     ensures held { OnOk result ((P.kept writer.new).held ≡ None) }
-    ensures parts { OnOk result (AreParts catalog.now state.new) }
+    ensures parts { OnOk result (HaveParts catalog.now state.new) }
     ensures fit { OnOk result (CanFinish catalog.now (kept state.new)) }
     ensures goes { OnOk result ((t : Given) (before after : List StageOf) → stages_of t.list ≡ before ++ stage.now ∷ after
-        → IsAt (night_of catalog.now keys t) t.before (place_of before) (kept state.old) steps.old.items (P.kept writer.old)
-        → IsAt (night_of catalog.now keys t) t.before (place_of (before ++ stage.now ∷ [])) (kept state.new) steps.new.items (P.kept writer.new)) }
+        → IsAt (night_given catalog.now keys t) t.before (place_behind before) (kept state.old) steps.old.items (P.kept writer.old)
+        → IsAt (night_given catalog.now keys t) t.before (place_behind (before ++ stage.now ∷ [])) (kept state.new) steps.new.items (P.kept writer.new)) }
     ensures stops { IfErr result (λ fault. (t : Given) (before after : List StageOf) → stages_of t.list ≡ before ++ stage.now ∷ after
-        → IsAt (night_of catalog.now keys t) t.before (place_of before) (kept state.old) steps.old.items (P.kept writer.old)
-        → IsStopped (night_of catalog.now keys t) t.before fault (P.kept writer.new)) }
+        → IsAt (night_given catalog.now keys t) t.before (place_behind before) (kept state.old) steps.old.items (P.kept writer.old)
+        → IsStopped (night_given catalog.now keys t) t.before fault (P.kept writer.new)) }
 {
     match stage {
         Stage::Wave(jobs) => wave(
@@ -214,7 +214,7 @@ fn through<P: Publish, F: RowTest, G: RowValue, T: Gate + Sync, R: Threads + Wai
     gate: &T,
 ) -> Result<Vec<(Expression, u128)>, MaintFault>
     requires held { (P.kept writer.old).held ≡ None }
-    requires parts { AreParts catalog.now state.old }
+    requires parts { HaveParts catalog.now state.old }
     requires fit { CanFinish catalog.now (kept state.old) }
     requires stages { (i : ℕ) (stage : StageOf) → slice_get stages.now i ≡ Some stage → IsStageIn catalog.now stage }
     requires begun { HasBegun catalog.now keys stages.now (kept state.old) (P.kept writer.old) }
@@ -223,13 +223,13 @@ fn through<P: Publish, F: RowTest, G: RowValue, T: Gate + Sync, R: Threads + Wai
     requires least { 1 ≤ workers }
     requires most { workers ≤ 16 }
     ensures home { P.home writer.new ≡ P.home writer.old }
-    ensures parts { OnOk result (AreParts catalog.now state.new) }
+    ensures parts { OnOk result (HaveParts catalog.now state.new) }
     ensures goes { IfOk result (λ steps. (t : Given) → stages.now ≡ stages_of t.list
-        → IsAt (night_of catalog.now keys t) t.before 0 (kept state.old) [] (P.kept writer.old)
-        → IsAt (night_of catalog.now keys t) t.before (length t.list) (kept state.new) steps.items (P.kept writer.new)) }
+        → IsAt (night_given catalog.now keys t) t.before 0 (kept state.old) [] (P.kept writer.old)
+        → IsAt (night_given catalog.now keys t) t.before (length t.list) (kept state.new) steps.items (P.kept writer.new)) }
     ensures stops { IfErr result (λ fault. (t : Given) → stages.now ≡ stages_of t.list
-        → IsAt (night_of catalog.now keys t) t.before 0 (kept state.old) [] (P.kept writer.old)
-        → IsStopped (night_of catalog.now keys t) t.before fault (P.kept writer.new)) }
+        → IsAt (night_given catalog.now keys t) t.before 0 (kept state.old) [] (P.kept writer.old)
+        → IsStopped (night_given catalog.now keys t) t.before fault (P.kept writer.new)) }
 {
     let mut steps = Vec::new(alloc);
     for stage in stages {
@@ -255,24 +255,24 @@ fn run<P: Publish, F: RowTest, G: RowValue, T: Gate + Sync, R: Threads + Wait + 
     gate: &T,
 ) -> Result<Report, NightFault>
     requires free { publish_refusal (P.kept writer.old) Opens ≡ None }
-    requires parts { AreParts catalog.now state.old }
+    requires parts { HaveParts catalog.now state.old }
     requires fit { CanFinish catalog.now (kept state.old) }
     requires stages { (i : ℕ) (stage : StageOf) → slice_get stages.now i ≡ Some stage → IsStageIn catalog.now stage }
-    requires begins { CanBegin catalog.now keys stages.now (kept state.old) (P.kept writer.old) }
+    requires begins { CanStart catalog.now keys stages.now (kept state.old) (P.kept writer.old) }
     requires some { 1 ≤ keys }
     requires few { keys ≤ 256 }
     requires least { 1 ≤ workers }
     requires most { workers ≤ 16 }
     ensures home { P.home writer.new ≡ P.home writer.old }
     ensures version { IfOk result (λ r. r.version ≡ number (versions_in (P.kept writer.new).of (P.kept writer.new).list)) }
-    ensures done { IfOk result (λ r. (t : Given) → t.before ≡ P.kept writer.old → stages.now ≡ stages_of t.list → HasCome (night_of catalog.now keys t) 0 (kept state.old) []
-        → IsDone (night_of catalog.now keys t) t.before (P.kept writer.new)
+    ensures done { IfOk result (λ r. (t : Given) → t.before ≡ P.kept writer.old → stages.now ≡ stages_of t.list → HasCome (night_given catalog.now keys t) 0 (kept state.old) []
+        → IsDone (night_given catalog.now keys t) t.before (P.kept writer.new)
         × ArePassedBelow catalog.now t.list t.tables t.changes (length t.list)
-        × AreSteps catalog.now.views.children t.list t.tables (made_by (night_of catalog.now keys t)) r.steps.items
-        × AreWide catalog.now (made_by (night_of catalog.now keys t))) }
-    ensures refused { IfErr result (λ f. (t : Given) → t.before ≡ P.kept writer.old → stages.now ≡ stages_of t.list → HasCome (night_of catalog.now keys t) 0 (kept state.old) []
-        → AreAllowed (night_of catalog.now keys t)
-        → Leaves (night_of catalog.now keys t) f.cause t.before f.left (P.kept writer.new) × IsRefusedLater (night_of catalog.now keys t) f) }
+        × AreSteps catalog.now.views.children t.list t.tables (made_by (night_given catalog.now keys t)) r.steps.items
+        × AreWide catalog.now (made_by (night_given catalog.now keys t))) }
+    ensures refused { IfErr result (λ f. (t : Given) → t.before ≡ P.kept writer.old → stages.now ≡ stages_of t.list → HasCome (night_given catalog.now keys t) 0 (kept state.old) []
+        → AreAllowed (night_given catalog.now keys t)
+        → Leaves (night_given catalog.now keys t) f.cause t.before f.left (P.kept writer.new) × IsRefusedLater (night_given catalog.now keys t) f) }
 {
     if let Err(fault) = begin(rt, writer) {
         return Err(fault);

@@ -8,17 +8,21 @@ ghost use Rattle.wh_maint.specs.Comp.{PendingOf, comp_columns};
 ghost use Rattle.wh_maint.specs.Definition.{view_of};
 ghost use Rattle.wh_maint.specs.Refused.{MergedFit, IsMergeFault};
 ghost use Rattle.wh_maint.specs.declared.fault.MaintFault.TheVariants.{Memory};
-ghost use Rattle.wh_night.specs.Kept.{kept, computed, AreKnown, AreParts, CanFinish, IsExpressionOf, rows_in};
+ghost use Rattle.wh_night.specs.Kept.{kept, AreKnown, HaveParts, CanFinish, IsExpressionOf};
+ghost use Rattle.wh_night.specs.Inner.Kept.{computed, rows_in};
 ghost use Rattle.wh_night.specs.Refused.{IsCompFaultIn};
 ghost use Rattle.wh_night.specs.Waves.{comp_of};
 ghost use Rattle.wh_night.specs.declared.stages.Stage.TheVariants as stage;
-ghost use Rattle.wh_night.proofs.Reasons.{CanBeFinished};
+ghost use Rattle.wh_night.specs.Inner.Reasons.{CanBeFinished};
 ghost use Rattle.wh_course.specs.Night.{state_at};
-ghost use Rattle.wh_course.specs.Standing.{IsStageIn, IsWaveAt, StandsAt, is_source};
+ghost use Rattle.wh_course.specs.Standing.{IsStageIn, is_source};
+ghost use Rattle.wh_course.specs.Inner.Standing.{IsWaveAt, StandsAt};
 ghost use Rattle.wh_run.specs.Refusals.{IsWaveFault};
 ghost use Rattle.wh_run.specs.declared.waves.WaveFault.TheVariants.{Maint, WorkerLost};
-ghost use Rattle.wh_run.specs.RefusedWaves.{IsAddedAt, IsRefusedAt, IsRefusedWave};
-ghost use Rattle.wh_run.specs.Underway.{Given, night_of, HasCome, Reports, IsAdded, AreAdded, SourcesAreKnown, SourcesFinish};
+ghost use Rattle.wh_run.specs.RefusedWaves.{IsRefusedWave};
+ghost use Rattle.wh_run.specs.Inner.RefusedWaves.{IsAddedAt, IsRefusedAt};
+ghost use Rattle.wh_run.specs.Underway.{IsAdded, AreAdded, SourcesAreKnown};
+ghost use Rattle.wh_run.specs.Inner.Underway.{Given, night_given, HasCome, Reports, SourcesFinish};
 
 use crate::gate::Gate;
 use std::alloc::{AllocError, Global};
@@ -48,16 +52,16 @@ fn finish_sources<F: RowTest, G: RowValue>(
     jobs: &[Job],
     state: &mut NightState,
 ) -> Result<(), MaintFault>
-    requires parts { AreParts catalog.now state.old }
+    requires parts { HaveParts catalog.now state.old }
     requires fit { CanFinish catalog.now (kept state.old) }
     requires jobs { IsStageIn catalog.now (stage.Wave jobs.now) }
-    ensures parts { AreParts catalog.now state.new }
+    ensures parts { HaveParts catalog.now state.new }
     ensures fit { OnOk result (CanFinish catalog.now (kept state.new)) }
     ensures known { OnOk result (SourcesAreKnown (kept state.new) jobs.now) }
-    ensures stands { OnOk result ((keys place : ℕ) (t : Given) → IsWaveAt catalog.now jobs.now (night_of catalog.now keys t) place → StandsAt (night_of catalog.now keys t) place (kept state.old)
-        → StandsAt (night_of catalog.now keys t) place (kept state.new) × SourcesFinish (night_of catalog.now keys t) place jobs.now) }
-    ensures refused { IfErr result (λ fault. (keys place : ℕ) (t : Given) → IsWaveAt catalog.now jobs.now (night_of catalog.now keys t) place → StandsAt (night_of catalog.now keys t) place (kept state.old)
-        → (fault ≡ Memory) ⊎ IsWaveFault (night_of catalog.now keys t) place jobs.now fault) }
+    ensures stands { OnOk result ((keys place : ℕ) (t : Given) → IsWaveAt catalog.now jobs.now (night_given catalog.now keys t) place → StandsAt (night_given catalog.now keys t) place (kept state.old)
+        → StandsAt (night_given catalog.now keys t) place (kept state.new) × SourcesFinish (night_given catalog.now keys t) place jobs.now) }
+    ensures refused { IfErr result (λ fault. (keys place : ℕ) (t : Given) → IsWaveAt catalog.now jobs.now (night_given catalog.now keys t) place → StandsAt (night_given catalog.now keys t) place (kept state.old)
+        → (fault ≡ Memory) ⊎ IsWaveFault (night_given catalog.now keys t) place jobs.now fault) }
 {
     let Ok(views) = sources_of(alloc, jobs) else {
         return Err(MaintFault::Memory);
@@ -74,7 +78,7 @@ fn added_by<F: RowTest, G: RowValue, T: Gate>(
     state: &NightState,
     gate: &T,
 ) -> Result<Pending, MaintFault>
-    requires parts { AreParts catalog.now state.now }
+    requires parts { HaveParts catalog.now state.now }
     requires job { IsExpressionOf catalog.now (comp_of job.now) }
     requires known { AreKnown (kept state.now) job.now.from }
     ensures added { IfOk result (IsAdded catalog.now (kept state.now) job.now) }
@@ -95,7 +99,7 @@ fn added_at<F: RowTest, G: RowValue, T: Gate>(
     state: &NightState,
     gate: &T,
 ) -> Result<Pending, MaintFault>
-    requires parts { AreParts catalog.now state.now }
+    requires parts { HaveParts catalog.now state.now }
     requires jobs { IsStageIn catalog.now (stage.Wave jobs.now) }
     requires known { SourcesAreKnown (kept state.now) jobs.now }
     requires there { number < length jobs.now }
@@ -138,7 +142,7 @@ pub fn run_wave<F: RowTest, G: RowValue, T: Gate + Sync, R: Threads + Sync>(
     workers: usize,
     gate: &T,
 ) -> Result<Vec<Pending>, WaveFault>
-    requires parts { AreParts catalog.now state.now }
+    requires parts { HaveParts catalog.now state.now }
     requires jobs { IsStageIn catalog.now (stage.Wave jobs.now) }
     requires known { SourcesAreKnown (kept state.now) jobs.now }
     requires least { 1 ≤ workers }
@@ -150,7 +154,7 @@ pub fn run_wave<F: RowTest, G: RowValue, T: Gate + Sync, R: Threads + Sync>(
         return Ok(Vec::new(alloc));
     }
     let compute = move |number: usize| -> Result<Pending, MaintFault>
-        requires { (number < length jobs.now) × IsStageIn catalog.now (stage.Wave jobs.now) × SourcesAreKnown (kept state.now) jobs.now × AreParts catalog.now state.now }
+        requires { (number < length jobs.now) × IsStageIn catalog.now (stage.Wave jobs.now) × SourcesAreKnown (kept state.now) jobs.now × HaveParts catalog.now state.now }
         ensures added { IfOk result (IsAddedAt catalog.entry.now (kept state.entry.now) jobs.entry.now number) }
         ensures refused { IfErr result (IsRefusedAt catalog.entry.now (kept state.entry.now) jobs.entry.now number) }
     { added_at(alloc, catalog, jobs, number, state, gate) };
@@ -184,12 +188,12 @@ fn add_one<F: RowTest, G: RowValue>(
     state: &mut NightState,
     steps: &mut Vec<(Expression, u128)>,
 ) -> Result<(), MaintFault>
-    requires parts { AreParts catalog.now state.old }
+    requires parts { HaveParts catalog.now state.old }
     requires fit { CanFinish catalog.now (kept state.old) }
     requires job { IsExpressionOf catalog.now (comp_of job.now) }
     requires known { AreKnown (kept state.old) job.now.from }
     requires added { IsAdded catalog.now (kept state.old) job.now added.now }
-    ensures parts { OnOk result (AreParts catalog.now state.new) }
+    ensures parts { OnOk result (HaveParts catalog.now state.new) }
     ensures fit { OnOk result (CanFinish catalog.now (kept state.new)) }
     ensures done { OnOk result (kept state.new ≡ computed catalog.now job.now.view job.now.from (kept state.old)) }
     ensures fits { OnOk result (MergedFit ((kept state.old).pending job.now.view)
@@ -217,17 +221,17 @@ fn add_all<F: RowTest, G: RowValue>(
     state: &mut NightState,
     steps: &mut Vec<(Expression, u128)>,
 ) -> Result<(), MaintFault>
-    requires parts { AreParts catalog.now state.old }
+    requires parts { HaveParts catalog.now state.old }
     requires fit { CanFinish catalog.now (kept state.old) }
     requires jobs { IsStageIn catalog.now (stage.Wave jobs.now) }
     requires known { SourcesAreKnown (kept state.old) jobs.now }
     requires added { AreAdded catalog.now (kept state.old) jobs.now added.now }
-    ensures parts { OnOk result (AreParts catalog.now state.new) }
+    ensures parts { OnOk result (HaveParts catalog.now state.new) }
     ensures fit { OnOk result (CanFinish catalog.now (kept state.new)) }
-    ensures goes { OnOk result ((keys place : ℕ) (t : Given) → IsWaveAt catalog.now jobs.now (night_of catalog.now keys t) place → HasCome (night_of catalog.now keys t) place (kept state.old) steps.old.items
-        → HasCome (night_of catalog.now keys t) (place + length jobs.now) (kept state.new) steps.new.items) }
-    ensures refused { IfErr result (λ fault. (keys place : ℕ) (t : Given) → IsWaveAt catalog.now jobs.now (night_of catalog.now keys t) place → HasCome (night_of catalog.now keys t) place (kept state.old) steps.old.items
-        → SourcesFinish (night_of catalog.now keys t) place jobs.now → (fault ≡ Memory) ⊎ IsWaveFault (night_of catalog.now keys t) place jobs.now fault) }
+    ensures goes { OnOk result ((keys place : ℕ) (t : Given) → IsWaveAt catalog.now jobs.now (night_given catalog.now keys t) place → HasCome (night_given catalog.now keys t) place (kept state.old) steps.old.items
+        → HasCome (night_given catalog.now keys t) (place + length jobs.now) (kept state.new) steps.new.items) }
+    ensures refused { IfErr result (λ fault. (keys place : ℕ) (t : Given) → IsWaveAt catalog.now jobs.now (night_given catalog.now keys t) place → HasCome (night_given catalog.now keys t) place (kept state.old) steps.old.items
+        → SourcesFinish (night_given catalog.now keys t) place jobs.now → (fault ≡ Memory) ⊎ IsWaveFault (night_given catalog.now keys t) place jobs.now fault) }
 {
     for number in 0..jobs.len() {
         if let Err(fault) = add_one(alloc, catalog, &jobs[number], &added[number], state, steps) {
@@ -249,17 +253,17 @@ pub(crate) fn wave<F: RowTest, G: RowValue, T: Gate + Sync, R: Threads + Sync>(
     workers: usize,
     gate: &T,
 ) -> Result<(), MaintFault>
-    requires parts { AreParts catalog.now state.old }
+    requires parts { HaveParts catalog.now state.old }
     requires fit { CanFinish catalog.now (kept state.old) }
     requires jobs { IsStageIn catalog.now (stage.Wave jobs.now) }
     requires least { 1 ≤ workers }
     requires most { workers ≤ 16 }
-    ensures parts { OnOk result (AreParts catalog.now state.new) }
+    ensures parts { OnOk result (HaveParts catalog.now state.new) }
     ensures fit { OnOk result (CanFinish catalog.now (kept state.new)) }
-    ensures goes { OnOk result ((keys place : ℕ) (t : Given) → IsWaveAt catalog.now jobs.now (night_of catalog.now keys t) place → HasCome (night_of catalog.now keys t) place (kept state.old) steps.old.items
-        → HasCome (night_of catalog.now keys t) (place + length jobs.now) (kept state.new) steps.new.items) }
-    ensures refused { IfErr result (λ fault. (keys place : ℕ) (t : Given) → IsWaveAt catalog.now jobs.now (night_of catalog.now keys t) place → HasCome (night_of catalog.now keys t) place (kept state.old) steps.old.items
-        → (fault ≡ Memory) ⊎ IsWaveFault (night_of catalog.now keys t) place jobs.now fault) }
+    ensures goes { OnOk result ((keys place : ℕ) (t : Given) → IsWaveAt catalog.now jobs.now (night_given catalog.now keys t) place → HasCome (night_given catalog.now keys t) place (kept state.old) steps.old.items
+        → HasCome (night_given catalog.now keys t) (place + length jobs.now) (kept state.new) steps.new.items) }
+    ensures refused { IfErr result (λ fault. (keys place : ℕ) (t : Given) → IsWaveAt catalog.now jobs.now (night_given catalog.now keys t) place → HasCome (night_given catalog.now keys t) place (kept state.old) steps.old.items
+        → (fault ≡ Memory) ⊎ IsWaveFault (night_given catalog.now keys t) place jobs.now fault) }
 {
     if let Err(fault) = finish_sources(alloc, catalog, jobs, state) {
         return Err(fault);

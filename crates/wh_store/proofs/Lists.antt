@@ -5,7 +5,8 @@ use Rattle.std.specs.List.{AllByRecursion}
 use Rattle.std.specs.Global.{Vec}
 use Rattle.std.proofs.lemmas.List.{take-map, length-take}
 use Rattle.wh_row.specs.Bag.{Bag, IsTable}
-use Rattle.wh_store.specs.Kept.{lists_of, IsHeld, AreTables}
+use Rattle.wh_store.specs.Kept.{lists_of, AreTables}
+use Rattle.wh_store.specs.Inner.Kept.{IsHeld}
 use Rattle.wh_store.specs.Pages.{Contents}
 use Rattle.wh_store.specs.Versions.{table_in}
 

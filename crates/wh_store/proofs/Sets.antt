@@ -8,7 +8,7 @@ use Rattle.std.proofs.lemmas.Int.{ints}
 use Rattle.wh_row.specs.Bag.{Bag, IsTable, count, empty, plus, set_count, sum_of}
 use Rattle.wh_row.specs.Row.{Row, is_row}
 use Rattle.wh_row.proofs.BagLaws.{same_row, same_bag, count-plus, count-bag_of, count-sum_of}
-use Rattle.wh_store.specs.Kept.{AreCounts}
+use Rattle.wh_store.specs.Inner.Kept.{AreCounts}
 use Rattle.wh_row.proofs.CountLaws.{count-set_count}
 
 there : (a b n : ℤ) → a +ℤ ((n -ℤ (a +ℤ b)) +ℤ b) ≡ n

@@ -5,3 +5,4 @@ pub mod Windows
 pub mod Refusals
 pub mod Kept
 pub mod Laws
+pub mod Inner

@@ -1,8 +1,7 @@
 -- Tables as their readers see them: rows in rising order, each with its count, a page at a time.
-use Rattle.std.specs.Prelude.{ℕ, ℤ, pos, Bool, true, nat_le, int_le, ◌&&◌, List, [], ◌∷◌, length, take, filter, Option, Some, None, refl}
+use Rattle.std.specs.Prelude.{ℕ, ℤ, pos, Bool, true, nat_le, int_le, ◌&&◌, List, [], ◌∷◌, length, take, filter, Option, Some, None}
 use Rattle.std.specs.Ordering.{is_lt}
-use Rattle.std.specs.Coded.{Coded, code_by, coded×, coded_ℤ, coded_list, coded_bool}
-use Rattle.wh_row.specs.Bag.{Bag, coded_bag, set_count, written}
+use Rattle.wh_row.specs.Bag.{Bag, set_count, written}
 use Rattle.wh_row.specs.Row.{Row, row_cmp}
 use Rattle.wh_row.specs.Weigh.{Counted}
 
@@ -50,11 +49,3 @@ is_page rows = nat_le 1 (length rows) && nat_le (length rows) 256 && rises_after
 abbrev pub with_counts : Bag → Counted → Bag
 with_counts table [] = table
 with_counts table (e ∷ es) = with_counts (set_count table e.0 e.1) es
-
-abbrev pub coded_shown : Coded Shown
-coded_shown =
-    code_by (List (Row × ℤ) × Bool) (coded× (coded_list (coded× (coded_list coded_ℤ) coded_ℤ)) coded_bool) (λ s. (s.rows, s.last)) (λ p. record { rows = p.0; last = p.1 })
-    (λ _. refl)
-
-abbrev pub coded_contents : Coded Contents
-coded_contents = coded_list coded_bag

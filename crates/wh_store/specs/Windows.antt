@@ -1,8 +1,7 @@
 -- What a store shows of the versions: those whose sessions can still be read, and what is being written.
-use Rattle.std.specs.Prelude.{◌≡◌, ℕ, ◌+◌, ◌-◌, List, ◌∷◌, take, slice_index_or, [], Option, Some, None, is_some, unwrap_or, option_map, Bool, nat_le, nat_lt, ◌&&◌, refl}
-use Rattle.std.specs.Coded.{Coded, code_by, coded×, coded_ℕ, coded_list, coded_option}
+use Rattle.std.specs.Prelude.{◌≡◌, ℕ, ◌+◌, ◌-◌, List, ◌∷◌, take, slice_index_or, [], Option, Some, None, is_some, unwrap_or, option_map, Bool, nat_le, nat_lt, ◌&&◌}
 use Rattle.wh_store.specs.Operations.{Operation, Opens, Writes, Commits, Gives_up}
-use Rattle.wh_store.specs.Pages.{Contents, coded_contents}
+use Rattle.wh_store.specs.Pages.{Contents}
 use Rattle.wh_store.specs.Versions.{Versions, number, is_active, kept_count, versions_of, written_over}
 
 -- of how many versions it keeps the contents, the current number, the contents of the versions that a session can be read of, the newest first, and what is being written
@@ -38,8 +37,3 @@ applied w Opens = record { limit = w.limit; number = w.number; kept = take (w.li
 applied w (Writes view rows) = record { limit = w.limit; number = w.number; kept = w.kept; draft = option_map (written_over view rows) w.draft }
 applied w Commits = record { limit = w.limit; number = w.number + 1; kept = unwrap_or w.draft (current w) ∷ w.kept; draft = None }
 applied w Gives_up = record { limit = w.limit; number = w.number + 1; kept = current w ∷ w.kept; draft = None }
-
-abbrev pub coded_window : Coded Window
-coded_window =
-    code_by (ℕ × (ℕ × (List Contents × Option Contents))) (coded× coded_ℕ (coded× coded_ℕ (coded× (coded_list coded_contents) (coded_option coded_contents))))
-    (λ w. (w.limit, (w.number, (w.kept, w.draft)))) (λ p. record { limit = p.0; number = p.1.0; kept = p.1.1.0; draft = p.1.1.1 }) (λ _. refl)

@@ -5,7 +5,7 @@ ghost use mir.Syntax.{w64};
 ghost use Rattle.wh_row.specs.Bag.{count, set_count, sum_of, IsTable, SumFits};
 ghost use Rattle.wh_row.specs.Row.{is_row};
 ghost use Rattle.wh_row.specs.Stored.{plain};
-ghost use Rattle.wh_store.specs.Kept.{AreCounts};
+ghost use Rattle.wh_store.specs.Inner.Kept.{AreCounts};
 ghost use Rattle.wh_store.specs.Pages.{count_no_less, with_counts};
 
 use std::alloc::{AllocError, Global};

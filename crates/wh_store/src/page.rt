@@ -17,7 +17,8 @@ pub struct Page {
 }
 
 impl Model for Page {
-    ghost use Rattle.wh_store.specs.Pages.{Shown, coded_shown};
+    ghost use Rattle.wh_store.specs.Pages.{Shown};
+    ghost use Rattle.wh_store.specs.Inner.Pages.{coded_shown};
 
     ghost Value = { Shown };
 

@@ -35,8 +35,10 @@ pub struct Store {
 }
 
 impl Model for Store {
-    ghost use Rattle.wh_store.specs.Windows.{Window, coded_window};
-    ghost use Rattle.wh_store.specs.Kept.{lists_of, kept_of, draft_of, IsHeld};
+    ghost use Rattle.wh_store.specs.Windows.{Window};
+    ghost use Rattle.wh_store.specs.Inner.Windows.{coded_window};
+    ghost use Rattle.wh_store.specs.Kept.{lists_of, kept_of, draft_of};
+    ghost use Rattle.wh_store.specs.Inner.Kept.{IsHeld};
 
     ghost Value = { Window };
 

@@ -7,7 +7,8 @@ use Rattle.wh_dag.specs.Shape.{IsShape}
 use Rattle.wh_strategy.specs.declared.expression.Expression.{Expression}
 use Rattle.wh_strategy.specs.declared.rule.Rule.{Rule}
 use Rattle.wh_strategy.specs.Rules.{IsCorrect, Breaks, Keeps, IsFirstPlace, IsFirstBroken, number_of}
-use Rattle.wh_strategy.specs.Tests.{place_from, Passes, PassEach, IsFirstFailed}
+use Rattle.wh_strategy.specs.Tests.{place_from, Passes}
+use Rattle.wh_strategy.specs.Inner.Tests.{PassEach, IsFirstFailed}
 use Rattle.wh_strategy.proofs.Passing.{by_tests, each_kept, none_lacks}
 use Rattle.wh_strategy.proofs.CorrectLists.{passes_all}
 use Rattle.wh_strategy.proofs.RuleOrder.{in_order, place_of, rule_at}

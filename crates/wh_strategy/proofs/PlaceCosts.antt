@@ -10,7 +10,8 @@ use Rattle.wh_strategy.specs.Expression.{At}
 use Rattle.wh_strategy.specs.Rules.{IsCorrect}
 use Rattle.wh_strategy.specs.Sizes.{Size}
 use Rattle.wh_strategy.specs.Sums.{parts}
-use Rattle.wh_strategy.specs.Work.{state, term, read_of, comp_rows, inst_rows, cost_at}
+use Rattle.wh_strategy.specs.Work.{state, term, comp_rows, inst_rows, cost_at}
+use Rattle.wh_strategy.specs.Inner.Work.{read_of}
 use Rattle.wh_dag.proofs.Members.{has-head, has-tail, length-le_members}
 use Rattle.wh_dag.proofs.Sums.{sum_by-swap}
 

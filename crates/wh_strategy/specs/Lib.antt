@@ -6,3 +6,4 @@ pub mod Sizes
 pub mod Sums
 pub mod Tests
 pub mod Work
+pub mod Inner

@@ -1,5 +1,5 @@
 -- The rules once more, as tests of an expression and those that stand before it, which a check runs along the list.
-use Rattle.std.specs.Prelude.{◌≡◌, ℕ, ◌+◌, ◌<◌, List, slice_get, [], ◌∷◌, ◌++◌, length, Option, Some, None, Bool, false, not, ◌&&◌, ◌||◌, ◌==◌, nat_le, if◌then◌else◌}
+use Rattle.std.specs.Prelude.{◌≡◌, ℕ, ◌+◌, List, [], ◌∷◌, ◌++◌, length, Option, Some, None, Bool, false, not, ◌&&◌, ◌||◌, ◌==◌, nat_le, if◌then◌else◌}
 use Rattle.std.specs.List.{list_any}
 use Rattle.wh_dag.specs.Shape.{has, children_of}
 use Rattle.wh_strategy.specs.declared.expression.Expression.{Expression}
@@ -84,14 +84,3 @@ place_from rule shape before (e ∷ rest) =
 -- no test of the rule fails along the list
 abbrev pub Passes : List (List ℕ) → List Expression → Rule → Type 0
 Passes shape list rule = place_from rule shape [] list ≡ None
-
--- the list passes each of these rules
-abbrev pub PassEach : List Rule → List (List ℕ) → List Expression → Type 0
-PassEach rules shape list = (k : ℕ) (rule : Rule) → slice_get rules k ≡ Some rule → Passes shape list rule
-
--- it is the first of these rules whose tests fail, and this is the first place, counted from 1
-pub record IsFirstFailed (rules : List Rule) (shape : List (List ℕ)) (list : List Expression) (rule : Rule) (place : ℕ) : Type 0 where
-  pub turn : ℕ
-  pub among : slice_get rules turn ≡ Some rule
-  pub failed : place_from rule shape [] list ≡ Some place
-  pub passed : (k : ℕ) (earlier : Rule) → k < turn → slice_get rules k ≡ Some earlier → Passes shape list earlier

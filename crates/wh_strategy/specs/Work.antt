@@ -17,10 +17,6 @@ state sizes list place u = if is_new list place u then (sizes u).post else (size
 abbrev pub term : (ℕ → Size) → List Expression → ℕ → List ℕ → List ℕ → ℕ
 term sizes list place children part = sum_by (λ u. if has part u then (sizes u).change else state sizes list place u) children
 
--- what all terms of a Comp from ys read of one child: its change in each part that has it, else its state
-abbrev pub read_of : ℕ → ℕ → ℕ → List ℕ → ℕ
-read_of change size child ys = sum_by (λ part. if has part child then change else size) (parts ys)
-
 -- what the expression at this place reads as a Comp, over the non-empty parts of its sources
 abbrev pub comp_rows : List (List ℕ) → (ℕ → Size) → List Expression → ℕ → Option Expression → ℕ
 comp_rows shape sizes list place None = 0

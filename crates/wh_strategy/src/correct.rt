@@ -3,7 +3,8 @@
 ghost use Rattle.std.specs.Prelude.{◌≡◌, ◌↔◌, ◌<◌, ℕ, List, [], length, Some, IfOk, IfErr, IsTrue, IfNone, IfSome, MatchOption};
 ghost use Rattle.wh_dag.specs.Shape.{IsShape};
 ghost use Rattle.wh_strategy.specs.Rules.{IsCorrect, IsOneWay, IsFirstBroken, IsFirstPlace, IsReason, Keeps};
-ghost use Rattle.wh_strategy.specs.Tests.{PassEach, IsFirstFailed, Passes, place_from};
+ghost use Rattle.wh_strategy.specs.Tests.{Passes, place_from};
+ghost use Rattle.wh_strategy.specs.Inner.Tests.{PassEach, IsFirstFailed};
 ghost use Rattle.wh_strategy.specs.declared.expression.Expression.{Expression};
 ghost use Rattle.wh_strategy.specs.declared.rule.Rule.{Rule};
 

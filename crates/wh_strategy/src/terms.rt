@@ -7,7 +7,8 @@ ghost use Rattle.wh_strategy.specs.Earlier.{TellsInstalled};
 ghost use Rattle.wh_strategy.specs.Rules.{IsCorrect};
 ghost use Rattle.wh_strategy.specs.Sizes.{sizes_of};
 ghost use Rattle.wh_strategy.specs.Sums.{parts};
-ghost use Rattle.wh_strategy.specs.Work.{state, term, read_of, cost_at, work_of};
+ghost use Rattle.wh_strategy.specs.Work.{state, term, cost_at, work_of};
+ghost use Rattle.wh_strategy.specs.Inner.Work.{read_of};
 
 use crate::correct::Correct;
 use crate::costs::Costs;

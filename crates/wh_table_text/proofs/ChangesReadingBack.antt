@@ -21,7 +21,8 @@ use Rattle.wh_table_text.specs.ChangesReadBack.{ChangesReadBack}
 use Rattle.wh_table_text.specs.Part.{below_header, part_gives}
 use Rattle.wh_table_text.specs.Records.{form_fault}
 use Rattle.wh_table_text.specs.TableReadsBack.{IsCell}
-use Rattle.wh_table_text.specs.TableText.{bag_read, counted_header, counting_of, entry_of, entry_scheme, non_zero, table_scheme, text_gives, texts_after, texts_in_row}
+use Rattle.wh_table_text.specs.TableText.{bag_read, counted_header, counting_of, entry_of, non_zero, table_scheme, text_gives, texts_after, texts_in_row}
+use Rattle.wh_table_text.specs.Inner.TableText.{entry_scheme}
 use Rattle.wh_table_text.specs.TableWritten.{cell_texts, record_of}
 use Rattle.wh_table_text.specs.declared.table.header.Content.TheVariants.{Changes}
 use Rattle.wh_table_text.specs.declared.table.header.Counting.TheVariants.{NonZero}

@@ -5,9 +5,11 @@ use Rattle.std.specs.Result.{result_err}
 use Rattle.std.proofs.lemmas.List.{append-nil}
 use Rattle.wh_text.specs.declared.fault.LoadFault.{LoadFault}
 use Rattle.wh_text.specs.declared.fault.LoadFault.TheVariants.{Memory}
-use Rattle.wh_table_text.specs.Part.{◌>>=◌, Below, EndsBy, IsReadTo, Scheme, TakenTo, below_header, or_fault, part_gives, record_gives, records_give}
+use Rattle.wh_table_text.specs.Part.{◌>>=◌, Below, Scheme, below_header, or_fault, part_gives, record_gives, records_give}
+use Rattle.wh_table_text.specs.Inner.Part.{EndsBy, IsReadTo, TakenTo}
 use Rattle.wh_table_text.specs.Records.{form_fault}
-use Rattle.wh_table_text.specs.Unread.{FailsNext, Unread}
+use Rattle.wh_table_text.specs.Unread.{Unread}
+use Rattle.wh_table_text.specs.Inner.Unread.{FailsNext}
 
 -- a step that gave a value, and what the next gave
 pub from_step : {A B : Type 0} (first : Result A LoadFault) (next : A → Result B LoadFault) (value : B) → (first >>= next) ≡ Ok value

@@ -10,7 +10,8 @@ use Rattle.csv.specs.declared.reader.Reader.{Reader}
 use Rattle.csv.proofs.ReadFacts.{rows-end}
 use Rattle.wh_text.specs.declared.fault.LoadFault.TheVariants.{Memory}
 use Rattle.wh_table_text.specs.Records.{form_fault}
-use Rattle.wh_table_text.specs.Unread.{FailsNext, Gives, IsCounted, IsReading, Unread, left_of, read_fault, records_after}
+use Rattle.wh_table_text.specs.Unread.{Unread, left_of, records_after}
+use Rattle.wh_table_text.specs.Inner.Unread.{FailsNext, Gives, IsCounted, IsReading, read_fault}
 use Rattle.wh_table_text.proofs.RecordLists.{all_utf8, not_all_utf8, read-first, records_after-end}
 
 abbrev bytes_of : Bor (List ℕ) → Option (List ℕ)

@@ -19,7 +19,8 @@ use Rattle.wh_row.specs.Row.{Row, is_row, row_cmp}
 use Rattle.wh_row.specs.Weigh.{Counted, count_in}
 use Rattle.wh_row.proofs.RowLaws.{itself, same_row}
 use Rattle.wh_text.specs.Columns.{NamedKind, kinds_of}
-use Rattle.wh_text.specs.Dict.{BeginsWith, number_of_text, with_text, with_texts}
+use Rattle.wh_text.specs.Dict.{number_of_text, with_text, with_texts}
+use Rattle.wh_text.specs.Inner.Dict.{BeginsWith}
 use Rattle.wh_text.specs.FirstFault.{EndsByFirst, fault_if}
 use Rattle.wh_text.specs.WholeNumber.{is_i64, whole_number}
 use Rattle.wh_text.specs.declared.columns.Kind.{Kind}

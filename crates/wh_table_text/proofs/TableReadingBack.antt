@@ -36,7 +36,8 @@ use Rattle.wh_text.proofs.WholeNumbers.{are_digits-decides, is_i64-decides, whol
 use Rattle.wh_table_text.specs.Part.{◌>>=◌, below_header, part_gives, record_gives, records_give}
 use Rattle.wh_table_text.specs.Records.{form_fault}
 use Rattle.wh_table_text.specs.TableReadsBack.{IsCell, TableReadsBack}
-use Rattle.wh_table_text.specs.TableText.{bag_read, cell_number, counted_header, counting_of, entry_of, entry_scheme, positive, row_of, table_scheme, text_gives, text_in, texts_after, texts_in_row}
+use Rattle.wh_table_text.specs.TableText.{bag_read, cell_number, counted_header, counting_of, entry_of, positive, row_of, table_scheme, text_gives, text_in, texts_after, texts_in_row}
+use Rattle.wh_table_text.specs.Inner.TableText.{entry_scheme}
 use Rattle.wh_table_text.specs.TableWritten.{cell_text, cell_texts, record_of}
 use Rattle.wh_table_text.specs.declared.table.header.Content.{Content}
 use Rattle.wh_table_text.specs.declared.table.header.Content.TheVariants.{Table}

@@ -10,14 +10,17 @@ use Rattle.std.proofs.lemmas.Slice.Eq.{bytes_eq-Decides}
 use Rattle.wh_row.specs.Row.{Row}
 use Rattle.wh_row.specs.Weigh.{Counted}
 use Rattle.wh_text.specs.Columns.{NamedKind, kinds_of, names_of}
-use Rattle.wh_text.specs.Dict.{BeginsWith, with_texts}
+use Rattle.wh_text.specs.Dict.{with_texts}
+use Rattle.wh_text.specs.Inner.Dict.{BeginsWith}
 use Rattle.wh_text.specs.declared.columns.Kind.{Kind}
 use Rattle.wh_text.specs.declared.fault.LoadFault.{LoadFault}
 use Rattle.wh_text.specs.declared.fault.LoadFault.TheVariants.{Memory, Number}
 use Rattle.wh_text.proofs.DictGrowth.{begins-same, begins-texts, begins-trans}
-use Rattle.wh_table_text.specs.Part.{IsReadTo, IsWidthOf, record_gives, records_give}
+use Rattle.wh_table_text.specs.Part.{record_gives, records_give}
+use Rattle.wh_table_text.specs.Inner.Part.{IsReadTo, IsWidthOf}
 use Rattle.wh_table_text.specs.Records.{form_fault}
-use Rattle.wh_table_text.specs.TableText.{EntriesRead, count_cells, counted_header, counting_of, entered, entry_of, entry_scheme, row_cells, texts_after, texts_in_row, with_entry}
+use Rattle.wh_table_text.specs.TableText.{EntriesRead, count_cells, counted_header, counting_of, entry_of, row_cells, texts_after, texts_in_row, with_entry}
+use Rattle.wh_table_text.specs.Inner.TableText.{entered, entry_scheme}
 use Rattle.wh_table_text.specs.declared.table.header.Content.{Content}
 use Rattle.wh_table_text.specs.declared.table.header.Content.TheVariants.{Changes, Table}
 use Rattle.wh_table_text.specs.declared.table.header.Counting.{Counting}

@@ -16,9 +16,11 @@ use Rattle.wh_text.specs.WholeNumber.{is_i64}
 use Rattle.wh_text.specs.declared.fault.LoadFault.{LoadFault}
 use Rattle.wh_text.specs.declared.fault.LoadFault.TheVariants.{Memory, Number}
 use Rattle.wh_text.proofs.WholeNumbers.{is_i64-decides}
-use Rattle.wh_table_text.specs.Part.{◌>>=◌, Below, EndsBy, IsReadTo, TakenTo, below_header, or_fault, part_gives, record_gives, records_give}
+use Rattle.wh_table_text.specs.Part.{◌>>=◌, Below, below_header, or_fault, part_gives, record_gives, records_give}
+use Rattle.wh_table_text.specs.Inner.Part.{EndsBy, IsReadTo, TakenTo}
 use Rattle.wh_table_text.specs.Records.{form_fault, records_of}
-use Rattle.wh_table_text.specs.TableText.{EndsSum, EntriesRead, bag_read, entry_of, entry_scheme, table_scheme, text_gives, texts_after, with_entry}
+use Rattle.wh_table_text.specs.TableText.{EntriesRead, bag_read, entry_of, table_scheme, text_gives, texts_after, with_entry}
+use Rattle.wh_table_text.specs.Inner.TableText.{EndsSum, entry_scheme}
 use Rattle.wh_table_text.specs.declared.table.header.Content.{Content}
 use Rattle.wh_table_text.specs.declared.table.header.Counting.{Counting}
 use Rattle.wh_table_text.proofs.PartReads.{from_step, records_give-after, records_give-append, records_give-first, same_Ok, taken-all}

@@ -12,3 +12,4 @@ pub mod TableReadsBack
 pub mod TableText
 pub mod TableWritten
 pub mod Unread
+pub mod Inner

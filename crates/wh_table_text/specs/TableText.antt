@@ -1,9 +1,9 @@
 -- Tables and changes as parts write them: a header, and a record for each row with its count.
-use Rattle.std.specs.Prelude.{◌≡◌, ◌⊎◌, ℕ, zero, suc, ◌+◌, ℤ, pos, negsuc, List, [], ◌∷◌, ◌++◌, drop, codes, Option, Some, None, ok_or, Result, Ok, Err, if◌then◌else◌, option_and_then, option_map}
+use Rattle.std.specs.Prelude.{ℕ, zero, suc, ◌+◌, ℤ, pos, negsuc, List, [], ◌∷◌, ◌++◌, drop, codes, Option, Some, None, ok_or, Result, Ok, Err, if◌then◌else◌, option_and_then, option_map}
 use Rattle.std.specs.Cmp.Lexicographic.{pointwise}
 use Rattle.std.specs.Str.{bytes_eq}
 use Rattle.wh_row.specs.Bag.{Bag, bag_of}
-use Rattle.wh_row.specs.Records.{EachSumFits, IsFirstTooLarge, running_sum}
+use Rattle.wh_row.specs.Records.{running_sum}
 use Rattle.wh_row.specs.Row.{Row}
 use Rattle.wh_row.specs.Weigh.{Counted}
 use Rattle.wh_text.specs.Columns.{NamedKind, kinds_of, names_of}
@@ -14,7 +14,7 @@ use Rattle.wh_text.specs.declared.columns.Kind.TheVariants as of_kind
 use Rattle.wh_text.specs.declared.fault.LoadFault.{LoadFault}
 use Rattle.wh_text.specs.declared.fault.LoadFault.TheVariants.{Number}
 pub use Rattle.wh_table_text.specs.Part.{or_fault}
-use Rattle.wh_table_text.specs.Part.{◌>>=◌, Scheme, part_of}
+use Rattle.wh_table_text.specs.Part.{Scheme, part_of}
 use Rattle.wh_table_text.specs.Records.{cell}
 use Rattle.wh_table_text.specs.declared.table.header.Content.{Content}
 use Rattle.wh_table_text.specs.declared.table.header.Content.TheVariants as of_content
@@ -106,21 +106,11 @@ texts_after count kinds texts cells = with_texts texts (texts_in_row kinds (row_
 abbrev pub with_entry : EntriesRead → List (List ℕ) → Row × ℤ → EntriesRead
 with_entry read texts entry = record { texts = texts; entries = read.entries ++ entry ∷ [] }
 
--- what a record by itself makes of what was read: its texts get their numbers, and its entry goes last; else its count is not allowed, or one of its cells has another form
-abbrev pub entered : List Kind → Counting → EntriesRead → ℕ → List (List ℕ) → Result EntriesRead LoadFault
-entered kinds count read number cells = do
-  entry ← ok_or (entry_of count (texts_after count kinds read.texts cells) kinds cells) (Number number)
-  Ok (with_entry read (texts_after count kinds read.texts cells) entry)
-
 -- the same, where a record that brings the sum of its row out of i64 has a fault too
 abbrev pub added : List Kind → Counting → EntriesRead → ℕ → List (List ℕ) → Result EntriesRead LoadFault
 added kinds count read number cells = do
   entry ← ok_or (entry_of count (texts_after count kinds read.texts cells) kinds cells) (Number number)
   if is_i64 (running_sum read.entries entry) then Ok (with_entry read (texts_after count kinds read.texts cells) entry) else Err (Number number)
-
--- parts of tables or of changes, over these columns: each record by itself
-abbrev pub entry_scheme : Content → List NamedKind → Scheme Counting EntriesRead
-entry_scheme content columns = record { kind_of = counting_of content (names_of columns); take = entered (kinds_of columns) }
 
 -- the same with the sums of equal rows
 abbrev pub table_scheme : Content → List NamedKind → Scheme Counting EntriesRead
@@ -137,7 +127,3 @@ unfoldable pub text_gives : Content → List NamedKind → List (List ℕ) → L
 text_gives content columns texts text = bag_read (part_of (table_scheme content columns) (record { texts = texts; entries = [] }) text)
 
 -- How far a reader came.
-
--- adding entries up ends by this fault: the sum of a row leaves i64 first at a record of this number, or else it is the fault that ended the reading
-abbrev pub EndsSum : Counted → Option LoadFault → LoadFault → Type 0
-EndsSum entries read fault = ((place : ℕ) × IsFirstTooLarge entries place × (fault ≡ Number (place + 2))) ⊎ (EachSumFits entries × (read ≡ Some fault))

@@ -3,7 +3,8 @@
 ghost use Rattle.std.specs.Prelude.{◌≡◌, ◌⊎◌, ◌+◌, ◌^◌, ◌≤◌, ℕ, length, IfOk, IfErr, OnOk, OnErr, Ok, Err};
 ghost use Rattle.std.specs.Result.{result_err};
 ghost use Rattle.csv.specs.Records.{fields_of};
-ghost use Rattle.wh_table_text.specs.Part.{IsReadTo, IsWidthOf, Scheme, TakenTo, below_header, part_of};
+ghost use Rattle.wh_table_text.specs.Part.{Scheme, below_header, part_of};
+ghost use Rattle.wh_table_text.specs.Inner.Part.{IsReadTo, IsWidthOf, TakenTo};
 ghost use Rattle.wh_table_text.specs.Records.{records_of};
 
 use crate::records::Records;

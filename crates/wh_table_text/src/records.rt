@@ -9,7 +9,7 @@ ghost use Rattle.csv.specs.Records.{fields_of};
 ghost use Rattle.wh_table_text.specs.Records.{cell, form_fault, records_of};
 ghost use Rattle.csv.specs.Reading.{error_kind};
 ghost use Rattle.wh_text.specs.WholeNumber.{whole_number};
-ghost use Rattle.wh_table_text.specs.Unread.{FailsNext, Gives, read_fault};
+ghost use Rattle.wh_table_text.specs.Inner.Unread.{FailsNext, Gives, read_fault};
 
 use csv::{ErrorKind, Reader, ReaderBuilder, StringRecord};
 use std::alloc::Global;
@@ -26,7 +26,8 @@ pub(crate) struct Records<'a> {
 
 impl<'a> Model for Records<'a> {
     ghost use Rattle.wh_text.specs.WholeNumber.{whole_number};
-    ghost use Rattle.wh_table_text.specs.Unread.{IsCounted, Unread, left_of};
+    ghost use Rattle.wh_table_text.specs.Unread.{Unread, left_of};
+    ghost use Rattle.wh_table_text.specs.Inner.Unread.{IsCounted};
 
     ghost Value = { Unread };
 

@@ -3,10 +3,11 @@ ghost use Rattle.std.specs.Prelude.{◌≡◌, ◌⊎◌, ◌+◌, ◌<◌, ◌^
 ghost use Rattle.std.specs.Result.{result_err};
 ghost use Rattle.wh_row.specs.Bag.{HasWidth, IsTable, bag_of};
 ghost use Rattle.wh_row.specs.Records.{EachSumFits};
-ghost use Rattle.wh_text.specs.Dict.{BeginsWith};
+ghost use Rattle.wh_text.specs.Inner.Dict.{BeginsWith};
 ghost use Rattle.wh_table_text.specs.ChangesReadBack.{ChangesReadBack};
 ghost use Rattle.wh_table_text.specs.TableReadsBack.{NamesAreText, TableReadsBack};
-ghost use Rattle.wh_table_text.specs.TableText.{EndsSum, text_gives};
+ghost use Rattle.wh_table_text.specs.TableText.{text_gives};
+ghost use Rattle.wh_table_text.specs.Inner.TableText.{EndsSum};
 ghost use Rattle.wh_table_text.specs.declared.table.header.Content.TheVariants.{Table, Changes};
 
 mod entry;

@@ -6,7 +6,8 @@ use Rattle.std.proofs.lemmas.Bool.{cases_Bool}
 use Rattle.std.proofs.lemmas.List.{append-nil}
 use Rattle.std.proofs.lemmas.List.Folds.{list_any-append}
 use Rattle.std.proofs.lemmas.Slice.Eq.{bytes_eq-Decides}
-use Rattle.wh_text.specs.Dict.{BeginsWith, Grows, number_of_text, with_text, with_texts}
+use Rattle.wh_text.specs.Dict.{number_of_text, with_text, with_texts}
+use Rattle.wh_text.specs.Inner.Dict.{BeginsWith, Grows}
 
 pub with_texts-append : (texts xs ys : List (List ℕ)) → with_texts texts (xs ++ ys) ≡ with_texts (with_texts texts xs) ys
 unfolding with_texts

@@ -24,12 +24,3 @@ number_of_text texts text = position_or_len (bytes_eq text) texts
 abbrev pub text_of_cell : List (List ℕ) → ℤ → Option (List ℕ)
 text_of_cell texts (pos number) = slice_get texts number
 text_of_cell texts (negsuc number) = None
-
--- the list begins with these texts
-pub record BeginsWith (first : List (List ℕ)) (texts : List (List ℕ)) : Type 0 where
-  pub more : List (List ℕ)
-  pub parts : texts ≡ first ++ more
-
--- the texts after begin with all that these begin with: each text keeps its number
-abbrev pub Grows : List (List ℕ) → List (List ℕ) → Type 0
-Grows texts after = (first : List (List ℕ)) → BeginsWith first texts → BeginsWith first after

@@ -4,5 +4,5 @@ pub mod FaultText
 pub mod FirstFault
 pub mod Line
 pub mod NameForm
-pub mod Names
 pub mod WholeNumber
+pub mod Inner

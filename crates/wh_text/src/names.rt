@@ -21,7 +21,7 @@ pub struct Names {
 impl Model for Names {
     ghost use Rattle.std.specs.Prelude.{List, ℕ};
     ghost use Rattle.wh_dag.specs.Written.{texts};
-    ghost use Rattle.wh_text.specs.Names.{IsIndex};
+    ghost use Rattle.wh_text.specs.Inner.Names.{IsIndex};
 
     ghost Value = { List (List ℕ) };
 

@@ -6,7 +6,8 @@ use lib.ListN.{get_elem?}
 use Rattle.atomic_table.specs.Table.{State, Me, Act, keeps, Valid, stepped, carried_after, Allows, Splits, Joins}
 use Rattle.atomic_table.proofs.Lists.{at_set, at_snoc, set_again}
 use Rattle.wh_workers.specs.declared.claim.Hand.{Hand}
-use Rattle.wh_workers.specs.Claims.{hand, total, one_if, times, once_below, Holds, Draws, Whole}
+use Rattle.wh_workers.specs.Claims.{hand, one_if, times, once_below, Draws, Whole}
+use Rattle.wh_workers.specs.Inner.Claims.{total, Holds}
 
 -- the total after a change of one
 total_set : (f : Hand → ℕ) (views : List Hand) (seat : ℕ) (v w : Hand) → get_elem? views seat ≡ some v → total f (set views seat w) + f v ≡ total f views + f w

@@ -1,7 +1,8 @@
 -- The first refusal of a list of outcomes.
 use Rattle.std.proofs.Common.{◌≡◌, ℕ, zero, suc, ◌<◌, List, [], ◌∷◌, ◌++◌, length, map, slice_get, Some, Result, Ok, Err, refl, ap, ◌∙◌, arith}
 use denote.Param.Members.{Shared}
-use Rattle.wh_workers.specs.Works.{AreResults, IsLowest, IsLowestRefused}
+use Rattle.wh_workers.specs.Works.{AreResults, IsLowestRefused}
+use Rattle.wh_workers.specs.Inner.Works.{IsLowest}
 use Rattle.wh_workers.specs.declared.jobs.JobsFault.{JobsFault}
 use Rattle.wh_workers.specs.declared.jobs.JobsFault.TheVariants.{Memory, Refused}
 

@@ -1,3 +1,3 @@
 pub mod Claims
 pub mod Works
-pub mod Orders
+pub mod Inner

@@ -1,5 +1,5 @@
 -- What workers bring, and what comes of it.
-use Rattle.std.specs.Prelude.{◌≡◌, ℕ, ◌<◌, List, ◌∷◌, ◌++◌, map, length, slice_get, Some, Ok, Err, All, Result, ⊤}
+use Rattle.std.specs.Prelude.{◌≡◌, ℕ, ◌<◌, List, map, length, slice_get, Some, Ok, Err, All, Result, ⊤}
 use denote.Param.Members.{Shared}
 use Rattle.std.specs.Fn.{FnReturns}
 use Rattle.wh_workers.specs.Claims.{times, once_below}
@@ -28,17 +28,6 @@ module _ {F X : Type 0} (g : Shared F (ℕ × Unit {0}) X) (f : F) where
   pub record AreResults (count : ℕ) (xs : List X) : Type 0 where
     pub len : length xs ≡ count
     pub each : (i : ℕ) (x : X) → slice_get xs i ≡ Some x → FnReturns g f (i, tt) x
-
--- the first of these that is a refusal
-pub record IsFirst {T E : Type 0} (os : List (Result T E)) (number : ℕ) (refusal : E) : Type 0 where
-  pub before : List T
-  pub rest : List (Result T E)
-  pub all : os ≡ map Ok before ++ Err refusal ∷ rest
-  pub at : number ≡ length before
-
-abbrev pub IsLowest : {T E : Type 0} → List (Result T E) → JobsFault E → Type 0
-IsLowest os Memory = ⊤
-IsLowest os (Refused number refusal) = IsFirst os number refusal
 
 module _ {F T E : Type 0} (g : Shared F (ℕ × Unit {0}) (Result T E)) (f : F) where
   -- there are count of them, and each is what a call of f with its place, which is not refused, may give

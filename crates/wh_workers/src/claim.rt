@@ -1,7 +1,8 @@
 //! The claim word: workers draw the numbers of jobs from it, each number once.
 
 ghost use Rattle.std.specs.Prelude.{◌≡◌, ℕ, [], ◌∷◌, ◌++◌, ◌+◌, ◌-◌, ◌<◌};
-ghost use Rattle.wh_workers.specs.Claims.{Holds, hand, Draws, Knows, Whole};
+ghost use Rattle.wh_workers.specs.Claims.{hand, Draws, Knows, Whole};
+ghost use Rattle.wh_workers.specs.Inner.Claims.{Holds};
 
 use atomic_table::{Join, Play, Seat, Shared, Split, TableRule};
 use std::collections::LinkedList;

@@ -1,7 +1,8 @@
 //! Jobs that are done by workers, with the results in their order, or the refusal of the lowest number.
 
 ghost use Rattle.std.specs.Prelude.{◌≡◌, ℕ, ◌<◌, ◌≤◌, ◌^◌, IfOk, IfErr, OnErr, map, Ok};
-ghost use Rattle.wh_workers.specs.Works.{AreResults, AreDone, IsLowest, IsLowestRefused};
+ghost use Rattle.wh_workers.specs.Works.{AreResults, AreDone, IsLowestRefused};
+ghost use Rattle.wh_workers.specs.Inner.Works.{IsLowest};
 
 use crate::order::{OrderFault, in_order};
 use crate::work::bring;

@@ -5,7 +5,7 @@ use Rattle.wh_maint.specs.declared.fault.MaintFault.{MaintFault}
 use Rattle.wh_night.specs.declared.stages.Stage.{Stage}
 use Rattle.wh_night.specs.declared.stages.Stage.TheVariants as stage
 use Rattle.wh_course.specs.Night.{Night}
-use Rattle.wh_course.specs.Standing.{place_of}
+use Rattle.wh_course.specs.Standing.{place_behind}
 use Rattle.wh_run.specs.declared.left.Left.{Left}
 use Rattle.wh_run.specs.declared.left.Left.TheVariants.{Untouched, GivenUp, StillOpen}
 use Rattle.wh_run.specs.Refusals.{IsFirstStageFault, IsRefusedSo, IsStageFault}
@@ -25,7 +25,7 @@ first_any n keys fault f = record {
   after = f.after;
   split = f.split;
   passed = f.passed;
-  is = stage_any n keys (place_of f.before) f.refused fault f.is;
+  is = stage_any n keys (place_behind f.before) f.refused fault f.is;
 }
 
 pub refused_any : (n : Night) (keys : ℕ) (left : Left) (fault : MaintFault) → IsRefusedSo n left fault → IsRefusedSo (by_pages n keys) left fault

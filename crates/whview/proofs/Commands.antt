@@ -14,7 +14,8 @@ use Rattle.clap.specs.declared.builder.action.ArgAction.TheVariants as action
 use Rattle.clap.specs.declared.builder.value_parser.ValueParser.{ValueParser}
 use Rattle.clap.specs.declared.builder.value_parser.ValueParser.TheVariants as parser
 use Rattle.clap.proofs.ValueTestLemmas.{accepts-Accepts}
-use Rattle.whview.specs.CommandLine.{IsCommand, NamesCommand, TakesBudget, TakesCosts, TakesNightOptions, budget_parser, check, certify, command_app, cost_parser, night, night_app, plan, plan_app, replay, whview_app, with_commands}
+use Rattle.whview.specs.CommandLine.{budget_parser, command_app, cost_parser, night_app, plan_app, whview_app, with_commands}
+use Rattle.whview.specs.Inner.CommandLine.{IsCommand, NamesCommand, TakesBudget, TakesCosts, TakesNightOptions, check, certify, night, plan, replay}
 use Rattle.whview.proofs.Entered.{EachCommand, IsNotHelp, entered_command}
 use Rattle.whview.proofs.LeafRows.{AreOptionsOf, IsOptionOf, PassesIn, first_of_good}
 

@@ -29,7 +29,7 @@ use Rattle.wh_night.proofs.NewValues.{new_contents_have_values, new_rows_are_few
 use Rattle.wh_night.specs.Laws.{AreFew}
 use Rattle.wh_strategy.specs.Rules.{IsCorrect}
 use Rattle.wh_strategy.specs.declared.expression.Expression.{Expression}
-use Rattle.whview.specs.FitNight.{AreReadTables}
+use Rattle.whview.specs.Inner.FitNight.{AreReadTables}
 use Rattle.wh_run.specs.Refusals.{IsRefusedSo, left_of}
 use Rattle.wh_run.specs.Tonight.{night_over}
 use Rattle.wh_readers.specs.Serving.{rows_of}

@@ -9,7 +9,8 @@ use Rattle.wh_bundle.specs.declared.read.ReadFault.TheVariants as reading
 use Rattle.whview.specs.CommandFault.{FailsAs, status_of}
 use Rattle.whview.specs.CommandLine.{whview_app}
 use Rattle.whview.specs.FirstLine.{words_in, names_input}
-use Rattle.whview.specs.Output.{AskFor, Bytes, Failed, HoldsOfFile, HoldsOfReading, IsCommandOutput, IsHandedOutput, IsReadAnswer, IsRefused, IsSourceAnswer, IsUnreadShown, Reading, answered, file_of, too_long, within}
+use Rattle.whview.specs.Output.{AskFor, Bytes, Failed, HoldsOfFile, HoldsOfReading, IsCommandOutput, IsHandedOutput, IsReadAnswer, IsRefused, IsSourceAnswer, Reading, answered, file_of, too_long, within}
+use Rattle.whview.specs.Inner.Output.{IsUnreadShown}
 use Rattle.whview.specs.Status.{status_number}
 use Rattle.whview.specs.declared.command_line.Asked.{Asked}
 use Rattle.whview.specs.declared.command_line.fault.CommandFault.{CommandFault}

@@ -11,7 +11,7 @@ use Rattle.wh_load.specs.ReadingNight.{AreReadFor, AreReadRows, ChangeRows, Rows
 use Rattle.wh_maint.specs.Asked.{AreBags}
 use Rattle.wh_maint.specs.Comp.{bag_at}
 use Rattle.wh_night.proofs.Agreeing.{count-empty}
-use Rattle.whview.specs.FitNight.{AreReadTables, IsFitFor}
+use Rattle.whview.specs.Inner.FitNight.{AreReadTables, IsFitFor}
 
 pub none_negative : IsTable empty
 none_negative row = subst (λ n. pos 0 ≤ℤ n) (sym (count-empty row)) (omega (arith, ints))

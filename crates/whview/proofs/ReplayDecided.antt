@@ -35,8 +35,8 @@ use Rattle.wh_strategy.specs.declared.correct.CheckFault.TheVariants.{Broken, Me
 use Rattle.wh_strategy.specs.declared.expression.Expression.{Expression}
 use Rattle.wh_strategy.specs.declared.rule.Rule.{Rule}
 use Rattle.whview.specs.CheckOutput.{broken_text}
-use Rattle.whview.specs.FitNight.{AreReadTables}
-use Rattle.whview.specs.FitReplay.{AreChangesOf, AreJudgedRightly, IsFitForNights, IsJudgedRightly, IsNightsFault, IsReady}
+use Rattle.whview.specs.Inner.FitNight.{AreReadTables}
+use Rattle.whview.specs.Inner.FitReplay.{AreChangesOf, AreJudgedRightly, IsFitForNights, IsJudgedRightly, IsNightsFault, IsReady}
 use Rattle.whview.specs.NightOutput.{refused_text}
 use Rattle.whview.specs.ReplayOutput.{AreCorrect, IsFirstBrokenNight, IsReplayTold, broken, event_of, is_memory, machine_of, night_of_machine, no_contents, replayed}
 use Rattle.whview.specs.ReplyText.{replies_text}

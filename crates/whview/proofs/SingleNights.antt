@@ -17,7 +17,7 @@ use Rattle.wh_catalogue_text.specs.Catalogue.{shape_of}
 use Rattle.wh_catalogue_text.specs.Definitions.{ViewOf, definitions_of}
 use Rattle.wh_catalogue_text.specs.FormulaKinds.{Texts}
 use Rattle.wh_catalogue_text.specs.ReadCatalog.{catalog_of}
-use Rattle.wh_load.specs.ReadingNight.{Night, Opening, catalog_in, given_of, night_in, night_of, night_over, tables_of}
+use Rattle.wh_load.specs.ReadingNight.{Night, Opening, catalog_in, given_of, night_in, night_read, night_over, tables_of}
 use Rattle.wh_load.specs.ReadingParts.{parts_in, text_in}
 use Rattle.wh_maint.specs.Comp.{bag_at}
 use Rattle.wh_maint.specs.Contents.{contents}
@@ -192,7 +192,7 @@ over_views parts shape views texts strategy night e =
     let same = same_Ok _ _ _ refl given.2 in
     record { shapes = ap (λ n. n.shape) (sym same); viewed = ap (λ n. n.opening.views) (sym same) }
 
-read_night : (bytes : List ℕ) (night : Night) → night_of bytes ≡ Ok night → IsReadNight night
+read_night : (bytes : List ℕ) (night : Night) → night_read bytes ≡ Ok night → IsReadNight night
 read_night bytes night e =
     let parts = from_step (parts_in nights.First bytes) night_in night e in
     let catalogue = from_step (text_in parts.0 heading.Catalogue 0) _ night parts.2 in
@@ -209,7 +209,7 @@ read_night bytes night e =
     }
 
 pub one_night : OneNightOutput
-one_night readers bytes text other status ended = go (night_of bytes) (read_night bytes)
+one_night readers bytes text other status ended = go (night_read bytes) (read_night bytes)
   where
     go : (r : Result Night LoadFault) → ((night : Night) → r ≡ Ok night → IsReadNight night)
         → MatchResult r (λ night. IsNightTold night readers text status) (λ fault. IsFaultShown fault text status)

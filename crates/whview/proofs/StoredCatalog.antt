@@ -9,7 +9,7 @@ use Rattle.wh_dag.proofs.Shown.{made_again, own_parts}
 use Rattle.wh_catalogue_text.specs.Definitions.{shown_view}
 use Rattle.wh_catalogue_text.specs.ReadCatalog.{catalog_of}
 use Rattle.wh_catalogue_text.specs.declared.definitions.views.WrittenView.{WrittenView}
-use Rattle.whview.specs.StoredClosures.{AreSound}
+use Rattle.whview.specs.Inner.StoredClosures.{AreSound}
 
 -- ---- loops over views
 

@@ -1,7 +1,8 @@
 -- What the program has written, from what it was to tell.
 use Rattle.std.proofs.Common.{ℕ, ◌⊎◌, List, Result, Ok, Err, inl, inr, subst, sym}
 use Rattle.std.specs.Prelude.{IfOk}
-use Rattle.whview.specs.Output.{IsMemoryTold, IsTold}
+use Rattle.whview.specs.Output.{IsMemoryTold}
+use Rattle.whview.specs.Inner.Output.{IsTold}
 use Rattle.whview.specs.Status.{status_number}
 use Rattle.whview.specs.declared.answer.Answer.{Answer}
 

@@ -3,8 +3,6 @@ pub mod CheckOutput
 pub mod CommandFault
 pub mod CommandLine
 pub mod FirstLine
-pub mod FitNight
-pub mod FitReplay
 pub mod NightOutput
 pub mod OneAnswer
 pub mod Output
@@ -13,4 +11,4 @@ pub mod PlanOutput
 pub mod ReplayOutput
 pub mod ReplyText
 pub mod Status
-pub mod StoredClosures
+pub mod Inner

@@ -9,7 +9,7 @@ use Rattle.wh_catalogue_text.specs.FormulaKinds.{Texts}
 use Rattle.wh_table_text.specs.TableWritten.{table_text}
 use Rattle.wh_plan_text.specs.ExpressionText.{expression_text}
 use Rattle.wh_catalogue_text.specs.ReadCatalog.{catalog_of}
-use Rattle.wh_load.specs.ReadingNight.{Night, Opening, catalog_in, night_of}
+use Rattle.wh_load.specs.ReadingNight.{Night, Opening, catalog_in, night_read}
 use Rattle.wh_maint.specs.Comp.{bag_at}
 use Rattle.wh_maint.specs.Contents.{AreContentsOf, contents}
 use Rattle.wh_maint.specs.Definition.{graph_of}
@@ -152,12 +152,6 @@ IsDecided night readers (Carried views texts carried) =
     IsCorrect night.shape.children night.given.list
     × IsShownFrom night readers (map shown_view views.items) texts carried.tables.items carried.report.steps.items carried.rows.items
 
--- what is to be shown over this shape has its views and a table of each, and is the first that comes after what was read
-abbrev pub IsWhole : Views → Outcome → Type 0
-IsWhole shape (Carried views texts carried) =
-    (length views.items ≡ length shape.children) × (length carried.tables.items ≡ length shape.children) × (carried.report.version ≡ 1)
-IsWhole shape outcome = Unit {0}
-
 -- what is printed of what was decided, where the views have these names
 abbrev pub text_of : List (List ℕ) → Outcome → List ℕ
 text_of names (Broken rule place) = broken_text rule place
@@ -190,4 +184,4 @@ pub data IsNightTold (night : Night) (readers : ℕ) (text : List ℕ) (status :
 -- what `night` beside so many readers prints for a bundle's bytes, and the status
 abbrev pub IsNightOutput : ℕ → List ℕ → List ℕ → ℕ → Type 0
 IsNightOutput readers bytes text status =
-    MatchResult (night_of bytes) (λ night. IsNightTold night readers text status) (λ fault. IsFaultShown fault text status)
+    MatchResult (night_read bytes) (λ night. IsNightTold night readers text status) (λ fault. IsFaultShown fault text status)

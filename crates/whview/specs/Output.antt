@@ -1,12 +1,11 @@
 -- What the program prints for words and what it reads, and the status that it ends with.
-use Rattle.std.specs.Prelude.{◌≡◌, ◌<◌, ◌≤◌, ℕ, List, [], length, Option, None, Some, IfSome, Result, MatchResult, codes, option_map, true, false}
+use Rattle.std.specs.Prelude.{◌≡◌, ◌<◌, ◌≤◌, ℕ, List, [], length, Option, None, Some, IfSome, codes, option_map, true, false}
 use Rattle.std.specs.List.{list_any}
 use Rattle.std.specs.Str.{is_utf8}
 use Rattle.clap.specs.Words.{IsAmong, fault_of, subcommand_of}
 use Rattle.clap.specs.declared.error.kind.ErrorKind.{ErrorKind}
 use Rattle.wh_text.specs.declared.fault.LoadFault.TheVariants as fault
-use Rattle.wh_bundle.specs.declared.read.ReadFault.{ReadFault}
-use Rattle.wh_bundle.specs.declared.read.ReadFault.TheVariants.{Memory, Read, TooLong}
+use Rattle.wh_bundle.specs.declared.read.ReadFault.TheVariants.{Read, TooLong}
 use Rattle.whview.specs.CertifyOutput.{IsCertifyOutput}
 use Rattle.whview.specs.CheckOutput.{IsCheckOutput, IsFaultShown, line}
 use Rattle.whview.specs.CommandFault.{status_of_kind}
@@ -16,7 +15,6 @@ use Rattle.whview.specs.NightOutput.{IsNightOutput}
 use Rattle.whview.specs.PlanOutput.{IsPlanOutput}
 use Rattle.whview.specs.ReplayOutput.{IsReplayOutput}
 use Rattle.whview.specs.Status.{status_number}
-use Rattle.whview.specs.declared.answer.Answer.{Answer}
 use Rattle.whview.specs.declared.command_line.Asked.{Asked}
 use Rattle.whview.specs.declared.command_line.Asked.TheVariants as asked
 
@@ -49,10 +47,6 @@ pub record IsMemoryTold (text : List ℕ) (status : ℕ) : Type 0 where
   pub printed : text ≡ line (codes "memory")
   pub ended : status ≡ 4
 
--- an answer is told as it is, and want of memory where there is none
-abbrev pub IsTold : {E : Type 0} → Result Answer E → List ℕ → ℕ → Type 0
-IsTold answer text status = MatchResult answer (λ a. (text ≡ a.text.items) × (status ≡ status_number a.status)) (λ _. IsMemoryTold text status)
-
 -- ---- what was read
 
 -- what reading to the end came to: all the bytes, or a read that failed
@@ -84,12 +78,6 @@ pub data IsLimited (bytes : List ℕ) (of : List ℕ → ℕ → Type 0) (text :
 abbrev pub IsReadAnswer : Reading → (List ℕ → List ℕ → ℕ → Type 0) → List ℕ → ℕ → Type 0
 IsReadAnswer (Bytes bytes) of text status = IsLimited bytes (of bytes) text status
 IsReadAnswer Failed of text status = IsFaultShown fault.Read text status
-
--- (of a call in the program) what is printed where the bytes could not be had, and the status; of want of memory nothing is
-abbrev pub IsUnreadShown : ReadFault → List ℕ → ℕ → Type 0
-IsUnreadShown Read text status = IsFaultShown fault.Read text status
-IsUnreadShown TooLong text status = IsFaultShown fault.TooLong text status
-IsUnreadShown Memory text status = ⊥
 
 -- ---- what words ask for
 

@@ -9,7 +9,7 @@ ghost use Rattle.wh_formula.specs.Pred.{fits as fits_rows};
 ghost use Rattle.wh_catalogue_text.specs.Definitions.{shown_definition, shown_view};
 ghost use Rattle.wh_catalogue_text.specs.Output.{shown_output};
 ghost use Rattle.wh_catalogue_text.specs.ReadCatalog.{AreDefinitions, catalog_of};
-ghost use Rattle.whview.specs.StoredClosures.{AnswersTests, AnswersValues, AreSound};
+ghost use Rattle.whview.specs.Inner.StoredClosures.{AnswersTests, AnswersValues, AreSound};
 
 use std::alloc::{AllocError, Global};
 use wh_dag::{Catalog, Definition, Output, Shape};

@@ -4,7 +4,8 @@ ghost use Rattle.std.specs.Prelude.{◌≡◌, ◌≤◌, [], true, codes, IfErr
 ghost use Rattle.clap.specs.Walk.{texts};
 ghost use Rattle.clap.specs.Words.{fault_of, found_of, rows_of, subcommand_of, subcommand_rows_of, takes};
 ghost use Rattle.whview.specs.CommandFault.{FailsAs};
-ghost use Rattle.whview.specs.CommandLine.{HasNightOptions, IsAsked, NamesCommand, TakesBudget, TakesCost, TakesNightOptions, TakesNumber, budget_of, cost_of, number_in, whview_app};
+ghost use Rattle.whview.specs.CommandLine.{HasNightOptions, IsAsked, budget_of, cost_of, number_in, whview_app};
+ghost use Rattle.whview.specs.Inner.CommandLine.{NamesCommand, TakesBudget, TakesCost, TakesNightOptions, TakesNumber};
 
 mod builder;
 mod fault;

@@ -7,10 +7,11 @@ ghost use Rattle.wh_catalogue_text.specs.Definitions.{shown_view};
 ghost use Rattle.wh_catalogue_text.specs.ReadCatalog.{catalog_of};
 ghost use Rattle.wh_load.specs.ReadingShown.{shown_given, shown_night, shown_opening};
 ghost use Rattle.wh_maint.specs.Asked.{AreBags};
-ghost use Rattle.whview.specs.FitNight.{AreReadTables, IsFitNight};
-ghost use Rattle.whview.specs.NightOutput.{IsDecided, IsNightOutput, IsNightTold, IsWhole, status_of, text_of};
+ghost use Rattle.whview.specs.Inner.FitNight.{AreReadTables, IsFitNight};
+ghost use Rattle.whview.specs.NightOutput.{IsDecided, IsNightOutput, IsNightTold, status_of, text_of};
+ghost use Rattle.whview.specs.Inner.NightOutput.{IsWhole};
 ghost use Rattle.whview.specs.Status.{status_number};
-ghost use Rattle.whview.specs.StoredClosures.{AnswersTests, AnswersValues};
+ghost use Rattle.whview.specs.Inner.StoredClosures.{AnswersTests, AnswersValues};
 
 mod report;
 

@@ -6,7 +6,8 @@ ghost use Rattle.clap.specs.Walk.{texts};
 ghost use Rattle.whview.specs.CheckOutput.{line};
 ghost use Rattle.whview.specs.CommandFault.{status_of, text_of};
 ghost use Rattle.whview.specs.Status.{status_number};
-ghost use Rattle.whview.specs.Output.{AskToRead, HoldsOfFile, HoldsOfReading, IsCommandOutput, IsHandedOutput, IsInputOutput, IsLineAnswer, IsMemoryTold, IsReadAnswer, IsTold, IsUnreadShown, file_of};
+ghost use Rattle.whview.specs.Output.{AskToRead, HoldsOfFile, HoldsOfReading, IsCommandOutput, IsHandedOutput, IsInputOutput, IsLineAnswer, IsMemoryTold, IsReadAnswer, file_of};
+ghost use Rattle.whview.specs.Inner.Output.{IsTold, IsUnreadShown};
 
 use crate::answer::Answer;
 use crate::command_line::{Asked, CommandFault, parse};

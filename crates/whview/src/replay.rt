@@ -11,11 +11,11 @@ ghost use Rattle.wh_core.specs.Standing.{AreJudged, nights_of};
 ghost use Rattle.wh_formula.specs.Expr.{fits as fits_expr};
 ghost use Rattle.wh_formula.specs.Pred.{fits as fits_pred};
 ghost use Rattle.wh_load.specs.ReadingShown.{shown_given, shown_opening, shown_replay};
-ghost use Rattle.whview.specs.FitNight.{AreReadTables};
-ghost use Rattle.whview.specs.FitReplay.{AreChangesOf, AreJudgedRightly, IsFitReplay, IsNightsFault, IsReady};
+ghost use Rattle.whview.specs.Inner.FitNight.{AreReadTables};
+ghost use Rattle.whview.specs.Inner.FitReplay.{AreChangesOf, AreJudgedRightly, IsFitReplay, IsNightsFault, IsReady};
 ghost use Rattle.whview.specs.ReplayOutput.{AreCorrect, IsReplayOutput, IsReplayTold, event_of, is_memory, machine_of, night_of_machine};
 ghost use Rattle.whview.specs.Status.{status_number};
-ghost use Rattle.whview.specs.StoredClosures.{AnswersTests, AnswersValues};
+ghost use Rattle.whview.specs.Inner.StoredClosures.{AnswersTests, AnswersValues};
 
 mod reply;
 

@@ -1,7 +1,7 @@
 //! The parts of a night.
 ghost use Rattle.std.specs.Prelude.{◌≡◌, ◌≤◌, count_by, filter, find, length, nat_le, option_copied};
 ghost use Rattle.std.specs.List.Sorted.{IsNonDecreasingBy};
-ghost use Rattle.wh_bundle.specs.Find.{night_of};
+ghost use Rattle.wh_bundle.specs.Find.{parts_of_night};
 ghost use Rattle.wh_bundle.specs.Heading.{is_night, same_heading};
 
 use super::heading::Heading;
@@ -27,7 +27,7 @@ fn parts_to<'b, 'a>(parts: &'b [Part<'a>], night: usize) -> &'b [Part<'a>]
 // The parts of a night, found by halving, as there may be many nights.
 pub fn parts_of_night<'b, 'a>(parts: &'b [Part<'a>], night: usize) -> &'b [Part<'a>]
     requires { IsNonDecreasingBy (λ p. p.night) parts.now }
-    ensures { result.now ≡ night_of night parts.now }
+    ensures { result.now ≡ parts_of_night night parts.now }
 {
     parts_to(parts_from(parts, night), night)
 }

@@ -1,7 +1,8 @@
 // The form of an expression, level by level.
 ghost use Rattle.std.specs.Prelude.{◌≡◌, ◌==◌, map, option_map};
 ghost use Rattle.toml.specs.View.{table_view, view};
-ghost use Rattle.wh_catalogue_text.specs.ExprForm.{seen, expr_form, is_expr, literal_of, member_count, operation_of, sign_of};
+ghost use Rattle.wh_catalogue_text.specs.ExprForm.{expr_form, is_expr, literal_of, member_count, operation_of, sign_of};
+ghost use Rattle.wh_catalogue_text.specs.Inner.ExprForm.{seen};
 
 use super::reference::is_reference;
 use crate::catalogue::member;

@@ -1,7 +1,7 @@
 // The predicate that the rows of a derived view meet.
 ghost use Rattle.std.specs.Prelude.{◌≡◌, ◌⊎◌, Ok, Err, IfOk, IfErr};
 ghost use Rattle.toml.specs.View.{view};
-ghost use Rattle.wh_text.specs.Dict.{Grows};
+ghost use Rattle.wh_text.specs.Inner.Dict.{Grows};
 ghost use Rattle.wh_catalogue_text.specs.Filter.{filter_of, filter_written};
 
 use super::column_names::column_fault;

@@ -2,7 +2,7 @@
 ghost use Rattle.std.specs.Prelude.{◌≡◌, ◌⊎◌, Ok, Err, IfOk, IfErr};
 ghost use Rattle.std.specs.Option.{option_copied};
 ghost use Rattle.toml.specs.View.{view};
-ghost use Rattle.wh_text.specs.Dict.{Grows};
+ghost use Rattle.wh_text.specs.Inner.Dict.{Grows};
 ghost use Rattle.wh_catalogue_text.specs.Formula.{is_whole_expr, is_whole_pred, unknown_column, unknown_in_test, whole_expr, whole_pred};
 
 use super::expr_form::is_expr;

@@ -3,7 +3,7 @@ ghost use Rattle.std.specs.Prelude.{◌≡◌, ◌⊎◌, ◌<◌, ◌≤◌, []
 ghost use Rattle.toml.specs.View.{view};
 ghost use Rattle.wh_formula.specs.Expr as expr_tree;
 ghost use Rattle.wh_formula.specs.Pred as pred_tree;
-ghost use Rattle.wh_text.specs.Dict.{Grows};
+ghost use Rattle.wh_text.specs.Inner.Dict.{Grows};
 ghost use Rattle.wh_catalogue_text.specs.FormulaKinds.{combined, compared, compares_texts, fits_kinds, is_int, operation, typed_all, typed_any, typed_column, typed_comparison, typed_expr, typed_literal, typed_not, typed_operation, typed_parts, typed_pred};
 
 use super::expr_form::{ExprForm, Sign, expr_form};

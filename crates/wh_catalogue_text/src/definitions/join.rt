@@ -3,7 +3,8 @@ ghost use Rattle.std.specs.Prelude.{◌≡◌, ◌⊎◌, [], codes, map, option
 ghost use Rattle.std.specs.Option.{option_copied};
 ghost use Rattle.toml.specs.Data.{get};
 ghost use Rattle.toml.specs.View.{view};
-ghost use Rattle.wh_catalogue_text.specs.Join.{join_of, joined, joined_link, link_of, linked_cell, links_in, links_written, same_kind, seen_link, unknown_in_link, unknown_in_links};
+ghost use Rattle.wh_catalogue_text.specs.Join.{join_of, joined, joined_link, link_of, linked_cell, links_in, links_written, same_kind, unknown_in_link, unknown_in_links};
+ghost use Rattle.wh_catalogue_text.specs.Inner.Join.{seen_link};
 
 use super::column_names::column_fault;
 use super::formula_columns::unknown;

@@ -2,9 +2,11 @@
 ghost use Rattle.std.specs.Prelude.{◌≡◌, ◌⊎◌, [], codes, map, Ok, Err, IfOk, IfErr};
 ghost use Rattle.toml.specs.Data.{get};
 ghost use Rattle.toml.specs.View.{view};
-ghost use Rattle.wh_text.specs.Dict.{Grows};
-ghost use Rattle.wh_catalogue_text.specs.Output.{count_column, count_written, group_written, groups, groups_of, kept, kept_alone, output_of, shown_outcome, summed, summed_at, sums_at, sums_in, sums_of};
-ghost use Rattle.wh_catalogue_text.specs.Pairs.{seen_pair, typed_columns};
+ghost use Rattle.wh_text.specs.Inner.Dict.{Grows};
+ghost use Rattle.wh_catalogue_text.specs.Output.{count_column, count_written, group_written, groups, groups_of, kept, kept_alone, output_of, summed, summed_at, sums_at, sums_in, sums_of};
+ghost use Rattle.wh_catalogue_text.specs.Inner.Output.{shown_outcome};
+ghost use Rattle.wh_catalogue_text.specs.Pairs.{typed_columns};
+ghost use Rattle.wh_catalogue_text.specs.Inner.Pairs.{seen_pair};
 
 use super::base_columns::is_few;
 use super::column_names::fresh_name;

@@ -3,7 +3,8 @@ ghost use Rattle.std.specs.Prelude.{◌≡◌, ◌⊎◌, [], map, option_map, N
 ghost use Rattle.std.specs.Option.{option_copied};
 ghost use Rattle.toml.specs.View.{view};
 ghost use Rattle.wh_catalogue_text.specs.Formula.{unknown_column};
-ghost use Rattle.wh_catalogue_text.specs.Pairs.{are_exprs, are_references, known_pairs, pair_of, pairs_in, pairs_written, reference_in, seen_pair, unknown_fault};
+ghost use Rattle.wh_catalogue_text.specs.Pairs.{are_exprs, are_references, known_pairs, pair_of, pairs_in, pairs_written, reference_in};
+ghost use Rattle.wh_catalogue_text.specs.Inner.Pairs.{seen_pair, unknown_fault};
 
 use super::column_names::{column_fault, fresh_name};
 use super::formula::{is_whole_expr, unknown_column};

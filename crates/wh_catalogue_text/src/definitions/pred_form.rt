@@ -2,7 +2,8 @@
 ghost use Rattle.std.specs.Prelude.{◌≡◌, map, option_map};
 ghost use Rattle.std.specs.List.{list_all};
 ghost use Rattle.toml.specs.View.{view};
-ghost use Rattle.wh_catalogue_text.specs.PredForm.{seen, comparison_of, compare_of, compound_of, headed, is_pred, not_of, pred_form};
+ghost use Rattle.wh_catalogue_text.specs.PredForm.{comparison_of, compare_of, compound_of, headed, is_pred, not_of, pred_form};
+ghost use Rattle.wh_catalogue_text.specs.Inner.PredForm.{seen};
 
 use super::expr_form::is_expr;
 use toml::Value;

@@ -1,8 +1,9 @@
 // The columns that pairs of a name and a formula make.
 ghost use Rattle.std.specs.Prelude.{◌≡◌, ◌⊎◌, [], map, Ok, Err, IfOk, IfErr};
 ghost use Rattle.toml.specs.View.{view};
-ghost use Rattle.wh_text.specs.Dict.{Grows};
-ghost use Rattle.wh_catalogue_text.specs.Pairs.{group_cell, group_columns, grouped, seen_pair, takes_kind, typed_cell, typed_columns, typed_pairs};
+ghost use Rattle.wh_text.specs.Inner.Dict.{Grows};
+ghost use Rattle.wh_catalogue_text.specs.Pairs.{group_cell, group_columns, grouped, takes_kind, typed_cell, typed_columns, typed_pairs};
+ghost use Rattle.wh_catalogue_text.specs.Inner.Pairs.{seen_pair};
 
 use super::formula::whole_expr;
 use super::formula_kinds::{TypedExpr, is_int};

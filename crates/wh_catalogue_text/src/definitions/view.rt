@@ -1,7 +1,7 @@
 // One view of a catalogue.
 ghost use Rattle.std.specs.Prelude.{◌≡◌, ◌⊎◌, ◌<◌, length, map, Ok, Err, IfOk, IfErr};
 ghost use Rattle.toml.specs.View.{view};
-ghost use Rattle.wh_text.specs.Dict.{Grows};
+ghost use Rattle.wh_text.specs.Inner.Dict.{Grows};
 ghost use Rattle.wh_catalogue_text.specs.FormulaKinds.{Texts};
 ghost use Rattle.wh_catalogue_text.specs.Definitions.{base_view, derived_view, next_view, shown_view};
 

@@ -3,7 +3,8 @@
 ghost use Rattle.std.specs.Prelude.{◌≡◌, ◌⊎◌, Ok, Err, IfOk, IfErr};
 ghost use Rattle.wh_plan_text.specs.PlanText.{plan_of};
 ghost use Rattle.wh_load.specs.ReadingClaim.{claim_in, claim_of, claim_texts_in, claim_texts_of};
-ghost use Rattle.wh_load.specs.ReadingShown.{shown_claim, shown_claim_texts};
+ghost use Rattle.wh_load.specs.ReadingShown.{shown_claim};
+ghost use Rattle.wh_load.specs.Inner.ReadingShown.{shown_claim_texts};
 
 use super::inputs::CertifyInput;
 use super::parts::{bundle_of, text_of};

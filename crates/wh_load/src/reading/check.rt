@@ -3,7 +3,8 @@
 ghost use Rattle.std.specs.Prelude.{◌≡◌, ◌⊎◌, Ok, Err, IfOk, IfErr};
 ghost use Rattle.wh_plan_text.specs.StrategyText.{strategy_of};
 ghost use Rattle.wh_load.specs.ReadingCheck.{check_texts_in, check_texts_of, inputs_in, inputs_of};
-ghost use Rattle.wh_load.specs.ReadingShown.{shown_check, shown_check_texts};
+ghost use Rattle.wh_load.specs.ReadingShown.{shown_check};
+ghost use Rattle.wh_load.specs.Inner.ReadingShown.{shown_check_texts};
 
 use super::inputs::{CheckInput, MeasuredViews};
 use super::parts::{bundle_of, text_of};

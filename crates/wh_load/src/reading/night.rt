@@ -3,7 +3,7 @@
 ghost use Rattle.std.specs.Prelude.{◌≡◌, ◌⊎◌, length, map, Ok, Err, IfOk, IfErr};
 ghost use Rattle.wh_catalogue_text.specs.Definitions.{shown_view};
 ghost use Rattle.wh_catalogue_text.specs.ReadCatalog.{AreDefinitions};
-ghost use Rattle.wh_load.specs.ReadingNight.{AreReadRows, ChangeRows, TableRows, night_in, night_of, night_over, night_with};
+ghost use Rattle.wh_load.specs.ReadingNight.{AreReadRows, ChangeRows, TableRows, night_in, night_read, night_over, night_with};
 ghost use Rattle.wh_load.specs.ReadingShown.{IsReadNight, shown_given, shown_night};
 
 use super::given::{given_of, tables_of};
@@ -101,9 +101,9 @@ fn night_in(alloc: Global, bundle: &Bundle<'_>) -> Result<NightInput, LoadFault>
 ///
 /// What is read makes a catalogue over the shape, and there are a table and changes of each view, of its columns.
 pub fn read_night(alloc: Global, bytes: &[u8]) -> Result<NightInput, LoadFault>
-    ensures ok { IfOk result (λ n. night_of bytes.now ≡ Ok (shown_night n)) }
+    ensures ok { IfOk result (λ n. night_read bytes.now ≡ Ok (shown_night n)) }
     ensures fit { IfOk result IsReadNight }
-    ensures err { IfErr result (λ f. (f ≡ LoadFault.Memory) ⊎ (night_of bytes.now ≡ Err f)) }
+    ensures err { IfErr result (λ f. (f ≡ LoadFault.Memory) ⊎ (night_read bytes.now ≡ Err f)) }
 {
     let bundle = bundle_of(alloc, bytes, Nights::First)?;
     night_in(alloc, &bundle)

@@ -2,7 +2,8 @@
 
 ghost use Rattle.std.specs.Prelude.{◌≡◌, ◌⊎◌, Ok, Err, IfOk, IfErr};
 ghost use Rattle.wh_load.specs.ReadingPlan.{measured_in, measured_of, measured_texts_in, measured_texts_of};
-ghost use Rattle.wh_load.specs.ReadingShown.{shown_measured, shown_measured_texts};
+ghost use Rattle.wh_load.specs.ReadingShown.{shown_measured};
+ghost use Rattle.wh_load.specs.Inner.ReadingShown.{shown_measured_texts};
 
 use super::inputs::MeasuredViews;
 use super::parts::{bundle_of, text_of};

@@ -26,7 +26,7 @@ impl Model for Journal {
     ghost use Rattle.wh_store.specs.Versions.{is_well_formed, versions_of};
     ghost use Rattle.wh_store.specs.Windows.{current, window};
     ghost use Rattle.wh_publish.specs.Ledgers.{Ledger, ledger};
-    ghost use Rattle.wh_publish.specs.Codes.{coded_ledger};
+    ghost use Rattle.wh_publish.specs.Inner.Codes.{coded_ledger};
 
     ghost Value = { Ledger };
 

@@ -75,7 +75,7 @@ impl Model for Refusing {
     ghost use Rattle.std.specs.Prelude.{option_map};
     ghost use Rattle.wh_store.specs.Operations.{operation};
     ghost use Rattle.wh_publish.specs.Ledgers.{Ledger, ledger};
-    ghost use Rattle.wh_publish.specs.Codes.{coded_ledger};
+    ghost use Rattle.wh_publish.specs.Inner.Codes.{coded_ledger};
 
     ghost Value = { Ledger };
 

@@ -1,7 +1,8 @@
 // One record of a table or of changes: its count, and the cells of its row.
 ghost use Rattle.std.specs.Prelude.{◌≡◌, ◌⊎◌, ◌+◌, ◌≤◌, drop, length, List, ℕ, ℤ, IfOk, IfErr, OnOk, OnErr, Some, None};
 ghost use Rattle.csv.specs.Records.{fields_of};
-ghost use Rattle.wh_text.specs.Dict.{BeginsWith, with_texts};
+ghost use Rattle.wh_text.specs.Dict.{with_texts};
+ghost use Rattle.wh_text.specs.Inner.Dict.{BeginsWith};
 ghost use Rattle.wh_text.specs.Columns.{kinds_of};
 ghost use Rattle.wh_table_text.specs.TableText.{cell_number, count_cells, count_of, entry_of, non_zero, positive, row_cells, row_of, text_in, texts_in_row};
 

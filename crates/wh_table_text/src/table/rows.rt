@@ -2,8 +2,9 @@
 ghost use Rattle.std.specs.Prelude.{◌≡◌, ◌⊎◌, ◌+◌, IfErr, OnOk, OnErr, Ok, Err, length};
 ghost use Rattle.csv.specs.Records.{fields_of};
 ghost use Rattle.wh_text.specs.Columns.{kinds_of, names_of};
-ghost use Rattle.wh_text.specs.Dict.{BeginsWith};
-ghost use Rattle.wh_table_text.specs.TableText.{EntriesRead, count_cells, entered, entry_scheme};
+ghost use Rattle.wh_text.specs.Inner.Dict.{BeginsWith};
+ghost use Rattle.wh_table_text.specs.TableText.{EntriesRead, count_cells};
+ghost use Rattle.wh_table_text.specs.Inner.TableText.{entered, entry_scheme};
 
 use crate::part::PartReader;
 use crate::table::entry::read_entry;

@@ -1,6 +1,7 @@
 use Rattle.std.proofs.Common.{◌≡◌, map, drop, vec_len}
 use Rattle.toml.specs.View.{view}
-use Rattle.wh_catalogue_text.specs.Catalogue.{seen, written_views}
+use Rattle.wh_catalogue_text.specs.Catalogue.{written_views}
+use Rattle.wh_catalogue_text.specs.Inner.Catalogue.{seen}
 use Rattle.wh_catalogue_text.proofs.CatalogueViews.{after_views}
 use Rattle.wh_catalogue_text.proofs.catalogue.written_views.Given as goal
 

@@ -1,6 +1,6 @@
 use Rattle.std.proofs.Common.{◌≡◌, [], drop, map, vec_len}
 use Rattle.toml.specs.View.{view}
-use Rattle.wh_text.specs.Dict.{Grows}
+use Rattle.wh_text.specs.Inner.Dict.{Grows}
 use Rattle.wh_catalogue_text.specs.Definitions.{shown_view, views_after}
 use Rattle.wh_catalogue_text.proofs.definitions.views_after.Given as goal
 

@@ -1,7 +1,8 @@
 use Rattle.std.proofs.Common.{◌≡◌, ◌<◌, ◌+◌, ◌-◌, ◌*◌, ◌^◌, ◌++◌, ◌∷◌, [], ℕ, List, length, sym, ap, ◌∙◌, subst, arith}
 use Rattle.wh_strategy.specs.Sizes.{sizes_of}
 use Rattle.wh_strategy.specs.Sums.{sum_below}
-use Rattle.wh_cert.specs.Bound.{in_order, pair_min, more_under, decided_bound_of}
+use Rattle.wh_cert.specs.Bound.{in_order, pair_min, decided_bound_of}
+use Rattle.wh_cert.specs.Inner.Bound.{more_under}
 use Rattle.wh_cert.proofs.Raising.{bound_more, bound_small}
 use Rattle.wh_cert.proofs.bound.decided_bound_with.Goals as goal
 

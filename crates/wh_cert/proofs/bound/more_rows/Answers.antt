@@ -1,7 +1,7 @@
 use Rattle.std.proofs.Common.{◌+◌, sym, ap, ◌∙◌, arith}
 use Rattle.wh_strategy.specs.Sums.{sum_below}
 use Rattle.wh_strategy.proofs.SumsBelow.{sum_below_none, sum_below_more}
-use Rattle.wh_cert.specs.Bound.{more_under}
+use Rattle.wh_cert.specs.Inner.Bound.{more_under}
 use Rattle.wh_cert.proofs.bound.more_rows.Goals as goal
 
 pub loop-view-init : goal.loop-view-init

@@ -1,6 +1,6 @@
 use Rattle.std.proofs.Common.{◌≡◌, ◌≤◌, ◌*◌, ◌^◌}
 use Rattle.wh_strategy.specs.Sums.{sum_below}
-use Rattle.wh_cert.specs.Bound.{more_under}
+use Rattle.wh_cert.specs.Inner.Bound.{more_under}
 use Rattle.wh_cert.proofs.bound.more_rows.Given as goal
 
 abbrev pub invariant-loop-view : goal.invariant-loop-view

@@ -2,7 +2,7 @@ use Rattle.std.proofs.Common.{◌≡◌, ℕ, List, length, true, sym, subst, ar
 use Rattle.wh_dag.specs.Siblings.{each_below, triples_of, sibling_pairs_of}
 use Rattle.wh_dag.specs.declared.siblings.SiblingPair.{SiblingPair}
 use Rattle.wh_strategy.specs.Sizes.{sizes_of}
-use Rattle.wh_cert.specs.Followed.{Follows, lines_among}
+use Rattle.wh_cert.specs.Inner.Followed.{Follows, lines_among}
 use Rattle.wh_cert.proofs.Following.{begins, among_none, among_more}
 use Rattle.wh_cert.proofs.lines.follow_all.Goals as goal
 

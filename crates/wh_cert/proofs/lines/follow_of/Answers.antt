@@ -3,7 +3,7 @@ use Rattle.wh_dag.specs.Siblings.{each_below, triples_with}
 use Rattle.wh_dag.specs.declared.siblings.SiblingPair.{SiblingPair}
 use Rattle.wh_dag.proofs.SiblingLists.{no_pair_with}
 use Rattle.wh_strategy.specs.Sizes.{sizes_of}
-use Rattle.wh_cert.specs.Followed.{Follows, lines_among}
+use Rattle.wh_cert.specs.Inner.Followed.{Follows, lines_among}
 use Rattle.wh_cert.proofs.Following.{then_more, then_same, none_yet, among_none, among_more, among_skipped}
 use Rattle.wh_cert.proofs.lines.follow_of.Goals as goal
 use Rattle.wh_cert.proofs.lines.follow_of.Goals.{then-is_over, else-is_over}

@@ -2,7 +2,7 @@ use Rattle.std.proofs.Common.{List, ◌++◌, length}
 use Rattle.wh_dag.specs.Siblings.{each_below, triples_with}
 use Rattle.wh_strategy.specs.Sizes.{sizes_of}
 use Rattle.wh_cert.specs.declared.certificate.PairMin.{PairMin}
-use Rattle.wh_cert.specs.Followed.{Follows, lines_among}
+use Rattle.wh_cert.specs.Inner.Followed.{Follows, lines_among}
 use Rattle.wh_cert.proofs.lines.follow_of.Given as goal
 
 abbrev pub invariant-loop-lower : goal.invariant-loop-lower

@@ -2,7 +2,7 @@ use Rattle.std.proofs.Common.{◌++◌, ◌∷◌, [], ℕ, map, sym, ap, ◌∙
 use Rattle.std.specs.List.{range_with_len}
 use Rattle.wh_dag.specs.declared.siblings.SiblingPair.{SiblingPair}
 use Rattle.wh_strategy.specs.Sizes.{sizes_of}
-use Rattle.wh_cert.specs.Followed.{lines_among}
+use Rattle.wh_cert.specs.Inner.Followed.{lines_among}
 use Rattle.wh_cert.proofs.Following.{then_more, then_same, among_one, among_other}
 use Rattle.wh_cert.proofs.lines.follow_with.Goals as goal
 use Rattle.wh_cert.proofs.lines.follow_with.Goals.{then-is_of, else-is_of}

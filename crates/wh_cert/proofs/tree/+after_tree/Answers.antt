@@ -1,5 +1,5 @@
 use Rattle.std.proofs.Common.{◌≡◌, ◌∷◌, ◌<◌, ◌-◌, refl, sym, ap, ◌∙◌, take, drop, length, arith}
-use Rattle.wh_cert.specs.Preorder.{IsTreeFirst, NoTreeFirst}
+use Rattle.wh_cert.specs.Inner.Preorder.{IsTreeFirst, NoTreeFirst}
 use Rattle.wh_cert.specs.Tree.{Bound, Cycle}
 use Rattle.wh_cert.specs.declared.tree.TreeNode.TheVariants as node
 use Rattle.wh_cert.proofs.Preorders.{first_node, none_at_end, none_in_depth_0, leaf_first, branch_first, none_on_left, none_on_right, carried}

@@ -2,8 +2,8 @@ use Rattle.std.proofs.Common.{◌≡◌, refl, sym, ap, subst, ◌∙◌, Some, 
 use Rattle.wh_strategy.specs.declared.expression.Expression.TheVariants.{Inst}
 use Rattle.wh_night.specs.Kept.{Kept, kept, finished, installed}
 use Rattle.wh_night.specs.NightList.{new_counts, pages_of}
-use Rattle.wh_night.specs.Refused.{IsPassedIn, IsStepFaultIn}
-use Rattle.wh_course.specs.Standing.{PutsPages}
+use Rattle.wh_night.specs.Inner.Refused.{IsPassedIn, IsStepFaultIn}
+use Rattle.wh_course.specs.Inner.Standing.{PutsPages}
 use Rattle.wh_course.proofs.Parts.{inst_passes, inst_stops}
 use Rattle.wh_course.proofs.course.inst_part.Goals as goal
 

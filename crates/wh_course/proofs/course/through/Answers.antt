@@ -9,7 +9,8 @@ use Rattle.wh_course.specs.declared.course.Part.{Part}
 use Rattle.wh_course.specs.Night.{Night}
 use Rattle.wh_course.specs.Legs.{legs_of}
 use Rattle.wh_course.specs.Course.{AreParts}
-use Rattle.wh_course.specs.Standing.{StandsAt, legs_at, place_of}
+use Rattle.wh_course.specs.Standing.{place_behind}
+use Rattle.wh_course.specs.Inner.Standing.{StandsAt, legs_at}
 use Rattle.wh_course.proofs.Parts.{drop_stage, ends_so, starts_so}
 use Rattle.wh_course.proofs.Pages.{drop_past}
 use Rattle.wh_course.proofs.Waves.{split_at, take_all, take_next}
@@ -33,11 +34,11 @@ split_here stages i x e = let f : suc i ≡ i + 1 = omega arith in sym (split_at
 
 -- with the parts of this stage
 one_more : (n : Night) (stages : List Stage) (i : ℕ) (x : Stage) → slice_get stages i ≡ Some x → (old added new : List Part) → new ≡ old ++ added → (rest : List Part) (stop : Option MaintFault)
-    → ((rest : List Part) (stop : Option MaintFault) → AreParts n (place_of (take i stages)) (legs_at n (place_of (take i stages)) (drop i stages)) rest stop → AreParts n 0 (legs_of n) (old ++ rest) stop)
-    → AreParts n (place_of (take i stages)) (legs_at n (place_of (take i stages)) (x ∷ drop (i + 1) stages)) (added ++ rest) stop → AreParts n 0 (legs_of n) (new ++ rest) stop
+    → ((rest : List Part) (stop : Option MaintFault) → AreParts n (place_behind (take i stages)) (legs_at n (place_behind (take i stages)) (drop i stages)) rest stop → AreParts n 0 (legs_of n) (old ++ rest) stop)
+    → AreParts n (place_behind (take i stages)) (legs_at n (place_behind (take i stages)) (x ∷ drop (i + 1) stages)) (added ++ rest) stop → AreParts n 0 (legs_of n) (new ++ rest) stop
 one_more n stages i x here old added new is rest stop so_far h =
     subst (λ ps. AreParts n 0 (legs_of n) ps stop) (sym (ap (λ ps. ps ++ rest) is ∙ append_assoc old added rest))
-    (so_far (added ++ rest) stop (subst (λ ts. AreParts n (place_of (take i stages)) (legs_at n (place_of (take i stages)) ts) (added ++ rest) stop) (sym (drop_stage stages i x here)) h))
+    (so_far (added ++ rest) stop (subst (λ ts. AreParts n (place_behind (take i stages)) (legs_at n (place_behind (take i stages)) ts) (added ++ rest) stop) (sym (drop_stage stages i x here)) h))
 
 pub loop-stage-preserved : goal.loop-stage-preserved
 loop-stage-preserved g c =
@@ -54,10 +55,10 @@ loop-stage-preserved g c =
       so_far = λ n same keys are stands.
           let s = c.loop-stage.invariant.so_far n same keys are stands in
           let on = goes.ensures.goes n (take i stages) (drop (i + 1) stages) same keys (sym are ∙ split_here stages i x here) s.0 in (
-            subst (λ ts. StandsAt n (place_of ts) (kept c.stage_of.new.state)) (sym next) (on.stands s.0 yes),
+            subst (λ ts. StandsAt n (place_behind ts) (kept c.stage_of.new.state)) (sym next) (on.stands s.0 yes),
             on.stop yes ∙ s.1,
             λ rest stop h. one_more n stages i x here c.loop-stage.course.parts.items on.added c.stage_of.new.course.parts.items on.parts rest stop s.2
-                (on.going s.0 yes rest stop (subst (λ ts. AreParts n (place_of ts) (legs_at n (place_of ts) (drop (i + 1) stages)) rest stop) next h)),
+                (on.going s.0 yes rest stop (subst (λ ts. AreParts n (place_behind ts) (legs_at n (place_behind ts) (drop (i + 1) stages)) rest stop) next h)),
           );
     }
 
@@ -73,7 +74,7 @@ returns-then-not-branch g c = record {
       let on = c.in_ok-stage_of.ensures.goes n (take i stages) (drop (i + 1) stages) same keys (sym are ∙ split_here stages i x here) s.0 in
       let stop : Option MaintFault = c.stage_of.new.course.stop in
       subst (λ ps. AreParts n 0 (legs_of n) ps stop) (sym on.parts)
-      (s.2 on.added stop (subst (λ ts. AreParts n (place_of (take i stages)) (legs_at n (place_of (take i stages)) ts) on.added stop) (sym (drop_stage stages i x here)) (on.ending s.0 no_more)));
+      (s.2 on.added stop (subst (λ ts. AreParts n (place_behind (take i stages)) (legs_at n (place_behind (take i stages)) ts) on.added stop) (sym (drop_stage stages i x here)) (on.ending s.0 no_more)));
 }
 
 pub returns : goal.returns
@@ -86,6 +87,6 @@ returns g c = record {
       let none : drop i stages ≡ [] = drop_past i stages (omega arith) in
       subst (AreParts n 0 (legs_of n) c.loop-stage.course.parts.items) (sym s.1)
       (subst (λ ps. AreParts n 0 (legs_of n) ps None) (append-nil c.loop-stage.course.parts.items)
-      (s.2 [] None (subst (λ ts. AreParts n (place_of ts) (legs_at n (place_of ts) (drop i stages)) [] None) (sym all)
-      (subst (λ ts. AreParts n (place_of stages) (legs_at n (place_of stages) ts) [] None) (sym none) (ends_so n stages are)))));
+      (s.2 [] None (subst (λ ts. AreParts n (place_behind ts) (legs_at n (place_behind ts) (drop i stages)) [] None) (sym all)
+      (subst (λ ts. AreParts n (place_behind stages) (legs_at n (place_behind stages) ts) [] None) (sym none) (ends_so n stages are)))));
 }

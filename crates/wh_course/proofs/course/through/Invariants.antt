@@ -1,12 +1,13 @@
 use Rattle.std.proofs.Common.{◌≡◌, List, ◌++◌, take, drop, Option, None}
 use Rattle.wh_maint.specs.declared.fault.MaintFault.{MaintFault}
-use Rattle.wh_night.specs.Kept.{kept, AreParts as AreKeptParts, CanFinish}
+use Rattle.wh_night.specs.Kept.{kept, HaveParts as AreKeptParts, CanFinish}
 use Rattle.wh_night.specs.Waves.{stages_of}
 use Rattle.wh_course.specs.declared.course.Part.{Part}
 use Rattle.wh_course.specs.Night.{Night}
 use Rattle.wh_course.specs.Legs.{legs_of}
 use Rattle.wh_course.specs.Course.{AreParts}
-use Rattle.wh_course.specs.Standing.{StandsAt, legs_at, place_of}
+use Rattle.wh_course.specs.Standing.{place_behind}
+use Rattle.wh_course.specs.Inner.Standing.{StandsAt, legs_at}
 use Rattle.wh_course.proofs.course.through.Given as goal
 
 abbrev pub invariant-loop-stage : goal.invariant-loop-stage
@@ -15,8 +16,8 @@ invariant-loop-stage g l =
       parts : AreKeptParts l.catalog l.state;
       fit : CanFinish l.catalog (kept l.state);
       so_far : (n : Night) → n.catalog ≡ l.catalog → n.keys ≡ l.keys → l.stages ≡ stages_of n.list → StandsAt n 0 (kept l.fn.state)
-          → StandsAt n (place_of (take l.stage-index l.stages)) (kept l.state) × (l.course.stop ≡ None)
+          → StandsAt n (place_behind (take l.stage-index l.stages)) (kept l.state) × (l.course.stop ≡ None)
           × ((rest : List Part) (stop : Option MaintFault)
-          → AreParts n (place_of (take l.stage-index l.stages)) (legs_at n (place_of (take l.stage-index l.stages)) (drop l.stage-index l.stages)) rest stop
+          → AreParts n (place_behind (take l.stage-index l.stages)) (legs_at n (place_behind (take l.stage-index l.stages)) (drop l.stage-index l.stages)) rest stop
           → AreParts n 0 (legs_of n) (l.course.parts.items ++ rest) stop);
     }

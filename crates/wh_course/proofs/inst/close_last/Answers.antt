@@ -1,6 +1,6 @@
 use Rattle.std.proofs.Common.{rules, ◌≡◌, ◌≢◌, sym, ap, subst, [], length, arith}
 use Rattle.wh_row.specs.Stored.{plain}
-use Rattle.wh_course.specs.Standing.{PutsPages}
+use Rattle.wh_course.specs.Inner.Standing.{PutsPages}
 use Rattle.wh_course.proofs.Lengths.{plain_length}
 use Rattle.wh_course.proofs.Pages.{last_page, no_rows, puts_none}
 use Rattle.wh_course.proofs.inst.close_last.Goals as goal

@@ -7,7 +7,7 @@ use Rattle.wh_night.specs.Kept.{Kept, kept, finished, installed}
 use Rattle.wh_night.specs.NightList.{pages_of}
 use Rattle.std.proofs.Common.{cond}
 use Rattle.std.proofs.lemmas.Option.{same_Some}
-use Rattle.wh_course.specs.Standing.{PutsPages}
+use Rattle.wh_course.specs.Inner.Standing.{PutsPages}
 use Rattle.wh_night.proofs.Storing.{can_finish_after, can_finish_installed}
 use Rattle.wh_course.proofs.inst.inst_of.Goals as goal
 

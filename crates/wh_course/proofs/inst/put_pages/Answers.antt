@@ -5,7 +5,7 @@ use Rattle.wh_row.specs.Row.{Row}
 use Rattle.wh_row.specs.Stored.{plain}
 use Rattle.wh_row.specs.Weigh.{Counted}
 use Rattle.wh_night.specs.NightList.{pages_of}
-use Rattle.wh_course.specs.Standing.{PutsPages}
+use Rattle.wh_course.specs.Inner.Standing.{PutsPages}
 use Rattle.wh_course.proofs.Growing.{longer}
 use Rattle.wh_course.proofs.Lengths.{plain_length}
 use Rattle.wh_course.proofs.Pages.{puts_more}

@@ -3,7 +3,7 @@ use Rattle.wh_row.specs.Bag.{count, written}
 use Rattle.wh_row.specs.Stored.{plain}
 use Rattle.wh_row.specs.Weigh.{Counted}
 use Rattle.wh_night.specs.NightList.{pages_of}
-use Rattle.wh_course.specs.Standing.{PutsPages}
+use Rattle.wh_course.specs.Inner.Standing.{PutsPages}
 use Rattle.wh_course.proofs.inst.put_pages.Given as goal
 
 abbrev pub invariant-loop-row : goal.invariant-loop-row

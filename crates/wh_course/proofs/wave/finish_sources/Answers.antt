@@ -3,7 +3,8 @@ use Rattle.std.specs.Prelude.{slice_get}
 use Rattle.std.proofs.lemmas.Bool.{cases_lt}
 use Rattle.std.proofs.lemmas.Option.{same_Some, slice_get_within}
 use Rattle.wh_night.specs.Kept.{kept}
-use Rattle.wh_course.specs.Standing.{IsSourceOutcome, is_source}
+use Rattle.wh_course.specs.Standing.{is_source}
+use Rattle.wh_course.specs.Inner.Standing.{IsSourceOutcome}
 use Rattle.wh_course.proofs.Sources.{outcome_stays}
 use Rattle.wh_course.proofs.Growing.{front_item, last_item, longer}
 use Rattle.wh_course.proofs.wave.finish_sources.Goals as goal

@@ -1,15 +1,16 @@
 use Rattle.std.proofs.Common.{◌≡◌, ℕ, true, Option, Some, None, length}
 use Rattle.std.specs.Prelude.{slice_get}
-use Rattle.wh_night.specs.Kept.{kept, AreParts, CanFinish}
+use Rattle.wh_night.specs.Kept.{kept, HaveParts, CanFinish}
 use Rattle.wh_course.specs.declared.wave.Refusal.{Refusal}
 use Rattle.wh_course.specs.Night.{Night}
-use Rattle.wh_course.specs.Standing.{StandsAt, IsSourceOutcome, IsWaveAt, is_source}
+use Rattle.wh_course.specs.Standing.{is_source}
+use Rattle.wh_course.specs.Inner.Standing.{StandsAt, IsSourceOutcome, IsWaveAt}
 use Rattle.wh_course.proofs.wave.finish_sources.Given as goal
 
 abbrev pub invariant-loop-view : goal.invariant-loop-view
 invariant-loop-view g l =
     record {
-      parts : AreParts l.catalog l.state;
+      parts : HaveParts l.catalog l.state;
       fit : CanFinish l.catalog (kept l.state);
       each : length l.refusals.items ≡ l.view;
       stands : (n : Night) (place : ℕ) → IsWaveAt l.catalog l.jobs n place → StandsAt n place (kept l.fn.state) → StandsAt n place (kept l.state);

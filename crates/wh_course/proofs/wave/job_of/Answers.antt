@@ -7,7 +7,7 @@ use Rattle.wh_night.specs.Kept.{AreKnown, kept}
 use Rattle.std.proofs.Common.{refl}
 use Rattle.wh_night.specs.declared.stages.Job.{Job}
 use Rattle.wh_course.specs.Night.{Night}
-use Rattle.wh_course.specs.Standing.{IsFirstOf, IsWaveAt}
+use Rattle.wh_course.specs.Inner.Standing.{IsFirstOf, IsWaveAt}
 use Rattle.wh_course.proofs.Waves.{Tried, amid_refused, amid_tried, fit_tried, known_tried, outcome_tried, source_refused, tried_so}
 use Rattle.wh_course.proofs.wave.job_of.Given.{Over}
 use Rattle.wh_course.proofs.wave.job_of.Goals.{In_ok-refusal}

@@ -3,7 +3,8 @@ use Rattle.wh_dag.specs.Shape.{children_of}
 use Rattle.wh_dag.specs.Catalog.{definition_of}
 use Rattle.wh_maint.specs.Comp.{comp_columns}
 use Rattle.wh_maint.specs.Definition.{view_of}
-use Rattle.wh_night.specs.Kept.{Kept, kept, computed, with_pending}
+use Rattle.wh_night.specs.Kept.{Kept, kept, with_pending}
+use Rattle.wh_night.specs.Inner.Kept.{computed}
 use Rattle.wh_night.proofs.Storing.{added_computes}
 use Rattle.wh_course.proofs.wave.tried.Goals as goal
 

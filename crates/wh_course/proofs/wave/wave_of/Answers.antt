@@ -7,7 +7,7 @@ use Rattle.wh_maint.specs.declared.fault.MaintFault.{MaintFault}
 use Rattle.wh_night.specs.Kept.{kept}
 use Rattle.wh_course.specs.declared.wave.Refusal.{Refusal}
 use Rattle.wh_course.specs.Course.{IsOutcome}
-use Rattle.wh_course.specs.Standing.{IsAmid, answer_of}
+use Rattle.wh_course.specs.Inner.Standing.{IsAmid, answer_of}
 use Rattle.wh_course.proofs.Growing.{front_item, last_item, longer}
 use Rattle.wh_course.proofs.Waves.{all_of, source_among, stands_over, starts_amid}
 use Rattle.wh_course.proofs.wave.wave_of.Goals as goal

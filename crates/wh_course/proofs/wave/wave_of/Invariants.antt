@@ -2,16 +2,16 @@ use Rattle.std.proofs.Common.{◌≡◌, ℕ, ◌+◌, Option, Some, length}
 use Rattle.std.specs.Prelude.{slice_get, is_none}
 use Rattle.std.specs.List.{list_all}
 use Rattle.wh_maint.specs.declared.fault.MaintFault.{MaintFault}
-use Rattle.wh_night.specs.Kept.{kept, AreParts, CanFinish}
+use Rattle.wh_night.specs.Kept.{kept, HaveParts, CanFinish}
 use Rattle.wh_course.specs.Night.{Night}
 use Rattle.wh_course.specs.Course.{IsOutcome}
-use Rattle.wh_course.specs.Standing.{IsAmid, IsWaveAt, StandsAt}
+use Rattle.wh_course.specs.Inner.Standing.{IsAmid, IsWaveAt, StandsAt}
 use Rattle.wh_course.proofs.wave.wave_of.Given as goal
 
 abbrev pub invariant-loop-job : goal.invariant-loop-job
 invariant-loop-job g l =
     record {
-      parts : AreParts l.catalog l.state;
+      parts : HaveParts l.catalog l.state;
       fit : CanFinish l.catalog (kept l.state);
       known : (kept l.state).known ≡ (kept l.initial.state).known;
       each : length l.outcomes.items ≡ l.job-index;

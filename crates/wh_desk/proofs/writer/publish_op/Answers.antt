@@ -1,6 +1,7 @@
 use Rattle.std.proofs.Common.{◌≡◌, [], drop, subst}
 use Rattle.wh_store.specs.Operations.{operation}
-use Rattle.wh_desk.specs.Writers.{Publishes, Writing, writing_of}
+use Rattle.wh_desk.specs.Writers.{Writing, writing_of}
+use Rattle.wh_desk.specs.Inner.Writers.{Publishes}
 use Rattle.wh_desk.proofs.Waiting.{none_pending, nothing_waits, whole}
 use Rattle.wh_desk.proofs.writer.publish_op.Goals as goal
 

@@ -5,7 +5,8 @@ use Rattle.wh_row.specs.Row.{Row, is_row}
 use Rattle.wh_row.specs.Weigh.{Counted}
 use Rattle.wh_row.specs.Bag.{count, written}
 use Rattle.wh_row.proofs.WrittenLaws.{written-empty}
-use Rattle.wh_maint.specs.Fit.{IsSummaryTable, IsSummaryRow}
+use Rattle.wh_maint.specs.Fit.{IsSummaryTable}
+use Rattle.wh_maint.specs.Inner.Fit.{IsSummaryRow}
 use Rattle.wh_maint.specs.Summary.{is_nonzero}
 use Rattle.wh_maint.proofs.NewRows.{nonzero_is}
 use Rattle.wh_maint.proofs.FitTests.{RowsAreApart, left_start, left_step, group_is_new}

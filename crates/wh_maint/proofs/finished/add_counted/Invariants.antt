@@ -1,5 +1,5 @@
 use Rattle.wh_maint.specs.Comp.{bag_at}
-use Rattle.wh_maint.specs.Finishing.{AreMade}
+use Rattle.wh_maint.specs.Inner.Finishing.{AreMade}
 use Rattle.wh_maint.proofs.DoneGroups.{AreRest, done_at}
 use Rattle.wh_maint.proofs.finished.add_counted.Given as goal
 

@@ -3,7 +3,7 @@ use Rattle.wh_row.specs.Row.{Row}
 use Rattle.wh_row.specs.Weigh.{Counted}
 use Rattle.wh_row.specs.Bag.{Bag, written}
 use Rattle.wh_maint.specs.Comp.{bag_at}
-use Rattle.wh_maint.specs.Finishing.{AreMade, stands_within}
+use Rattle.wh_maint.specs.Inner.Finishing.{AreMade, stands_within}
 use Rattle.wh_maint.proofs.DoneGroups.{AreRest, rest_start, rest_next, done_at, done_start, done_next, done_own, same_made, none_yet}
 use Rattle.wh_maint.proofs.finished.add_summed.Goals as goal
 

@@ -1,6 +1,6 @@
 use Rattle.std.proofs.Common.{◌+◌}
 use Rattle.wh_maint.specs.Comp.{bag_at}
-use Rattle.wh_maint.specs.Finishing.{AreMade}
+use Rattle.wh_maint.specs.Inner.Finishing.{AreMade}
 use Rattle.wh_maint.proofs.DoneGroups.{AreRest, done_at}
 use Rattle.wh_maint.proofs.finished.add_summed.Given as goal
 

@@ -1,6 +1,6 @@
 use Rattle.std.proofs.Common.{◌≡◌, subst, ◌≤◌, ◌+◌, suc, arith}
 use Rattle.wh_maint.specs.Comp.{bag_at}
-use Rattle.wh_maint.specs.Finishing.{AreMade, stands_within}
+use Rattle.wh_maint.specs.Inner.Finishing.{AreMade, stands_within}
 use Rattle.wh_maint.proofs.DoneGroups.{all_made, all_valued}
 use Rattle.wh_maint.proofs.finished.summary_change.Goals as goal
 

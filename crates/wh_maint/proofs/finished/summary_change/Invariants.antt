@@ -1,6 +1,6 @@
 use Rattle.std.proofs.Common.{suc}
 use Rattle.wh_maint.specs.Comp.{bag_at}
-use Rattle.wh_maint.specs.Finishing.{AreMade, stands_within}
+use Rattle.wh_maint.specs.Inner.Finishing.{AreMade, stands_within}
 use Rattle.wh_maint.proofs.finished.summary_change.Given as goal
 
 abbrev pub invariant-loop-number : goal.invariant-loop-number

@@ -5,7 +5,7 @@ use Rattle.wh_row.specs.Row.{Row}
 use Rattle.wh_row.specs.Bag.{Bag}
 use Rattle.wh_maint.specs.Comp.{bag_at}
 use Rattle.wh_maint.proofs.CountsChecked.{AreChecked, checked_start, checked_step, checked_over}
-use Rattle.wh_maint.specs.Finishing.{GroupCountFits}
+use Rattle.wh_maint.specs.Inner.Finishing.{GroupCountFits}
 use Rattle.wh_maint.proofs.finished.summed_fit.Goals as goal
 use Rattle.wh_maint.proofs.finished.summed_fit.Goals.{else-count-eq0-via-then-count-eq0+else-not-count_fits, else-count-eq0-via-else-count-eq0}
 

@@ -1,6 +1,6 @@
 use Rattle.wh_row.specs.Weigh.{negated}
 use Rattle.wh_row.specs.Bag.{count}
-use Rattle.wh_maint.specs.Finishing.{row_after, row_before}
+use Rattle.wh_maint.specs.Inner.Finishing.{row_after, row_before}
 use Rattle.wh_maint.proofs.MadeRows.{both_added}
 use Rattle.wh_maint.proofs.group_change.add_change.Goals as goal
 

@@ -1,7 +1,7 @@
 use Rattle.std.proofs.Common.{◌≡◌, ap, sym, ◌∙◌, pos, [], ◌∷◌}
 use Rattle.wh_row.specs.Row.{Row}
 use Rattle.wh_row.specs.Bag.{count}
-use Rattle.wh_maint.specs.Finishing.{made_row, row_after}
+use Rattle.wh_maint.specs.Inner.Finishing.{made_row, row_after}
 use Rattle.wh_maint.proofs.MadeRows.{made_group, fits_one}
 use Rattle.wh_maint.proofs.group_change.add_new.Goals as goal
 

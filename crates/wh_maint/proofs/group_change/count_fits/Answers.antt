@@ -1,6 +1,6 @@
 use Rattle.std.proofs.Common.{rules, IsTrue, ◌↔◌, subst, FitsSigned}
 use mir.Syntax.{w64}
-use Rattle.wh_maint.specs.Finishing.{cell_after}
+use Rattle.wh_maint.specs.Inner.Finishing.{cell_after}
 use Rattle.wh_maint.proofs.NewRows.{after_told}
 use Rattle.wh_maint.proofs.group_change.count_fits.Goals as goal
 

@@ -1,6 +1,6 @@
 use Rattle.std.proofs.Common.{rules, ◌≡◌, ◌<◌, ℕ, suc, ◌+◌, sym, ap, subst, ◌∙◌, ℤ, FitsSigned, arith}
 use mir.Syntax.{w64}
-use Rattle.wh_maint.specs.Finishing.{cell_after}
+use Rattle.wh_maint.specs.Inner.Finishing.{cell_after}
 use Rattle.wh_maint.proofs.FirstFaults.{range_there, memory_there}
 use Rattle.wh_maint.proofs.MadeRows.{next_fits}
 use Rattle.wh_maint.proofs.group_change.first_fault.Goals as goal

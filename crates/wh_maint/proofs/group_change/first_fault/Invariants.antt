@@ -1,6 +1,6 @@
 use Rattle.std.proofs.Common.{ℕ, suc, ◌<◌, FitsSigned}
 use mir.Syntax.{w64}
-use Rattle.wh_maint.specs.Finishing.{cell_after}
+use Rattle.wh_maint.specs.Inner.Finishing.{cell_after}
 use Rattle.wh_maint.proofs.group_change.first_fault.Given as goal
 
 abbrev pub invariant-loop-number : goal.invariant-loop-number

@@ -2,7 +2,7 @@ use Rattle.std.proofs.Common.{rules, ◌≡◌, ◌<◌, ◌+◌, ℕ, suc, sym,
 use mir.Syntax.{w128}
 use Rattle.wh_row.specs.Bag.{count}
 use Rattle.wh_maint.specs.Comp.{bag_at}
-use Rattle.wh_maint.specs.Finishing.{stands_within}
+use Rattle.wh_maint.specs.Inner.Finishing.{stands_within}
 use Rattle.wh_maint.proofs.DoneGroups.{stands_at, stands_next}
 use Rattle.wh_maint.proofs.group_change.stands_within.Goals as goal
 

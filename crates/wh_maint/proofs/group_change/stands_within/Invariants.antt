@@ -1,6 +1,6 @@
 use Rattle.std.proofs.Common.{◌≡◌, false}
 use Rattle.wh_maint.specs.Comp.{bag_at}
-use Rattle.wh_maint.specs.Finishing.{stands_within}
+use Rattle.wh_maint.specs.Inner.Finishing.{stands_within}
 use Rattle.wh_maint.proofs.group_change.stands_within.Given as goal
 
 abbrev pub invariant-loop-column : goal.invariant-loop-column

@@ -1,6 +1,6 @@
 use Rattle.std.proofs.Common.{rules, ◌≡◌, ℕ, suc, ◌+◌, ap, subst, ◌∙◌, ◌++◌, [], ◌∷◌, ℤ, FitsSigned, to_z-of_z, arith}
 use mir.Syntax.{w64}
-use Rattle.wh_maint.specs.Finishing.{cell_after}
+use Rattle.wh_maint.specs.Inner.Finishing.{cell_after}
 use Rattle.wh_maint.proofs.FirstFaults.{err_where}
 use Rattle.wh_maint.proofs.MadeRows.{next_cells, next_fits}
 use Rattle.wh_maint.proofs.group_change.with_cells.Goals as goal

@@ -1,7 +1,7 @@
 use Rattle.std.proofs.Common.{◌≡◌, ℕ, suc, ◌<◌, ◌++◌, map, FitsSigned}
 use mir.Syntax.{w64}
 use Rattle.std.specs.List.{range_with_len}
-use Rattle.wh_maint.specs.Finishing.{cell_after}
+use Rattle.wh_maint.specs.Inner.Finishing.{cell_after}
 use Rattle.wh_maint.proofs.group_change.with_cells.Given as goal
 
 abbrev pub invariant-loop-number : goal.invariant-loop-number

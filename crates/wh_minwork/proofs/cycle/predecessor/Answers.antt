@@ -1,6 +1,6 @@
 use Rattle.std.proofs.Common.{◌≡◌, true, Some, sym, subst, slice_get}
 use Rattle.std.proofs.lemmas.Bool.{both_ways}
-use Rattle.wh_minwork.specs.Nodes.{leads}
+use Rattle.wh_minwork.specs.Inner.Nodes.{leads}
 use Rattle.wh_minwork.specs.declared.node.Node.TheVariants.{Comp}
 use Rattle.wh_minwork.proofs.Counting.{none_any, get_some, get_value}
 use Rattle.wh_minwork.proofs.cycle.predecessor.Goals as goal

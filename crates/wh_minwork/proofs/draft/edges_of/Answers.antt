@@ -1,7 +1,7 @@
 use Rattle.std.proofs.Common.{◌≡◌, ◌<◌, ◌≤◌, ◌&&◌, ◌||◌, [], Bool, true, false, eqb, ltb, length, get_or, refl, sym, ap, ◌∙◌, arith}
 use Rattle.std.proofs.lemmas.Bool.{le-ltb}
 use Rattle.wh_dag.specs.Shape.{has, children_of}
-use Rattle.wh_minwork.specs.Sets.{in_rows}
+use Rattle.wh_minwork.specs.Inner.Sets.{in_rows}
 use Rattle.wh_minwork.proofs.Bits.{in_none}
 use Rattle.wh_minwork.proofs.Drafting.{below_more, child_small, fill_more, fill_none, filled_all, listed_small, ordered_more, ordered_none}
 use Rattle.wh_minwork.proofs.draft.edges_of.Goals as goal

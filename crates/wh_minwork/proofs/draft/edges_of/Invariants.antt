@@ -1,7 +1,7 @@
 use Rattle.std.proofs.Common.{◌≡◌, ◌+◌, ◌&&◌, ◌||◌, ℕ, false, eqb, ltb, take, length}
 use Rattle.wh_dag.specs.Shape.{has, children_of}
 use Rattle.wh_cert.specs.Graph.{decides}
-use Rattle.wh_minwork.specs.Sets.{in_set, in_rows}
+use Rattle.wh_minwork.specs.Inner.Sets.{in_set, in_rows}
 use Rattle.wh_minwork.proofs.draft.edges_of.Given as goal
 
 abbrev pub invariant-loop-v : goal.invariant-loop-v

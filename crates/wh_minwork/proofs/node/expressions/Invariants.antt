@@ -1,5 +1,5 @@
 use Rattle.std.proofs.Common.{◌≡◌, map, take}
-use Rattle.wh_minwork.specs.Nodes.{expression_of}
+use Rattle.wh_minwork.specs.Inner.Nodes.{expression_of}
 use Rattle.wh_minwork.proofs.node.expressions.Given as goal
 
 abbrev pub invariant-loop-node : goal.invariant-loop-node

@@ -1,6 +1,6 @@
 use Rattle.std.proofs.Common.{◌≡◌, true}
 use Rattle.wh_dag.proofs.SiblingLists.{on_err}
-use Rattle.wh_minwork.specs.Left.{is_node_by}
+use Rattle.wh_minwork.specs.Inner.Left.{is_node_by}
 use Rattle.wh_minwork.specs.declared.node.Node.{Node}
 use Rattle.wh_minwork.proofs.Hinting.{hinted_all, hinted_taken, placed_more, placed_none}
 use Rattle.wh_minwork.proofs.Looking.{placed_left}

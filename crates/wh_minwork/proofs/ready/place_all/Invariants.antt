@@ -1,6 +1,6 @@
 use Rattle.std.proofs.Common.{◌+◌}
 use Rattle.std.specs.Prelude.{sum}
-use Rattle.wh_minwork.specs.Left.{AreHints, ArePlaced, AreTurned}
+use Rattle.wh_minwork.specs.Inner.Left.{AreHints, ArePlaced, AreTurned}
 use Rattle.wh_minwork.proofs.ready.place_all.Given as goal
 
 abbrev pub invariant-loop-node : goal.invariant-loop-node

@@ -1,6 +1,6 @@
 use Rattle.std.proofs.Common.{◌≡◌, ◌⊎◌, ℕ, true}
-use Rattle.wh_minwork.specs.Left.{IsLed}
-use Rattle.wh_minwork.specs.Sets.{in_set, in_rows}
+use Rattle.wh_minwork.specs.Inner.Left.{IsLed}
+use Rattle.wh_minwork.specs.Inner.Sets.{in_set, in_rows}
 use Rattle.wh_minwork.specs.declared.node.Node.TheVariants.{Comp}
 use Rattle.wh_minwork.proofs.ready.ready_source.Given as goal
 

@@ -1,5 +1,5 @@
 use Rattle.std.proofs.Common.{◌≡◌, ap, ◌∙◌, arith}
-use Rattle.wh_minwork.specs.Sets.{in_set}
+use Rattle.wh_minwork.specs.Inner.Sets.{in_set}
 use Rattle.wh_minwork.proofs.Bits.{in_none, first_in}
 use Rattle.wh_minwork.proofs.sets.first.Goals as goal
 

@@ -1,5 +1,5 @@
 use Rattle.std.proofs.Common.{◌≡◌, ◌≤◌, take}
-use Rattle.wh_minwork.specs.Nodes.{waits_for}
+use Rattle.wh_minwork.specs.Inner.Nodes.{waits_for}
 use Rattle.wh_minwork.proofs.unplaced.count.Given as goal
 
 abbrev pub invariant-loop-node : goal.invariant-loop-node

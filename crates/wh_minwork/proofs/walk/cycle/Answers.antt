@@ -1,5 +1,5 @@
 use Rattle.std.proofs.Common.{sym, ◌∙◌}
-use Rattle.wh_minwork.specs.Left.{is_node_by, leads_by}
+use Rattle.wh_minwork.specs.Inner.Left.{is_node_by, leads_by}
 use Rattle.wh_minwork.proofs.Rounds.{walking_start, walking_more, walking_meets, walking_closes}
 use Rattle.wh_minwork.proofs.walk.cycle.Goals as goal
 

@@ -1,6 +1,6 @@
 use Rattle.std.proofs.Common.{◌≡◌, ◌+◌, true}
 use Rattle.std.specs.Prelude.{sum}
-use Rattle.wh_minwork.specs.Left.{IsWithin, is_left, is_node_by, leads_by}
+use Rattle.wh_minwork.specs.Inner.Left.{IsWithin, is_left, is_node_by, leads_by}
 use Rattle.wh_minwork.proofs.Rounds.{IsWalking}
 use Rattle.wh_minwork.proofs.walk.cycle.Given as goal
 

@@ -5,7 +5,7 @@ use Rattle.wh_strategy.specs.declared.expression.Expression.{Expression}
 use Rattle.wh_strategy.specs.Expression.{At}
 use Rattle.wh_maint.specs.Definition.{graph_of}
 use Rattle.wh_night.specs.Carry.{tables_after}
-use Rattle.wh_night.specs.Steps.{AreFirstSteps}
+use Rattle.wh_night.specs.Inner.Steps.{AreFirstSteps}
 use Rattle.wh_night.specs.Kept.{kept}
 use Rattle.wh_night.specs.Refused.{ArePassedBelow}
 use Rattle.wh_night.proofs.Refusals.{told_first, told_next}

@@ -2,17 +2,16 @@ use Rattle.std.proofs.Common.{ℕ}
 use Rattle.wh_row.specs.Bag.{Bag}
 use Rattle.wh_maint.specs.Definition.{graph_of}
 use Rattle.wh_night.specs.Carry.{before, tables_after}
-use Rattle.wh_night.specs.Kept.{kept, AreParts, CanFinish, IsFirst}
+use Rattle.wh_night.specs.Kept.{kept, HaveParts, CanFinish, IsFirst}
 use Rattle.wh_night.specs.Refused.{ArePassedBelow}
-use Rattle.wh_night.specs.Steps.{AreFirstSteps}
-use Rattle.wh_night.proofs.Agreeing.{Agrees}
-use Rattle.wh_night.proofs.Refusals.{AreTold}
+use Rattle.wh_night.specs.Inner.Steps.{AreFirstSteps}
+use Rattle.wh_night.specs.Inner.Agreeing.{Agrees, AreTold}
 use Rattle.wh_night.proofs.carrying.carry_out.Given as goal
 
 abbrev pub invariant-loop-place : goal.invariant-loop-place
 invariant-loop-place g l =
     record {
-      parts : AreParts l.catalog l.state;
+      parts : HaveParts l.catalog l.state;
       fit : CanFinish l.catalog (kept l.state);
       agrees : (old changes : ℕ → Bag) → IsFirst l.catalog old changes (kept l.fn.state)
           → Agrees l.catalog l.list old changes l.place (before (graph_of l.catalog) changes l.list old l.place) (kept l.state);

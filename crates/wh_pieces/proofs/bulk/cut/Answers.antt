@@ -2,7 +2,8 @@ use Rattle.std.proofs.Common.{rules, ◌≡◌, ◌≤◌, ◌<◌, ◌*◌, [],
 use Rattle.std.proofs.lemmas.List.{length-take-le}
 use Rattle.wh_pieces.specs.Row.{Row}
 use Rattle.wh_pieces.specs.Flat.{flat}
-use Rattle.wh_pieces.specs.Pieces.{AreNotEmpty, all_of}
+use Rattle.wh_pieces.specs.Pieces.{all_of}
+use Rattle.wh_pieces.specs.Inner.Pieces.{AreNotEmpty}
 use Rattle.wh_pieces.proofs.FlatLaws.{length-flat}
 use Rattle.wh_pieces.proofs.CutLaws.{back_even, cut-flat, one_more, some_more}
 use Rattle.wh_pieces.proofs.bulk.cut.Goals as goal

@@ -1,6 +1,7 @@
 use Rattle.std.proofs.Common.{◌≡◌, ◌≤◌, ◌*◌, ◌++◌, length}
 use Rattle.wh_pieces.specs.Flat.{flat}
-use Rattle.wh_pieces.specs.Pieces.{all_of, AreNotEmpty}
+use Rattle.wh_pieces.specs.Pieces.{all_of}
+use Rattle.wh_pieces.specs.Inner.Pieces.{AreNotEmpty}
 use Rattle.wh_pieces.proofs.bulk.cut.Given as goal
 
 abbrev pub invariant-loop-cells : goal.invariant-loop-cells

@@ -1,8 +1,9 @@
 use Rattle.std.proofs.Common.{◌≡◌, ◌<◌, ℕ, suc, length, drop, List, ap, subst, sym, ◌∙◌, arith, slice_get, Some}
 use Rattle.std.specs.Map.{keys_of}
 use Rattle.wh_pieces.specs.Row.{Row}
-use Rattle.wh_pieces.specs.Place.{IsBelowFirst}
-use Rattle.wh_pieces.specs.Pieces.{all_of, piece_at}
+use Rattle.wh_pieces.specs.Inner.Place.{IsBelowFirst}
+use Rattle.wh_pieces.specs.Pieces.{all_of}
+use Rattle.wh_pieces.specs.Inner.Pieces.{piece_at}
 use Rattle.wh_pieces.proofs.PieceLaws.{below_piece, above_piece, piece_read}
 use Rattle.wh_pieces.proofs.pieces.find_piece.Goals as goal
 

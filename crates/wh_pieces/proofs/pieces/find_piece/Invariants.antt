@@ -1,5 +1,6 @@
 use Rattle.std.proofs.Common.{◌<◌, ◌≤◌, ◌-◌, length, take, drop}
-use Rattle.wh_pieces.specs.Place.{IsAbove, IsBelowFirst}
+use Rattle.wh_pieces.specs.Place.{IsAbove}
+use Rattle.wh_pieces.specs.Inner.Place.{IsBelowFirst}
 use Rattle.wh_pieces.specs.Pieces.{all_of}
 use Rattle.wh_pieces.proofs.pieces.find_piece.Given as goal
 

@@ -1,7 +1,7 @@
 use Rattle.std.proofs.Common.{◌≡◌, ◌<◌, ◌-◌, length, List, ap, sym, ◌∙◌, arith, slice_get, Some}
 use Rattle.std.specs.Map.{keys_of}
 use Rattle.wh_pieces.specs.Row.{Row}
-use Rattle.wh_pieces.specs.Pieces.{piece_at}
+use Rattle.wh_pieces.specs.Inner.Pieces.{piece_at}
 use Rattle.wh_pieces.proofs.PieceLaws.{piece_read}
 use Rattle.wh_pieces.proofs.LastLaws.{above_last}
 use Rattle.wh_pieces.proofs.pieces.is_above_all.Goals as goal

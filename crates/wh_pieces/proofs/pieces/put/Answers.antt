@@ -1,6 +1,7 @@
 use Rattle.std.proofs.Common.{◌≡◌, ◌/◌, List, length, ap, subst, sym, ◌∙◌, arith, length-drop, OnOk, OnErr}
 use Rattle.wh_pieces.specs.Row.{Row}
-use Rattle.wh_pieces.specs.Pieces.{all_of, AreNotEmpty, piece_at}
+use Rattle.wh_pieces.specs.Pieces.{all_of}
+use Rattle.wh_pieces.specs.Inner.Pieces.{AreNotEmpty, piece_at}
 use Rattle.wh_pieces.proofs.PieceLaws.{piece_read, some-cut, all-cut, low_place, high_place, high_half}
 use Rattle.wh_pieces.proofs.pieces.put.Goals as goal
 

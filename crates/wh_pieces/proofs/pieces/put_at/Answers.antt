@@ -2,7 +2,8 @@ use Rattle.std.proofs.Common.{◌≡◌, suc, List, ◌∷◌, ◌++◌, length,
 use Rattle.std.specs.Prelude.{OnOk, OnErr}
 use Rattle.std.specs.List.{insert}
 use Rattle.wh_pieces.specs.Row.{Row}
-use Rattle.wh_pieces.specs.Pieces.{all_of, piece_at, before, after}
+use Rattle.wh_pieces.specs.Pieces.{all_of}
+use Rattle.wh_pieces.specs.Inner.Pieces.{piece_at, before, after}
 use Rattle.wh_pieces.proofs.PieceLaws.{piece_read, piece_unchanged, put_in_piece, put_at_end, put_at_cut, all-cut}
 use Rattle.wh_pieces.proofs.pieces.put_at.Goals as goal
 

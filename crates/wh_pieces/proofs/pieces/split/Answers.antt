@@ -1,7 +1,7 @@
 use Rattle.std.proofs.Common.{◌≡◌, List, ◌∷◌, ◌++◌, suc, take, drop, set, get_or, ap, ◌∙◌, add-one}
 use Rattle.std.specs.List.{insert}
 use Rattle.wh_pieces.specs.Row.{Row}
-use Rattle.wh_pieces.specs.Pieces.{piece_at}
+use Rattle.wh_pieces.specs.Inner.Pieces.{piece_at}
 use Rattle.wh_pieces.proofs.PieceLaws.{piece_read, piece_kept, cut_made}
 use Rattle.wh_pieces.proofs.pieces.split.Goals as goal
 

@@ -1,7 +1,8 @@
 use Rattle.std.proofs.Common.{◌≡◌, List, length, set, ap, sym, ◌∙◌}
 use Rattle.std.specs.List.{remove}
 use Rattle.wh_pieces.specs.Row.{Row}
-use Rattle.wh_pieces.specs.Pieces.{all_of, piece_at}
+use Rattle.wh_pieces.specs.Pieces.{all_of}
+use Rattle.wh_pieces.specs.Inner.Pieces.{piece_at}
 use Rattle.wh_pieces.proofs.PieceLaws.{piece_read, set_read, set_removed, all-gone}
 use Rattle.wh_pieces.proofs.pieces.take_from.Goals as goal
 

@@ -1,5 +1,6 @@
 use Rattle.std.proofs.Common.{sym, subst}
-use Rattle.wh_plan_text.specs.ScheduleText.{IsSized, desks_in, keys_in, workers_in}
+use Rattle.wh_plan_text.specs.ScheduleText.{desks_in, keys_in, workers_in}
+use Rattle.wh_plan_text.specs.Inner.ScheduleText.{IsSized}
 use Rattle.wh_plan_text.proofs.ScheduleGrammars.{read_sized}
 use Rattle.wh_plan_text.proofs.schedule.read_schedule.Goals as goal
 

@@ -1,5 +1,5 @@
 use Rattle.std.proofs.Common.{drop}
-use Rattle.wh_prune.specs.Searching.{AreLeft, DecidesLowerFirst}
+use Rattle.wh_prune.specs.Inner.Searching.{AreLeft, DecidesLowerFirst}
 use Rattle.wh_prune.proofs.explore.lowest.Given as goal
 
 abbrev pub invariant-loop-couple : goal.invariant-loop-couple

@@ -16,7 +16,8 @@ use Rattle.wh_night.specs.Refused.{AreAllowedBelow, ArePassedBelow}
 use Rattle.wh_night.specs.Steps.{AreSteps}
 use Rattle.wh_run.specs.Refusals.{IsRefusedSo, left_of}
 use Rattle.wh_run.specs.Tonight.{night_over}
-use Rattle.wh_readers.specs.Serving.{IsServed, newly, rows_of}
+use Rattle.wh_readers.specs.Serving.{rows_of}
+use Rattle.wh_readers.specs.Inner.Serving.{IsServed, newly}
 use Rattle.wh_readers.proofs.Serves.{first_number, fit_are_tables, if_served, on_served}
 use Rattle.wh_readers.proofs.serving.serve_night.Goals as goal
 

@@ -4,7 +4,7 @@ use Rattle.wh_dag.specs.Shape.{Views}
 use Rattle.wh_store.specs.Windows.{current}
 use Rattle.wh_publish.specs.Ledgers.{Ledger, ledger}
 use Rattle.wh_desk.specs.Desks.{Sitting}
-use Rattle.wh_readers.specs.Serving.{CanRun, IsRun, newly}
+use Rattle.wh_readers.specs.Inner.Serving.{CanRun, IsRun, newly}
 use Rattle.wh_readers.proofs.Serves.{seated_ready, seated_same, served_of}
 use Rattle.wh_readers.proofs.serving.serve_some.Goals as goal
 

@@ -3,7 +3,7 @@ use Rattle.std.specs.Prelude.{slice_index_or}
 use Rattle.std.specs.List.{All}
 use Rattle.wh_publish.specs.Ledgers.{Warehouse}
 use Rattle.wh_desk.specs.Desks.{Sitting}
-use Rattle.wh_readers.specs.Serving.{IsSeated}
+use Rattle.wh_readers.specs.Inner.Serving.{IsSeated}
 use Rattle.wh_readers.proofs.serving.sit_down.Given as goal
 
 abbrev pub invariant-loop-place : goal.invariant-loop-place

@@ -2,7 +2,7 @@ use Rattle.std.proofs.Common.{rules, ◌≡◌, ◌≢◌, ℤ, pos, Some, slice
 use Rattle.std.specs.Prelude.{unsigned_abs}
 use mir.Syntax.{w64}
 use Rattle.wh_row.specs.Row.{Row}
-use Rattle.wh_row.specs.Kept.{one_below}
+use Rattle.wh_row.specs.Inner.Kept.{one_below}
 use Rattle.wh_row.proofs.BulkLaws.{next_counts, next_sum}
 use Rattle.wh_row.proofs.KeptLaws.{one_small}
 use Rattle.wh_row.proofs.bulk.kept_of.Goals as goal

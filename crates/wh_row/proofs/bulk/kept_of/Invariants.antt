@@ -2,8 +2,8 @@ use Rattle.std.proofs.Common.{◌≡◌, ◌≤◌, ℤ, take}
 use Rattle.std.specs.List.{sum_by}
 use Rattle.std.specs.Prelude.{unsigned_abs}
 use Rattle.wh_row.specs.Row.{Row}
-use Rattle.wh_row.specs.Kept.{one_below}
-use Rattle.wh_row.specs.Stored.{AreCounts}
+use Rattle.wh_row.specs.Inner.Kept.{one_below}
+use Rattle.wh_row.specs.Inner.Stored.{AreCounts}
 use Rattle.wh_row.proofs.bulk.kept_of.Given as goal
 
 abbrev pub invariant-loop-place : goal.invariant-loop-place

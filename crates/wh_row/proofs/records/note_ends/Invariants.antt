@@ -1,5 +1,5 @@
 use Rattle.std.proofs.Common.{◌≡◌}
-use Rattle.wh_row.specs.Flat.{even_ends}
+use Rattle.wh_row.specs.Inner.Flat.{even_ends}
 use Rattle.wh_row.proofs.records.note_ends.Given as goal
 
 abbrev pub invariant-loop-row : goal.invariant-loop-row

@@ -15,9 +15,10 @@ use Rattle.wh_night.specs.Refused.{AreAllowedBelow, IsBaseFault}
 use Rattle.wh_night.proofs.NewValues.{ends_in_contents}
 use Rattle.wh_night.proofs.Nights.{steps_end, tables_end}
 use Rattle.wh_course.proofs.Parts.{stages_in, stands_first}
-use Rattle.wh_run.specs.Refusals.{AreAllowed, IsFirstStageFault}
+use Rattle.wh_run.specs.Refusals.{IsFirstStageFault}
+use Rattle.wh_course.specs.Night.{AreAllowed}
 use Rattle.wh_run.specs.Tonight.{made_by}
-use Rattle.wh_run.specs.Underway.{Given, HasCome, night_of}
+use Rattle.wh_run.specs.Inner.Underway.{Given, HasCome, night_given}
 use Rattle.wh_run.proofs.Stages.{comes_first}
 use Rattle.wh_run.proofs.alone.night_alone.Goals as goal
 
@@ -34,7 +35,7 @@ memory_or (Absent v row) P h = inr (λ keys. ⊎_elim (λ (e : Absent v row ≡ 
 
 -- it stands before its first expression
 begins : (cat : CatalogOf) (list : List Expression) (tables changes : List Bag) (keys : ℕ) (k : Kept) → IsCatalog cat → IsCorrect cat.views.children list → IsFirst cat (bag_at tables) (bag_at changes) k
-    → HasCome (night_of cat keys (given list tables changes)) 0 k []
+    → HasCome (night_given cat keys (given list tables changes)) 0 k []
 begins cat list tables changes keys k is ok first =
     comes_first cat list (bag_at tables) (bag_at changes) keys k (stands_first cat list (bag_at tables) (bag_at changes) keys k is ok first)
 
@@ -73,7 +74,7 @@ returns-in-Ok-through-clause-steps g c =
     let ok : IsCorrect cat.views.children list = subst (λ shape. IsCorrect shape list) c.requires.judged c.strategy.ensures.rules in
     let come = c.in-Ok-through.ensures.goes 1 (given list c.args.tables.items c.args.changes.now) (c.as_slice.ensures.value ∙ c.in-Ok-waves.ensures.stages)
     (begins cat list c.args.tables.items c.args.changes.now 1 (kept c.in-Ok.state) c.in-Ok.ensures.parts.catalogue ok c.in-Ok.ensures.first) in
-    steps_end cat.views.children list (bag_at c.args.tables.items) (made_by (night_of cat 1 (given list c.args.tables.items c.args.changes.now))) (length list) c.in-Ok-through.steps.items refl come.reported
+    steps_end cat.views.children list (bag_at c.args.tables.items) (made_by (night_given cat 1 (given list c.args.tables.items c.args.changes.now))) (length list) c.in-Ok-through.steps.items refl come.reported
 
 pub returns-in-Ok-through-clause-passed : goal.returns-in-Ok-through-clause-passed
 returns-in-Ok-through-clause-passed g c =
@@ -95,4 +96,4 @@ returns-in-Err-through-clause-refused g c =
     let t = given list c.args.tables.items c.args.changes.now in
     let stops = λ (keys : ℕ). c.in-Err-through.ensures.stops keys (given list c.args.tables.items c.args.changes.now) (c.as_slice.ensures.value ∙ c.in-Ok-waves.ensures.stages)
     (begins cat list c.args.tables.items c.args.changes.now keys (kept c.in-Ok.state) c.in-Ok.ensures.parts.catalogue ok c.in-Ok.ensures.first) in
-    memory_or c.in-Err-through.fault (λ keys. AreAllowed (night_of cat keys t) × IsFirstStageFault (night_of cat keys t) c.in-Err-through.fault) (λ keys. ⊎_elim (λ m. inl m) (λ f. inr (allowed, f)) (stops keys))
+    memory_or c.in-Err-through.fault (λ keys. AreAllowed (night_given cat keys t) × IsFirstStageFault (night_given cat keys t) c.in-Err-through.fault) (λ keys. ⊎_elim (λ m. inl m) (λ f. inr (allowed, f)) (stops keys))

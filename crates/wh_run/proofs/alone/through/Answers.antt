@@ -4,16 +4,16 @@ use Rattle.std.proofs.lemmas.Option.{slice_get_read}
 use Rattle.wh_night.specs.declared.stages.Stage.{Stage}
 use Rattle.wh_night.specs.Kept.{kept}
 use Rattle.wh_night.proofs.StageLaws.{lists_have_one_stages}
-use Rattle.wh_course.specs.Standing.{place_of}
+use Rattle.wh_course.specs.Standing.{place_behind}
 use Rattle.wh_course.proofs.Waves.{split_at, take_all, take_next}
-use Rattle.wh_run.specs.Underway.{HasCome, night_of}
+use Rattle.wh_run.specs.Inner.Underway.{HasCome, night_given}
 use Rattle.wh_run.proofs.alone.through.Goals as goal
 
 pub loop-stage-init : goal.loop-stage-init
 loop-stage-init g c = record {
   parts = c.requires.parts;
   fit = c.requires.fit;
-  come = λ keys t are here. subst (λ steps. HasCome (night_of c.args.catalog.now keys t) 0 (kept c.args.state.now) steps) (sym c.new-steps.ensures.items) here;
+  come = λ keys t are here. subst (λ steps. HasCome (night_given c.args.catalog.now keys t) 0 (kept c.args.state.now) steps) (sym c.new-steps.ensures.items) here;
 }
 
 pub stage_of-requires-clause-stage : goal.stage_of-requires-clause-stage
@@ -35,7 +35,7 @@ loop-stage-preserved g c =
     record {
       parts = c.in_default.ensures.parts;
       fit = c.in_default.ensures.fit;
-      come = λ keys t are at. subst (λ ts. HasCome (night_of c.args.catalog.now keys t) (place_of ts) (kept c.stage_of.new.state) c.stage_of.new.steps.items) (sym next)
+      come = λ keys t are at. subst (λ ts. HasCome (night_given c.args.catalog.now keys t) (place_behind ts) (kept c.stage_of.new.state) c.stage_of.new.steps.items) (sym next)
           (c.in_default.ensures.goes keys t (take i stages) (drop (i + 1) stages) (sym are ∙ split_here stages i x here) (c.loop-stage.invariant.come keys t are at));
     }
 
@@ -51,5 +51,5 @@ pub returns-clause-goes : goal.returns-clause-goes
 returns-clause-goes g c = λ keys t are at.
     let stages : List Stage = c.args.stages.now in
     let all : take c.loop-stage.stage-index stages ≡ stages = take_all c.loop-stage.stage-index stages (omega arith) in
-    let whole : place_of (take c.loop-stage.stage-index stages) ≡ length t.list = ap place_of (all ∙ are) ∙ ap length (lists_have_one_stages t.list).0.joined in
-    subst (λ p. HasCome (night_of c.args.catalog.now keys t) p (kept c.loop-stage.state) c.loop-stage.steps.items) whole (c.loop-stage.invariant.come keys t are at)
+    let whole : place_behind (take c.loop-stage.stage-index stages) ≡ length t.list = ap place_behind (all ∙ are) ∙ ap length (lists_have_one_stages t.list).0.joined in
+    subst (λ p. HasCome (night_given c.args.catalog.now keys t) p (kept c.loop-stage.state) c.loop-stage.steps.items) whole (c.loop-stage.invariant.come keys t are at)

@@ -1,15 +1,15 @@
 use Rattle.std.proofs.Common.{◌≡◌, ℕ, [], take}
-use Rattle.wh_night.specs.Kept.{kept, AreParts, CanFinish}
+use Rattle.wh_night.specs.Kept.{kept, HaveParts, CanFinish}
 use Rattle.wh_night.specs.Waves.{stages_of}
-use Rattle.wh_course.specs.Standing.{place_of}
-use Rattle.wh_run.specs.Underway.{Given, HasCome, night_of}
+use Rattle.wh_course.specs.Standing.{place_behind}
+use Rattle.wh_run.specs.Inner.Underway.{Given, HasCome, night_given}
 use Rattle.wh_run.proofs.alone.through.Given as goal
 
 abbrev pub invariant-loop-stage : goal.invariant-loop-stage
 invariant-loop-stage g l =
     record {
-      parts : AreParts l.catalog l.state;
+      parts : HaveParts l.catalog l.state;
       fit : CanFinish l.catalog (kept l.state);
-      come : (keys : ℕ) (t : Given) → l.stages ≡ stages_of t.list → HasCome (night_of l.catalog keys t) 0 (kept l.fn.state) []
-          → HasCome (night_of l.catalog keys t) (place_of (take l.stage-index l.stages)) (kept l.state) l.steps.items;
+      come : (keys : ℕ) (t : Given) → l.stages ≡ stages_of t.list → HasCome (night_given l.catalog keys t) 0 (kept l.fn.state) []
+          → HasCome (night_given l.catalog keys t) (place_behind (take l.stage-index l.stages)) (kept l.state) l.steps.items;
     }

@@ -4,7 +4,7 @@ use Rattle.wh_store.specs.Operations.{Writes}
 use Rattle.wh_course.proofs.Lengths.{plain_length}
 use Rattle.wh_course.proofs.Pages.{last_page, no_rows}
 use Rattle.wh_run.specs.Tonight.{goes_out}
-use Rattle.wh_run.specs.Underway.{IsPartly}
+use Rattle.wh_run.specs.Inner.Underway.{IsPartly}
 use Rattle.wh_run.proofs.Outs.{nothing_out, on_err}
 use Rattle.wh_run.proofs.insts.close_last.Goals as goal
 

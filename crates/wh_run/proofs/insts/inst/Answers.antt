@@ -10,7 +10,7 @@ use Rattle.wh_night.specs.Kept.{Kept, kept, finished, installed}
 use Rattle.wh_night.specs.NightList.{pages_of}
 use Rattle.wh_night.proofs.NewCounts.{new_counts_make_tables}
 use Rattle.wh_run.specs.Tonight.{goes_out}
-use Rattle.wh_run.specs.Underway.{IsPartly, is_cut, is_refused}
+use Rattle.wh_run.specs.Inner.Underway.{IsPartly, is_cut, is_refused}
 use Rattle.wh_run.proofs.insts.inst.Goals as goal
 
 pub change-requires-clause-known : goal.change-requires-clause-known

@@ -4,7 +4,7 @@ use Rattle.wh_store.specs.Operations.{Writes}
 use Rattle.wh_night.specs.NightList.{pages_of}
 use Rattle.wh_course.proofs.Lengths.{plain_length}
 use Rattle.wh_course.proofs.Pages.{full_page}
-use Rattle.wh_run.specs.Underway.{IsPartly}
+use Rattle.wh_run.specs.Inner.Underway.{IsPartly}
 use Rattle.wh_run.proofs.Outs.{on_err}
 use Rattle.wh_run.proofs.insts.make_room.Goals as goal
 

@@ -3,7 +3,7 @@ use Rattle.wh_store.specs.Operations.{Commits}
 use Rattle.wh_publish.specs.Faults.{refused}
 use Rattle.wh_publish.specs.declared.fault.PublishFault.TheVariants as publish
 use Rattle.wh_maint.specs.declared.fault.MaintFault.TheVariants.{Memory}
-use Rattle.wh_run.specs.Underway.{IsStopped}
+use Rattle.wh_run.specs.Inner.Underway.{IsStopped}
 use Rattle.wh_run.proofs.Ends.{committed, put_stops}
 use Rattle.wh_run.proofs.running.commit.Goals as goal
 

@@ -15,16 +15,16 @@ use Rattle.wh_publish.specs.declared.fault.PublishFault.{PublishFault}
 use Rattle.wh_night.specs.Kept.{IsFirst, Kept, kept}
 use Rattle.wh_night.specs.Refused.{AreAllowedBelow, IsBaseFault}
 use Rattle.wh_night.specs.Waves.{stages_of}
-use Rattle.wh_course.specs.Night.{Night}
+use Rattle.wh_course.specs.Night.{Night, AreAllowed}
 use Rattle.wh_course.proofs.Parts.{stages_in, stands_first}
 use Rattle.wh_run.specs.Causes.{cause_of_begin}
 use Rattle.wh_run.specs.declared.cause.NightCause.{NightCause}
 use Rattle.wh_run.specs.declared.left.Left.{Left}
 use Rattle.wh_run.specs.declared.left.Left.TheVariants.{Untouched, GivenUp, StillOpen}
 use Rattle.wh_run.specs.declared.left.NightFault.{NightFault}
-use Rattle.wh_run.specs.Refusals.{AreAllowed, IsFirstStageFault, IsRefused, IsRefusedSo}
+use Rattle.wh_run.specs.Refusals.{IsFirstStageFault, IsRefused, IsRefusedSo}
 use Rattle.wh_run.specs.Tonight.{IsDone, made_by, newest_in, tonight}
-use Rattle.wh_run.specs.Underway.{Given, IsRefusedLater, night_of}
+use Rattle.wh_run.specs.Inner.Underway.{Given, IsRefusedLater, night_given}
 use Rattle.wh_run.proofs.Outs.{if_err, if_ok, if_ok_on}
 use Rattle.wh_night.proofs.NewValues.{ends_in_contents}
 use Rattle.wh_run.proofs.FitFor.{allowed_for}
@@ -92,7 +92,7 @@ run-answer-requires-clause-begins g c κs within =
     let come = comes_first cat list (bag_at newest) (bag_at c.args.changes.now) c.args.options.page_keys k
     (stands_first cat list (bag_at newest) (bag_at c.args.changes.now) c.args.options.page_keys k c.in-Ok-over.ensures.parts.catalogue ok first) in
     let old : c.deref.result.now ≡ newest = c.deref.ensures.value ∙ c.in-Ok.ensures in
-    let allowed : AreAllowed (night_of cat c.args.options.page_keys t) = subst (λ ts. AreAllowedBelow cat (bag_at ts) (bag_at c.args.changes.now) (length cat.views.children)) old c.in_default-base_changes.ensures.allowed in
+    let allowed : AreAllowed (night_given cat c.args.options.page_keys t) = subst (λ ts. AreAllowedBelow cat (bag_at ts) (bag_at c.args.changes.now) (length cat.views.children)) old c.in_default-base_changes.ensures.allowed in
     record {
       given = t;
       fit = record {
@@ -167,7 +167,7 @@ returns-clause-leaves g c =
     let come = comes_first cat list (bag_at newest) (bag_at c.args.changes.now) c.args.options.page_keys k
     (stands_first cat list (bag_at newest) (bag_at c.args.changes.now) c.args.options.page_keys k c.in-Ok-over.ensures.parts.catalogue ok first) in
     let old : c.deref.result.now ≡ newest = c.deref.ensures.value ∙ c.in-Ok.ensures in
-    let allowed : AreAllowed (night_of cat c.args.options.page_keys t) = subst (λ ts. AreAllowedBelow cat (bag_at ts) (bag_at c.args.changes.now) (length cat.views.children)) old c.in_default-base_changes.ensures.allowed in
+    let allowed : AreAllowed (night_given cat c.args.options.page_keys t) = subst (λ ts. AreAllowedBelow cat (bag_at ts) (bag_at c.args.changes.now) (length cat.views.children)) old c.in_default-base_changes.ensures.allowed in
     if_err _ _ c.run-answer.result (λ f h. (h t refl are come allowed).0) c.run-answer.ensures.refused
 
 pub returns-clause-newest : goal.returns-clause-newest
@@ -185,7 +185,7 @@ returns-clause-newest g c =
     let come = comes_first cat list (bag_at newest) (bag_at c.args.changes.now) c.args.options.page_keys k
     (stands_first cat list (bag_at newest) (bag_at c.args.changes.now) c.args.options.page_keys k c.in-Ok-over.ensures.parts.catalogue ok first) in
     let old : c.deref.result.now ≡ newest = c.deref.ensures.value ∙ c.in-Ok.ensures in
-    let allowed : AreAllowed (night_of cat c.args.options.page_keys t) = subst (λ ts. AreAllowedBelow cat (bag_at ts) (bag_at c.args.changes.now) (length cat.views.children)) old c.in_default-base_changes.ensures.allowed in
+    let allowed : AreAllowed (night_given cat c.args.options.page_keys t) = subst (λ ts. AreAllowedBelow cat (bag_at ts) (bag_at c.args.changes.now) (length cat.views.children)) old c.in_default-base_changes.ensures.allowed in
     refused_newest (tonight cat list l c.args.changes.now c.args.options.page_keys) l (g.P.Publish.kept c.run-answer.new.writer) c.run-answer.result
     (if_err _ _ c.run-answer.result (λ f h. (h t refl are come allowed).0) c.run-answer.ensures.refused)
 
@@ -204,9 +204,9 @@ returns-clause-refused g c =
     let come = comes_first cat list (bag_at newest) (bag_at c.args.changes.now) c.args.options.page_keys k
     (stands_first cat list (bag_at newest) (bag_at c.args.changes.now) c.args.options.page_keys k c.in-Ok-over.ensures.parts.catalogue ok first) in
     let old : c.deref.result.now ≡ newest = c.deref.ensures.value ∙ c.in-Ok.ensures in
-    let allowed : AreAllowed (night_of cat c.args.options.page_keys t) = subst (λ ts. AreAllowedBelow cat (bag_at ts) (bag_at c.args.changes.now) (length cat.views.children)) old c.in_default-base_changes.ensures.allowed in
+    let allowed : AreAllowed (night_given cat c.args.options.page_keys t) = subst (λ ts. AreAllowedBelow cat (bag_at ts) (bag_at c.args.changes.now) (length cat.views.children)) old c.in_default-base_changes.ensures.allowed in
     none_refuses (publish_refusal l Opens) _ _ c.in_default.ensures
-    (if_err _ _ c.run-answer.result (λ f h. later_so (night_of cat c.args.options.page_keys t) f allowed (h t refl are come allowed).1) c.run-answer.ensures.refused)
+    (if_err _ _ c.run-answer.result (λ f h. later_so (night_given cat c.args.options.page_keys t) f allowed (h t refl are come allowed).1) c.run-answer.ensures.refused)
 
 pub returns-clause-sound : goal.returns-clause-sound
 returns-clause-sound g c = λ sound.
@@ -223,7 +223,7 @@ returns-clause-sound g c = λ sound.
     let come = comes_first cat list (bag_at newest) (bag_at c.args.changes.now) c.args.options.page_keys k
     (stands_first cat list (bag_at newest) (bag_at c.args.changes.now) c.args.options.page_keys k c.in-Ok-over.ensures.parts.catalogue ok first) in
     let old : c.deref.result.now ≡ newest = c.deref.ensures.value ∙ c.in-Ok.ensures in
-    let allowed : AreAllowed (night_of cat c.args.options.page_keys t) = subst (λ ts. AreAllowedBelow cat (bag_at ts) (bag_at c.args.changes.now) (length cat.views.children)) old c.in_default-base_changes.ensures.allowed in
+    let allowed : AreAllowed (night_given cat c.args.options.page_keys t) = subst (λ ts. AreAllowedBelow cat (bag_at ts) (bag_at c.args.changes.now) (length cat.views.children)) old c.in_default-base_changes.ensures.allowed in
     stays_sound cat list l (g.P.Publish.kept c.run-answer.new.writer) c.args.changes.now c.args.options.page_keys c.in-Ok-over.ensures.parts.catalogue ok c.requires.tables c.requires.changes c.requires.least c.requires.most allowed sound
     c.current.ensures.well_formed c.run-answer.result
     (if_ok_on _ _ c.run-answer.result (λ r h. (h t refl are come).0) c.run-answer.ensures.done)

@@ -4,9 +4,9 @@ use Rattle.std.proofs.lemmas.Option.{slice_get_read}
 use Rattle.wh_night.specs.declared.stages.Stage.{Stage}
 use Rattle.wh_night.specs.Kept.{kept}
 use Rattle.wh_night.proofs.StageLaws.{lists_have_one_stages}
-use Rattle.wh_course.specs.Standing.{place_of}
+use Rattle.wh_course.specs.Standing.{place_behind}
 use Rattle.wh_course.proofs.Waves.{split_at, take_all, take_next}
-use Rattle.wh_run.specs.Underway.{IsAt, night_of}
+use Rattle.wh_run.specs.Inner.Underway.{IsAt, night_given}
 use Rattle.wh_run.proofs.Taken.{can_publish}
 use Rattle.wh_run.proofs.running.through.Goals as goal
 
@@ -16,7 +16,7 @@ loop-stage-init g c = record {
   held = c.requires.held;
   parts = c.requires.parts;
   fit = c.requires.fit;
-  come = λ t are here. subst (λ steps. IsAt (night_of c.args.catalog.now c.args.keys t) t.before 0 (kept c.args.state.now) steps (g.P.Publish.kept c.args.writer.now)) (sym c.new-steps.ensures.items) here;
+  come = λ t are here. subst (λ steps. IsAt (night_given c.args.catalog.now c.args.keys t) t.before 0 (kept c.args.state.now) steps (g.P.Publish.kept c.args.writer.now)) (sym c.new-steps.ensures.items) here;
 }
 
 pub stage_of-requires-clause-stage : goal.stage_of-requires-clause-stage
@@ -50,7 +50,7 @@ loop-stage-preserved g c =
       held = c.in_default.ensures.held;
       parts = c.in_default.ensures.parts;
       fit = c.in_default.ensures.fit;
-      come = λ t are at. subst (λ ts. IsAt (night_of c.args.catalog.now c.args.keys t) t.before (place_of ts) (kept c.stage_of.new.state) c.stage_of.new.steps.items (g.P.Publish.kept c.stage_of.new.writer)) (sym next)
+      come = λ t are at. subst (λ ts. IsAt (night_given c.args.catalog.now c.args.keys t) t.before (place_behind ts) (kept c.stage_of.new.state) c.stage_of.new.steps.items (g.P.Publish.kept c.stage_of.new.writer)) (sym next)
           (c.in_default.ensures.goes t (take i stages) (drop (i + 1) stages) (sym are ∙ split_here stages i x here) (c.loop-stage.invariant.come t are at));
     }
 
@@ -66,5 +66,5 @@ pub returns-clause-goes : goal.returns-clause-goes
 returns-clause-goes g c = λ t are at.
     let stages : List Stage = c.args.stages.now in
     let all : take c.loop-stage.stage-index stages ≡ stages = take_all c.loop-stage.stage-index stages (omega arith) in
-    let whole : place_of (take c.loop-stage.stage-index stages) ≡ length t.list = ap place_of (all ∙ are) ∙ ap length (lists_have_one_stages t.list).0.joined in
-    subst (λ p. IsAt (night_of c.args.catalog.now c.args.keys t) t.before p (kept c.loop-stage.state) c.loop-stage.steps.items (g.P.Publish.kept c.loop-stage.writer)) whole (c.loop-stage.invariant.come t are at)
+    let whole : place_behind (take c.loop-stage.stage-index stages) ≡ length t.list = ap place_behind (all ∙ are) ∙ ap length (lists_have_one_stages t.list).0.joined in
+    subst (λ p. IsAt (night_given c.args.catalog.now c.args.keys t) t.before p (kept c.loop-stage.state) c.loop-stage.steps.items (g.P.Publish.kept c.loop-stage.writer)) whole (c.loop-stage.invariant.come t are at)

@@ -7,7 +7,8 @@ use Rattle.wh_maint.specs.Comp.{PendingOf}
 use Rattle.wh_night.specs.declared.stages.Job.{Job}
 use Rattle.wh_night.specs.Kept.{Kept, kept}
 use Rattle.wh_course.proofs.Waves.{source_among}
-use Rattle.wh_run.specs.Underway.{HasCome, IsAdded, night_of}
+use Rattle.wh_run.specs.Underway.{IsAdded}
+use Rattle.wh_run.specs.Inner.Underway.{HasCome, night_given}
 use Rattle.wh_run.proofs.Comes.{all_computable, job_comes, not_added}
 use Rattle.wh_run.proofs.waves.add_all.Goals as goal
 
@@ -40,7 +41,7 @@ add_one-requires-clause-added g c κs within =
 
 pub returns-in-Err-clause-refused : goal.returns-in-Err-clause-refused
 returns-in-Err-clause-refused g c = λ keys place t wave come all.
-    let n = night_of c.args.catalog.now keys t in
+    let n = night_given c.args.catalog.now keys t in
     let jobs : List Job = c.args.jobs.now in
     let i : ℕ = c.loop-number.number in
     let each = c.requires.added.each in
@@ -72,7 +73,7 @@ loop-number-preserved g c =
       tables = ap (λ (k : Kept). k.tables) c.in_default.ensures.done ∙ c.loop-number.invariant.tables;
       changes = ap (λ (k : Kept). k.changes) c.in_default.ensures.done ∙ c.loop-number.invariant.changes;
       come = λ keys place t wave come.
-          let n = night_of c.args.catalog.now keys t in
+          let n = night_given c.args.catalog.now keys t in
           job_comes n place jobs wave i c.index-jobs-number.result here (kept c.loop-number.state) c.loop-number.steps.items (c.loop-number.invariant.come keys place t wave come)
           (λ u m. ap (λ (f : ℕ → Bool). f u) c.loop-number.invariant.known ∙ c.requires.known u (source_among jobs i c.index-jobs-number.result here u m))
           own.can c.in_default.ensures.fits (kept c.add_one.new.state) c.in_default.ensures.done c.add_one.new.steps.items c.in_default.ensures.reported;
@@ -81,4 +82,4 @@ loop-number-preserved g c =
 pub returns-clause-goes : goal.returns-clause-goes
 returns-clause-goes g c = λ keys place t wave come.
     let e : c.loop-number.number ≡ length c.args.jobs.now = omega arith in
-    subst (λ i. HasCome (night_of c.args.catalog.now keys t) (place + i) (kept c.loop-number.state) c.loop-number.steps.items) e (c.loop-number.invariant.come keys place t wave come)
+    subst (λ i. HasCome (night_given c.args.catalog.now keys t) (place + i) (kept c.loop-number.state) c.loop-number.steps.items) e (c.loop-number.invariant.come keys place t wave come)

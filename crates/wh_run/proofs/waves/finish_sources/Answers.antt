@@ -4,8 +4,9 @@ use Rattle.wh_dag.specs.Shape.{has}
 use Rattle.wh_night.specs.Kept.{Kept, kept}
 use Rattle.wh_night.proofs.Storing.{can_finish_after}
 use Rattle.wh_course.proofs.Sources.{its_job}
-use Rattle.wh_course.specs.Standing.{StandsAt, is_source}
-use Rattle.wh_run.specs.Underway.{night_of}
+use Rattle.wh_course.specs.Standing.{is_source}
+use Rattle.wh_course.specs.Inner.Standing.{StandsAt}
+use Rattle.wh_run.specs.Inner.Underway.{night_given}
 use Rattle.wh_run.proofs.Comes.{sources_refused, sources_stand}
 use Rattle.wh_run.proofs.Outs.{if_err, on_both, on_ok}
 use Rattle.wh_run.proofs.waves.finish_sources.Goals as goal
@@ -35,7 +36,7 @@ pub returns-clause-stands : goal.returns-clause-stands
 returns-clause-stands g c =
     on_both _ _ _ c.finish.result
     (λ done passed keys place t wave stands.
-    let n = night_of c.args.catalog.now keys t in
+    let n = night_given c.args.catalog.now keys t in
     let x = sources_stand n place c.args.jobs.now wave c.as_slice.result.now (λ u. ap (λ vs. has vs u) c.as_slice.ensures.value ∙ c.in-Ok.ensures u) (kept c.args.state.now) stands passed in
     (subst (StandsAt n place) (sym done) x.0, x.1))
     c.finish.ensures.done c.finish.ensures.passed
@@ -44,5 +45,5 @@ pub returns-clause-refused : goal.returns-clause-refused
 returns-clause-refused g c =
     if_err _ _ c.finish.result
     (λ fault refused keys place t wave stands.
-    sources_refused (night_of c.args.catalog.now keys t) place c.args.jobs.now wave c.as_slice.result.now (λ u. ap (λ vs. has vs u) c.as_slice.ensures.value ∙ c.in-Ok.ensures u) (kept c.args.state.now) stands fault refused)
+    sources_refused (night_given c.args.catalog.now keys t) place c.args.jobs.now wave c.as_slice.result.now (λ u. ap (λ vs. has vs u) c.as_slice.ensures.value ∙ c.in-Ok.ensures u) (kept c.args.state.now) stands fault refused)
     c.finish.ensures.refused

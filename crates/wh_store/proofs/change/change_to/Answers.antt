@@ -3,7 +3,7 @@ use mir.Syntax.{w64}
 use Rattle.wh_row.specs.Bag.{sum_of}
 use Rattle.wh_row.specs.Stored.{plain}
 use Rattle.wh_row.proofs.BagLaws.{count-sum_of}
-use Rattle.wh_store.specs.Kept.{AreCounts}
+use Rattle.wh_store.specs.Inner.Kept.{AreCounts}
 use Rattle.wh_store.specs.Pages.{with_counts}
 use Rattle.wh_store.proofs.Sets.{sum-empty}
 use Rattle.wh_store.proofs.change.change_to.Goals as goal

@@ -1,7 +1,7 @@
 use Rattle.std.proofs.Common.{◌≡◌, drop, IsTrue}
 use Rattle.wh_row.specs.Bag.{sum_of}
 use Rattle.wh_row.specs.Stored.{plain}
-use Rattle.wh_store.specs.Kept.{AreCounts}
+use Rattle.wh_store.specs.Inner.Kept.{AreCounts}
 use Rattle.wh_store.specs.Pages.{count_no_less, with_counts}
 use Rattle.wh_store.proofs.change.change_to.Given as goal
 

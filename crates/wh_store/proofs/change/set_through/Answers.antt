@@ -3,7 +3,7 @@ use Rattle.wh_row.specs.declared.fault.BagFault.TheVariants.{Large}
 use mir.Syntax.{w64}
 use Rattle.wh_row.specs.Bag.{count, set_count, sum_of, plus}
 use Rattle.wh_store.proofs.Sets.{fits_less, machine_lack, set_through, set_counts}
-use Rattle.wh_store.specs.Kept.{AreCounts}
+use Rattle.wh_store.specs.Inner.Kept.{AreCounts}
 use Rattle.wh_store.proofs.change.set_through.Goals as goal
 
 pub unreachable-requires : goal.unreachable-requires

@@ -1,7 +1,8 @@
 use Rattle.std.proofs.Common.{◌≡◌, ◌≤◌, ◌*◌, ◌^◌, take}
 use Rattle.std.specs.List.{sum_by}
 use Rattle.wh_strategy.specs.Sizes.{sizes_of}
-use Rattle.wh_strategy.specs.Work.{state, read_of}
+use Rattle.wh_strategy.specs.Work.{state}
+use Rattle.wh_strategy.specs.Inner.Work.{read_of}
 use Rattle.wh_strategy.proofs.terms.term_rows.Given as goal
 
 abbrev pub invariant-loop-child : goal.invariant-loop-child

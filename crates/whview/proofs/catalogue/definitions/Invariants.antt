@@ -1,7 +1,7 @@
 use Rattle.std.proofs.Common.{◌≡◌, ◌++◌, drop, map}
 use Rattle.wh_dag.specs.CatalogParts.{given_definitions}
 use Rattle.wh_catalogue_text.specs.Definitions.{shown_view}
-use Rattle.whview.specs.StoredClosures.{AreSound}
+use Rattle.whview.specs.Inner.StoredClosures.{AreSound}
 use Rattle.whview.proofs.catalogue.definitions.Given as goal
 
 abbrev pub invariant-loop-view : goal.invariant-loop-view

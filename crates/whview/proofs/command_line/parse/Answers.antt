@@ -1,6 +1,7 @@
 use Rattle.std.proofs.Common.{◌≡◌, ◌∙◌, ap, map, subst, sym, true, List, []}
 use Rattle.clap.specs.Words.{App, HasKind, Text, fault_of, is_simple, is_simple_and_free, subcommand_of, takes}
-use Rattle.whview.specs.CommandLine.{NamesCommand, whview_app}
+use Rattle.whview.specs.CommandLine.{whview_app}
+use Rattle.whview.specs.Inner.CommandLine.{NamesCommand}
 use Rattle.whview.proofs.Commands.{faultless_names}
 use Rattle.whview.proofs.Faults.{fails_as, memory_fault}
 use Rattle.whview.proofs.command_line.parse.Goals as goal

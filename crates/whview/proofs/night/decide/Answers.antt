@@ -3,7 +3,8 @@ use Rattle.wh_dag.specs.Shape.{Views}
 use Rattle.wh_load.specs.ReadingShown.{shown_given, shown_opening}
 use Rattle.wh_maint.specs.Comp.{bag_at}
 use Rattle.wh_strategy.specs.Rules.{IsCorrect}
-use Rattle.whview.specs.NightOutput.{IsDecided, IsWhole}
+use Rattle.whview.specs.NightOutput.{IsDecided}
+use Rattle.whview.specs.Inner.NightOutput.{IsWhole}
 use Rattle.whview.proofs.IfOks.{if_ok}
 use Rattle.whview.proofs.NightDecided.{decided_no_contents, opened_fit, refused_from, shown_carried}
 use Rattle.whview.proofs.night.decide.Goals as goal

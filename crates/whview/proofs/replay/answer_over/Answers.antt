@@ -2,7 +2,7 @@ use Rattle.std.proofs.Common.{◌∙◌, ap, map, subst}
 use Rattle.wh_core.specs.Standing.{nights_of}
 use Rattle.wh_dag.specs.Shape.{Views}
 use Rattle.wh_load.specs.ReadingShown.{shown_given, shown_opening}
-use Rattle.whview.specs.FitReplay.{AreJudgedRightly, IsNightsFault}
+use Rattle.whview.specs.Inner.FitReplay.{AreJudgedRightly, IsNightsFault}
 use Rattle.whview.specs.NightOutput.{refused_text}
 use Rattle.whview.specs.ReplayOutput.{AreCorrect}
 use Rattle.whview.specs.ReplyText.{replies_text}

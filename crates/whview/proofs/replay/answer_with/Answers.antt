@@ -4,7 +4,7 @@ use Rattle.wh_catalogue_text.specs.ReadCatalog.{catalog_of}
 use Rattle.wh_dag.specs.Shape.{Views}
 use Rattle.wh_dag.specs.Catalog.{CatalogOf}
 use Rattle.wh_load.specs.ReadingShown.{shown_given, shown_opening}
-use Rattle.whview.specs.FitReplay.{AreChangesOf}
+use Rattle.whview.specs.Inner.FitReplay.{AreChangesOf}
 use Rattle.whview.specs.ReplayOutput.{IsReplayTold}
 use Rattle.whview.specs.Status.{status_number}
 use Rattle.whview.proofs.IfOks.{if_ok}

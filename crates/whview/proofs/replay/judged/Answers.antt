@@ -1,7 +1,7 @@
 use Rattle.std.proofs.Common.{◌≡◌, ◌∷◌, ◌++◌, [], ◌∙◌, append_assoc, map, subst, sym}
 use Rattle.std.specs.Vec.Iter.{into_iter_items}
 use Rattle.wh_load.specs.ReadingShown.{shown_given}
-use Rattle.whview.specs.FitReplay.{IsNightsFault}
+use Rattle.whview.specs.Inner.FitReplay.{IsNightsFault}
 use Rattle.whview.proofs.ReplayDecided.{AreJudgedSoFar, judged_more, nights_fault}
 use Rattle.whview.proofs.replay.judged.Goals as goal
 

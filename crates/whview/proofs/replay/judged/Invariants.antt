@@ -2,7 +2,7 @@ use Rattle.std.proofs.Common.{◌≡◌, ◌++◌, map}
 use Rattle.std.specs.Vec.Iter.{into_iter_items}
 use Rattle.wh_core.specs.Standing.{nights_of}
 use Rattle.wh_load.specs.ReadingShown.{shown_given}
-use Rattle.whview.specs.FitReplay.{AreJudgedRightly}
+use Rattle.whview.specs.Inner.FitReplay.{AreJudgedRightly}
 use Rattle.whview.specs.ReplayOutput.{AreCorrect, night_of_machine}
 use Rattle.whview.proofs.replay.judged.Given as goal
 

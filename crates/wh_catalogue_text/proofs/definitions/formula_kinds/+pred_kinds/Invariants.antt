@@ -1,7 +1,7 @@
 use Rattle.std.proofs.Common.{◌≡◌, ◌≤◌, ◌+◌, ◌*◌, [], drop, map, All}
 use Rattle.toml.specs.View.{view}
 use Rattle.wh_formula.specs.Pred.{depth}
-use Rattle.wh_text.specs.Dict.{Grows}
+use Rattle.wh_text.specs.Inner.Dict.{Grows}
 use Rattle.wh_catalogue_text.specs.FormulaKinds.{typed_parts, typed_pred}
 use Rattle.wh_catalogue_text.proofs.definitions.formula_kinds.+pred_kinds.Given as goal
 

@@ -1,5 +1,6 @@
 use Rattle.std.proofs.Common.{ap, sym, drop, map, ◌+◌, ◌∙◌}
-use Rattle.wh_catalogue_text.specs.Join.{joined, seen_link}
+use Rattle.wh_catalogue_text.specs.Join.{joined}
+use Rattle.wh_catalogue_text.specs.Inner.Join.{seen_link}
 use Rattle.wh_catalogue_text.proofs.JoinSteps.{joined-more}
 use Rattle.wh_catalogue_text.proofs.definitions.join.joined.Goals as goal
 

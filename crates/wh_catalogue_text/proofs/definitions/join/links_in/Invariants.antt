@@ -1,6 +1,7 @@
 use Rattle.std.proofs.Common.{◌≡◌, [], drop, map}
 use Rattle.toml.specs.View.{view}
-use Rattle.wh_catalogue_text.specs.Join.{links_in, seen_link}
+use Rattle.wh_catalogue_text.specs.Join.{links_in}
+use Rattle.wh_catalogue_text.specs.Inner.Join.{seen_link}
 use Rattle.wh_catalogue_text.proofs.definitions.join.links_in.Given as goal
 
 abbrev pub invariant-loop-value : goal.invariant-loop-value

@@ -1,5 +1,6 @@
 use Rattle.std.proofs.Common.{◌≡◌, drop, map}
-use Rattle.wh_catalogue_text.specs.Join.{seen_link, unknown_in_links}
+use Rattle.wh_catalogue_text.specs.Join.{unknown_in_links}
+use Rattle.wh_catalogue_text.specs.Inner.Join.{seen_link}
 use Rattle.wh_catalogue_text.proofs.definitions.join.unknown_in_links.Given as goal
 
 abbrev pub invariant-loop-link : goal.invariant-loop-link

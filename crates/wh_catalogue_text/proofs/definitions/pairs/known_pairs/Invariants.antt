@@ -1,5 +1,6 @@
 use Rattle.std.proofs.Common.{◌≡◌, drop, map}
-use Rattle.wh_catalogue_text.specs.Pairs.{known_pairs, seen_pair}
+use Rattle.wh_catalogue_text.specs.Pairs.{known_pairs}
+use Rattle.wh_catalogue_text.specs.Inner.Pairs.{seen_pair}
 use Rattle.wh_catalogue_text.proofs.definitions.pairs.known_pairs.Given as goal
 
 abbrev pub invariant-loop-pair : goal.invariant-loop-pair

@@ -1,5 +1,6 @@
 use Rattle.std.proofs.Common.{◌≡◌, [], drop, map}
-use Rattle.wh_catalogue_text.specs.Pairs.{group_columns, grouped, seen_pair}
+use Rattle.wh_catalogue_text.specs.Pairs.{group_columns, grouped}
+use Rattle.wh_catalogue_text.specs.Inner.Pairs.{seen_pair}
 use Rattle.wh_catalogue_text.proofs.definitions.typed_pairs.grouped.Given as goal
 
 abbrev pub invariant-loop-pair : goal.invariant-loop-pair

@@ -1,6 +1,7 @@
 use Rattle.std.proofs.Common.{◌≡◌, [], drop, map}
-use Rattle.wh_text.specs.Dict.{Grows}
-use Rattle.wh_catalogue_text.specs.Pairs.{seen_pair, typed_columns, typed_pairs}
+use Rattle.wh_text.specs.Inner.Dict.{Grows}
+use Rattle.wh_catalogue_text.specs.Pairs.{typed_columns, typed_pairs}
+use Rattle.wh_catalogue_text.specs.Inner.Pairs.{seen_pair}
 use Rattle.wh_catalogue_text.proofs.definitions.typed_pairs.typed_pairs.Given as goal
 
 abbrev pub invariant-loop-pair : goal.invariant-loop-pair

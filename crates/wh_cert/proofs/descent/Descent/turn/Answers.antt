@@ -1,6 +1,6 @@
 use Rattle.std.proofs.Common.{◌≡◌, [], sym, ap, ◌∙◌, drop, arith}
 use Rattle.std.proofs.lemmas.List.{drop_all}
-use Rattle.wh_cert.specs.Descent.{turned}
+use Rattle.wh_cert.specs.Inner.Descent.{turned}
 use Rattle.wh_cert.proofs.descent.Descent.turn.Goals as goal
 
 pub returns : goal.returns

@@ -1,5 +1,5 @@
 use Rattle.std.proofs.Common.{◌≡◌, ◌≤◌, ◌-◌, drop, length}
-use Rattle.wh_cert.specs.Descent.{turned}
+use Rattle.wh_cert.specs.Inner.Descent.{turned}
 use Rattle.wh_cert.proofs.descent.Descent.turn.Given as goal
 
 abbrev pub invariant-loop-self : goal.invariant-loop-self

@@ -8,7 +8,7 @@ use Rattle.wh_core.specs.declared.reply.Reply.TheVariants as reply
 use Rattle.wh_core.specs.Log.{Paged_in, draws, ends, pages}
 use Rattle.wh_core.specs.Nights.{night, page_in_turn, published}
 use Rattle.wh_core.specs.Replies.{IsReply, more}
-use Rattle.wh_core.specs.Standing.{GoesOn, Stands}
+use Rattle.wh_core.specs.Standing.{AreLeft, Stands}
 use Rattle.wh_core.proofs.Underway.{night-paged}
 use Rattle.wh_core.proofs.Steps.{drop_one, page_over}
 use Rattle.wh_core.proofs.Moves.{goes_here, no_memory_to_page, no_night_to_page, no_page, page_done, page_in_turn_there, page_stopped, page_there}
@@ -82,8 +82,8 @@ returns c = λ s log h.
         sessions = h.sessions;
         workers = h.workers;
         holders = h.holders;
-        night = λ o. subst (λ n. GoesOn n (draws log) (ends log) (pages log + 1) (drop (m.place + 1) m.course.parts.items) m.course.stop 0 0) (sym (night-paged s log))
-            (subst (λ parts. GoesOn (night s log) (draws log) (ends log) (pages log + 1) parts m.course.stop 0 0) (drop_one m.place m.course.parts.items)
+        night = λ o. subst (λ n. AreLeft n (draws log) (ends log) (pages log + 1) (drop (m.place + 1) m.course.parts.items) m.course.stop 0 0) (sym (night-paged s log))
+            (subst (λ parts. AreLeft (night s log) (draws log) (ends log) (pages log + 1) parts m.course.stop 0 0) (drop_one m.place m.course.parts.items)
             (page_over (night s log) (draws log) (ends log) (pages log) (drop m.place m.course.parts.items) m.course.stop m.drawn m.ended (goes_here s log m h active) op first on));
       }),
       r,

@@ -6,7 +6,7 @@ use Rattle.wh_core.specs.declared.reply.Reply.TheVariants as reply
 use Rattle.wh_core.specs.Log.{Began}
 use Rattle.wh_core.specs.Nights.{published}
 use Rattle.wh_core.specs.Replies.{IsReply, more}
-use Rattle.wh_core.specs.Standing.{GoesOn}
+use Rattle.wh_core.specs.Standing.{AreLeft}
 use Rattle.wh_core.proofs.Underway.{night-began}
 use Rattle.wh_core.proofs.Moves.{begins_so, goes_from_first, no_memory_to_begin, stopped_at_first}
 use Rattle.wh_core.proofs.machine.Machine.start.Goals as goal
@@ -49,7 +49,7 @@ returns c = λ s log h closed left few allowed are.
         sessions = h.sessions;
         workers = c.free_all.ensures.len ∙ h.workers;
         holders = λ w lt. c.free_all.ensures.free w (let f = h.workers in omega (arith, f, lt));
-        night = λ o. subst (λ n. GoesOn n 0 0 0 c.args.course.parts.items c.args.course.stop 0 0) (sym (night-began s log))
+        night = λ o. subst (λ n. AreLeft n 0 0 0 c.args.course.parts.items c.args.course.stop 0 0) (sym (night-began s log))
             (goes_from_first s log closed left few allowed c.args.course.parts.items c.args.course.stop are c.in_default.ensures);
       },
       r,

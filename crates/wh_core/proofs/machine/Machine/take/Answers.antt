@@ -7,7 +7,7 @@ use Rattle.wh_core.specs.declared.reply.Reply.TheVariants as reply
 use Rattle.wh_core.specs.Log.{Drew, draws, ends, holding, is_open, pages}
 use Rattle.wh_core.specs.Nights.{Setup, night, published, turn}
 use Rattle.wh_core.specs.Replies.{IsReply, IsRuled, Says, more, take_ruling, unless}
-use Rattle.wh_core.specs.Standing.{GoesOn, Stands}
+use Rattle.wh_core.specs.Standing.{AreLeft, Stands}
 use Rattle.wh_core.proofs.Steps.{drew, le_false, le_true, onward, refuse, wave_here, wave_turn_here}
 use Rattle.wh_core.proofs.Moves.{goes_here, held_here, no_night_to_take, no_wave, slot_set, take_here}
 use Rattle.wh_core.proofs.machine.Machine.take.Goals as goal

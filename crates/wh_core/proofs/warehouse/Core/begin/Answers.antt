@@ -12,7 +12,7 @@ use Rattle.wh_maint.specs.Finishing.{kind_in}
 use Rattle.wh_maint.specs.Fit.{IsFitTable}
 use Rattle.wh_store.specs.Versions.{number}
 use Rattle.wh_store.specs.declared.fault.StoreFault.TheVariants as store
-use Rattle.wh_course.specs.Night.{Night}
+use Rattle.wh_course.specs.Night.{Night, AreAllowed}
 use Rattle.wh_course.specs.Legs.{legs_of}
 use Rattle.wh_course.specs.Course.{AreParts}
 use Rattle.wh_core.specs.Log.{is_open, nights_begun}
@@ -21,7 +21,7 @@ use Rattle.wh_night.specs.Refused.{IsBaseFault}
 use Rattle.wh_maint.specs.declared.fault.MaintFault.TheVariants as fault
 use Rattle.wh_core.specs.declared.event.Event.TheVariants as event
 use Rattle.wh_core.specs.declared.reply.Reply.TheVariants as reply
-use Rattle.wh_core.specs.Replies.{AreAllowed, IsReply}
+use Rattle.wh_core.specs.Replies.{IsReply}
 use Rattle.wh_core.specs.Standing.{given_of}
 use Rattle.wh_core.proofs.Moves.{not_equal, number_here, open_here}
 use Rattle.wh_core.proofs.Seats.{map_length}

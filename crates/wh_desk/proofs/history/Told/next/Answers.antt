@@ -1,6 +1,7 @@
 use Rattle.std.proofs.Common.{◌≡◌, [], ◌∷◌, ◌++◌, sym, ◌∙◌, ap, subst, arith, length, length-append, ◌+◌}
 use Rattle.wh_desk.specs.declared.history.Chapter.TheVariants.{Done}
-use Rattle.wh_desk.specs.Known.{Known, IsLog}
+use Rattle.wh_desk.specs.Known.{Known}
+use Rattle.wh_desk.specs.Inner.Known.{IsLog}
 use Rattle.wh_desk.proofs.Adding.{adds_moves}
 use Rattle.wh_desk.proofs.Stories.{log_of_story, told_next}
 use Rattle.wh_desk.proofs.history.Told.next.Goals as goal

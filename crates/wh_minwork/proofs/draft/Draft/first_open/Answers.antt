@@ -1,6 +1,6 @@
 use Rattle.std.proofs.Common.{◌-◌, ◌≤◌, length, drop, take, arith}
 use Rattle.wh_minwork.specs.Draft.{completed}
-use Rattle.wh_minwork.specs.Nodes.{is_node, leads}
+use Rattle.wh_minwork.specs.Inner.Nodes.{is_node, leads}
 use Rattle.wh_minwork.specs.declared.node.Node.TheVariants.{Comp}
 use Rattle.wh_minwork.proofs.OpenAlong.{first_node, last_is, later_is, next_is, next_pass, pass_end, pass_next, round_from, round_whole, told_more}
 use Rattle.wh_minwork.proofs.draft.Draft.first_open.Goals as goal

@@ -1,8 +1,8 @@
 use Rattle.std.proofs.Common.{drop}
 use Rattle.wh_minwork.specs.Draft.{completed}
 use Rattle.wh_dag.specs.declared.siblings.Couple.{Couple}
-use Rattle.wh_minwork.specs.Left.{Passes, PassesTo}
-use Rattle.wh_minwork.specs.Nodes.{is_node, leads}
+use Rattle.wh_minwork.specs.Inner.Left.{Passes, PassesTo}
+use Rattle.wh_minwork.specs.Inner.Nodes.{is_node, leads}
 use Rattle.wh_minwork.proofs.draft.Draft.first_open.Given as goal
 
 abbrev pub invariant-loop-next : goal.invariant-loop-next

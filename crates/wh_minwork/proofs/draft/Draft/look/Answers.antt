@@ -1,7 +1,7 @@
 use Rattle.std.proofs.Common.{◌≡◌, ◌<◌, length, map, ap, ◌∙◌, subst}
 use Rattle.wh_dag.proofs.SiblingLists.{on_err}
 use Rattle.wh_minwork.specs.Draft.{completed}
-use Rattle.wh_minwork.specs.Nodes.{expression_of}
+use Rattle.wh_minwork.specs.Inner.Nodes.{expression_of}
 use Rattle.wh_minwork.proofs.Looking.{node_by_view, over_within, placed_by_view, placed_left, placed_sorted, round_of}
 use Rattle.wh_minwork.proofs.OpenAlong.{round_to_first}
 use Rattle.wh_minwork.proofs.Rounds.{round_is_cycle}

@@ -1,6 +1,6 @@
 use Rattle.std.proofs.Common.{sym, subst}
 use Rattle.wh_dag.specs.Shape.{IsShape}
-use Rattle.wh_minwork.specs.Left.{AreEdges}
+use Rattle.wh_minwork.specs.Inner.Left.{AreEdges}
 use Rattle.wh_cert.specs.Graph.{DecidesAll}
 use Rattle.wh_minwork.proofs.Looking.{sets_start}
 use Rattle.wh_minwork.proofs.draft.Draft.new.Goals as goal

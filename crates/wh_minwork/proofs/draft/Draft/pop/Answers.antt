@@ -1,6 +1,7 @@
 use Rattle.std.proofs.Common.{◌≡◌, ◌-◌, ◌||◌, ◌&&◌, ◌++◌, ◌∷◌, [], not, eqb, length, take, sym, ap, ◌∙◌, subst}
 use Rattle.wh_minwork.specs.Decided.{AreDecisions}
-use Rattle.wh_minwork.specs.Draft.{Drafted, AreDraftSets}
+use Rattle.wh_minwork.specs.Draft.{Drafted}
+use Rattle.wh_minwork.specs.Inner.Draft.{AreDraftSets}
 use Rattle.wh_minwork.proofs.Drafting.{sets_turned, sets_kept}
 use Rattle.wh_minwork.proofs.draft.Draft.pop.Goals as goal
 

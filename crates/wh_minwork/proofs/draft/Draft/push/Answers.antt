@@ -2,7 +2,7 @@ use Rattle.std.proofs.Common.{◌≡◌, ◌||◌, ◌&&◌, false, eqb, sym, ap
 use Rattle.wh_dag.specs.Siblings.{IsCouple}
 use Rattle.wh_cert.specs.Graph.{decides}
 use Rattle.wh_minwork.specs.Draft.{Drafted}
-use Rattle.wh_minwork.specs.Sets.{in_rows}
+use Rattle.wh_minwork.specs.Inner.Sets.{in_rows}
 use Rattle.wh_minwork.proofs.Drafting.{couple_small, couples_push, completed_push, settled_push}
 use Rattle.wh_minwork.proofs.draft.Draft.push.Goals as goal
 

@@ -1,7 +1,7 @@
 use Rattle.std.proofs.Common.{◌≡◌, ◌<◌, ◌≤◌, ℕ, List, false, length, ⊎_elim, arith, rules}
 use Rattle.std.proofs.lemmas.Bool.{cases_lt}
-use Rattle.wh_minwork.specs.Left.{is_left}
-use Rattle.wh_minwork.specs.Sets.{in_set, in_rows}
+use Rattle.wh_minwork.specs.Inner.Left.{is_left}
+use Rattle.wh_minwork.specs.Inner.Sets.{in_set, in_rows}
 use Rattle.wh_minwork.specs.declared.node.Node.{Node}
 use Rattle.wh_minwork.specs.declared.node.Node.TheVariants.{Comp, Inst}
 use Rattle.wh_minwork.proofs.Bits.{in_past}

@@ -1,5 +1,5 @@
 use Rattle.std.proofs.Common.{◌≡◌, ◌<◌, ℕ, false}
-use Rattle.wh_minwork.specs.Sets.{in_rows}
+use Rattle.wh_minwork.specs.Inner.Sets.{in_rows}
 use Rattle.wh_minwork.proofs.edge_sets.Rest.smallest.Given as goal
 
 abbrev pub invariant-loop-v : goal.invariant-loop-v

@@ -1,7 +1,7 @@
 use Rattle.std.proofs.Common.{◌≡◌, ◌<◌, sym, ap, ◌∙◌, subst, length, map, arith, rules}
 use Rattle.std.proofs.lemmas.List.{nil_from_length}
 use Rattle.wh_dag.proofs.SiblingLists.{on_err}
-use Rattle.wh_minwork.specs.Nodes.{expression_of, AreCounts}
+use Rattle.wh_minwork.specs.Inner.Nodes.{expression_of, AreCounts}
 use Rattle.wh_minwork.specs.Sorted.{IsSorted}
 use Rattle.wh_minwork.proofs.Placing.{IsPart, part_start, part_more, part_done, part_stuck}
 use Rattle.wh_minwork.proofs.Sorting.{sorted_has_no_cycle}

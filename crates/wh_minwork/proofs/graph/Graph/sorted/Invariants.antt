@@ -1,5 +1,5 @@
 use Rattle.std.proofs.Common.{length}
-use Rattle.wh_minwork.specs.Nodes.{AreCounts}
+use Rattle.wh_minwork.specs.Inner.Nodes.{AreCounts}
 use Rattle.wh_minwork.proofs.Placing.{IsPart}
 use Rattle.wh_minwork.proofs.graph.Graph.sorted.Given as goal
 

@@ -1,4 +1,4 @@
-use Rattle.wh_minwork.specs.Left.{AreHints}
+use Rattle.wh_minwork.specs.Inner.Left.{AreHints}
 use Rattle.wh_minwork.proofs.ready.Hints.ready_inst.Given as goal
 
 abbrev pub invariant-loop-w : goal.invariant-loop-w

@@ -6,8 +6,10 @@ use Rattle.wh_maint.specs.Definition.{view_of}
 use Rattle.wh_maint.specs.Size.{operand_rows_of}
 use Rattle.wh_maint.specs.Comp.{PendingOf, comp_columns}
 use Rattle.wh_maint.specs.Refused.{IsMergeFault, MergedFit}
-use Rattle.wh_night.specs.Refused.{CanBeComputed, IsAddFaultIn}
-use Rattle.wh_night.specs.Kept.{Kept, kept, finished, computed}
+use Rattle.wh_night.specs.Refused.{CanBeComputed}
+use Rattle.wh_night.specs.Inner.Refused.{IsAddFaultIn}
+use Rattle.wh_night.specs.Kept.{Kept, kept, finished}
+use Rattle.wh_night.specs.Inner.Kept.{computed}
 use Rattle.wh_night.proofs.Storing.{sources_known, added_computes, can_finish_computed, merge_refused}
 use Rattle.wh_night.proofs.state.NightState.carry_comp.Given.{Over}
 use Rattle.wh_night.proofs.state.NightState.carry_comp.Goals.{In-Ok-add}

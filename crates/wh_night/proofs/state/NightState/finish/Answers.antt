@@ -1,7 +1,7 @@
 use Rattle.std.proofs.Common.{◌≡◌, sym, ap, subst, ◌∙◌, true, false, eqb, length, arith}
 use Rattle.std.proofs.lemmas.Bool.{both_ways}
 use Rattle.wh_dag.specs.Shape.{has}
-use Rattle.wh_night.specs.Kept.{KeptLists, kept, AreParts, CanFinish}
+use Rattle.wh_night.specs.Kept.{KeptLists, kept, HaveParts, CanFinish}
 use Rattle.wh_night.proofs.Storing.{below, none_below, next_below, skip_below, all_below, unfinished_first, finishes_first, finishes_next, can_finish_after}
 use Rattle.wh_night.proofs.state.NightState.finish.Goals.{then-has_view+in_default, else-has_view}
 use Rattle.wh_night.proofs.state.NightState.finish.Goals as goal
@@ -28,7 +28,7 @@ loop-view-preserved g c =
       | then-has_view+in_default w ↦
           let m : has c.args.views.now v ≡ true = sym c.has_view.ensures ∙ w.if-has_view.true in
           record {
-            parts = subst (AreParts cat) (sym w.self-is) w.in_default.ensures.parts;
+            parts = subst (HaveParts cat) (sym w.self-is) w.in_default.ensures.parts;
             fit = subst (λ s. CanFinish cat (kept s)) (sym w.self-is) (can_finish_after cat (kept c.loop-view.self) (kept w.finish_one.new.self) (λ u. eqb v u) c.loop-view.invariant.fit w.in_default.ensures.done);
             passed = finishes_next cat (kept c.args.self.now) c.args.views.now v c.loop-view.invariant.passed
                 (λ _. finishes_first cat (kept c.args.self.now) (kept c.loop-view.self) c.args.views.now v c.loop-view.invariant.done w.in_default.ensures.passed);
@@ -37,7 +37,7 @@ loop-view-preserved g c =
       | else-has_view w ↦
           let out : has c.args.views.now v ≡ false = sym c.has_view.ensures ∙ w.if-has_view.false in
           record {
-            parts = subst (AreParts cat) (sym w.self-is) c.loop-view.invariant.parts;
+            parts = subst (HaveParts cat) (sym w.self-is) c.loop-view.invariant.parts;
             fit = subst (λ s. CanFinish cat (kept s)) (sym w.self-is) c.loop-view.invariant.fit;
             passed = finishes_next cat (kept c.args.self.now) c.args.views.now v c.loop-view.invariant.passed (λ m. absurd (both_ways (has c.args.views.now v) out m));
             done = ap kept w.self-is ∙ skip_below cat (kept c.args.self.now) (kept c.loop-view.self) c.args.views.now v out c.loop-view.invariant.done;

@@ -58,7 +58,7 @@ returns-clause-parts c =
     let s : KeptLists = c.args.self.now in
     let inside = c.self.inside in
     let next : KeptLists = record { tables = set inside.tables.items v c.merge.new.self; pendings = inside.pendings.items; changes = inside.changes.items; known = inside.known.items } in
-    let P : Result (Unit {0}) MaintFault → Type 0 = λ r. OnOk r ((cat : CatalogOf) → Rattle.wh_night.specs.Kept.AreParts cat s → Rattle.wh_night.specs.Kept.AreParts cat next) in
+    let P : Result (Unit {0}) MaintFault → Type 0 = λ r. OnOk r ((cat : CatalogOf) → Rattle.wh_night.specs.Kept.HaveParts cat s → Rattle.wh_night.specs.Kept.HaveParts cat next) in
     elim c.match-merge.branch [
       | in-Ok w ↦ subst P (sym w.result-is) (λ cat p.
           let l = c.requires.change in

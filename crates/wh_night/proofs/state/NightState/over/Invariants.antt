@@ -2,7 +2,7 @@ use Rattle.std.proofs.Common.{◌≡◌, ℕ, ◌<◌, cond, take}
 use Rattle.wh_dag.specs.Catalog.{is_base}
 use Rattle.wh_row.specs.Bag.{empty}
 use Rattle.wh_maint.specs.Comp.{bag_at}
-use Rattle.wh_night.specs.Kept.{AreFirstParts}
+use Rattle.wh_night.specs.Inner.Kept.{AreFirstParts}
 use Rattle.wh_night.proofs.state.NightState.over.Given as goal
 
 abbrev pub invariant-loop-view : goal.invariant-loop-view

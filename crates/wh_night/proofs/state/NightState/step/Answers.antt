@@ -1,9 +1,10 @@
 use Rattle.std.proofs.Common.{◌≡◌, sym, subst, OnOk, IfOk}
 use Rattle.wh_dag.specs.Shape.{has, children_of}
 use Rattle.wh_maint.specs.Size.{operand_rows_of}
-use Rattle.wh_night.specs.Kept.{kept, finished, computed, stepped, rows_in}
+use Rattle.wh_night.specs.Kept.{kept, finished}
+use Rattle.wh_night.specs.Inner.Kept.{computed, stepped, rows_in}
 use Rattle.wh_strategy.specs.declared.expression.Expression.TheVariants.{Comp}
-use Rattle.wh_night.specs.Refused.{IsPassedIn}
+use Rattle.wh_night.specs.Inner.Refused.{IsPassedIn}
 use Rattle.wh_night.proofs.state.NightState.step.Goals as goal
 
 pub returns-in-Comp-clause-done : goal.returns-in-Comp-clause-done

@@ -1,6 +1,7 @@
 use Rattle.std.proofs.Common.{◌≡◌, ◌<◌, ◌≤◌, ◌+◌, ◌-◌, ◌++◌, List, length, drop, ap, subst, sym, ◌∙◌, arith}
 use Rattle.wh_pieces.specs.Row.{Row}
-use Rattle.wh_pieces.specs.Pieces.{all_of, AreNotEmpty, BeginsAt}
+use Rattle.wh_pieces.specs.Pieces.{all_of}
+use Rattle.wh_pieces.specs.Inner.Pieces.{AreNotEmpty, BeginsAt}
 use Rattle.wh_pieces.proofs.EntryLaws.{run_within, whole_passed}
 use Rattle.wh_pieces.proofs.entries.Entries.run.Goals as goal
 

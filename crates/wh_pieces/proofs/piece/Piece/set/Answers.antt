@@ -1,6 +1,6 @@
 use Rattle.std.proofs.Common.{◌*◌, length, ap, sym, ◌∙◌, arith}
 use Rattle.std.proofs.lemmas.List.{length-set}
-use Rattle.wh_pieces.specs.Place.{set_at}
+use Rattle.wh_pieces.specs.Inner.Place.{set_at}
 use Rattle.wh_pieces.proofs.FlatLaws.{length-flat, set-flat}
 use Rattle.wh_pieces.proofs.piece.Piece.set.Goals as goal
 

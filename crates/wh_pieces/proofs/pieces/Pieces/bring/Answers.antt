@@ -1,6 +1,6 @@
 use Rattle.std.proofs.Common.{rules, List, ◌∷◌, ◌++◌, ap, subst, ◌∙◌}
 use Rattle.wh_pieces.specs.Row.{Row}
-use Rattle.wh_pieces.specs.Merged.{without}
+use Rattle.wh_pieces.specs.Inner.Merged.{without}
 use Rattle.wh_pieces.specs.Place.{AreRisingRows}
 use Rattle.wh_pieces.specs.Pieces.{found}
 use Rattle.wh_pieces.proofs.MergeLaws.{above_front}

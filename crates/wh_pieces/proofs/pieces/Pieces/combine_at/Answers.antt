@@ -1,7 +1,9 @@
 use Rattle.std.proofs.Common.{◌≡◌, List, set, ap, subst, sym, ◌∙◌, slice_get, Some, None}
 use Rattle.wh_pieces.specs.Row.{Row}
-use Rattle.wh_pieces.specs.Place.{AreRisingRows, IsAt, IsGapFor, set_at}
-use Rattle.wh_pieces.specs.Pieces.{found, with_entry, without_entry, all_of, AreCounted, piece_at}
+use Rattle.wh_pieces.specs.Place.{AreRisingRows}
+use Rattle.wh_pieces.specs.Inner.Place.{IsAt, IsGapFor, set_at}
+use Rattle.wh_pieces.specs.Pieces.{found, with_entry, without_entry, all_of}
+use Rattle.wh_pieces.specs.Inner.Pieces.{AreCounted, piece_at}
 use Rattle.wh_pieces.proofs.PieceLaws.{piece_read, rising-nth, found_there, found_nowhere, with_there, without_there, counted_there, counted_less}
 use Rattle.wh_pieces.proofs.BringLaws.{found-with, found-without, gone_without}
 use Rattle.wh_pieces.proofs.pieces.Pieces.combine_at.Goals as goal

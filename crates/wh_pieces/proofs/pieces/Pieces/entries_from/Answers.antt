@@ -1,7 +1,8 @@
 use Rattle.std.proofs.Common.{◌≡◌, List, drop, ap, subst, sym, ◌∙◌}
 use Rattle.std.proofs.lemmas.List.{take_rest}
 use Rattle.wh_pieces.specs.Row.{Row}
-use Rattle.wh_pieces.specs.Place.{AreRisingRows, IsAt, IsGapFor}
+use Rattle.wh_pieces.specs.Place.{AreRisingRows}
+use Rattle.wh_pieces.specs.Inner.Place.{IsAt, IsGapFor}
 use Rattle.wh_pieces.specs.Pieces.{all_of, from}
 use Rattle.wh_pieces.proofs.PieceLaws.{piece_read, rising-nth}
 use Rattle.wh_pieces.proofs.EntryLaws.{from_gap, from_at}

@@ -1,6 +1,7 @@
 use Rattle.std.proofs.Common.{List, ap, subst, sym, ◌∙◌, slice_get}
 use Rattle.wh_pieces.specs.Row.{Row}
-use Rattle.wh_pieces.specs.Place.{AreRisingRows, IsAt, IsGapFor}
+use Rattle.wh_pieces.specs.Place.{AreRisingRows}
+use Rattle.wh_pieces.specs.Inner.Place.{IsAt, IsGapFor}
 use Rattle.wh_pieces.specs.Pieces.{found}
 use Rattle.wh_pieces.proofs.PieceLaws.{piece_read, rising-nth, found_there, found_nowhere}
 use Rattle.wh_pieces.proofs.pieces.Pieces.get.Goals as goal

@@ -1,7 +1,9 @@
 use Rattle.std.proofs.Common.{◌≡◌, ◌<◌, ◌+◌, ◌^◌, List, set, ap, subst, sym, ◌∙◌, arith, slice_get, Option, Some, None}
 use Rattle.wh_pieces.specs.Row.{Row}
-use Rattle.wh_pieces.specs.Place.{AreRisingRows, IsAbove, IsAt, IsGapFor, set_at}
-use Rattle.wh_pieces.specs.Pieces.{found, with_entry, all_of, AreCounted, piece_at}
+use Rattle.wh_pieces.specs.Place.{AreRisingRows, IsAbove}
+use Rattle.wh_pieces.specs.Inner.Place.{IsAt, IsGapFor, set_at}
+use Rattle.wh_pieces.specs.Pieces.{found, with_entry, all_of}
+use Rattle.wh_pieces.specs.Inner.Pieces.{AreCounted, piece_at}
 use Rattle.wh_pieces.proofs.PieceLaws.{piece_read, rising-nth, found_there, found_nowhere, with_there, with_new, counted_there, counted_new}
 use Rattle.wh_pieces.proofs.MergeLaws.{on_err}
 use Rattle.wh_pieces.proofs.LastLaws.{found_above, with_above}

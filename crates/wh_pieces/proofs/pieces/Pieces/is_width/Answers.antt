@@ -1,5 +1,6 @@
 use Rattle.std.proofs.Common.{◌≡◌, ◌<◌, ◌+◌, suc, length, sym, subst, refl, arith, take}
-use Rattle.wh_pieces.specs.Pieces.{AreWide, all_of, piece_at}
+use Rattle.wh_pieces.specs.Pieces.{AreWide, all_of}
+use Rattle.wh_pieces.specs.Inner.Pieces.{piece_at}
 use Rattle.wh_pieces.proofs.PieceLaws.{piece_read, take-suc_piece}
 use Rattle.wh_pieces.proofs.WidthLaws.{wide-append, wide-piece}
 use Rattle.wh_pieces.proofs.pieces.Pieces.is_width.Goals as goal

@@ -1,7 +1,8 @@
 use Rattle.std.proofs.Common.{rules, ◌≡◌, ◌∷◌, List, ap, sym, subst, ◌∙◌}
 use Rattle.wh_pieces.specs.Row.{Row}
-use Rattle.wh_pieces.specs.Merged.{lacking}
-use Rattle.wh_pieces.specs.Place.{AreRisingRows, IsFirst}
+use Rattle.wh_pieces.specs.Inner.Merged.{lacking}
+use Rattle.wh_pieces.specs.Place.{AreRisingRows}
+use Rattle.wh_pieces.specs.Inner.Place.{IsFirst}
 use Rattle.wh_pieces.specs.Pieces.{found}
 use Rattle.wh_pieces.proofs.BringLaws.{bringing_kept, bringing_there, bringing_changed, bringing_at, beside_here, beside_there, rising_dropped}
 use Rattle.wh_pieces.proofs.pieces.Pieces.merge.Goals as goal

@@ -1,6 +1,6 @@
 use Rattle.std.proofs.Common.{◌≡◌}
 use Rattle.wh_pieces.specs.Row.{Row}
-use Rattle.wh_pieces.specs.Merged.{lacking}
+use Rattle.wh_pieces.specs.Inner.Merged.{lacking}
 use Rattle.wh_pieces.specs.Place.{AreRisingRows}
 use Rattle.wh_pieces.specs.Pieces.{found}
 use Rattle.wh_pieces.proofs.BringLaws.{IsBringing}

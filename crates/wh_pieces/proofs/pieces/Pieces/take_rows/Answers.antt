@@ -1,7 +1,7 @@
 use Rattle.std.proofs.Common.{rules, ◌≡◌, ◌∷◌, ap, sym, ◌∙◌}
 use Rattle.wh_pieces.specs.Row.{Row}
 use Rattle.wh_pieces.specs.Pieces.{found}
-use Rattle.wh_pieces.specs.Merged.{without}
+use Rattle.wh_pieces.specs.Inner.Merged.{without}
 use Rattle.wh_pieces.proofs.BringLaws.{found-without, taken_step}
 use Rattle.wh_pieces.proofs.pieces.Pieces.take_rows.Goals as goal
 

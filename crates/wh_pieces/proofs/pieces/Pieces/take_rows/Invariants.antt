@@ -1,7 +1,7 @@
 use Rattle.std.proofs.Common.{◌≡◌}
 use Rattle.wh_pieces.specs.Row.{Row}
 use Rattle.wh_pieces.specs.Pieces.{found}
-use Rattle.wh_pieces.specs.Merged.{without}
+use Rattle.wh_pieces.specs.Inner.Merged.{without}
 use Rattle.wh_pieces.proofs.pieces.Pieces.take_rows.Given as goal
 
 abbrev pub invariant-loop-row : goal.invariant-loop-row

@@ -1,6 +1,6 @@
 use Rattle.std.proofs.Common.{List, subst, sym}
 use Rattle.wh_pieces.specs.Row.{Row}
-use Rattle.wh_pieces.specs.Pieces.{AreCounted}
+use Rattle.wh_pieces.specs.Inner.Pieces.{AreCounted}
 use Rattle.wh_pieces.proofs.PieceLaws.{none_counted}
 use Rattle.wh_pieces.proofs.pieces.Pieces.with_most.Goals as goal
 

@@ -1,7 +1,7 @@
 use Rattle.std.proofs.Common.{◌≡◌, ◌≤◌, ◌+◌, ◌-◌, ◌++◌, ◌∷◌, [], length, refl, ap, ◌∙◌, subst, arith, rules}
 use Rattle.wh_dag.specs.Siblings.{couples_of}
 use Rattle.wh_strategy.specs.Sizes.{sizes_of}
-use Rattle.wh_prune.specs.Searching.{IsExplored}
+use Rattle.wh_prune.specs.Inner.Searching.{IsExplored}
 use Rattle.wh_prune.proofs.Deciding.{open_couple_turned, taken_back}
 use Rattle.wh_prune.proofs.Exploring.{fork, some_power}
 use Rattle.wh_prune.proofs.explore.Search.+explore.Goals as goal

@@ -2,7 +2,8 @@ use Rattle.std.proofs.Common.{◌≡◌, sym, ap, ◌∙◌, subst, ◌+◌, ◌
 use Rattle.std.specs.Prelude.{slice_index_or, if◌then◌else◌, insert}
 use Rattle.wh_store.specs.Windows.{applied}
 use Rattle.wh_store.specs.Operations.{Opens}
-use Rattle.wh_store.specs.Kept.{lists_of, kept_of, IsHeld}
+use Rattle.wh_store.specs.Kept.{lists_of, kept_of}
+use Rattle.wh_store.specs.Inner.Kept.{IsHeld}
 use Rattle.wh_store.proofs.Lists.{first_list, begun_held, begun_kept, begun_draft}
 use Rattle.wh_store.proofs.store.Store.begin.Goals as goal
 

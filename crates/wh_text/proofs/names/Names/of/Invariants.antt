@@ -1,6 +1,6 @@
 use Rattle.std.proofs.Common.{◌≡◌, take}
 use Rattle.wh_dag.specs.Written.{texts}
-use Rattle.wh_text.specs.Names.{IsIndex}
+use Rattle.wh_text.specs.Inner.Names.{IsIndex}
 use Rattle.wh_text.proofs.names.Names.of.Given as goal
 
 abbrev pub invariant-loop-view : goal.invariant-loop-view

@@ -3,7 +3,8 @@ use Rattle.std.specs.Prelude.{◌≡◌, ℕ, zero, suc, List, [], Option, refl}
 use Rattle.std.specs.Coded.{Coded, code_by, coded×, coded_ℕ, coded_ℤ, coded_list, coded_option}
 use Rattle.wh_row.specs.Weigh.{Counted}
 use Rattle.wh_store.specs.Operations.{Operation, Opens, Writes, Commits, Gives_up}
-use Rattle.wh_store.specs.Pages.{Contents, coded_contents}
+use Rattle.wh_store.specs.Pages.{Contents}
+use Rattle.wh_store.specs.Inner.Pages.{coded_contents}
 use Rattle.wh_publish.specs.Ledgers.{Ledger, Warehouse}
 
 -- the number of its kind, and what it writes

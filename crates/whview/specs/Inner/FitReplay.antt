@@ -19,7 +19,7 @@ use Rattle.wh_maint.specs.Definition.{graph_of}
 use Rattle.wh_strategy.specs.Rules.{IsCorrect, Judged}
 use Rattle.wh_strategy.specs.declared.correct.CheckFault.{CheckFault}
 use Rattle.wh_strategy.specs.declared.correct.CheckFault.TheVariants.{Broken, Memory}
-use Rattle.whview.specs.FitNight.{AreReadTables}
+use Rattle.whview.specs.Inner.FitNight.{AreReadTables}
 use Rattle.whview.specs.ReplayOutput.{IsFirstBrokenNight}
 
 -- the changes of each night are for the catalogue

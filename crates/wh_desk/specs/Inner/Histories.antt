@@ -2,7 +2,7 @@
 use Rattle.std.specs.Prelude.{ℕ, ◌≡◌, ◌+◌, true, List, [], ◌∷◌, ◌++◌, length}
 use Rattle.logbook.specs.Pages.{Cell, Step, View, Book, Named}
 use Rattle.wh_desk.specs.declared.history.Chapter.{Chapter}
-use Rattle.wh_desk.specs.Known.{IsLog}
+use Rattle.wh_desk.specs.Inner.Known.{IsLog}
 
 -- the word is the number of operations, which stand after what the warehouse began with
 pub record IsKept (cells : List Cell) (log : List Chapter) : Type 0 where

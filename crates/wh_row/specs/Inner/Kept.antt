@@ -4,8 +4,10 @@ use Rattle.std.specs.List.{sum_by}
 use Rattle.wh_row.specs.declared.kept.Kept.{Kept}
 use Rattle.wh_row.specs.Weigh.{Counted}
 use Rattle.wh_row.specs.Bag.{Bag, size, written}
-use Rattle.wh_row.specs.Stored.{from_counts, AreCounts}
-use Rattle.wh_row.specs.Keyed.{KeyedOf, AreKeyed}
+use Rattle.wh_row.specs.Stored.{from_counts}
+use Rattle.wh_row.specs.Inner.Stored.{AreCounts}
+use Rattle.wh_row.specs.Keyed.{KeyedOf}
+use Rattle.wh_row.specs.Inner.Keyed.{AreKeyed}
 
 -- 1 for a number below zero, else 0
 abbrev pub one_below : ℤ → ℕ

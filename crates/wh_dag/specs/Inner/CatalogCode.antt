@@ -3,9 +3,9 @@ use Rattle.std.specs.Prelude.{◌≡◌, ℕ, List, ◌⊎◌, Option, refl}
 use Rattle.std.specs.Coded.{Coded, code_by, coded×, coded⊎, coded_list, coded_option, coded_ℕ}
 use Rattle.std.proofs.Common.{inl, inr}
 use Rattle.wh_formula.specs.Expr.{ExprTree}
-use Rattle.wh_formula.specs.ExprCode.{expr_code}
+use Rattle.wh_formula.specs.Inner.ExprCode.{expr_code}
 use Rattle.wh_formula.specs.Pred.{PredTree}
-use Rattle.wh_formula.specs.PredCode.{pred_code}
+use Rattle.wh_formula.specs.Inner.PredCode.{pred_code}
 use Rattle.wh_dag.specs.Shape.{Views}
 use Rattle.wh_dag.specs.Catalog.{OutputOf, Keep, Sums, DefinitionOf, CatalogOf}
 

@@ -5,7 +5,7 @@ use Rattle.std.specs.Coded.{Coded, code_by, coded_list, coded×, coded_ℕ}
 use Rattle.wh_formula.specs.declared.comparison.Comparison.{Comparison}
 use Rattle.wh_formula.specs.declared.comparison.Comparison.TheVariants.{Equal, NotEqual, Less, LessOrEqual, Greater, GreaterOrEqual}
 use Rattle.wh_formula.specs.Expr.{ExprTree, Number}
-use Rattle.wh_formula.specs.ExprCode.{expr_code}
+use Rattle.wh_formula.specs.Inner.ExprCode.{expr_code}
 use Rattle.wh_formula.specs.Pred.{PredTree, PredTrees, True, Cmp, AllOf, AnyOf, Not, no_more, one_more}
 
 -- an item: which form, and of a comparison which one and its two sides

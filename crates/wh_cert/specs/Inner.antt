@@ -1,0 +1,4 @@
+pub mod Bound
+pub mod Descent
+pub mod Followed
+pub mod Preorder

@@ -1,0 +1,2 @@
+pub mod CatalogCode
+pub mod Kept

@@ -1,0 +1,5 @@
+pub mod Desks
+pub mod Histories
+pub mod Known
+pub mod Rules
+pub mod Writers

@@ -1,0 +1,5 @@
+pub mod Desired
+pub mod Draft
+pub mod Left
+pub mod Nodes
+pub mod Sets

@@ -1,0 +1,5 @@
+pub mod Kept
+pub mod Refused
+pub mod Steps
+pub mod Reasons
+pub mod Agreeing

@@ -1,0 +1,2 @@
+pub mod ListedLines
+pub mod ScheduleText

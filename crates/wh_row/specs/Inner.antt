@@ -1,0 +1,7 @@
+pub mod Bag
+pub mod Flat
+pub mod Kept
+pub mod Keyed
+pub mod Laid
+pub mod Room
+pub mod Stored

@@ -1,0 +1,2 @@
+pub mod RefusedWaves
+pub mod Underway
