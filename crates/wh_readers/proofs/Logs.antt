@@ -13,7 +13,7 @@ use Rattle.wh_publish.specs.Ledgers.{Warehouse}
 use Rattle.wh_run.specs.Tonight.{Begin_it, IsWhole}
 use Rattle.wh_core.specs.Laws.{IsSetup}
 use Rattle.wh_core.specs.Log.{Log, SessionOf, Began, Gave_up, nights_begun, session}
-use Rattle.wh_core.specs.Nights.{Setup, next_night, night_from, versions}
+use Rattle.wh_core.specs.Nights.{Setup, next_night, night_from, published, versions}
 use Rattle.wh_core.specs.Replies.{nothing}
 use Rattle.wh_core.proofs.NightLogs.{IsOneMore, all_seated, cut_night, night_ops, open_night, whole_night}
 use Rattle.wh_core.proofs.Underway.{versions_from-append}
