@@ -16,7 +16,6 @@ use Rattle.wh_text.specs.declared.fault.LoadFault.TheVariants as fault
 
 -- what comes of the value, or the fault that stands in its place
 infixl 10 ◌>>=◌
-
 abbrev pub ◌>>=◌ : {A B : Type 0} → Result A LoadFault → (A → Result B LoadFault) → Result B LoadFault
 Ok value >>= next = next value
 Err first >>= next = Err first

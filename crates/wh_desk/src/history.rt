@@ -64,7 +64,6 @@ impl Gain<Chapter, u64> for Nothing {
 pub struct Add;
 
 impl Play<Chapter, u64> for Add {
-
     ghost then = { Adds };
 }
 

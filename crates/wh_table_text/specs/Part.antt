@@ -6,7 +6,6 @@ use Rattle.wh_table_text.specs.Records.{form_fault, records_of}
 
 -- what comes of the value, or the fault that stands in its place
 infixl 10 ◌>>=◌
-
 abbrev pub ◌>>=◌ : {A B : Type 0} → Result A LoadFault → (A → Result B LoadFault) → Result B LoadFault
 Ok value >>= next = next value
 Err fault >>= next = Err fault
