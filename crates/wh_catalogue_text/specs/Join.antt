@@ -8,7 +8,7 @@ use Rattle.wh_text.specs.declared.columns.Kind.TheVariants.{Int, Text}
 use Rattle.wh_text.specs.declared.fault.Key.TheVariants as key
 use Rattle.wh_text.specs.declared.fault.LoadFault.{LoadFault}
 use Rattle.wh_text.specs.declared.fault.LoadFault.TheVariants as fault
-use Rattle.wh_catalogue_text.specs.Catalogue.{array_of}
+use Rattle.wh_catalogue_text.specs.Catalogue.{◌>>=◌, array_of}
 use Rattle.wh_catalogue_text.specs.ColumnNames.{checked, unless_unknown}
 use Rattle.wh_catalogue_text.specs.FormulaColumns.{unknown}
 use Rattle.wh_catalogue_text.specs.FormulaKinds.{unfit}

@@ -8,7 +8,7 @@ use Rattle.wh_text.specs.declared.fault.Key.TheVariants as key
 use Rattle.wh_text.specs.declared.fault.LoadFault.{LoadFault}
 use Rattle.wh_text.specs.declared.fault.LoadFault.TheVariants as fault
 use Rattle.wh_catalogue_text.specs.BaseColumns.{is_few}
-use Rattle.wh_catalogue_text.specs.Catalogue.{name_in}
+use Rattle.wh_catalogue_text.specs.Catalogue.{◌>>=◌, name_in}
 use Rattle.wh_catalogue_text.specs.ColumnNames.{Seen, checked, fresh_name}
 use Rattle.wh_catalogue_text.specs.FormulaKinds.{Texts}
 use Rattle.wh_catalogue_text.specs.Header.{HeaderOf}

@@ -9,7 +9,7 @@ use Rattle.wh_text.specs.declared.columns.Kind.{Kind}
 use Rattle.wh_text.specs.declared.fault.Key.{Key}
 use Rattle.wh_text.specs.declared.fault.LoadFault.{LoadFault}
 use Rattle.wh_text.specs.declared.fault.LoadFault.TheVariants as fault
-use Rattle.wh_catalogue_text.specs.Catalogue.{array_of}
+use Rattle.wh_catalogue_text.specs.Catalogue.{◌>>=◌, array_of}
 use Rattle.wh_catalogue_text.specs.ColumnNames.{Seen, checked, fresh_name, unless_unknown}
 use Rattle.wh_catalogue_text.specs.Formula.{is_whole_expr, unknown_column, whole_expr}
 use Rattle.wh_catalogue_text.specs.FormulaKinds.{ExprOutcome, Texts, is_int, unfit}
