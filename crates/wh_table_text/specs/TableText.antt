@@ -13,8 +13,8 @@ use Rattle.wh_text.specs.declared.columns.Kind.{Kind}
 use Rattle.wh_text.specs.declared.columns.Kind.TheVariants as of_kind
 use Rattle.wh_text.specs.declared.fault.LoadFault.{LoadFault}
 use Rattle.wh_text.specs.declared.fault.LoadFault.TheVariants.{Number}
-pub use Rattle.wh_table_text.specs.Part.{◌>>=◌, or_fault}
-use Rattle.wh_table_text.specs.Part.{Scheme, part_of}
+pub use Rattle.wh_table_text.specs.Part.{or_fault}
+use Rattle.wh_table_text.specs.Part.{◌>>=◌, Scheme, part_of}
 use Rattle.wh_table_text.specs.Records.{cell}
 use Rattle.wh_table_text.specs.declared.table.header.Content.{Content}
 use Rattle.wh_table_text.specs.declared.table.header.Content.TheVariants as of_content

@@ -6,7 +6,7 @@ use Rattle.wh_text.specs.Columns.{NamedKind, kinds_of, names_of}
 use Rattle.wh_text.specs.declared.columns.Kind.{Kind}
 use Rattle.wh_text.specs.declared.fault.LoadFault.{LoadFault}
 use Rattle.wh_text.specs.declared.fault.LoadFault.TheVariants.{Number}
-pub use Rattle.wh_table_text.specs.Part.{◌>>=◌, or_fault}
+use Rattle.wh_table_text.specs.Part.{◌>>=◌}
 use Rattle.wh_table_text.specs.Part.{Scheme}
 use Rattle.wh_table_text.specs.declared.table.header.Content.{Content}
 use Rattle.wh_table_text.specs.declared.table.header.Counting.{Counting}
