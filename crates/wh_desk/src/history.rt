@@ -26,7 +26,7 @@ pub struct Law;
 impl Rule<Chapter, u64> for Law {
     ghost use Rattle.std.specs.Prelude.{[]};
     ghost use base.Fml.{ftrue};
-    ghost use Rattle.wh_desk.specs.Inner.Histories.{IsKept, Adds, word_of};
+    ghost use Rattle.wh_desk.specs.Inner.Histories.{IsKept};
 
     ghost holds = { λ cells log. IsKept cells log };
 
@@ -64,6 +64,8 @@ impl Gain<Chapter, u64> for Nothing {
 pub struct Add;
 
 impl Play<Chapter, u64> for Add {
+    ghost use Rattle.wh_desk.specs.Inner.Histories.{Adds};
+
     ghost then = { Adds };
 }
 
@@ -160,6 +162,8 @@ pub struct History {
 impl Model for History {
     ghost use Rattle.std.specs.Prelude.{◌≡◌};
     ghost use Rattle.wh_desk.specs.Known.{Known};
+    ghost use Rattle.wh_desk.specs.Inner.Known.{coded_known};
+    ghost use Rattle.wh_desk.specs.Inner.Histories.{word_of};
 
     ghost Value = { Known };
 
