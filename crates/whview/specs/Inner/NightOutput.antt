@@ -3,7 +3,6 @@ use Rattle.std.specs.Prelude.{◌≡◌, length}
 use Rattle.wh_dag.specs.Shape.{Views}
 use Rattle.whview.specs.declared.night.Outcome.{Outcome}
 use Rattle.whview.specs.declared.night.Outcome.TheVariants.{Carried}
-use Rattle.whview.specs.NightOutput.{carried}
 
 -- what is to be shown over this shape has its views and a table of each, and is the first that comes after what was read
 abbrev pub IsWhole : Views → Outcome → Type 0
