@@ -21,7 +21,8 @@ pub fn running_nights_have_a_log()
     ensures { RunningNightsHaveALog }
 {}
 
-/// What a night publishes behind nights that have ended is such a list again, whether it is done, cut, or left open.
+/// What a night publishes behind nights that have ended is such a list again, whether it is done or refused. One that was
+/// left open, and is given up later, has ended then.
 pub fn nights_go_on()
     ensures { NightsGoOn }
 {}
