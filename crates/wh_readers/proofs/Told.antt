@@ -1,17 +1,14 @@
 -- What a desk that is told what a writer has published knows of the pages that it was given.
-use Rattle.std.proofs.Common.{◌≡◌, ◌∙◌, ◌≤◌, ◌<◌, ℕ, Option, Some, None, length, refl, sym, ap, subst}
+use Rattle.std.proofs.Common.{◌≡◌, ◌∙◌, ◌≤◌, ◌<◌, ℕ, None, length, refl, sym, ap, subst}
 use Rattle.std.specs.Prelude.{nat_le, nat_lt, ◌+◌}
 use Rattle.std.proofs.lemmas.Bool.{and_parts, leb-true}
 use Rattle.std.proofs.lemmas.Option.{same_Some}
-use Rattle.wh_row.specs.Row.{Row}
-use Rattle.wh_dag.specs.Catalog.{CatalogOf}
-use Rattle.wh_store.specs.Pages.{Contents, Shown, page_of}
+use Rattle.wh_store.specs.Pages.{Contents, page_of}
 use Rattle.wh_store.specs.Versions.{is_active, kept_count, number, table_in, version}
-use Rattle.wh_publish.specs.Ledgers.{Ledger, versions_in}
+use Rattle.wh_publish.specs.Ledgers.{versions_in}
 use Rattle.wh_desk.specs.Known.{known}
-use Rattle.wh_desk.specs.Desks.{Grows, IsPage, Reads, SeenVersionsStay, Sitting, sitting, versions_seen}
-use Rattle.wh_run.specs.Tonight.{IsSound}
-use Rattle.wh_readers.specs.Told.{IsOfContents, ToldPagesAreOfContents, WasTold}
+use Rattle.wh_desk.specs.Desks.{Grows, IsPage, SeenVersionsStay, Sitting, sitting, versions_seen}
+use Rattle.wh_readers.specs.Told.{ToldPagesAreOfContents}
 
 pub told_pages : SeenVersionsStay → ToldPagesAreOfContents
 told_pages stay catalog l before after told v view limit row page sound least session reads grows was =
