@@ -1,20 +1,14 @@
 -- What a desk that is told what a writer has published knows of the pages that it was given.
-use Rattle.std.proofs.Common.{◌≡◌, ◌∙◌, ◌≤◌, ℕ, Option, Some, None, refl, sym, subst}
+use Rattle.std.proofs.Common.{◌≡◌, ◌∙◌, ◌≤◌, ◌<◌, ℕ, None, length, refl, sym, ap, subst}
 use Rattle.std.specs.Prelude.{nat_le, nat_lt, ◌+◌}
 use Rattle.std.proofs.lemmas.Bool.{and_parts, leb-true}
 use Rattle.std.proofs.lemmas.Option.{same_Some}
-use Rattle.wh_row.specs.Row.{Row}
-use Rattle.wh_dag.specs.Catalog.{CatalogOf}
-use Rattle.wh_maint.specs.Comp.{bag_at}
-use Rattle.wh_maint.specs.Contents.{AreContents}
-use Rattle.wh_maint.specs.Definition.{graph_of}
-use Rattle.wh_store.specs.Pages.{Shown}
-use Rattle.wh_store.specs.Versions.{is_active, kept_count, number, version}
-use Rattle.wh_publish.specs.Ledgers.{Ledger, versions_in}
+use Rattle.wh_store.specs.Pages.{Contents, page_of}
+use Rattle.wh_store.specs.Versions.{is_active, kept_count, number, table_in, version}
+use Rattle.wh_publish.specs.Ledgers.{versions_in}
 use Rattle.wh_desk.specs.Known.{known}
-use Rattle.wh_desk.specs.Desks.{Grows, IsPage, Reads, SeenVersionsStay, Sitting, sitting, versions_seen}
-use Rattle.wh_run.specs.Tonight.{IsSound}
-use Rattle.wh_readers.specs.Told.{IsOfContents, ToldPagesAreOfContents, WasTold}
+use Rattle.wh_desk.specs.Desks.{Grows, IsPage, SeenVersionsStay, Sitting, sitting, versions_seen}
+use Rattle.wh_readers.specs.Told.{ToldPagesAreOfContents}
 
 pub told_pages : SeenVersionsStay → ToldPagesAreOfContents
 told_pages stay catalog l before after told v view limit row page sound least session reads grows was =
@@ -26,8 +20,7 @@ told_pages stay catalog l before after told v view limit row page sound least se
     let there : v ≤ current = leb-true v current (and_parts (nat_le v current) (nat_lt current (v + kept_count after.of.limit (is_active (versions_seen after)))) at.0).0 in
     let now : version (versions_seen after) v ≡ version (versions_in l.of l.list) v = sym (stay after told v grows there).1 ∙ (stay writer told v on least).1 in
     record {
-      contents = version (versions_seen after) v;
-      of_base = subst (λ c. AreContents (graph_of catalog) (bag_at c)) (sym now) (sound.contents v least);
-      there = at.1;
-      is = at.2;
+      of_base = sound.contents v least;
+      there = subst (λ (c : Contents). view < length c) now at.1;
+      is = at.2 ∙ ap (λ (c : Contents). page_of (table_in c view) row limit) now;
     }

@@ -5,11 +5,15 @@ use Rattle.wh_night.specs.NightList.{IsCutNight}
 use Rattle.wh_night.specs.Refused.{ArePassedBelow}
 use Rattle.wh_store.specs.Operations.{Operation, Opens}
 use Rattle.wh_store.specs.Versions.{number, versions_of}
-use Rattle.wh_publish.specs.Faults.{publish_refusal}
+use Rattle.wh_publish.specs.Faults.{publish_refusal, Ends}
 use Rattle.wh_publish.specs.Ledgers.{Ledger, Warehouse}
+use Rattle.wh_publish.specs.declared.ended.Ended.{Ended}
 use Rattle.wh_course.specs.Night.{Night, AreAllowed}
 use Rattle.wh_desk.specs.Desks.{Grows, OpensAt, Sitting}
-use Rattle.wh_run.specs.Tonight.{Begin_it, IsDone, IsWhole, goes_out, newest_in, tonight}
+use Rattle.wh_run.specs.Tonight.{Begin_it, IsDone, IsOpen, IsWhole, Leaves, newest_in, tonight}
+use Rattle.wh_run.specs.declared.cause.NightCause.{NightCause}
+use Rattle.wh_run.specs.declared.left.Left.{Left}
+use Rattle.wh_run.specs.declared.left.Left.TheVariants.{Untouched, GivenUp, StillOpen}
 use Rattle.wh_core.specs.Laws.{IsSetup}
 use Rattle.wh_core.specs.Log.{Log, SessionOf, is_open, nights_begun, session}
 use Rattle.wh_core.specs.Nights.{GivenNight, Setup, night_from, versions}
@@ -58,16 +62,21 @@ pub record ComesNext (s : Setup) (n : ℕ) (given : GivenNight) (l : Ledger) : T
   pub ended : AreEndedNights s n l.list
   pub is : slice_get s.nights n ≡ Some given
   pub free : publish_refusal l Opens ≡ None
-  pub allowed : AreAllowed (tonight s.catalog given.list l given.changes s.keys)
 
--- what it publishes goes on with such a list: where it is done, where it is cut, and where it is left open, with or without its Begin
+-- what a night that was refused leaves: untouched, what was there; given up, the lists of one night more that ended; left open, the list
+-- that was there, while its Begin is held, or one in which it is open
+abbrev pub AreLeft : Setup → ℕ → Ledger → Left → Ledger → Type 0
+AreLeft s n l Untouched m = m ≡ l
+AreLeft s n l GivenUp m = AreEndedNights s (n + 1) m.list
+AreLeft s n l StillOpen m = AreRunningNights s n false m.list ⊎ AreRunningNights s (n + 1) true m.list
+
+-- what it publishes goes on with such a list: where it is done; where it is refused; and where it was left open and is ended later
 pub record GoOn (s : Setup) (n : ℕ) (given : GivenNight) (l m : Ledger) : Type 0 where
-  pub done : IsDone (tonight s.catalog given.list l given.changes s.keys) l m
+  pub done : IsDone (tonight s.catalog given.list l given.changes s.keys) l m → AreAllowed (tonight s.catalog given.list l given.changes s.keys)
       → ArePassedBelow s.catalog given.list (bag_at (newest_in l)) (bag_at given.changes) (length given.list) → AreEndedNights s (n + 1) m.list
-  pub cut : (ops : List Operation) → IsCutNight s.catalog given.list (bag_at (newest_in l)) (bag_at given.changes) s.keys ops → m ≡ goes_out l ops None
+  pub left : (cause : NightCause) (how : Left) → Leaves (tonight s.catalog given.list l given.changes s.keys) cause l how m → AreLeft s n l how m
+  pub ended_later : (cause : NightCause) (k : Ledger) (answer : Ended) → IsOpen (tonight s.catalog given.list l given.changes s.keys) cause l k → Ends k m answer
       → AreEndedNights s (n + 1) m.list
-  pub left_open : (ops : List Operation) (held : Option Operation) → Begin_it (tonight s.catalog given.list l given.changes s.keys) ops → m ≡ goes_out l ops held
-      → AreRunningNights s n false m.list ⊎ AreRunningNights s (n + 1) true m.list
 
 abbrev pub NightsGoOn : Type 0
 NightsGoOn = (s : Setup) (n : ℕ) (given : GivenNight) (l m : Ledger) → ComesNext s n given l → GoOn s n given l m

@@ -7,7 +7,7 @@ use Rattle.wh_maint.specs.Comp.{bag_at}
 use Rattle.wh_maint.specs.Contents.{AreContents}
 use Rattle.wh_maint.specs.Definition.{graph_of}
 use Rattle.wh_store.specs.Pages.{Contents, Shown, page_of}
-use Rattle.wh_store.specs.Versions.{number, table_in}
+use Rattle.wh_store.specs.Versions.{number, table_in, version}
 use Rattle.wh_publish.specs.Ledgers.{Ledger, versions_in}
 use Rattle.wh_desk.specs.Desks.{Grows, Reads, Sitting}
 use Rattle.wh_run.specs.Tonight.{IsSound}
@@ -16,15 +16,16 @@ use Rattle.wh_run.specs.Tonight.{IsSound}
 abbrev pub WasTold : Ledger → Sitting → Type 0
 WasTold l d = (l.of ≡ d.of) × IsPrefix l.list d.list
 
--- the page is one of a view in the contents of a base
-pub record IsOfContents (catalog : CatalogOf) (view : ℕ) (row : Option Row) (limit : ℕ) (page : Shown) : Type 0 where
-  pub contents : Contents
+-- the page is one of a view in these contents, which are those of a base
+pub record IsOfContents (catalog : CatalogOf) (contents : Contents) (view : ℕ) (row : Option Row) (limit : ℕ) (page : Shown) : Type 0 where
   pub of_base : AreContents (graph_of catalog) (bag_at contents)
   pub there : view < length contents
   pub is : page ≡ page_of (table_in contents view) row limit
 
--- a page that a desk was given in a session of a version is of the contents of a base, once the desk was told a sound list that has come to that version
+-- a page that a desk was given in a session of a version is of that version's contents in the published list, and they are those of a base,
+-- once the desk was told that list, which is sound and has come to that version
 abbrev pub ToldPagesAreOfContents : Type 0
 ToldPagesAreOfContents =
     (catalog : CatalogOf) (l : Ledger) (before after told : Sitting) (v view limit : ℕ) (row : Option Row) (page : Shown) → IsSound catalog l → v ≤ number (versions_in l.of l.list)
-    → before.session ≡ Some v → Reads before after view row limit page → Grows after told → WasTold l told → IsOfContents catalog view row limit page
+    → before.session ≡ Some v → Reads before after view row limit page → Grows after told → WasTold l told
+    → IsOfContents catalog (version (versions_in l.of l.list) v) view row limit page

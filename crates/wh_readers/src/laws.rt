@@ -21,7 +21,8 @@ pub fn running_nights_have_a_log()
     ensures { RunningNightsHaveALog }
 {}
 
-/// What a night publishes behind nights that have ended is such a list again, whether it is done, cut, or left open.
+/// What a night publishes behind nights that have ended is such a list again, whether it is done or refused. One that was
+/// left open, and is given up later, has ended then.
 pub fn nights_go_on()
     ensures { NightsGoOn }
 {}
@@ -35,8 +36,9 @@ pub fn desks_beside_nights_answer_as_the_machine()
     seen_versions_stay_law();
 }
 
-/// A page that a desk was given in a session of a version is a page of the contents of a base, once the desk was told a sound list
-/// that has come to that version, as `learn` tells it what `tell` says of a writer after its nights.
+/// A page that a desk was given in a session of a version is a page of that version's contents in a writer's list, and these are
+/// the contents of a base, once the desk was told that list, which is sound and has come to that version, as `learn` tells it
+/// what `tell` says of a writer after its nights.
 pub fn told_pages_are_of_contents()
     ensures { ToldPagesAreOfContents }
 {
