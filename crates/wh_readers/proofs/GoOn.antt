@@ -19,7 +19,7 @@ use Rattle.wh_run.specs.declared.left.Left.{Left}
 use Rattle.wh_run.specs.declared.left.Left.TheVariants.{Untouched, GivenUp, StillOpen}
 use Rattle.wh_core.proofs.Underway.{versions_from-append}
 use Rattle.wh_core.specs.Nights.{GivenNight, Setup}
-use Rattle.wh_readers.specs.RunningNights.{AreEndedNights, AreLeft, AreRunningNights, CanBegin, ComesNext, GoOn, HasEnded, NightsGoOn, all_ended, night_after, one_more, one_open}
+use Rattle.wh_readers.specs.RunningNights.{AreEndedNights, GoesOnAs, AreRunningNights, CanBegin, ComesNext, GoOn, HasEnded, NightsGoOn, all_ended, night_after, one_more, one_open}
 use Rattle.wh_readers.proofs.SeenAlike.{beginning_alike, same_alike}
 
 -- a Begin that is not refused makes a version whose number is not 2^64
@@ -84,7 +84,7 @@ module _ (s : Setup) (n : ℕ) (given : GivenNight) (l m : Ledger) (next : Comes
       let these : Begin_it (night_after s l.list n) (Opens ∷ ops) = subst (λ k. Begin_it k (Opens ∷ ops)) same_night (subst (λ o. Begin_it night (o ∷ ops)) head begins) in
       inr (subst (λ o. AreRunningNights s (n + 1) true (l.list ++ o ∷ ops)) (sym head) (one_open n l.list ops next.ended (can allowed) these))
 
-  left : (cause : NightCause) (how : Left) → Leaves night cause l how m → AreLeft s n l how m
+  left : (cause : NightCause) (how : Left) → Leaves night cause l how m → GoesOnAs s n l how m
   left cause Untouched same = same
   left cause GivenUp is = ended (is.ops ++ Gives_up ∷ []) is.stopped.allowed (inr is.cut) (ap (λ (x : Ledger). x.list) is.now)
   left cause StillOpen is =

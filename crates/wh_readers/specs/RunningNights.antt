@@ -65,16 +65,16 @@ pub record ComesNext (s : Setup) (n : ℕ) (given : GivenNight) (l : Ledger) : T
 
 -- what a night that was refused leaves: untouched, what was there; given up, the lists of one night more that ended; left open, the list
 -- that was there, while its Begin is held, or one in which it is open
-abbrev pub AreLeft : Setup → ℕ → Ledger → Left → Ledger → Type 0
-AreLeft s n l Untouched m = m ≡ l
-AreLeft s n l GivenUp m = AreEndedNights s (n + 1) m.list
-AreLeft s n l StillOpen m = AreRunningNights s n false m.list ⊎ AreRunningNights s (n + 1) true m.list
+abbrev pub GoesOnAs : Setup → ℕ → Ledger → Left → Ledger → Type 0
+GoesOnAs s n l Untouched m = m ≡ l
+GoesOnAs s n l GivenUp m = AreEndedNights s (n + 1) m.list
+GoesOnAs s n l StillOpen m = AreRunningNights s n false m.list ⊎ AreRunningNights s (n + 1) true m.list
 
 -- what it publishes goes on with such a list: where it is done; where it is refused; and where it was left open and is ended later
 pub record GoOn (s : Setup) (n : ℕ) (given : GivenNight) (l m : Ledger) : Type 0 where
   pub done : IsDone (tonight s.catalog given.list l given.changes s.keys) l m → AreAllowed (tonight s.catalog given.list l given.changes s.keys)
       → ArePassedBelow s.catalog given.list (bag_at (newest_in l)) (bag_at given.changes) (length given.list) → AreEndedNights s (n + 1) m.list
-  pub left : (cause : NightCause) (how : Left) → Leaves (tonight s.catalog given.list l given.changes s.keys) cause l how m → AreLeft s n l how m
+  pub left : (cause : NightCause) (how : Left) → Leaves (tonight s.catalog given.list l given.changes s.keys) cause l how m → GoesOnAs s n l how m
   pub ended_later : (cause : NightCause) (k : Ledger) (answer : Ended) → IsOpen (tonight s.catalog given.list l given.changes s.keys) cause l k → Ends k m answer
       → AreEndedNights s (n + 1) m.list
 
