@@ -4,8 +4,8 @@ use Rattle.std.specs.Prelude.{◌≢◌, ◌^◌, ◌==◌, is_some, is_none, na
 use mathlib.Core.Logic.{◌⊎◌, inl, inr}
 use Rattle.wh_store.specs.Pages.{Shown, page_of}
 use Rattle.wh_store.specs.Versions.{number, is_active, is_unexpired, version, table_of}
-use Rattle.wh_course.specs.Night.{Night, ArePassedAt, places_from, AreAllowed}
-use Rattle.wh_course.specs.Legs.{Turn, In_wave, At_page, Over, legs_of, turn_of, carried_up_to}
+use Rattle.wh_carry.specs.Night.{Night, ArePassedAt, places_from, AreAllowed}
+use Rattle.wh_carry.specs.Legs.{Turn, In_wave, At_page, Over, legs_of, turn_of, carried_up_to}
 use Rattle.wh_row.specs.Weigh.{Counted}
 use Rattle.wh_core.specs.declared.event.Event.{Event}
 use Rattle.wh_core.specs.declared.event.Event.TheVariants.{Begin, Take, Done, PageIn, Commit, GiveUp, Open, Read, Close}

@@ -15,12 +15,12 @@ use Rattle.wh_maint.specs.Contents.{if_base}
 use Rattle.wh_maint.specs.Definition.{graph_of}
 use Rattle.wh_maint.specs.Summary.{change_of}
 use Rattle.wh_maint.specs.View.{ViewGraph}
-use Rattle.wh_night.specs.Carry.{State, change_in, tables_after}
-use Rattle.wh_night.specs.Refused.{IsOf, IsRuledOut, Reason, RowIsLacking, BaseIsLarge, ChangeIsLarge, ChangeHasNoValue, CompIsLarge, CompMeetsNoValue, PendingIsLarge, TableIsLarge}
-use Rattle.wh_night.proofs.Prefixes.{place_within}
-use Rattle.wh_night.proofs.StepRows.{table_at}
-use Rattle.wh_course.specs.Night.{Night, ArePassedAt, IsPassedAt, places_from, state_at, AreAllowed}
-use Rattle.wh_course.specs.Legs.{Leg, Wave, Page, legs_of, carried_up_to, turn_of}
+use Rattle.wh_carry.specs.Carry.{State, change_in, tables_after}
+use Rattle.wh_carry.specs.Refused.{IsOf, IsRuledOut, Reason, RowIsLacking, BaseIsLarge, ChangeIsLarge, ChangeHasNoValue, CompIsLarge, CompMeetsNoValue, PendingIsLarge, TableIsLarge}
+use Rattle.wh_carry.proofs.Prefixes.{place_within}
+use Rattle.wh_carry.proofs.StepRows.{table_at}
+use Rattle.wh_carry.specs.Night.{Night, ArePassedAt, IsPassedAt, places_from, state_at, AreAllowed}
+use Rattle.wh_carry.specs.Legs.{Leg, Wave, Page, legs_of, carried_up_to, turn_of}
 use Rattle.wh_core.specs.Laws.{IsCompAt}
 use Rattle.wh_core.proofs.Legs.{Covers, are_covered, have_jobs}
 use Rattle.wh_core.proofs.Underway.{come_to, fresh, reach_is}

@@ -16,8 +16,8 @@ use Rattle.wh_store.specs.Pages.{Contents, Shown, page_of}
 use Rattle.wh_store.specs.Versions.{Versions, is_active, is_unexpired, kept_count, number, opened, table_in, table_of, version, versions_from}
 use Rattle.wh_maint.specs.declared.fault.MaintFault.{MaintFault}
 use Rattle.wh_maint.specs.declared.fault.MaintFault.TheVariants as fault
-use Rattle.wh_course.specs.Night.{Night, places_from}
-use Rattle.wh_course.specs.Legs.{Turn, In_wave, At_page, Over, legs_of, carried_up_to, turn_of}
+use Rattle.wh_carry.specs.Night.{Night, places_from}
+use Rattle.wh_carry.specs.Legs.{Turn, In_wave, At_page, Over, legs_of, carried_up_to, turn_of}
 use Rattle.wh_core.specs.declared.event.Event.{Event}
 use Rattle.wh_core.specs.declared.event.Event.TheVariants.{Begin, Take, Done, PageIn, Commit, GiveUp, Open, Read, Close}
 use Rattle.wh_core.specs.declared.reply.Cause.{Cause}

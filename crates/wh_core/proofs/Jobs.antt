@@ -4,8 +4,8 @@ use Rattle.std.specs.Prelude.{slice_get}
 use Rattle.std.proofs.lemmas.Bool.{cases_lt, eqb-true, false≢true}
 use Rattle.wh_dag.specs.Shape.{Distinct, has}
 use Rattle.wh_strategy.specs.declared.expression.Expression.TheVariants.{Comp}
-use Rattle.wh_course.specs.Night.{Night}
-use Rattle.wh_course.specs.Legs.{Leg, Wave, Page, Turn, In_wave, At_page, Over, legs_of, turn_of}
+use Rattle.wh_carry.specs.Night.{Night}
+use Rattle.wh_carry.specs.Legs.{Leg, Wave, Page, Turn, In_wave, At_page, Over, legs_of, turn_of}
 use Rattle.wh_core.specs.Laws.{AreDrawnOnce, IsCompAt, JobsAreDrawnOnce, WorkersDoTheirJobs, done_places, done_up_to, drawn_places, drawn_up_to, falls, held_place, latest_of}
 use Rattle.wh_core.specs.Log.{Log, Began, Drew, Finished, Paged_in, Committed, Gave_up, Sat_down, Turned, Left, draws, ends, holding, is_open, pages}
 use Rattle.wh_core.specs.Nights.{Setup, night, published, turn}

@@ -21,16 +21,16 @@ use Rattle.wh_maint.specs.View.{ViewGraph}
 use Rattle.wh_maint.specs.Definition.{graph_of}
 use Rattle.wh_strategy.specs.declared.expression.Expression.{Expression}
 use Rattle.wh_strategy.specs.declared.expression.Expression.TheVariants.{Comp, Inst}
-use Rattle.wh_night.specs.declared.stages.Job.{Job}
-use Rattle.wh_night.specs.declared.stages.Stage.{Stage}
-use Rattle.wh_night.specs.declared.stages.Stage.TheVariants as stage
-use Rattle.wh_night.specs.Carry.{State, at_first}
-use Rattle.wh_night.specs.Waves.{comp_of, expressions_of, is_target_among, stages_after, stages_of, wave_of}
-use Rattle.wh_night.specs.NightList.{inst_pages}
+use Rattle.wh_carry.specs.declared.stages.Job.{Job}
+use Rattle.wh_carry.specs.declared.stages.Stage.{Stage}
+use Rattle.wh_carry.specs.declared.stages.Stage.TheVariants as stage
+use Rattle.wh_carry.specs.Carry.{State, at_first}
+use Rattle.wh_carry.specs.Waves.{comp_of, expressions_of, is_target_among, stages_after, stages_of, wave_of}
+use Rattle.wh_carry.specs.NightList.{inst_pages}
 use Rattle.wh_core.specs.Laws.{IsCompAt, done_places, drawn_places, falls, held_place, job_place}
 use Rattle.wh_core.specs.Standing.{HaveJobs, IsWithin}
-use Rattle.wh_course.specs.Night.{Night, ArePassedAt, IsPassedAt, places_from}
-use Rattle.wh_course.specs.Legs.{Leg, Wave, Page, Turn, In_wave, At_page, Over, legs_after, legs_of, turn_of, carried_up_to}
+use Rattle.wh_carry.specs.Night.{Night, ArePassedAt, IsPassedAt, places_from}
+use Rattle.wh_carry.specs.Legs.{Leg, Wave, Page, Turn, In_wave, At_page, Over, legs_after, legs_of, turn_of, carried_up_to}
 
 -- the places of the legs rise, from this one on
 abbrev pub IsRising : ℕ → List Leg → Type 0

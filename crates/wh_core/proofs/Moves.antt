@@ -10,10 +10,10 @@ use Rattle.wh_store.specs.declared.operation.Op.{Op}
 use Rattle.wh_store.specs.Operations.{Operation, Opens, Writes, Commits, Gives_up, operation}
 use Rattle.wh_store.specs.Versions.{Versions, after, is_active, number, versions_from, versions_of, written_over}
 use Rattle.wh_store.specs.Windows.{Window, Shows}
-use Rattle.wh_course.specs.declared.course.Part.{Part}
-use Rattle.wh_course.specs.Night.{Night, ArePassedAt, IsPassedAt, IsFaultAt, IsFirstFaultOf, places_from, AreAllowed}
-use Rattle.wh_course.specs.Legs.{Leg, Turn, In_wave, At_page, Over, legs_of, turn_of, carried_up_to}
-use Rattle.wh_course.specs.Course.{AreParts, IsOutcome}
+use Rattle.wh_carry.specs.declared.course.Part.{Part}
+use Rattle.wh_carry.specs.Night.{Night, ArePassedAt, IsPassedAt, IsFaultAt, IsFirstFaultOf, places_from, AreAllowed}
+use Rattle.wh_carry.specs.Legs.{Leg, Turn, In_wave, At_page, Over, legs_of, turn_of, carried_up_to}
+use Rattle.wh_carry.specs.Course.{AreParts, IsOutcome}
 use Rattle.wh_core.specs.declared.event.Event.{Event}
 use Rattle.wh_core.specs.declared.event.Event.TheVariants as event
 use Rattle.wh_core.specs.declared.machine.Machine.{Machine}

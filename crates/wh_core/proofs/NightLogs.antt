@@ -4,15 +4,15 @@ use Rattle.std.specs.Prelude.{is_some, nat_le, ◌==◌}
 use Rattle.std.proofs.lemmas.Bool.{cases_lt, eq-eqb, ne_eqb}
 use Rattle.std.proofs.lemmas.List.{append_assoc}
 use Rattle.wh_maint.specs.Definition.{graph_of}
-use Rattle.wh_night.specs.Carry.{at_first}
-use Rattle.wh_night.specs.NightList.{puts_of}
-use Rattle.wh_night.specs.Refused.{ArePassedBelow}
-use Rattle.wh_night.proofs.NewValues.{passed_have_values}
-use Rattle.wh_night.proofs.Prefixes.{place_within}
+use Rattle.wh_carry.specs.Carry.{at_first}
+use Rattle.wh_carry.specs.NightList.{puts_of}
+use Rattle.wh_carry.specs.Refused.{ArePassedBelow}
+use Rattle.wh_carry.proofs.NewValues.{passed_have_values}
+use Rattle.wh_carry.proofs.Prefixes.{place_within}
 use Rattle.wh_store.specs.Operations.{Operation, Opens, Commits, Gives_up}
 use Rattle.wh_store.specs.Versions.{number, opened as opened_by, versions_from, versions_of}
-use Rattle.wh_course.specs.Night.{Night, IsPassedAt, AreAllowed}
-use Rattle.wh_course.specs.Legs.{Over, legs_of, turn_of}
+use Rattle.wh_carry.specs.Night.{Night, IsPassedAt, AreAllowed}
+use Rattle.wh_carry.specs.Legs.{Over, legs_of, turn_of}
 use Rattle.wh_core.specs.declared.event.Event.TheVariants as event
 use Rattle.wh_core.specs.declared.reply.Cause.TheVariants as cause
 use Rattle.wh_core.specs.declared.reply.Reply.TheVariants as reply

@@ -10,13 +10,13 @@ use Rattle.wh_strategy.specs.declared.expression.Expression.{Expression}
 use Rattle.wh_strategy.specs.Expression.{At}
 use Rattle.wh_store.specs.Operations.{Operation, Opens, Writes, Commits, Gives_up}
 use Rattle.wh_store.specs.Versions.{versions_of}
-use Rattle.wh_night.specs.Carry.{at_first}
-use Rattle.wh_night.specs.Laws.{PassedHaveValues}
-use Rattle.wh_night.specs.NightList.{IsBeginning, IsCutNight, IsNightList, night_below, puts_of, whole}
-use Rattle.wh_night.specs.Refused.{ArePassedBelow, HaveValuesBelow}
-use Rattle.wh_night.specs.Waves.{expressions_of, stages_of}
-use Rattle.wh_course.specs.Night.{Night}
-use Rattle.wh_course.specs.Legs.{Leg, Wave, Page, Turn, In_wave, At_page, Over, legs_of, turn_of, carried_up_to}
+use Rattle.wh_carry.specs.Carry.{at_first}
+use Rattle.wh_carry.specs.Laws.{PassedHaveValues}
+use Rattle.wh_carry.specs.NightList.{IsBeginning, IsCutNight, IsNightList, night_below, puts_of, whole}
+use Rattle.wh_carry.specs.Refused.{ArePassedBelow, HaveValuesBelow}
+use Rattle.wh_carry.specs.Waves.{expressions_of, stages_of}
+use Rattle.wh_carry.specs.Night.{Night}
+use Rattle.wh_carry.specs.Legs.{Leg, Wave, Page, Turn, In_wave, At_page, Over, legs_of, turn_of, carried_up_to}
 use Rattle.wh_core.specs.Laws.{AreNights, IsEnded, IsMadeOfNights, PublishedAreNights, none as no_night, one_more as night_more}
 use Rattle.wh_core.specs.Log.{Deed, Log, Began, Drew, Finished, Paged_in, Committed, Gave_up, Sat_down, Turned, Left, nights_begun, is_open, draws, ends, pages, holding}
 use Rattle.wh_core.specs.Nights.{Setup, night, night_from, published, turn, versions}

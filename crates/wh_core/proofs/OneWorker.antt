@@ -3,8 +3,8 @@ use Rattle.std.proofs.Common.{◌≡◌, refl, sym, ap, ◌∙◌, subst, ℕ, z
 use mathlib.Core.Logic.{inl}
 use Rattle.std.specs.Prelude.{is_some, nat_le, slice_index_or}
 use Rattle.wh_row.specs.Weigh.{Counted}
-use Rattle.wh_course.specs.Night.{Night, ArePassedAt, IsPassedAt, places_from}
-use Rattle.wh_course.specs.Legs.{Leg, Wave, Page, Turn, In_wave, At_page, legs_of, carried_up_to, turn_of}
+use Rattle.wh_carry.specs.Night.{Night, ArePassedAt, IsPassedAt, places_from}
+use Rattle.wh_carry.specs.Legs.{Leg, Wave, Page, Turn, In_wave, At_page, legs_of, carried_up_to, turn_of}
 use Rattle.wh_core.specs.declared.event.Event.TheVariants as event
 use Rattle.wh_core.specs.declared.reply.Cause.TheVariants as cause
 use Rattle.wh_core.specs.declared.reply.Reply.TheVariants as reply

@@ -8,9 +8,9 @@ use Rattle.wh_dag.specs.Catalog.{CatalogOf}
 use Rattle.wh_strategy.specs.declared.expression.Expression.{Expression}
 use Rattle.wh_maint.specs.declared.fault.MaintFault.{MaintFault}
 use Rattle.wh_maint.specs.declared.fault.MaintFault.TheVariants as fault
-use Rattle.wh_night.specs.Carry.{State}
-use Rattle.wh_night.specs.Refused.{ComesBefore, IsAnswer, IsBaseFault, IsEarlier, IsFirstReason, IsStepFault, Reason, RowIsLacking, BaseIsLarge, ChangeIsLarge, ChangeHasNoValue, CompIsLarge, CompMeetsNoValue, PendingIsLarge, TableIsLarge, rank}
-use Rattle.wh_course.specs.Night.{Night, ArePassedAt, IsFaultAt, IsFirstFaultOf, IsPassedAt, state_at, AreAllowed}
+use Rattle.wh_carry.specs.Carry.{State}
+use Rattle.wh_carry.specs.Refused.{ComesBefore, IsAnswer, IsBaseFault, IsEarlier, IsFirstReason, IsStepFault, Reason, RowIsLacking, BaseIsLarge, ChangeIsLarge, ChangeHasNoValue, CompIsLarge, CompMeetsNoValue, PendingIsLarge, TableIsLarge, rank}
+use Rattle.wh_carry.specs.Night.{Night, ArePassedAt, IsFaultAt, IsFirstFaultOf, IsPassedAt, state_at, AreAllowed}
 use Rattle.wh_core.proofs.Underway.{all-head, all-tail}
 use Rattle.wh_core.specs.declared.reply.Cause.{Cause}
 use Rattle.wh_core.specs.declared.reply.Cause.TheVariants as cause

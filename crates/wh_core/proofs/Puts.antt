@@ -10,13 +10,13 @@ use Rattle.wh_maint.specs.View.{ViewGraph}
 use Rattle.wh_strategy.specs.declared.expression.Expression.{Expression}
 use Rattle.wh_strategy.specs.declared.expression.Expression.TheVariants.{Comp, Inst}
 use Rattle.wh_store.specs.Operations.{Operation, Opens, Writes, Commits, Gives_up}
-use Rattle.wh_night.specs.declared.stages.Job.{Job}
-use Rattle.wh_night.specs.declared.stages.Stage.{Stage}
-use Rattle.wh_night.specs.declared.stages.Stage.TheVariants as stage
-use Rattle.wh_night.specs.Carry.{State, carried, step}
-use Rattle.wh_night.specs.Waves.{comp_of, expressions_of}
-use Rattle.wh_night.specs.NightList.{inst_pages, puts_at, puts_of}
-use Rattle.wh_course.specs.Legs.{Leg, Wave, Page, legs_after}
+use Rattle.wh_carry.specs.declared.stages.Job.{Job}
+use Rattle.wh_carry.specs.declared.stages.Stage.{Stage}
+use Rattle.wh_carry.specs.declared.stages.Stage.TheVariants as stage
+use Rattle.wh_carry.specs.Carry.{State, carried, step}
+use Rattle.wh_carry.specs.Waves.{comp_of, expressions_of}
+use Rattle.wh_carry.specs.NightList.{inst_pages, puts_at, puts_of}
+use Rattle.wh_carry.specs.Legs.{Leg, Wave, Page, legs_after}
 use Rattle.wh_core.proofs.Underway.{come_to, ops_of, ops-append}
 
 -- ---- pages of an Inst among the legs

@@ -18,17 +18,17 @@ use Rattle.wh_maint.specs.View.{View, ViewGraph, column, value}
 use Rattle.wh_maint.specs.Value.{accumulators, view_value}
 use Rattle.wh_maint.proofs.FromScratch.{contents_are_values, catalogs_are_graphs}
 use Rattle.wh_maint.proofs.Widths.{columns_have_width, tables_have_width}
-use Rattle.wh_night.specs.Carry.{at_first, carried, tables_after}
-use Rattle.wh_night.specs.Refused.{ArePassedBelow}
-use Rattle.wh_night.specs.NightList.{puts_of}
-use Rattle.wh_night.proofs.Stands.{strategies_end_in_views}
-use Rattle.wh_night.proofs.NewValues.{ends_in_contents, passed_have_values}
+use Rattle.wh_carry.specs.Carry.{at_first, carried, tables_after}
+use Rattle.wh_carry.specs.Refused.{ArePassedBelow}
+use Rattle.wh_carry.specs.NightList.{puts_of}
+use Rattle.wh_carry.proofs.Stands.{strategies_end_in_views}
+use Rattle.wh_carry.proofs.NewValues.{ends_in_contents, passed_have_values}
 use Rattle.wh_store.specs.Laws.{VersionsStay}
 use Rattle.wh_store.specs.Operations.{Operation, Opens, Writes, Commits, Gives_up}
 use Rattle.wh_store.specs.Pages.{Contents}
 use Rattle.wh_store.specs.Versions.{Versions, after, number, opened as opened_by, table_in, written_over, version, versions_from, versions_of}
-use Rattle.wh_course.specs.Night.{Night, AreAllowed}
-use Rattle.wh_course.specs.Legs.{Leg, Wave, Page, Turn, In_wave, At_page, Over, legs_of, turn_of}
+use Rattle.wh_carry.specs.Night.{Night, AreAllowed}
+use Rattle.wh_carry.specs.Legs.{Leg, Wave, Page, Turn, In_wave, At_page, Over, legs_of, turn_of}
 use Rattle.wh_core.specs.Laws.{CommitsMakeContents, IsGivenNight, IsSetup, VersionsAreContents}
 use Rattle.wh_core.specs.Log.{Deed, Log, Began, Drew, Finished, Paged_in, Committed, Gave_up, Sat_down, Turned, Left, nights_begun, is_open, draws, ends, pages, holding}
 use Rattle.wh_core.specs.Nights.{GivenNight, Setup, next_night, night, night_from, last_night, page_in_turn, published, turn, turn_in, versions}

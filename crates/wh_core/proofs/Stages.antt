@@ -4,10 +4,10 @@ use Rattle.std.specs.List.{flat_map}
 use Rattle.std.proofs.lemmas.List.{append-nil, append_assoc}
 use Rattle.wh_strategy.specs.declared.expression.Expression.{Expression}
 use Rattle.wh_strategy.specs.declared.expression.Expression.TheVariants.{Comp, Inst}
-use Rattle.wh_night.specs.declared.stages.Job.{Job}
-use Rattle.wh_night.specs.declared.stages.Stage.{Stage}
-use Rattle.wh_night.specs.declared.stages.Stage.TheVariants as stage
-use Rattle.wh_night.specs.Waves.{comp_of, expressions_of, is_target_among, stages_after, wave_of}
+use Rattle.wh_carry.specs.declared.stages.Job.{Job}
+use Rattle.wh_carry.specs.declared.stages.Stage.{Stage}
+use Rattle.wh_carry.specs.declared.stages.Stage.TheVariants as stage
+use Rattle.wh_carry.specs.Waves.{comp_of, expressions_of, is_target_among, stages_after, wave_of}
 
 joined-append : (a b : List Stage) → flat_map expressions_of (a ++ b) ≡ flat_map expressions_of a ++ flat_map expressions_of b
 joined-append [] b = refl

@@ -11,11 +11,11 @@ use Rattle.wh_dag.specs.Shape.{Distinct, has}
 use Rattle.wh_maint.specs.declared.fault.MaintFault.{MaintFault}
 use Rattle.wh_store.specs.declared.operation.Op.{Op}
 use Rattle.wh_store.specs.Operations.{Operation, Writes, operation}
-use Rattle.wh_course.specs.declared.course.Part.{Part}
-use Rattle.wh_course.specs.declared.course.Part.TheVariants as part
-use Rattle.wh_course.specs.Night.{Night, ArePassedAt, IsPassedAt, IsFaultAt, IsFirstFaultOf, places_from}
-use Rattle.wh_course.specs.Legs.{Leg, Wave, Page, Turn, In_wave, At_page, Over, legs_of, turn_of, carried_up_to}
-use Rattle.wh_course.specs.Course.{AreParts, IsOutcome, IsPart, IsStop, is_passed, start_of, end_of}
+use Rattle.wh_carry.specs.declared.course.Part.{Part}
+use Rattle.wh_carry.specs.declared.course.Part.TheVariants as part
+use Rattle.wh_carry.specs.Night.{Night, ArePassedAt, IsPassedAt, IsFaultAt, IsFirstFaultOf, places_from}
+use Rattle.wh_carry.specs.Legs.{Leg, Wave, Page, Turn, In_wave, At_page, Over, legs_of, turn_of, carried_up_to}
+use Rattle.wh_carry.specs.Course.{AreParts, IsOutcome, IsPart, IsStop, is_passed, start_of, end_of}
 use Rattle.wh_core.specs.declared.reply.Cause.{Cause}
 use Rattle.wh_core.specs.declared.reply.Cause.TheVariants as cause
 use Rattle.wh_core.specs.declared.reply.Reply.{Reply}

@@ -7,8 +7,8 @@ use Rattle.wh_dag.specs.Shape.{Distinct, has}
 use Rattle.wh_maint.specs.declared.fault.MaintFault.{MaintFault}
 use Rattle.wh_store.specs.Pages.{page_of}
 use Rattle.wh_store.specs.Versions.{is_active, is_unexpired, number, table_of, version}
-use Rattle.wh_course.specs.Night.{Night, ArePassedAt, IsFaultAt, IsFirstFaultOf, IsPassedAt, places_from, AreAllowed}
-use Rattle.wh_course.specs.Legs.{Leg, Wave, Turn, In_wave, At_page, Over, legs_of, carried_up_to, turn_of}
+use Rattle.wh_carry.specs.Night.{Night, ArePassedAt, IsFaultAt, IsFirstFaultOf, IsPassedAt, places_from, AreAllowed}
+use Rattle.wh_carry.specs.Legs.{Leg, Wave, Turn, In_wave, At_page, Over, legs_of, carried_up_to, turn_of}
 use Rattle.wh_core.specs.declared.event.Event.{Event}
 use Rattle.wh_core.specs.declared.event.Event.TheVariants.{Begin, Take, Done, PageIn, Commit, GiveUp, Open, Read, Close}
 use Rattle.wh_core.specs.declared.reply.Cause.{Cause}

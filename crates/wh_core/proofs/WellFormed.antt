@@ -19,19 +19,19 @@ use Rattle.wh_maint.specs.Definition.{graph_of}
 use Rattle.wh_maint.specs.Laws.{changed}
 use Rattle.wh_maint.specs.View.{IsViewGraph, ViewGraph}
 use Rattle.wh_maint.proofs.FromScratch.{catalogs_are_graphs, contents_are_values, values_are_tables}
-use Rattle.wh_night.specs.Carry.{State, at_first, before, carried, change_in, step, tables_after}
-use Rattle.wh_night.specs.NightList.{inst_pages, night_below, puts_of}
-use Rattle.wh_night.specs.Refused.{AreAllowedBelow}
-use Rattle.wh_night.proofs.NewCounts.{new_counts_make_tables}
-use Rattle.wh_night.proofs.NewValues.{changed_base, passed_have_values}
-use Rattle.wh_night.proofs.Prefixes.{place_within}
-use Rattle.wh_night.proofs.Stands.{strategies_end_in_views}
-use Rattle.wh_night.proofs.StepRows.{table_at}
+use Rattle.wh_carry.specs.Carry.{State, at_first, before, carried, change_in, step, tables_after}
+use Rattle.wh_carry.specs.NightList.{inst_pages, night_below, puts_of}
+use Rattle.wh_carry.specs.Refused.{AreAllowedBelow}
+use Rattle.wh_carry.proofs.NewCounts.{new_counts_make_tables}
+use Rattle.wh_carry.proofs.NewValues.{changed_base, passed_have_values}
+use Rattle.wh_carry.proofs.Prefixes.{place_within}
+use Rattle.wh_carry.proofs.Stands.{strategies_end_in_views}
+use Rattle.wh_carry.proofs.StepRows.{table_at}
 use Rattle.wh_store.specs.Laws.{VersionsStay}
 use Rattle.wh_store.specs.Operations.{Operation, Opens, Writes, Commits, Gives_up}
 use Rattle.wh_store.specs.Pages.{is_page}
 use Rattle.wh_store.specs.Versions.{is_well_formed, is_well_formed_from, may_come, opens}
-use Rattle.wh_course.specs.Legs.{Turn, In_wave, At_page, Over}
+use Rattle.wh_carry.specs.Legs.{Turn, In_wave, At_page, Over}
 use Rattle.wh_core.specs.Laws.{IsSetup, PublishedAreWellFormed}
 use Rattle.wh_core.specs.Log.{Log, Began, Drew, Finished, Paged_in, Committed, Gave_up, Sat_down, Turned, Left, nights_begun, is_open, draws, ends, pages, holding}
 use Rattle.wh_core.specs.Nights.{GivenNight, Setup, night, last_night, page_in_turn, published, turn_in, versions}

@@ -15,10 +15,10 @@ use Rattle.wh_maint.specs.Contents.{AreContents}
 use Rattle.wh_maint.specs.Definition.{graph_of}
 use Rattle.wh_maint.specs.declared.fault.MaintFault.{MaintFault}
 use Rattle.wh_maint.specs.declared.fault.MaintFault.TheVariants as fault
-use Rattle.wh_night.specs.Refused.{AreAllowedBelow, IsBaseFault}
+use Rattle.wh_carry.specs.Refused.{AreAllowedBelow, IsBaseFault}
 use Rattle.wh_store.specs.Pages.{Contents}
 use Rattle.wh_store.specs.Versions.{number, version, versions_of}
-use Rattle.wh_course.specs.Night.{Night, AreAllowed}
+use Rattle.wh_carry.specs.Night.{Night, AreAllowed}
 use Rattle.wh_core.specs.declared.event.Event.TheVariants as event
 use Rattle.wh_core.specs.declared.machine.Machine.{Machine}
 use Rattle.wh_core.specs.declared.reply.Cause.TheVariants as cause

@@ -17,8 +17,8 @@ use Rattle.wh_strategy.specs.Expression.{At}
 use Rattle.wh_store.specs.Operations.{Operation, Opens, Writes, Commits, Gives_up}
 use Rattle.wh_store.specs.Pages.{Contents, with_counts}
 use Rattle.wh_store.specs.Versions.{Versions, after, table_in, versions_from, written_over}
-use Rattle.wh_night.specs.Carry.{State, carried, change_in, step}
-use Rattle.wh_night.specs.NightList.{inst_pages, new_counts, pages_of, pages_within, puts_of}
+use Rattle.wh_carry.specs.Carry.{State, carried, change_in, step}
+use Rattle.wh_carry.specs.NightList.{inst_pages, new_counts, pages_of, pages_within, puts_of}
 use Rattle.wh_core.proofs.Underway.{versions_from-append}
 
 -- ---- pages joined are the rows

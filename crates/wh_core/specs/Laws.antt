@@ -15,13 +15,13 @@ use Rattle.wh_maint.specs.Definition.{graph_of}
 use Rattle.wh_maint.specs.Laws.{changed}
 use Rattle.wh_maint.specs.declared.fault.MaintFault.{MaintFault}
 use Rattle.wh_row.specs.Weigh.{Counted}
-use Rattle.wh_night.specs.NightList.{IsBeginning, IsCutNight, IsNightList}
-use Rattle.wh_night.specs.Refused.{IsBaseFault}
+use Rattle.wh_carry.specs.NightList.{IsBeginning, IsCutNight, IsNightList}
+use Rattle.wh_carry.specs.Refused.{IsBaseFault}
 use Rattle.wh_store.specs.Operations.{Operation, Commits}
 use Rattle.wh_store.specs.Pages.{Shown}
 use Rattle.wh_store.specs.Versions.{is_well_formed, number, table_of, version, versions_of}
-use Rattle.wh_course.specs.Night.{Night, IsFaultAt, IsPassedAt, AreAllowed}
-use Rattle.wh_course.specs.Legs.{Turn, In_wave, At_page, Over}
+use Rattle.wh_carry.specs.Night.{Night, IsFaultAt, IsPassedAt, AreAllowed}
+use Rattle.wh_carry.specs.Legs.{Turn, In_wave, At_page, Over}
 use Rattle.wh_core.specs.Log.{Deed, Log, Began, Drew, Finished, Paged_in, Committed, Gave_up, Sat_down, Turned, Left, SessionOf, holding, is_open, logged, nights_begun, pages, session}
 use Rattle.wh_core.specs.Nights.{GivenNight, Setup, next_night, night, night_from, published, turn, versions}
 use Rattle.wh_core.specs.declared.event.Event.{Event}

@@ -7,8 +7,8 @@ use Rattle.wh_maint.specs.Comp.{bag_at}
 use Rattle.wh_store.specs.Operations.{Operation, Opens, Writes, Commits, Gives_up}
 use Rattle.wh_store.specs.Pages.{Contents}
 use Rattle.wh_store.specs.Versions.{Versions, versions_of}
-use Rattle.wh_course.specs.Night.{Night}
-use Rattle.wh_course.specs.Legs.{Turn, In_wave, At_page, Over, legs_of, turn_of}
+use Rattle.wh_carry.specs.Night.{Night}
+use Rattle.wh_carry.specs.Legs.{Turn, In_wave, At_page, Over, legs_of, turn_of}
 use Rattle.wh_core.specs.Log.{Log, Began, Drew, Finished, Paged_in, Committed, Gave_up, Sat_down, Turned, Left, nights_begun, draws, ends, pages}
 
 -- the changes of the base views that a night brings, and the strategy that carries them out

@@ -4,11 +4,11 @@ use Rattle.wh_dag.specs.Catalog.{CatalogOf}
 use Rattle.wh_row.specs.Row.{Row}
 use Rattle.wh_maint.specs.declared.fault.MaintFault.{MaintFault}
 use Rattle.wh_maint.specs.declared.fault.MaintFault.TheVariants as fault
-use Rattle.wh_night.specs.Refused.{IsBaseFault}
+use Rattle.wh_carry.specs.Refused.{IsBaseFault}
 use Rattle.wh_store.specs.Pages.{Contents, Shown, page_of}
 use Rattle.wh_store.specs.Versions.{Versions, number, is_active, is_unexpired, version, table_of}
-use Rattle.wh_course.specs.Night.{Night, ArePassedAt, IsFirstFaultOf, places_from, AreAllowed}
-use Rattle.wh_course.specs.Legs.{Turn, In_wave, At_page, Over, legs_of, turn_of, carried_up_to}
+use Rattle.wh_carry.specs.Night.{Night, ArePassedAt, IsFirstFaultOf, places_from, AreAllowed}
+use Rattle.wh_carry.specs.Legs.{Turn, In_wave, At_page, Over, legs_of, turn_of, carried_up_to}
 use Rattle.wh_core.specs.declared.event.Event.{Event}
 use Rattle.wh_core.specs.declared.event.Event.TheVariants.{Begin, Take, Done, PageIn, Commit, GiveUp, Open, Read, Close}
 use Rattle.wh_core.specs.declared.reply.Cause.{Cause}

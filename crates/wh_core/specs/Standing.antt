@@ -5,10 +5,10 @@ use Rattle.wh_strategy.specs.Rules.{Judged}
 use Rattle.wh_row.specs.Bag.{Bag}
 use Rattle.wh_maint.specs.declared.fault.MaintFault.{MaintFault}
 use Rattle.wh_store.specs.Windows.{Shows}
-use Rattle.wh_course.specs.declared.course.Part.{Part}
-use Rattle.wh_course.specs.Night.{Night}
-use Rattle.wh_course.specs.Legs.{Leg, Wave, Page, legs_of, turn_of}
-use Rattle.wh_course.specs.Course.{AreParts}
+use Rattle.wh_carry.specs.declared.course.Part.{Part}
+use Rattle.wh_carry.specs.Night.{Night}
+use Rattle.wh_carry.specs.Legs.{Leg, Wave, Page, legs_of, turn_of}
+use Rattle.wh_carry.specs.Course.{AreParts}
 use Rattle.wh_core.specs.declared.session.Mark.{Mark}
 use Rattle.wh_core.specs.declared.session.Seat.{Seat}
 use Rattle.wh_core.specs.declared.machine.Machine.{Machine}

@@ -3,7 +3,7 @@
 ghost use Rattle.wh_core.specs.Headline.{RunsComeTrue};
 ghost use Rattle.wh_core.specs.Laws.{CommitsMakeContents, JobsAreDrawnOnce, PublishedAreNights, PublishedAreWellFormed, RefusalsAreToldInTurn, RepliesAreOne, RunsLeaveLegalLogs, SessionsReadTables, VersionsAreContents, WorkersDoTheirJobs};
 
-use wh_night::passed_expressions_have_values;
+use wh_carry::passed_expressions_have_values;
 use wh_store::{pages_join_law, versions_stay_law};
 
 /// The pages that an open session has read of a view, from its beginning up to a last page, are the view's whole table in

@@ -15,10 +15,9 @@ use crate::laws::{runs_come_true, versions_are_contents};
 use crate::machine::Machine;
 use crate::reply::{Cause, Reply, cause_of};
 use std::alloc::{AllocError, Global};
-use wh_course::course_of;
+use wh_carry::{contents_are_fit_for_nights, course_of};
 use wh_dag::Catalog;
 use wh_formula::{RowTest, RowValue};
-use wh_night::contents_are_fit_for_nights;
 use wh_row::Bag;
 use wh_strategy::Correct;
 

@@ -9,7 +9,7 @@ use Rattle.wh_store.specs.Operations.{Operation, operation, Opens, Writes, Commi
 use Rattle.wh_store.specs.Refusals.{refusal}
 use Rattle.wh_store.specs.Versions.{versions_of}
 use Rattle.wh_store.specs.Windows.{Shows, Window, applied, window}
-use Rattle.wh_publish.specs.Ledgers.{window_in}
+use Rattle.wh_store.specs.Ledgers.{window_in}
 use Rattle.wh_desk.specs.declared.kept.Kept.{Kept}
 use Rattle.wh_desk.specs.declared.kept.Publication.{Publication}
 use Rattle.wh_desk.specs.Known.{Begins, IsStory, Known, known}

@@ -1,8 +1,8 @@
 -- What waits in a writer.
 use Rattle.std.proofs.Common.{◌≡◌, true, false, Bool, IsTrue, ◌↔◌, ◌<◌, List, [], ◌∷◌, ◌++◌, fold, drop, length, Option, Some, None, Result, Ok, Err, MatchResult, refl, ap, sym, subst, ◌∙◌, arith}
 use Rattle.wh_store.specs.Laws.{WellFormedGoesOn, WindowsFollow}
-use Rattle.wh_publish.specs.Ledgers.{ledger, with_held}
-use Rattle.wh_publish.specs.declared.ended.Ended.{Ended}
+use Rattle.wh_store.specs.Ledgers.{ledger, with_held}
+use Rattle.wh_store.specs.declared.ended.Ended.{Ended}
 use Rattle.wh_desk.specs.declared.inner.Inner.{Inner}
 use Rattle.wh_desk.specs.declared.kept.Kept.{Kept}
 use Rattle.wh_desk.specs.declared.kept.Publication.{Publication}

@@ -7,7 +7,7 @@ use Rattle.wh_row.specs.Row.{Row}
 use Rattle.wh_store.specs.Operations.{Operation}
 use Rattle.wh_store.specs.Pages.{Shown, page_of}
 use Rattle.wh_store.specs.Versions.{Versions, is_active, is_unexpired, is_well_formed, number, table_of, version}
-use Rattle.wh_publish.specs.Ledgers.{Warehouse, versions_in}
+use Rattle.wh_store.specs.Ledgers.{Warehouse, versions_in}
 use Rattle.wh_desk.specs.declared.chair.Chair.{Chair}
 use Rattle.wh_desk.specs.declared.chair.DeskFault.{DeskFault}
 use Rattle.wh_desk.specs.declared.chair.DeskFault.TheVariants.{NoSession, SessionOpen, Expired, NoView, Memory, Away}

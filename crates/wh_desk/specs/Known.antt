@@ -5,7 +5,7 @@ use Rattle.logbook.specs.Pages.{Book}
 use Rattle.wh_store.specs.Operations.{Operation, operation}
 use Rattle.wh_store.specs.Versions.{is_well_formed}
 use Rattle.wh_store.specs.Windows.{current}
-use Rattle.wh_publish.specs.Ledgers.{Warehouse}
+use Rattle.wh_store.specs.Ledgers.{Warehouse}
 use Rattle.wh_desk.specs.declared.history.Chapter.{Chapter}
 use Rattle.wh_desk.specs.declared.history.Chapter.TheVariants.{Opened, Done}
 

@@ -3,7 +3,7 @@ use Rattle.std.specs.Prelude.{◌≡◌, List, [], ◌∷◌, ◌++◌, Option, 
 use Rattle.wh_store.specs.Operations.{operation}
 use Rattle.wh_store.specs.Refusals.{refusal}
 use Rattle.wh_store.specs.Windows.{applied}
-use Rattle.wh_publish.specs.Ledgers.{window_in}
+use Rattle.wh_store.specs.Ledgers.{window_in}
 use Rattle.wh_desk.specs.declared.kept.Kept.{Kept}
 use Rattle.wh_desk.specs.declared.kept.Publication.{Publication}
 use Rattle.wh_desk.specs.Known.{Known, known, Begins, IsStory}

@@ -2,7 +2,7 @@
 use Rattle.std.specs.Prelude.{List, [], ◌∷◌, ◌++◌, drop, Option, Some, None}
 use Rattle.logbook.specs.Pages.{Book}
 use Rattle.wh_store.specs.Operations.{Operation, operation}
-use Rattle.wh_publish.specs.Ledgers.{Ledger, ledger}
+use Rattle.wh_store.specs.Ledgers.{Ledger, ledger}
 use Rattle.wh_desk.specs.declared.inner.Inner.{Inner}
 use Rattle.wh_desk.specs.declared.kept.Kept.{Kept}
 use Rattle.wh_desk.specs.declared.kept.Publication.{Publication}

@@ -4,7 +4,7 @@ ghost use Rattle.std.specs.Prelude.{◌≡◌, ◌⊎◌, ◌≤◌, None, Some,
 ghost use mathlib.Core.List.{IsPrefix};
 ghost use Rattle.left_right.specs.Sides.{view};
 ghost use Rattle.wh_store.specs.Versions.{number};
-ghost use Rattle.wh_publish.specs.Ledgers.{versions_in};
+ghost use Rattle.wh_store.specs.Ledgers.{versions_in};
 ghost use Rattle.wh_desk.specs.Known.{Begins};
 ghost use Rattle.wh_desk.specs.Rules.{IsCopy};
 ghost use Rattle.wh_desk.specs.Desks.{sitting, sitting_of, Grows, IsPage, NoPage, OpensAt, NotOpened, Reads, NotRead, ShowsRows};

@@ -3,7 +3,7 @@
 use crate::history::History;
 use crate::kept::Publication;
 use crate::steps::Raw;
-use wh_publish::Ended;
+use wh_store::Ended;
 
 /// The two copies, the history, and what could not be handed over to the copies.
 pub struct Inner {

@@ -4,7 +4,7 @@ ghost use Rattle.std.specs.Prelude.{◌≡◌, ◌<◌, ◌≤◌, [], None, Som
 ghost use Rattle.std.specs.List.{All};
 ghost use Rattle.left_right.specs.Sides.{view};
 ghost use Rattle.wh_store.specs.Windows.{Shows, current};
-ghost use Rattle.wh_publish.specs.Ledgers.{ledger};
+ghost use Rattle.wh_store.specs.Ledgers.{ledger};
 ghost use Rattle.wh_desk.specs.Known.{IsStory};
 ghost use Rattle.wh_desk.specs.Desks.{sitting};
 ghost use Rattle.wh_desk.specs.Writers.{writing};

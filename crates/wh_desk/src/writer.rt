@@ -5,8 +5,8 @@ ghost use Rattle.wh_row.specs.Bag.{empty};
 ghost use Rattle.wh_store.specs.Operations.{operation};
 ghost use Rattle.wh_store.specs.Refusals.{refusal};
 ghost use Rattle.wh_store.specs.Versions.{is_active, is_well_formed, number, table_in};
-ghost use Rattle.wh_publish.specs.Faults.{publish_refusal, refused, IsOkUnlessMemory, Ends, EndsLater};
-ghost use Rattle.wh_publish.specs.Ledgers.{ledger, gone_out, versions_in, with_held};
+ghost use Rattle.wh_store.specs.Faults.{publish_refusal, refused, IsOkUnlessMemory, Ends, EndsLater};
+ghost use Rattle.wh_store.specs.Ledgers.{ledger, gone_out, versions_in, with_held};
 ghost use Rattle.wh_desk.specs.Known.{IsStory, known};
 ghost use Rattle.wh_desk.specs.Rules.{IsCopy};
 ghost use Rattle.wh_desk.specs.Writers.{held_of, ledger_in, writing, writing_of};
@@ -20,9 +20,8 @@ use core::mem::replace_with;
 use std::alloc::AllocError;
 use std::marker::Model;
 use std::sync::Wait;
-use wh_publish::{Ended, Publish, PublishFault};
 use wh_row::Bag;
-use wh_store::{Op, told_law, well_formed_goes_on_law, window_law};
+use wh_store::{Ended, Op, Publish, PublishFault, told_law, well_formed_goes_on_law, window_law};
 
 /// The writer of a warehouse. Seen as the warehouse, the list that it has published and the operation that it holds. It is not dropped:
 /// end it by [`Writer::end`].
@@ -267,7 +266,7 @@ impl Writer {
 
     /// Publishes what is held, and then gives up the night that is open, if one is. After want of memory, which is met only where there
     /// is something to publish, what was held may have gone out, and the end of the night may be held.
-    #[tactic(auto, using(wh_publish::proofs::Idle::idle_ends))]
+    #[tactic(auto, using(wh_store::proofs::Idle::idle_ends))]
     pub fn give_up<R: Wait>(&mut self, rt: &R) -> Result<Ended, AllocError>
         ensures book { self.new.book ≡ self.old.book }
         ensures ends { MatchResult result (Ends self.old.ledger self.new.ledger) (λ _. EndsLater self.old.ledger self.new.ledger) }
@@ -316,7 +315,7 @@ impl Writer {
     }
 
     /// How many views there are: every version has a table for each.
-    #[tactic(auto, using(wh_publish::proofs::Views::newest_tables))]
+    #[tactic(auto, using(wh_store::proofs::Views::newest_tables))]
     pub fn views(&self) -> usize
         ensures opening { result ≡ length self.now.ledger.of.opening }
         ensures newest { result ≡ length (versions_in self.now.ledger.of self.now.ledger.list).newest }

@@ -1,1 +1,6 @@
 pub mod Interleaved
+pub mod Answered
+mod Told
+mod SeenAlike
+mod Logs
+mod GoOn

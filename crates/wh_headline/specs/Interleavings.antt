@@ -6,7 +6,7 @@ use Rattle.wh_maint.specs.Definition.{graph_of}
 use Rattle.wh_maint.specs.Laws.{changed}
 use Rattle.wh_store.specs.Pages.{Contents}
 use Rattle.wh_store.specs.Versions.{number, version}
-use Rattle.wh_course.specs.Night.{Night}
+use Rattle.wh_carry.specs.Night.{Night}
 use Rattle.wh_core.specs.declared.event.Event.{Event}
 use Rattle.wh_core.specs.declared.reply.Reply.{Reply}
 use Rattle.wh_core.specs.Laws.{IsSetup, ReadsTable, log_after, pages_read}

@@ -1,1 +1,4 @@
 pub mod Interleavings
+pub mod Alike
+pub mod RunningNights
+pub mod Told

@@ -1,9 +1,14 @@
 //! What the whole comes to: a warehouse's events from the first to the last, by one call whose contract needs no more than what a
-//! catalogue's views are, and a law that joins those of the crates below.
+//! catalogue's views are, a law that joins those of the crates below, and what desks beside running nights answer.
 #![tactic(auto)]
 
+mod desks;
 mod events;
 mod laws;
 
+pub use desks::{
+    desks_answer_as_the_machine, desks_beside_nights_answer_as_the_machine, nights_go_on,
+    running_nights_have_a_log, told_pages_are_of_contents,
+};
 pub use events::carry_out;
 pub use laws::however_steps_interleave;

@@ -3,9 +3,9 @@ use Rattle.std.proofs.Common.{◌≡◌, ℕ, suc, ◌+◌, ◌-◌, ◌<◌, Li
 use Rattle.std.specs.Prelude.{Result, Ok, Err}
 use Rattle.wh_text.specs.declared.fault.LoadFault.{LoadFault}
 use Rattle.wh_text.specs.declared.fault.LoadFault.TheVariants.{Memory}
-use Rattle.wh_bundle.specs.declared.bundle.heading.Heading.TheVariants as heading
-use Rattle.wh_bundle.specs.declared.bundle.part.Part.{Part}
-use Rattle.wh_catalogue_text.specs.Catalogue.{◌>>=◌}
+use Rattle.wh_text_bundle.specs.declared.bundle.heading.Heading.TheVariants as heading
+use Rattle.wh_text_bundle.specs.declared.bundle.part.Part.{Part}
+use Rattle.wh_text_catalogue.specs.Catalogue.{◌>>=◌}
 use Rattle.wh_load.specs.ReadingParts.{text_in}
 use Rattle.wh_load.specs.ReadingReplay.{strategies_after, strategies_in}
 

@@ -11,14 +11,14 @@ use Rattle.wh_dag.specs.Written.{name_of}
 use Rattle.wh_text.specs.Columns.{NamedKind}
 use Rattle.wh_text.specs.declared.fault.LoadFault.{LoadFault}
 use Rattle.wh_text.specs.declared.fault.LoadFault.TheVariants as fault
-use Rattle.wh_bundle.specs.Heading.{word_of}
-use Rattle.wh_bundle.specs.Text.{text_of}
-use Rattle.wh_bundle.specs.declared.bundle.heading.Heading.TheVariants as heading
-use Rattle.wh_bundle.specs.declared.bundle.part.Part.{Part}
-use Rattle.wh_catalogue_text.specs.Catalogue.{◌>>=◌, shape_of}
-use Rattle.wh_catalogue_text.specs.Definitions.{ViewOf, definitions_of}
-use Rattle.wh_catalogue_text.specs.FormulaKinds.{Texts}
-use Rattle.wh_table_text.proofs.TablesRead.{answer-table, answer-width}
+use Rattle.wh_text_bundle.specs.Heading.{word_of}
+use Rattle.wh_text_bundle.specs.Text.{text_of}
+use Rattle.wh_text_bundle.specs.declared.bundle.heading.Heading.TheVariants as heading
+use Rattle.wh_text_bundle.specs.declared.bundle.part.Part.{Part}
+use Rattle.wh_text_catalogue.specs.Catalogue.{◌>>=◌, shape_of}
+use Rattle.wh_text_catalogue.specs.Definitions.{ViewOf, definitions_of}
+use Rattle.wh_text_catalogue.specs.FormulaKinds.{Texts}
+use Rattle.wh_text_tables.proofs.TablesRead.{answer-table, answer-width}
 use Rattle.wh_load.specs.ReadingNight.{AreReadRows, ChangeRows, IsTableIfTable, Night, Rows, TableRows, first_stray, is_stray, night_in, night_over, rows_after, rows_found, rows_of, rows_written}
 use Rattle.wh_load.specs.ReadingParts.{text_in}
 

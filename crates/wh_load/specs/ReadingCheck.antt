@@ -1,12 +1,12 @@
 -- What a bundle gives to be checked: its views, their sizes, and a strategy.
 use Rattle.std.specs.Prelude.{ℕ, List, Result, Ok}
 use Rattle.wh_text.specs.declared.fault.LoadFault.{LoadFault}
-use Rattle.wh_bundle.specs.declared.bundle.fault.Nights.TheVariants as nights
-use Rattle.wh_bundle.specs.declared.bundle.heading.Heading.TheVariants as heading
-use Rattle.wh_bundle.specs.declared.bundle.part.Part.{Part}
-use Rattle.wh_catalogue_text.specs.Catalogue.{◌>>=◌, shape_of}
-use Rattle.wh_table_text.specs.SizesText.{sizes_of_text}
-use Rattle.wh_plan_text.specs.StrategyText.{strategy_of}
+use Rattle.wh_text_bundle.specs.declared.bundle.fault.Nights.TheVariants as nights
+use Rattle.wh_text_bundle.specs.declared.bundle.heading.Heading.TheVariants as heading
+use Rattle.wh_text_bundle.specs.declared.bundle.part.Part.{Part}
+use Rattle.wh_text_catalogue.specs.Catalogue.{◌>>=◌, shape_of}
+use Rattle.wh_text_tables.specs.SizesText.{sizes_of_text}
+use Rattle.wh_text_lines.specs.StrategyText.{strategy_of}
 use Rattle.wh_load.specs.ReadingParts.{parts_in, text_in}
 use Rattle.wh_load.specs.ReadingPlan.{Measured, MeasuredTexts, measured_texts_in}
 use Rattle.wh_strategy.specs.declared.expression.Expression.{Expression}

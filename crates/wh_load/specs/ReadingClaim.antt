@@ -1,12 +1,12 @@
 -- What a bundle gives to be certified: its views, their sizes, and a plan.
 use Rattle.std.specs.Prelude.{ℕ, List, Result, Ok}
 use Rattle.wh_text.specs.declared.fault.LoadFault.{LoadFault}
-use Rattle.wh_bundle.specs.declared.bundle.fault.Nights.TheVariants as nights
-use Rattle.wh_bundle.specs.declared.bundle.heading.Heading.TheVariants as heading
-use Rattle.wh_bundle.specs.declared.bundle.part.Part.{Part}
-use Rattle.wh_catalogue_text.specs.Catalogue.{◌>>=◌}
-use Rattle.wh_plan_text.specs.PlanText.{plan_of}
-use Rattle.wh_plan_text.specs.declared.plan.Plan.{Plan}
+use Rattle.wh_text_bundle.specs.declared.bundle.fault.Nights.TheVariants as nights
+use Rattle.wh_text_bundle.specs.declared.bundle.heading.Heading.TheVariants as heading
+use Rattle.wh_text_bundle.specs.declared.bundle.part.Part.{Part}
+use Rattle.wh_text_catalogue.specs.Catalogue.{◌>>=◌}
+use Rattle.wh_text_lines.specs.PlanText.{plan_of}
+use Rattle.wh_text_lines.specs.declared.plan.Plan.{Plan}
 use Rattle.wh_load.specs.ReadingParts.{parts_in, text_in}
 use Rattle.wh_load.specs.ReadingPlan.{Measured, MeasuredTexts, measured_in, measured_texts_in}
 

@@ -7,20 +7,20 @@ use Rattle.wh_row.specs.Bag.{Bag, HasWidth, IsTable, empty}
 use Rattle.wh_text.specs.Columns.{NamedKind}
 use Rattle.wh_text.specs.declared.fault.LoadFault.{LoadFault}
 use Rattle.wh_text.specs.declared.fault.LoadFault.TheVariants as fault
-use Rattle.wh_bundle.specs.Find.{found}
-use Rattle.wh_bundle.specs.Heading.{word_of}
-use Rattle.wh_bundle.specs.Text.{text_of}
-use Rattle.wh_bundle.specs.declared.bundle.fault.Nights.TheVariants as nights
-use Rattle.wh_bundle.specs.declared.bundle.heading.Heading.{Heading}
-use Rattle.wh_bundle.specs.declared.bundle.heading.Heading.TheVariants as heading
-use Rattle.wh_bundle.specs.declared.bundle.part.Part.{Part}
-use Rattle.wh_catalogue_text.specs.Catalogue.{◌>>=◌, shape_of}
-use Rattle.wh_catalogue_text.specs.Definitions.{ViewOf, definitions_of}
-use Rattle.wh_catalogue_text.specs.FormulaKinds.{Texts}
-use Rattle.wh_catalogue_text.specs.ReadCatalog.{AreDefinitions, catalog_of}
-use Rattle.wh_table_text.specs.TableRead.{changes_give, table_gives}
-use Rattle.wh_table_text.specs.TableText.{or_fault}
-use Rattle.wh_plan_text.specs.StrategyText.{strategy_of}
+use Rattle.wh_text_bundle.specs.Find.{found}
+use Rattle.wh_text_bundle.specs.Heading.{word_of}
+use Rattle.wh_text_bundle.specs.Text.{text_of}
+use Rattle.wh_text_bundle.specs.declared.bundle.fault.Nights.TheVariants as nights
+use Rattle.wh_text_bundle.specs.declared.bundle.heading.Heading.{Heading}
+use Rattle.wh_text_bundle.specs.declared.bundle.heading.Heading.TheVariants as heading
+use Rattle.wh_text_bundle.specs.declared.bundle.part.Part.{Part}
+use Rattle.wh_text_catalogue.specs.Catalogue.{◌>>=◌, shape_of}
+use Rattle.wh_text_catalogue.specs.Definitions.{ViewOf, definitions_of}
+use Rattle.wh_text_catalogue.specs.FormulaKinds.{Texts}
+use Rattle.wh_text_catalogue.specs.ReadCatalog.{AreDefinitions, catalog_of}
+use Rattle.wh_text_tables.specs.TableRead.{changes_give, table_gives}
+use Rattle.wh_text_tables.specs.TableText.{or_fault}
+use Rattle.wh_text_lines.specs.StrategyText.{strategy_of}
 use Rattle.wh_load.specs.ReadingParts.{parts_in, text_in}
 use Rattle.wh_strategy.specs.declared.expression.Expression.{Expression}
 

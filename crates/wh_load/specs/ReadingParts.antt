@@ -2,13 +2,13 @@
 use Rattle.std.specs.Prelude.{ℕ, List, Option, Some, None, Result, Ok, Err, ok_or, option_map}
 use Rattle.wh_text.specs.declared.fault.LoadFault.{LoadFault}
 use Rattle.wh_text.specs.declared.fault.LoadFault.TheVariants as fault
-use Rattle.wh_bundle.specs.Bundle.{fault_of, parts_of}
-use Rattle.wh_bundle.specs.Find.{found}
-use Rattle.wh_bundle.specs.Heading.{word_of}
-use Rattle.wh_bundle.specs.Text.{text_of}
-use Rattle.wh_bundle.specs.declared.bundle.fault.Nights.{Nights}
-use Rattle.wh_bundle.specs.declared.bundle.heading.Heading.{Heading}
-use Rattle.wh_bundle.specs.declared.bundle.part.Part.{Part}
+use Rattle.wh_text_bundle.specs.Bundle.{fault_of, parts_of}
+use Rattle.wh_text_bundle.specs.Find.{found}
+use Rattle.wh_text_bundle.specs.Heading.{word_of}
+use Rattle.wh_text_bundle.specs.Text.{text_of}
+use Rattle.wh_text_bundle.specs.declared.bundle.fault.Nights.{Nights}
+use Rattle.wh_text_bundle.specs.declared.bundle.heading.Heading.{Heading}
+use Rattle.wh_text_bundle.specs.declared.bundle.part.Part.{Part}
 
 -- the fault that names this word, else the value
 abbrev pub unless_part : {A : Type 0} → Option (List ℕ) → A → Result A LoadFault

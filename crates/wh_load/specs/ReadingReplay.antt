@@ -4,15 +4,15 @@ use Rattle.std.specs.List.{All}
 use Rattle.wh_dag.specs.Shape.{Views}
 use Rattle.wh_row.specs.Bag.{Bag}
 use Rattle.wh_text.specs.declared.fault.LoadFault.{LoadFault}
-use Rattle.wh_bundle.specs.Find.{nights_of}
-use Rattle.wh_bundle.specs.declared.bundle.fault.Nights.TheVariants as nights
-use Rattle.wh_bundle.specs.declared.bundle.heading.Heading.TheVariants as heading
-use Rattle.wh_bundle.specs.declared.bundle.part.Part.{Part}
-use Rattle.wh_catalogue_text.specs.Catalogue.{◌>>=◌, shape_of}
-use Rattle.wh_catalogue_text.specs.Definitions.{ViewOf, definitions_of}
-use Rattle.wh_catalogue_text.specs.FormulaKinds.{Texts}
-use Rattle.wh_catalogue_text.specs.ReadCatalog.{AreDefinitions}
-use Rattle.wh_plan_text.specs.ScheduleText.{ScheduleOf, schedule_of}
+use Rattle.wh_text_bundle.specs.Find.{nights_of}
+use Rattle.wh_text_bundle.specs.declared.bundle.fault.Nights.TheVariants as nights
+use Rattle.wh_text_bundle.specs.declared.bundle.heading.Heading.TheVariants as heading
+use Rattle.wh_text_bundle.specs.declared.bundle.part.Part.{Part}
+use Rattle.wh_text_catalogue.specs.Catalogue.{◌>>=◌, shape_of}
+use Rattle.wh_text_catalogue.specs.Definitions.{ViewOf, definitions_of}
+use Rattle.wh_text_catalogue.specs.FormulaKinds.{Texts}
+use Rattle.wh_text_catalogue.specs.ReadCatalog.{AreDefinitions}
+use Rattle.wh_text_lines.specs.ScheduleText.{ScheduleOf, schedule_of}
 use Rattle.wh_load.specs.ReadingNight.{AreReadRows, ChangeRows, GivenNight, Opening, TableRows, given_of, tables_of}
 use Rattle.wh_load.specs.ReadingParts.{parts_in, text_in}
 

@@ -1,6 +1,6 @@
 -- What was read, as it lies in memory.
 use Rattle.std.specs.Prelude.{map}
-use Rattle.wh_catalogue_text.specs.Definitions.{shown_view}
+use Rattle.wh_text_catalogue.specs.Definitions.{shown_view}
 use Rattle.wh_load.specs.ReadingCheck as check
 use Rattle.wh_load.specs.ReadingClaim as claim
 use Rattle.wh_load.specs.ReadingNight as night

@@ -17,21 +17,21 @@ pub use reading::inputs::{
 pub use reading::night::read_night;
 pub use reading::plan::read_planning;
 pub use reading::replay::read_replay;
-pub use wh_bundle::{
+pub use wh_text::{Column, Dict, Key, Kind, LoadFault, Names, Word};
+pub use wh_text_bundle::{
     Bundle, Heading, Nights, Part, PartFault, Piece, ReadFault, Scope, parts, read_all,
 };
-pub use wh_catalogue_text::{
+pub use wh_text_catalogue::{
     Written, WrittenDefinition, WrittenOutput, WrittenView, bases_read_back_law,
     catalogues_read_back_law, definitions_fit_law, exprs_read_back_law, filters_read_back_law,
     joins_read_back_law, outputs_read_back_law, preds_read_back_law, read_definitions, read_shape,
     rows_are_references_law, views_read_back_law,
 };
-pub use wh_plan_text::{
+pub use wh_text_lines::{
     Plan, Schedule, ScheduledEvent, line_grammar_law, plan_grammar_law, plan_reads_back_law,
     read_plan, read_schedule, read_strategy, reads_back_law, schedule_grammar_law,
     strategy_grammar_law, tree_lines_law, write_expression, write_plan, write_strategy,
 };
-pub use wh_table_text::{
+pub use wh_text_tables::{
     changes_read_back_law, read_changes, read_sizes, read_table, table_reads_back_law, write_table,
 };
-pub use wh_text::{Column, Dict, Key, Kind, LoadFault, Names, Word};

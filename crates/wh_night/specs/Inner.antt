@@ -1,5 +1,3 @@
-pub mod Kept
-pub mod Refused
-pub mod Steps
-pub mod Reasons
-pub mod Agreeing
+pub mod RefusedWaves
+pub mod Underway
+pub mod Serving

@@ -1,26 +1,32 @@
-//! Nights: a strategy that is carried out on tables.
+//! Runs a night: carries a strategy out over whatever publishes, wave by wave, alone or beside readers.
 //!
-//! [`carry`] carries out any correct strategy on one thread. From the contents of a base it ends in the contents of the
-//! new base, in which each view has a value; this is a law of all correct strategies. A caller with an order of its own
-//! goes by [`waves`], the stages of a strategy, and keeps what is done in a [`NightState`].
+//! [`night`] publishes the night list of a correct strategy, operation by operation, from the tables of the current version; readers go
+//! on meanwhile. A night that is refused once it has begun is given up. [`serve_night`] opens a warehouse, and runs a night in it
+//! while readers go through the tables of before.
 #![tactic(auto)]
 
-mod carrying;
-mod fit;
+mod alone;
+mod asked;
+mod cause;
+mod gate;
+mod insts;
 mod laws;
-mod report;
-mod stages;
-mod state;
+mod left;
+mod opening;
+mod reading;
+mod running;
+mod serving;
+mod watch;
+mod waves;
 
-pub use carrying::{base_changes, carry};
-pub use fit::are_fit;
-pub use laws::{
-    contents_are_fit_for_nights, lists_have_one_stages, new_contents_have_values,
-    new_counts_make_tables, new_rows_are_few, night_lists_end_in_contents,
-    night_lists_write_tables, passed_expressions_have_values, refusals_are_one, steps_are_summands,
-    strategies_end_in_contents, strategies_end_in_views, waves_are_side_by_side,
-    waves_have_no_order,
-};
-pub use report::{Carried, CarryFault, Report};
-pub use stages::{Job, Jobs, Stage, waves};
-pub use state::NightState;
+pub use alone::night_alone;
+pub use asked::{are_fit_for, can_run_wave};
+pub use cause::NightCause;
+pub use gate::{Gate, NoGate};
+pub use laws::nights_have_one_refusal;
+pub use left::{Left, NightFault};
+pub use opening::current_tables;
+pub use running::{Options, night};
+pub use serving::{Readers, Served, serve_night};
+pub use watch::{NoWatch, Watch};
+pub use waves::{WaveFault, run_wave};

@@ -7,3 +7,5 @@ mod VersionLaws
 mod WriteLaws
 mod FormLaws
 mod TableLaws
+pub mod Idle
+pub mod Views

@@ -1,3 +1,4 @@
 pub mod Kept
 pub mod Pages
 pub mod Windows
+pub mod Codes

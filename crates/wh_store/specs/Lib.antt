@@ -6,3 +6,5 @@ pub mod Refusals
 pub mod Kept
 pub mod Laws
 pub mod Inner
+pub mod Ledgers
+pub mod Faults

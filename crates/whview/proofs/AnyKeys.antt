@@ -2,13 +2,13 @@
 use Rattle.std.proofs.Common.{ℕ}
 use Rattle.wh_strategy.specs.declared.expression.Expression.TheVariants.{Inst}
 use Rattle.wh_maint.specs.declared.fault.MaintFault.{MaintFault}
-use Rattle.wh_night.specs.declared.stages.Stage.{Stage}
-use Rattle.wh_night.specs.declared.stages.Stage.TheVariants as stage
-use Rattle.wh_course.specs.Night.{Night}
-use Rattle.wh_course.specs.Standing.{place_behind}
-use Rattle.wh_run.specs.declared.left.Left.{Left}
-use Rattle.wh_run.specs.declared.left.Left.TheVariants.{Untouched, GivenUp, StillOpen}
-use Rattle.wh_run.specs.Refusals.{IsFirstStageFault, IsRefusedSo, IsStageFault}
+use Rattle.wh_carry.specs.declared.stages.Stage.{Stage}
+use Rattle.wh_carry.specs.declared.stages.Stage.TheVariants as stage
+use Rattle.wh_carry.specs.Night.{Night}
+use Rattle.wh_carry.specs.Standing.{place_behind}
+use Rattle.wh_night.specs.declared.left.Left.{Left}
+use Rattle.wh_night.specs.declared.left.Left.TheVariants.{Untouched, GivenUp, StillOpen}
+use Rattle.wh_night.specs.Refusals.{IsFirstStageFault, IsRefusedSo, IsStageFault}
 
 -- the same night by pages of other rows
 abbrev pub by_pages : Night → ℕ → Night

@@ -17,13 +17,13 @@ use Rattle.wh_text.specs.NameForm.{begins_name, continues_name, is_name, undersc
 use Rattle.wh_text.specs.declared.fault.Key.TheVariants as key
 use Rattle.wh_text.specs.declared.fault.LoadFault.{LoadFault}
 use Rattle.wh_text.specs.declared.fault.LoadFault.TheVariants as fault
-use Rattle.wh_catalogue_text.proofs.ShapesRead.{from_step, same_Ok, same_length}
-use Rattle.wh_catalogue_text.specs.Catalogue.{WrittenViews, document_of, judged, name_in, named, shape_of, view_over, views_of, written_views}
-use Rattle.wh_table_text.proofs.SizeLimits.{text-sizes}
-use Rattle.wh_table_text.specs.SizesText.{sizes_of_text}
-use Rattle.wh_plan_text.specs.NodeLine.{is_parting}
-use Rattle.wh_plan_text.specs.PlanReadsBack.{is_unparted}
-use Rattle.wh_plan_text.specs.ReadsBack.{is_plain}
+use Rattle.wh_text_catalogue.proofs.ShapesRead.{from_step, same_Ok, same_length}
+use Rattle.wh_text_catalogue.specs.Catalogue.{WrittenViews, document_of, judged, name_in, named, shape_of, view_over, views_of, written_views}
+use Rattle.wh_text_tables.proofs.SizeLimits.{text-sizes}
+use Rattle.wh_text_tables.specs.SizesText.{sizes_of_text}
+use Rattle.wh_text_lines.specs.NodeLine.{is_parting}
+use Rattle.wh_text_lines.specs.PlanReadsBack.{is_unparted}
+use Rattle.wh_text_lines.specs.ReadsBack.{is_plain}
 use Rattle.wh_strategy.specs.Sizes.{AreSizes}
 use Rattle.wh_strategy.specs.declared.sizes.SizeRow.{SizeRow}
 

@@ -5,7 +5,7 @@ use Rattle.std.proofs.lemmas.Bool.{cases_lt}
 use Rattle.wh_dag.specs.Catalog.{CatalogOf, IsCatalog, is_empty}
 use Rattle.wh_dag.specs.Shape.{Views, children_of}
 use Rattle.wh_row.specs.Bag.{Bag, IsTable, sum_of, empty}
-use Rattle.wh_catalogue_text.specs.ReadCatalog.{catalog_of}
+use Rattle.wh_text_catalogue.specs.ReadCatalog.{catalog_of}
 use Rattle.wh_load.specs.ReadingNight.{Night, Opening, catalog_in}
 use Rattle.wh_maint.specs.Comp.{bag_at}
 use Rattle.wh_maint.specs.Contents.{AreBaseTables, AreContents, AreContentsOf, IsFromScratch, contents}
@@ -18,21 +18,21 @@ use Rattle.wh_maint.specs.declared.fault.MaintFault.TheVariants.{Memory}
 use Rattle.wh_maint.proofs.FromScratch.{catalogs_are_graphs, contents_are_unique, contents_are_values}
 use Rattle.wh_maint.proofs.Differences.{same_tables}
 use Rattle.wh_maint.specs.Value.{view_value}
-use Rattle.wh_night.specs.Carry.{before, tables_after}
-use Rattle.wh_night.specs.Refused.{AreAllowedBelow, ArePassedBelow}
-use Rattle.wh_night.specs.Steps.{AreSteps}
-use Rattle.wh_night.specs.declared.report.CarryFault.{CarryFault}
-use Rattle.wh_night.specs.Fit.{AreFitFor}
-use Rattle.wh_night.proofs.Agreeing.{past}
-use Rattle.wh_night.proofs.FitNights.{contents_are_fit_for_nights}
-use Rattle.wh_night.proofs.NewValues.{new_contents_have_values, new_rows_are_few, passed_have_values, within}
-use Rattle.wh_night.specs.Laws.{AreFew}
+use Rattle.wh_carry.specs.Carry.{before, tables_after}
+use Rattle.wh_carry.specs.Refused.{AreAllowedBelow, ArePassedBelow}
+use Rattle.wh_carry.specs.Steps.{AreSteps}
+use Rattle.wh_carry.specs.declared.report.CarryFault.{CarryFault}
+use Rattle.wh_carry.specs.Fit.{AreFitFor}
+use Rattle.wh_carry.proofs.Agreeing.{past}
+use Rattle.wh_carry.proofs.FitNights.{contents_are_fit_for_nights}
+use Rattle.wh_carry.proofs.NewValues.{new_contents_have_values, new_rows_are_few, passed_have_values, within}
+use Rattle.wh_carry.specs.Laws.{AreFew}
 use Rattle.wh_strategy.specs.Rules.{IsCorrect}
 use Rattle.wh_strategy.specs.declared.expression.Expression.{Expression}
 use Rattle.whview.specs.Inner.FitNight.{AreReadTables}
-use Rattle.wh_run.specs.Refusals.{IsRefusedSo, left_of}
-use Rattle.wh_run.specs.Tonight.{night_over}
-use Rattle.wh_readers.specs.Serving.{rows_of}
+use Rattle.wh_night.specs.Refusals.{IsRefusedSo, left_of}
+use Rattle.wh_night.specs.Tonight.{night_over}
+use Rattle.wh_night.specs.Serving.{rows_of}
 use Rattle.whview.specs.NightOutput.{AreOpened, IsDecided, IsRefusedFrom, IsShownFrom, night_from}
 use Rattle.whview.specs.declared.night.Outcome.TheVariants.{NoContents}
 use Rattle.whview.proofs.AnyKeys.{refused_any}

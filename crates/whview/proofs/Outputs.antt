@@ -4,8 +4,8 @@ use Rattle.std.specs.Prelude.{IfOk, IfSome, IsErrOf, MatchResult, map}
 use Rattle.std.specs.Borrow.{Bor}
 use Rattle.std.specs.List.{list_any}
 use Rattle.clap.specs.Words.{fault_of}
-use Rattle.wh_bundle.specs.declared.read.ReadFault.{ReadFault}
-use Rattle.wh_bundle.specs.declared.read.ReadFault.TheVariants as reading
+use Rattle.wh_text_bundle.specs.declared.read.ReadFault.{ReadFault}
+use Rattle.wh_text_bundle.specs.declared.read.ReadFault.TheVariants as reading
 use Rattle.whview.specs.CommandFault.{FailsAs, status_of}
 use Rattle.whview.specs.CommandLine.{whview_app}
 use Rattle.whview.specs.FirstLine.{words_in, names_input}

@@ -21,14 +21,14 @@ use Rattle.wh_dag.specs.Shape.{IsShape, children_of, has}
 use Rattle.wh_dag.specs.Siblings.{have_parent, is_couple, is_sibling_pair, sibling_pairs_of, triples_below}
 use Rattle.wh_dag.specs.declared.siblings.Couple.{Couple}
 use Rattle.wh_dag.specs.declared.siblings.SiblingPair.{SiblingPair}
-use Rattle.wh_catalogue_text.proofs.ShapesRead.{from_step, is_shape, same_Ok}
-use Rattle.wh_catalogue_text.specs.Catalogue.{◌>>=◌, shape_of}
-use Rattle.wh_table_text.specs.SizesText.{sizes_of_text}
-use Rattle.wh_plan_text.proofs.PlanReadingBack.{plan_reads_back}
-use Rattle.wh_plan_text.specs.PlanText.{plan_of, plan_text}
-use Rattle.wh_plan_text.specs.declared.plan.Plan.{Plan}
-use Rattle.wh_plan_text.specs.PlanReadsBack.{IsCertificateWritable, IsNodeWithin, IsPairWithin, IsWritable}
-use Rattle.wh_plan_text.specs.ReadsBack.{IsWithin}
+use Rattle.wh_text_catalogue.proofs.ShapesRead.{from_step, is_shape, same_Ok}
+use Rattle.wh_text_catalogue.specs.Catalogue.{◌>>=◌, shape_of}
+use Rattle.wh_text_tables.specs.SizesText.{sizes_of_text}
+use Rattle.wh_text_lines.proofs.PlanReadingBack.{plan_reads_back}
+use Rattle.wh_text_lines.specs.PlanText.{plan_of, plan_text}
+use Rattle.wh_text_lines.specs.declared.plan.Plan.{Plan}
+use Rattle.wh_text_lines.specs.PlanReadsBack.{IsCertificateWritable, IsNodeWithin, IsPairWithin, IsWritable}
+use Rattle.wh_text_lines.specs.ReadsBack.{IsWithin}
 use Rattle.wh_load.specs.ReadingClaim.{claim_in, claim_of}
 use Rattle.wh_load.specs.ReadingPlan.{Measured, MeasuredTexts, measured_in, measured_of, measured_texts_of}
 use Rattle.wh_prune.specs.Plan.{accepted_for}

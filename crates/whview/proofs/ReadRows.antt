@@ -5,12 +5,12 @@ use Rattle.std.proofs.lemmas.Int.{ints}
 use Rattle.wh_row.specs.Bag.{Bag, HasWidth, IsTable, empty}
 use Rattle.wh_dag.specs.Catalog.{IsCatalog}
 use Rattle.wh_dag.specs.Shape.{Views}
-use Rattle.wh_catalogue_text.specs.Definitions.{ViewOf}
-use Rattle.wh_catalogue_text.specs.ReadCatalog.{catalog_of}
+use Rattle.wh_text_catalogue.specs.Definitions.{ViewOf}
+use Rattle.wh_text_catalogue.specs.ReadCatalog.{catalog_of}
 use Rattle.wh_load.specs.ReadingNight.{AreReadFor, AreReadRows, ChangeRows, Rows, TableRows}
 use Rattle.wh_maint.specs.Asked.{AreBags}
 use Rattle.wh_maint.specs.Comp.{bag_at}
-use Rattle.wh_night.proofs.Agreeing.{count-empty}
+use Rattle.wh_carry.proofs.Agreeing.{count-empty}
 use Rattle.whview.specs.Inner.FitNight.{AreReadTables, IsFitFor}
 
 pub none_negative : IsTable empty

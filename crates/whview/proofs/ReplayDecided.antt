@@ -12,8 +12,8 @@ use Rattle.wh_core.specs.Nights.{GivenNight as NightOfMachine, Setup}
 use Rattle.wh_core.specs.Replies.{IsLegalRun}
 use Rattle.wh_core.specs.Standing.{AreJudged, given_of, nights_of}
 use Rattle.wh_core.specs.declared.reply.Reply.{Reply}
-use Rattle.wh_catalogue_text.specs.Definitions.{ViewOf}
-use Rattle.wh_catalogue_text.specs.ReadCatalog.{catalog_of}
+use Rattle.wh_text_catalogue.specs.Definitions.{ViewOf}
+use Rattle.wh_text_catalogue.specs.ReadCatalog.{catalog_of}
 use Rattle.wh_dag.specs.Catalog.{CatalogOf, IsCatalog}
 use Rattle.wh_dag.specs.Shape.{Views}
 use Rattle.wh_load.specs.ReadingNight.{AreReadRows, ChangeRows, GivenNight, Opening}
@@ -27,7 +27,7 @@ use Rattle.wh_maint.specs.Definition.{graph_of}
 use Rattle.wh_maint.specs.Opening.{HasNoContents, HaveContentsBelow}
 use Rattle.wh_maint.specs.declared.fault.MaintFault.{MaintFault}
 use Rattle.wh_maint.specs.declared.fault.MaintFault.TheVariants.{Memory as MaintMemory}
-use Rattle.wh_plan_text.specs.ScheduleText.{ScheduleOf}
+use Rattle.wh_text_lines.specs.ScheduleText.{ScheduleOf}
 use Rattle.wh_row.specs.Bag.{Bag}
 use Rattle.wh_strategy.specs.Rules.{IsCorrect, IsFirstBroken, IsReason, Judged}
 use Rattle.wh_strategy.specs.declared.correct.CheckFault.{CheckFault}

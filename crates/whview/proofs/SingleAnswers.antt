@@ -5,9 +5,9 @@ use Rattle.clap.specs.Words.{IsAmong, Kinds, Row, Text, fault_of, first_of}
 use Rattle.clap.specs.declared.error.kind.ErrorKind.{ErrorKind}
 use Rattle.wh_dag.specs.Shape.{IsShape}
 use Rattle.wh_text.specs.declared.fault.LoadFault.{LoadFault}
-use Rattle.wh_catalogue_text.specs.Catalogue.{shape_of}
-use Rattle.wh_table_text.specs.SizesText.{sizes_of_text}
-use Rattle.wh_plan_text.specs.StrategyText.{strategy_of}
+use Rattle.wh_text_catalogue.specs.Catalogue.{shape_of}
+use Rattle.wh_text_tables.specs.SizesText.{sizes_of_text}
+use Rattle.wh_text_lines.specs.StrategyText.{strategy_of}
 use Rattle.wh_load.specs.ReadingCheck.{Inputs, check_texts_of, inputs_in, inputs_of}
 use Rattle.wh_load.specs.ReadingClaim.{Claim, claim_in, claim_of, claim_texts_of}
 use Rattle.wh_load.specs.ReadingPlan.{measured_in}
@@ -20,7 +20,7 @@ use Rattle.wh_cert.specs.Certificate.{IsJudged}
 use Rattle.wh_cert.specs.declared.certificate.Verdict.{Verdict}
 use Rattle.wh_cert.specs.declared.certificate.Verdict.TheVariants.{All, OneWay, Rejected}
 use Rattle.wh_cert.proofs.OneVerdict.{verdicts_same}
-use Rattle.wh_plan_text.specs.PlanText.{plan_of}
+use Rattle.wh_text_lines.specs.PlanText.{plan_of}
 use Rattle.whview.specs.CertifyOutput.{IsCertifyOutput, IsJudgement, IsLeastBy, broken as broken_claim, judged, other_work, verdict_status, verdict_text, work_at}
 use Rattle.whview.specs.Status.{status_number}
 use Rattle.whview.specs.CheckOutput.{IsCheckOutput, IsFaultShown, IsVerdict, broken, correct, correct_text}
@@ -35,7 +35,7 @@ use Rattle.whview.specs.OneAnswer.{AreOneAnswer, AreOneAnswerTo, AreOneLineAnswe
 use Rattle.whview.specs.Output.{AskFor, Bytes, Failed, IsCommandOutput, IsHandedOutput, IsLineAnswer, IsReadAnswer, IsRefused, IsSourceAnswer, IsWordsAnswer, Reading, ReadsInput, answered, file_of, names_a_file, not_text, refused, of_words, too_long, within}
 use Rattle.whview.specs.declared.command_line.Asked.{Asked}
 use Rattle.whview.specs.declared.command_line.Asked.TheVariants as asked
-use Rattle.wh_catalogue_text.proofs.ShapesRead.{from_step, is_shape, same_Ok}
+use Rattle.wh_text_catalogue.proofs.ShapesRead.{from_step, is_shape, same_Ok}
 
 -- ---- one verdict
 

@@ -8,15 +8,15 @@ use Rattle.wh_dag.specs.Catalog.{IsCatalog}
 use Rattle.wh_dag.specs.Shape.{IsShape, Views}
 use Rattle.wh_dag.specs.Written.{name_of}
 use Rattle.wh_text.specs.declared.fault.LoadFault.{LoadFault}
-use Rattle.wh_bundle.specs.declared.bundle.fault.Nights.TheVariants as nights
-use Rattle.wh_bundle.specs.declared.bundle.heading.Heading.TheVariants as heading
-use Rattle.wh_bundle.specs.declared.bundle.part.Part.{Part}
-use Rattle.wh_catalogue_text.proofs.DefinitionsFit.{are-definitions}
-use Rattle.wh_catalogue_text.proofs.ShapesRead.{from_step, same_Ok}
-use Rattle.wh_catalogue_text.specs.Catalogue.{shape_of}
-use Rattle.wh_catalogue_text.specs.Definitions.{ViewOf, definitions_of}
-use Rattle.wh_catalogue_text.specs.FormulaKinds.{Texts}
-use Rattle.wh_catalogue_text.specs.ReadCatalog.{catalog_of}
+use Rattle.wh_text_bundle.specs.declared.bundle.fault.Nights.TheVariants as nights
+use Rattle.wh_text_bundle.specs.declared.bundle.heading.Heading.TheVariants as heading
+use Rattle.wh_text_bundle.specs.declared.bundle.part.Part.{Part}
+use Rattle.wh_text_catalogue.proofs.DefinitionsFit.{are-definitions}
+use Rattle.wh_text_catalogue.proofs.ShapesRead.{from_step, same_Ok}
+use Rattle.wh_text_catalogue.specs.Catalogue.{shape_of}
+use Rattle.wh_text_catalogue.specs.Definitions.{ViewOf, definitions_of}
+use Rattle.wh_text_catalogue.specs.FormulaKinds.{Texts}
+use Rattle.wh_text_catalogue.specs.ReadCatalog.{catalog_of}
 use Rattle.wh_load.specs.ReadingNight.{Night, Opening, catalog_in, given_of, night_in, night_read, night_over, tables_of}
 use Rattle.wh_load.specs.ReadingParts.{parts_in, text_in}
 use Rattle.wh_maint.specs.Comp.{bag_at}
@@ -25,16 +25,16 @@ use Rattle.wh_maint.specs.Opening.{CanBeEvaluated, HasNoContents, IsEvaluateFaul
 use Rattle.wh_maint.specs.View.{ViewGraph}
 use Rattle.wh_maint.specs.declared.fault.MaintFault.{MaintFault}
 use Rattle.wh_maint.specs.declared.fault.MaintFault.TheVariants.{Absent, Large, Memory, Range}
-use Rattle.wh_night.proofs.NewValues.{within}
-use Rattle.wh_night.proofs.Prefixes.{there}
-use Rattle.wh_night.specs.Carry.{tables_after}
-use Rattle.wh_night.specs.Steps.{AreSteps}
-use Rattle.wh_night.specs.declared.report.CarryFault.{CarryFault}
+use Rattle.wh_carry.proofs.NewValues.{within}
+use Rattle.wh_carry.proofs.Prefixes.{there}
+use Rattle.wh_carry.specs.Carry.{tables_after}
+use Rattle.wh_carry.specs.Steps.{AreSteps}
+use Rattle.wh_carry.specs.declared.report.CarryFault.{CarryFault}
 use Rattle.wh_row.specs.Bag.{Bag, empty}
-use Rattle.wh_run.proofs.OneRefusal.{one_refusal as nights_have_one_refusal}
-use Rattle.wh_run.specs.Refusals.{IsRefusedSo, left_of}
-use Rattle.wh_run.specs.declared.left.Left.TheVariants.{Untouched}
-use Rattle.wh_readers.specs.Serving.{rows_of}
+use Rattle.wh_night.proofs.OneRefusal.{one_refusal as nights_have_one_refusal}
+use Rattle.wh_night.specs.Refusals.{IsRefusedSo, left_of}
+use Rattle.wh_night.specs.declared.left.Left.TheVariants.{Untouched}
+use Rattle.wh_night.specs.Serving.{rows_of}
 use Rattle.wh_strategy.proofs.Agreeing.{refused as not_correct}
 use Rattle.wh_strategy.specs.Rules.{IsCorrect}
 use Rattle.wh_strategy.specs.declared.expression.Expression.{Expression}

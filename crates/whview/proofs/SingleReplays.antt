@@ -4,14 +4,14 @@ use Rattle.std.specs.Prelude.{MatchResult}
 use Rattle.std.specs.List.{list_any}
 use Rattle.wh_dag.specs.Shape.{IsShape}
 use Rattle.wh_text.specs.declared.fault.LoadFault.{LoadFault}
-use Rattle.wh_bundle.specs.declared.bundle.fault.Nights.TheVariants as nights
-use Rattle.wh_bundle.specs.declared.bundle.heading.Heading.TheVariants as heading
-use Rattle.wh_bundle.specs.declared.bundle.part.Part.{Part}
-use Rattle.wh_catalogue_text.proofs.DefinitionsFit.{are-definitions}
-use Rattle.wh_catalogue_text.proofs.ShapesRead.{from_step, same_Ok}
-use Rattle.wh_catalogue_text.specs.Catalogue.{shape_of}
-use Rattle.wh_catalogue_text.specs.Definitions.{ViewOf, definitions_of}
-use Rattle.wh_catalogue_text.specs.FormulaKinds.{Texts}
+use Rattle.wh_text_bundle.specs.declared.bundle.fault.Nights.TheVariants as nights
+use Rattle.wh_text_bundle.specs.declared.bundle.heading.Heading.TheVariants as heading
+use Rattle.wh_text_bundle.specs.declared.bundle.part.Part.{Part}
+use Rattle.wh_text_catalogue.proofs.DefinitionsFit.{are-definitions}
+use Rattle.wh_text_catalogue.proofs.ShapesRead.{from_step, same_Ok}
+use Rattle.wh_text_catalogue.specs.Catalogue.{shape_of}
+use Rattle.wh_text_catalogue.specs.Definitions.{ViewOf, definitions_of}
+use Rattle.wh_text_catalogue.specs.FormulaKinds.{Texts}
 use Rattle.wh_core.proofs.Ones.{replies_are_one}
 use Rattle.wh_core.specs.Log.{Log, logged}
 use Rattle.wh_core.specs.Nights.{Setup}
@@ -22,7 +22,7 @@ use Rattle.wh_dag.specs.Shape.{Views}
 use Rattle.wh_load.specs.ReadingNight.{GivenNight, tables_of}
 use Rattle.wh_load.specs.ReadingParts.{parts_in, text_in}
 use Rattle.wh_load.specs.ReadingReplay.{Replay, nights_after, replay_in, replay_of, replay_over, strategies_in}
-use Rattle.wh_plan_text.specs.ScheduleText.{schedule_of}
+use Rattle.wh_text_lines.specs.ScheduleText.{schedule_of}
 use Rattle.wh_row.specs.Bag.{Bag}
 use Rattle.wh_strategy.proofs.Agreeing.{refused as not_correct}
 use Rattle.wh_strategy.specs.declared.rule.Rule.{Rule}

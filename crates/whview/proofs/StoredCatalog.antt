@@ -6,9 +6,9 @@ use Rattle.wh_dag.specs.Catalog.{DefinitionOf, IsCatalog, IsDefinition}
 use Rattle.wh_dag.specs.CatalogParts.{given_definitions, given_widths, FitTogether}
 use Rattle.wh_dag.specs.CatalogParts as parts
 use Rattle.wh_dag.proofs.Shown.{made_again, own_parts}
-use Rattle.wh_catalogue_text.specs.Definitions.{shown_view}
-use Rattle.wh_catalogue_text.specs.ReadCatalog.{catalog_of}
-use Rattle.wh_catalogue_text.specs.declared.definitions.views.WrittenView.{WrittenView}
+use Rattle.wh_text_catalogue.specs.Definitions.{shown_view}
+use Rattle.wh_text_catalogue.specs.ReadCatalog.{catalog_of}
+use Rattle.wh_text_catalogue.specs.declared.definitions.views.WrittenView.{WrittenView}
 use Rattle.whview.specs.Inner.StoredClosures.{AreSound}
 
 -- ---- loops over views

@@ -4,11 +4,11 @@ use Rattle.wh_dag.specs.Catalog.{DefinitionOf}
 use Rattle.wh_dag.specs.Shape.{Views}
 use Rattle.wh_dag.specs.Written.{name_of}
 use Rattle.wh_row.specs.Bag.{Bag}
-use Rattle.wh_catalogue_text.specs.Definitions.{ViewOf, shown_view}
-use Rattle.wh_catalogue_text.specs.FormulaKinds.{Texts}
-use Rattle.wh_table_text.specs.TableWritten.{table_text}
-use Rattle.wh_plan_text.specs.ExpressionText.{expression_text}
-use Rattle.wh_catalogue_text.specs.ReadCatalog.{catalog_of}
+use Rattle.wh_text_catalogue.specs.Definitions.{ViewOf, shown_view}
+use Rattle.wh_text_catalogue.specs.FormulaKinds.{Texts}
+use Rattle.wh_text_tables.specs.TableWritten.{table_text}
+use Rattle.wh_text_lines.specs.ExpressionText.{expression_text}
+use Rattle.wh_text_catalogue.specs.ReadCatalog.{catalog_of}
 use Rattle.wh_load.specs.ReadingNight.{Night, Opening, catalog_in, night_read}
 use Rattle.wh_maint.specs.Comp.{bag_at}
 use Rattle.wh_maint.specs.Contents.{AreContentsOf, contents}
@@ -19,13 +19,13 @@ use Rattle.wh_maint.specs.Size.{capped}
 use Rattle.wh_maint.specs.View.{ViewGraph}
 use Rattle.wh_maint.specs.declared.fault.MaintFault.{MaintFault}
 use Rattle.wh_maint.specs.declared.fault.MaintFault.TheVariants.{Absent, Large, Memory, Range}
-use Rattle.wh_night.specs.Carry.{tables_after}
-use Rattle.wh_night.specs.Refused.{AreAllowedBelow, ArePassedBelow}
-use Rattle.wh_night.specs.Steps.{AreSteps}
-use Rattle.wh_night.specs.declared.report.CarryFault.{CarryFault}
-use Rattle.wh_course.specs.Night.{Night as NightFrom}
-use Rattle.wh_run.specs.Refusals.{IsRefusedSo, left_of}
-use Rattle.wh_readers.specs.Serving.{rows_of}
+use Rattle.wh_carry.specs.Carry.{tables_after}
+use Rattle.wh_carry.specs.Refused.{AreAllowedBelow, ArePassedBelow}
+use Rattle.wh_carry.specs.Steps.{AreSteps}
+use Rattle.wh_carry.specs.declared.report.CarryFault.{CarryFault}
+use Rattle.wh_carry.specs.Night.{Night as NightFrom}
+use Rattle.wh_night.specs.Refusals.{IsRefusedSo, left_of}
+use Rattle.wh_night.specs.Serving.{rows_of}
 use Rattle.wh_strategy.specs.Rules.{IsCorrect, IsFirstBroken}
 use Rattle.wh_strategy.specs.declared.expression.Expression.{Expression}
 use Rattle.wh_strategy.specs.declared.rule.Rule.{Rule}

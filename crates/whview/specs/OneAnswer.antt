@@ -6,7 +6,7 @@ use Rattle.wh_cert.specs.declared.certificate.Scope.{Scope}
 use Rattle.wh_cert.specs.declared.certificate.Scope.TheVariants as scope
 use Rattle.wh_cert.specs.declared.tree.TreeNode.{TreeNode}
 use Rattle.wh_dag.specs.Siblings.{couples_of}
-use Rattle.wh_plan_text.specs.PlanText.{plan_text}
+use Rattle.wh_text_lines.specs.PlanText.{plan_text}
 use Rattle.wh_load.specs.ReadingPlan.{Measured, measured_of}
 use Rattle.wh_prune.specs.Plan.{IsCyclicAsDesired}
 use Rattle.wh_strategy.specs.Sizes.{sizes_of}

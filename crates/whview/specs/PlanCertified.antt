@@ -2,8 +2,8 @@
 use Rattle.std.specs.Prelude.{◌≡◌, ℕ, List, Ok}
 use Rattle.wh_cert.specs.declared.certificate.Certificate.{Certificate}
 use Rattle.wh_cert.specs.declared.certificate.Scope.{Scope}
-use Rattle.wh_plan_text.specs.PlanText.{plan_of, plan_text}
-use Rattle.wh_plan_text.specs.declared.plan.Plan.{Plan}
+use Rattle.wh_text_lines.specs.PlanText.{plan_of, plan_text}
+use Rattle.wh_text_lines.specs.declared.plan.Plan.{Plan}
 use Rattle.wh_load.specs.ReadingClaim.{Claim, ClaimTexts, claim_texts_of}
 use Rattle.wh_load.specs.ReadingPlan.{Measured, MeasuredTexts, measured_in, measured_of, measured_texts_of}
 use Rattle.wh_strategy.specs.declared.costs.Costs.{Costs}

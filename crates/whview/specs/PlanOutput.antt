@@ -5,7 +5,7 @@ use Rattle.wh_cert.specs.Certificate.{IsJudged}
 use Rattle.wh_cert.specs.declared.certificate.Certificate.{Certificate}
 use Rattle.wh_cert.specs.declared.certificate.Scope.{Scope}
 use Rattle.wh_cert.specs.declared.certificate.Scope.TheVariants.{All, OneWay}
-use Rattle.wh_plan_text.specs.PlanText.{plan_text}
+use Rattle.wh_text_lines.specs.PlanText.{plan_text}
 use Rattle.wh_load.specs.ReadingPlan.{Measured, measured_of}
 use Rattle.wh_minwork.specs.Plan.{IsAcyclicAsDesired, IsSortedAsDesired}
 use Rattle.wh_prune.specs.Plan.{IsCyclicAsDesired, IsWithinBudget, accepted_for}

@@ -3,7 +3,7 @@ use Rattle.std.specs.Prelude.{◌≡◌, ◌⊎◌, ℕ, List, [], ◌∷◌, le
 use Rattle.std.specs.List.{list_any}
 use Rattle.wh_dag.specs.Catalog.{CatalogOf}
 use Rattle.wh_row.specs.Bag.{Bag}
-use Rattle.wh_catalogue_text.specs.ReadCatalog.{catalog_of}
+use Rattle.wh_text_catalogue.specs.ReadCatalog.{catalog_of}
 use Rattle.wh_core.specs.Headline.{ComesTrue}
 use Rattle.wh_core.specs.Laws.{IsSetup}
 use Rattle.wh_core.specs.Nights.{GivenNight as NightOfMachine, Setup}
@@ -19,9 +19,9 @@ use Rattle.wh_maint.specs.Comp.{bag_at}
 use Rattle.wh_maint.specs.Definition.{graph_of}
 use Rattle.wh_maint.specs.Opening.{HasNoContents}
 use Rattle.wh_maint.specs.declared.fault.MaintFault.{MaintFault}
-use Rattle.wh_plan_text.specs.ScheduleText.{ScheduleOf}
-use Rattle.wh_plan_text.specs.declared.schedule.event.ScheduledEvent.{ScheduledEvent}
-use Rattle.wh_plan_text.specs.declared.schedule.event.ScheduledEvent.TheVariants as scheduled
+use Rattle.wh_text_lines.specs.ScheduleText.{ScheduleOf}
+use Rattle.wh_text_lines.specs.declared.schedule.event.ScheduledEvent.{ScheduledEvent}
+use Rattle.wh_text_lines.specs.declared.schedule.event.ScheduledEvent.TheVariants as scheduled
 use Rattle.wh_strategy.specs.Rules.{IsCorrect, IsFirstBroken}
 use Rattle.wh_strategy.specs.declared.rule.Rule.{Rule}
 use Rattle.whview.specs.CheckOutput.{IsFaultShown, broken_text}

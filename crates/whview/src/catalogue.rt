@@ -6,9 +6,9 @@ ghost use Rattle.wh_dag.specs.CatalogParts.{given_definitions, given_widths};
 ghost use Rattle.wh_dag.specs.Output.{combiners_of, exprs_of, output_of};
 ghost use Rattle.wh_formula.specs.Expr.{fits};
 ghost use Rattle.wh_formula.specs.Pred.{fits as fits_rows};
-ghost use Rattle.wh_catalogue_text.specs.Definitions.{shown_definition, shown_view};
-ghost use Rattle.wh_catalogue_text.specs.Output.{shown_output};
-ghost use Rattle.wh_catalogue_text.specs.ReadCatalog.{AreDefinitions, catalog_of};
+ghost use Rattle.wh_text_catalogue.specs.Definitions.{shown_definition, shown_view};
+ghost use Rattle.wh_text_catalogue.specs.Output.{shown_output};
+ghost use Rattle.wh_text_catalogue.specs.ReadCatalog.{AreDefinitions, catalog_of};
 ghost use Rattle.whview.specs.Inner.StoredClosures.{AnswersTests, AnswersValues, AreSound};
 
 use std::alloc::{AllocError, Global};

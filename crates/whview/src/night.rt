@@ -3,8 +3,8 @@
 ghost use Rattle.std.specs.Prelude.{◌≡◌, ◌≢◌, map, length, IsTrue, IfOk};
 ghost use Rattle.wh_formula.specs.Expr.{fits as fits_expr};
 ghost use Rattle.wh_formula.specs.Pred.{fits as fits_pred};
-ghost use Rattle.wh_catalogue_text.specs.Definitions.{shown_view};
-ghost use Rattle.wh_catalogue_text.specs.ReadCatalog.{catalog_of};
+ghost use Rattle.wh_text_catalogue.specs.Definitions.{shown_view};
+ghost use Rattle.wh_text_catalogue.specs.ReadCatalog.{catalog_of};
 ghost use Rattle.wh_load.specs.ReadingShown.{shown_given, shown_night, shown_opening};
 ghost use Rattle.wh_maint.specs.Asked.{AreBags};
 ghost use Rattle.whview.specs.Inner.FitNight.{AreReadTables, IsFitNight};
@@ -23,13 +23,12 @@ use report::{carried_text, refused_text};
 use std::alloc::{AllocError, Global};
 use std::sync::Wait;
 use std::thread::Threads;
+use wh_carry::CarryFault;
 use wh_dag::{Catalog, Shape};
 use wh_formula::{Expr, Native, Pred, RowTest, RowValue};
 use wh_load::{Dict, GivenNight, LoadFault, NightInput, Opening, WrittenView, read_night};
 use wh_maint::{MaintFault, opening_contents};
-use wh_night::CarryFault;
-use wh_readers::{NoWatch, Readers, Served, serve_night};
-use wh_run::Options;
+use wh_night::{NoWatch, Options, Readers, Served, serve_night};
 use wh_strategy::{CheckFault, Rule, check};
 
 /// What is decided of a night.

@@ -1,7 +1,7 @@
 //! The command `plan`: from the bytes of a bundle to a plan of least work.
 
 ghost use Rattle.std.specs.Prelude.{◌≡◌, IfOk, decimal};
-ghost use Rattle.wh_plan_text.specs.PlanText.{plan_text};
+ghost use Rattle.wh_text_lines.specs.PlanText.{plan_text};
 ghost use Rattle.wh_load.specs.ReadingShown.{shown_measured};
 ghost use Rattle.whview.specs.CheckOutput.{line};
 ghost use Rattle.whview.specs.PlanOutput.{IsDecided, IsPlanOutput, spent_text, status_of, text_of};

@@ -2,8 +2,8 @@
 
 ghost use Rattle.std.specs.Prelude.{◌≡◌, IsTrue, IfErr, IfOk, OnOk, false, length, map};
 ghost use Rattle.std.specs.List.{list_any};
-ghost use Rattle.wh_catalogue_text.specs.Definitions.{shown_view};
-ghost use Rattle.wh_catalogue_text.specs.ReadCatalog.{catalog_of};
+ghost use Rattle.wh_text_catalogue.specs.Definitions.{shown_view};
+ghost use Rattle.wh_text_catalogue.specs.ReadCatalog.{catalog_of};
 ghost use Rattle.wh_core.specs.Headline.{ComesTrue};
 ghost use Rattle.wh_core.specs.Laws.{IsSetup};
 ghost use Rattle.wh_core.specs.Replies.{IsLegalRun};

@@ -15,7 +15,7 @@ from whtools.bench import in_turn, peer
 from whtools.program import ROOT
 
 ROUNDS, SECONDS, BLOCKS = 5, 1, 391
-CRATE = ROOT / "crates/wh_stress"
+CRATE = ROOT / "crates/test_stress"
 
 
 def figures(text):
@@ -37,7 +37,7 @@ def show(plain, rows, readers, rounds):
     """Prints one table: ours and the peers, idle and busy."""
     ways = {}
     for kind in "idle", "busy":
-        ways["whview", kind] = [CRATE / "out/wh_stress", kind, readers, SECONDS, BLOCKS, rows]
+        ways["whview", kind] = [CRATE / "out/test_stress", kind, readers, SECONDS, BLOCKS, rows]
         for name in "left_right", "own":
             ways[name, kind] = [plain, name, kind, readers, SECONDS, BLOCKS, rows]
     runs = in_turn({way: (command, os.devnull) for way, command in ways.items()}, rounds)

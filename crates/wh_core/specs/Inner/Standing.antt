@@ -2,9 +2,9 @@
 use Rattle.std.specs.Prelude.{List, [], ◌∷◌, Option, Some, None}
 use Rattle.wh_maint.specs.declared.fault.MaintFault.{MaintFault}
 use Rattle.wh_store.specs.declared.operation.Op.{Op}
-use Rattle.wh_course.specs.declared.course.Part.{Part}
-use Rattle.wh_course.specs.declared.course.Part.TheVariants as part
-use Rattle.wh_course.specs.Legs.{Wave, Page}
+use Rattle.wh_carry.specs.declared.course.Part.{Part}
+use Rattle.wh_carry.specs.declared.course.Part.TheVariants as part
+use Rattle.wh_carry.specs.Legs.{Wave, Page}
 use Rattle.wh_core.specs.declared.machine.Machine.{Machine}
 use Rattle.wh_core.specs.Log.{Log}
 use Rattle.wh_core.specs.Nights.{Setup}

@@ -4,8 +4,8 @@ use Rattle.std.specs.Coded.{Coded, code_by, coded×, coded_list}
 use Rattle.logbook.specs.Pages.{Book, book_coded}
 use Rattle.wh_store.specs.Operations.{Operation}
 use Rattle.wh_store.specs.Versions.{is_well_formed}
-use Rattle.wh_publish.specs.Ledgers.{Warehouse}
-use Rattle.wh_publish.specs.Inner.Codes.{coded_operation, coded_warehouse}
+use Rattle.wh_store.specs.Ledgers.{Warehouse}
+use Rattle.wh_store.specs.Inner.Codes.{coded_operation, coded_warehouse}
 use Rattle.wh_desk.specs.declared.history.Chapter.{Chapter}
 use Rattle.wh_desk.specs.Known.{Known, warehouse_of, operations}
 

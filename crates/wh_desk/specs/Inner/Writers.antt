@@ -4,12 +4,12 @@ use Rattle.std.specs.Coded.{Coded, code_by, coded×}
 use Rattle.logbook.specs.Pages.{Book, book_coded}
 use Rattle.wh_store.specs.Operations.{Operation, operation, Opens, Writes, Commits, Gives_up}
 use Rattle.wh_store.specs.Refusals.{refusal}
-use Rattle.wh_publish.specs.Ledgers.{Ledger, ledger}
-use Rattle.wh_publish.specs.Inner.Codes.{coded_ledger}
-use Rattle.wh_publish.specs.Faults.{IsOkUnlessMemory, publish_refusal, refused}
-use Rattle.wh_publish.specs.declared.fault.PublishFault.{PublishFault}
-use Rattle.wh_publish.specs.declared.ended.Ended.{Ended}
-use Rattle.wh_publish.specs.declared.ended.Ended.TheVariants.{Committed, GivenUp}
+use Rattle.wh_store.specs.Ledgers.{Ledger, ledger}
+use Rattle.wh_store.specs.Inner.Codes.{coded_ledger}
+use Rattle.wh_store.specs.Faults.{IsOkUnlessMemory, publish_refusal, refused}
+use Rattle.wh_store.specs.declared.publish_fault.PublishFault.{PublishFault}
+use Rattle.wh_store.specs.declared.ended.Ended.{Ended}
+use Rattle.wh_store.specs.declared.ended.Ended.TheVariants.{Committed, GivenUp}
 use Rattle.wh_desk.specs.declared.inner.Inner.{Inner}
 use Rattle.wh_desk.specs.declared.kept.Kept.{Kept}
 use Rattle.wh_desk.specs.declared.kept.Publication.{Publication}

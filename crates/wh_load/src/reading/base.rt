@@ -1,14 +1,14 @@
 //! Whether the parts of rows are of base views.
 
 ghost use Rattle.std.specs.Prelude.{◌≡◌, ◌≢◌, ◌⊎◌, find, map, option_copied, None, Some, IfErr, OnOk, OnErr};
-ghost use Rattle.wh_catalogue_text.specs.Definitions.{shown_view};
+ghost use Rattle.wh_text_catalogue.specs.Definitions.{shown_view};
 ghost use Rattle.wh_load.specs.ReadingNight.{first_stray, is_base_name, is_stray};
 
 use super::views::KnownViews;
 use std::alloc::Global;
-use wh_bundle::{Bundle, Heading, Part};
-use wh_catalogue_text::WrittenView;
 use wh_text::{LoadFault, Names, Word};
+use wh_text_bundle::{Bundle, Heading, Part};
+use wh_text_catalogue::WrittenView;
 
 /// Whether this word is the name of a base view.
 fn is_base_name(names: &Names, views: &[WrittenView], word: &[u8]) -> bool

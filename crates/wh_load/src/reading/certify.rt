@@ -1,7 +1,7 @@
 //! What `certify` reads: views, their sizes and a plan.
 
 ghost use Rattle.std.specs.Prelude.{◌≡◌, ◌⊎◌, Ok, Err, IfOk, IfErr};
-ghost use Rattle.wh_plan_text.specs.PlanText.{plan_of};
+ghost use Rattle.wh_text_lines.specs.PlanText.{plan_of};
 ghost use Rattle.wh_load.specs.ReadingClaim.{claim_in, claim_of, claim_texts_in, claim_texts_of};
 ghost use Rattle.wh_load.specs.ReadingShown.{shown_claim};
 ghost use Rattle.wh_load.specs.Inner.ReadingShown.{shown_claim_texts};
@@ -11,10 +11,10 @@ use super::parts::{bundle_of, text_of};
 use super::plan::{measured_in, measured_texts_in};
 use super::texts::ClaimTexts;
 use std::alloc::Global;
-use wh_bundle::{Bundle, Heading, Nights};
 use wh_dag::Shape;
-use wh_plan_text::{Plan, read_plan};
 use wh_text::{LoadFault, Names};
+use wh_text_bundle::{Bundle, Heading, Nights};
+use wh_text_lines::{Plan, read_plan};
 
 fn claim_texts_in<'a>(alloc: Global, bundle: &Bundle<'a>) -> Result<ClaimTexts<'a>, LoadFault>
     ensures ok { IfOk result (λ t. claim_texts_in bundle.now ≡ Ok (shown_claim_texts t)) }

@@ -1,7 +1,7 @@
 //! What `check` reads: views, their sizes and a strategy.
 
 ghost use Rattle.std.specs.Prelude.{◌≡◌, ◌⊎◌, Ok, Err, IfOk, IfErr};
-ghost use Rattle.wh_plan_text.specs.StrategyText.{strategy_of};
+ghost use Rattle.wh_text_lines.specs.StrategyText.{strategy_of};
 ghost use Rattle.wh_load.specs.ReadingCheck.{check_texts_in, check_texts_of, inputs_in, inputs_of};
 ghost use Rattle.wh_load.specs.ReadingShown.{shown_check};
 ghost use Rattle.wh_load.specs.Inner.ReadingShown.{shown_check_texts};
@@ -11,13 +11,13 @@ use super::parts::{bundle_of, text_of};
 use super::plan::measured_texts_in;
 use super::texts::CheckTexts;
 use std::alloc::Global;
-use wh_bundle::{Bundle, Heading, Nights};
-use wh_catalogue_text::read_shape;
 use wh_dag::Shape;
-use wh_plan_text::read_strategy;
 use wh_strategy::Strategy;
-use wh_table_text::read_sizes;
 use wh_text::{LoadFault, Names};
+use wh_text_bundle::{Bundle, Heading, Nights};
+use wh_text_catalogue::read_shape;
+use wh_text_lines::read_strategy;
+use wh_text_tables::read_sizes;
 
 fn check_texts_in<'a>(alloc: Global, bundle: &Bundle<'a>) -> Result<CheckTexts<'a>, LoadFault>
     ensures ok { IfOk result (λ t. check_texts_in bundle.now ≡ Ok (shown_check_texts t)) }

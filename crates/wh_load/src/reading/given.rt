@@ -1,7 +1,7 @@
 //! The tables that nights begin from, and what is given of one night.
 
 ghost use Rattle.std.specs.Prelude.{◌≡◌, ◌⊎◌, map, Ok, Err, IfOk, IfErr};
-ghost use Rattle.wh_catalogue_text.specs.Definitions.{shown_view};
+ghost use Rattle.wh_text_catalogue.specs.Definitions.{shown_view};
 ghost use Rattle.wh_load.specs.ReadingNight.{AreReadRows, ChangeRows, TableRows, given_of, tables_of};
 ghost use Rattle.wh_load.specs.ReadingShown.{shown_given};
 
@@ -10,10 +10,10 @@ use super::inputs::GivenNight;
 use super::rows::{changes_in, tables_in};
 use super::views::KnownViews;
 use std::alloc::Global;
-use wh_bundle::Bundle;
-use wh_plan_text::read_strategy;
 use wh_row::Bag;
 use wh_text::{Dict, LoadFault};
+use wh_text_bundle::Bundle;
+use wh_text_lines::read_strategy;
 
 /// The tables of these views, where all rows are of base views.
 pub fn tables_of(

@@ -2,12 +2,12 @@
 
 ghost use Rattle.std.specs.Prelude.{◌≡◌, length};
 
-use wh_catalogue_text::WrittenView;
 use wh_dag::Shape;
-use wh_plan_text::{Plan, Schedule};
 use wh_row::Bag;
 use wh_strategy::{Sizes, Strategy};
 use wh_text::Dict;
+use wh_text_catalogue::WrittenView;
+use wh_text_lines::{Plan, Schedule};
 
 /// Views and their sizes, for which a strategy is planned.
 #[derive(Drop)]

@@ -1,8 +1,8 @@
 //! What `night` reads: views, their definitions and tables, and the changes and the strategy of a night.
 
 ghost use Rattle.std.specs.Prelude.{◌≡◌, ◌⊎◌, length, map, Ok, Err, IfOk, IfErr};
-ghost use Rattle.wh_catalogue_text.specs.Definitions.{shown_view};
-ghost use Rattle.wh_catalogue_text.specs.ReadCatalog.{AreDefinitions};
+ghost use Rattle.wh_text_catalogue.specs.Definitions.{shown_view};
+ghost use Rattle.wh_text_catalogue.specs.ReadCatalog.{AreDefinitions};
 ghost use Rattle.wh_load.specs.ReadingNight.{AreReadRows, ChangeRows, TableRows, night_in, night_read, night_over, night_with};
 ghost use Rattle.wh_load.specs.ReadingShown.{IsReadNight, shown_given, shown_night};
 
@@ -11,11 +11,11 @@ use super::inputs::{GivenNight, NightInput, Opening};
 use super::parts::{bundle_of, text_of};
 use super::views::KnownViews;
 use std::alloc::Global;
-use wh_bundle::{Bundle, Heading, Nights};
-use wh_catalogue_text::{Written, WrittenView, read_definitions, read_shape};
 use wh_dag::Shape;
 use wh_row::Bag;
 use wh_text::{Dict, LoadFault, Names};
+use wh_text_bundle::{Bundle, Heading, Nights};
+use wh_text_catalogue::{Written, WrittenView, read_definitions, read_shape};
 
 /// What is read beside a catalogue.
 #[derive(Drop)]

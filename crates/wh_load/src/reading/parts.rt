@@ -6,8 +6,8 @@ ghost use Rattle.wh_load.specs.ReadingParts.{parts_in, text_in};
 
 use std::alloc::Global;
 use std::borrow::CowSlice;
-use wh_bundle::{Bundle, Heading, Nights, PartFault, parts};
 use wh_text::{LoadFault, Word};
+use wh_text_bundle::{Bundle, Heading, Nights, PartFault, parts};
 
 /// The parts of a bundle of which these nights are read.
 pub fn bundle_of<'a>(

@@ -9,10 +9,10 @@ use super::inputs::MeasuredViews;
 use super::parts::{bundle_of, text_of};
 use super::texts::MeasuredTexts;
 use std::alloc::Global;
-use wh_bundle::{Bundle, Heading, Nights};
-use wh_catalogue_text::read_shape;
-use wh_table_text::read_sizes;
 use wh_text::LoadFault;
+use wh_text_bundle::{Bundle, Heading, Nights};
+use wh_text_catalogue::read_shape;
+use wh_text_tables::read_sizes;
 
 pub(super) fn measured_texts_in<'a>(
     alloc: Global,

@@ -2,8 +2,8 @@
 
 ghost use Rattle.std.specs.Cow.{cow_slice_items};
 ghost use Rattle.std.specs.Prelude.{◌≡◌, ◌⊎◌, [], length, map, Ok, Err, IfOk, IfErr};
-ghost use Rattle.wh_catalogue_text.specs.Definitions.{shown_view};
-ghost use Rattle.wh_catalogue_text.specs.ReadCatalog.{AreDefinitions};
+ghost use Rattle.wh_text_catalogue.specs.Definitions.{shown_view};
+ghost use Rattle.wh_text_catalogue.specs.ReadCatalog.{AreDefinitions};
 ghost use Rattle.wh_load.specs.ReadingNight.{AreReadRows, TableRows};
 ghost use Rattle.wh_load.specs.ReadingReplay.{AreReadNights, nights_after, replay_in, replay_of, replay_over, replay_with, strategies_in};
 ghost use Rattle.wh_load.specs.ReadingShown.{IsReadReplay, shown_given, shown_replay};
@@ -14,12 +14,12 @@ use super::parts::{bundle_of, text_of};
 use super::views::KnownViews;
 use std::alloc::Global;
 use std::borrow::CowSlice;
-use wh_bundle::{Bundle, Heading, Nights};
-use wh_catalogue_text::{Written, WrittenView, read_definitions, read_shape};
 use wh_dag::Shape;
-use wh_plan_text::{Schedule, read_schedule};
 use wh_row::Bag;
 use wh_text::{Dict, LoadFault, Names};
+use wh_text_bundle::{Bundle, Heading, Nights};
+use wh_text_catalogue::{Written, WrittenView, read_definitions, read_shape};
+use wh_text_lines::{Schedule, read_schedule};
 
 /// The texts of the strategies of all nights, in order.
 fn strategies_in<'a>(alloc: Global, bundle: &Bundle<'a>) -> Result<Vec<CowSlice<'a, u8>>, LoadFault>

@@ -1,16 +1,16 @@
 //! The tables and the changes of base views.
 
 ghost use Rattle.std.specs.Prelude.{◌≡◌, ◌≢◌, ◌⊎◌, [], map, Ok, Err, IfOk, IfErr, OnErr};
-ghost use Rattle.wh_catalogue_text.specs.Definitions.{shown_view};
+ghost use Rattle.wh_text_catalogue.specs.Definitions.{shown_view};
 ghost use Rattle.wh_load.specs.ReadingNight.{AreReadRows, ChangeRows, TableRows, rows_after, rows_of};
 
 use super::views::KnownViews;
 use std::alloc::Global;
-use wh_bundle::{Bundle, Heading, Piece};
-use wh_catalogue_text::WrittenView;
 use wh_row::Bag;
-use wh_table_text::{read_changes, read_table};
 use wh_text::{Dict, LoadFault};
+use wh_text_bundle::{Bundle, Heading, Piece};
+use wh_text_catalogue::WrittenView;
+use wh_text_tables::{read_changes, read_table};
 
 /// The table of a view: of a base view what its part writes, and no rows where there is none.
 fn table_of(

@@ -2,8 +2,8 @@
 
 ghost use Rattle.std.specs.Prelude.{◌≡◌, length};
 
-use wh_catalogue_text::WrittenView;
 use wh_text::Names;
+use wh_text_catalogue::WrittenView;
 
 /// Views that a catalogue says, by number and by name, whose rows and strategies are to be read.
 #[derive(Drop)]

@@ -4,8 +4,8 @@ use Rattle.std.specs.Prelude.{◌≡◌, ◌<◌, ℕ, List, length, map, true}
 use Rattle.wh_dag.specs.Catalog.{CatalogOf, is_base}
 use Rattle.wh_dag.specs.Shape.{Views}
 use Rattle.wh_row.specs.Bag.{Bag, IsTable}
-use Rattle.wh_catalogue_text.specs.Definitions.{ViewOf, shown_view}
-use Rattle.wh_catalogue_text.specs.ReadCatalog.{AreDefinitions, catalog_of}
+use Rattle.wh_text_catalogue.specs.Definitions.{ViewOf, shown_view}
+use Rattle.wh_text_catalogue.specs.ReadCatalog.{AreDefinitions, catalog_of}
 use Rattle.wh_load.specs.declared.reading.inputs.NightInput.{NightInput}
 use Rattle.wh_maint.specs.Asked.{AreBags}
 use Rattle.wh_maint.specs.Comp.{bag_at}

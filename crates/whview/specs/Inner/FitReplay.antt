@@ -7,8 +7,8 @@ use Rattle.wh_core.specs.Nights.{GivenNight as NightOfMachine}
 use Rattle.wh_dag.specs.Catalog.{CatalogOf, IsCatalog}
 use Rattle.wh_dag.specs.Shape.{Views}
 use Rattle.wh_row.specs.Bag.{Bag}
-use Rattle.wh_catalogue_text.specs.Definitions.{ViewOf, shown_view}
-use Rattle.wh_catalogue_text.specs.ReadCatalog.{AreDefinitions, catalog_of}
+use Rattle.wh_text_catalogue.specs.Definitions.{ViewOf, shown_view}
+use Rattle.wh_text_catalogue.specs.ReadCatalog.{AreDefinitions, catalog_of}
 use Rattle.wh_load.specs.ReadingNight.{GivenNight}
 use Rattle.wh_load.specs.ReadingShown.{shown_given}
 use Rattle.wh_load.specs.declared.reading.inputs.ReplayInput.{ReplayInput}

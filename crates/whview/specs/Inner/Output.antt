@@ -1,8 +1,8 @@
 -- What the program prints for words and what it reads, and the status that it ends with: what only proofs and private contracts use.
 use Rattle.std.specs.Prelude.{◌≡◌, ℕ, List, Result, MatchResult}
 use Rattle.wh_text.specs.declared.fault.LoadFault.TheVariants as fault
-use Rattle.wh_bundle.specs.declared.read.ReadFault.{ReadFault}
-use Rattle.wh_bundle.specs.declared.read.ReadFault.TheVariants.{Memory, Read, TooLong}
+use Rattle.wh_text_bundle.specs.declared.read.ReadFault.{ReadFault}
+use Rattle.wh_text_bundle.specs.declared.read.ReadFault.TheVariants.{Memory, Read, TooLong}
 use Rattle.whview.specs.CheckOutput.{IsFaultShown}
 use Rattle.whview.specs.Status.{status_number}
 use Rattle.whview.specs.declared.answer.Answer.{Answer}

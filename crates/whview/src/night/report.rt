@@ -1,17 +1,17 @@
 //! What is printed of a night.
 
 ghost use Rattle.std.specs.Prelude.{◌≡◌, ◌++◌, ℕ, codes, decimal, drop, flat_map, length, map, sum_by, IfOk, OnOk};
-ghost use Rattle.wh_catalogue_text.specs.Definitions.{shown_view};
+ghost use Rattle.wh_text_catalogue.specs.Definitions.{shown_view};
 ghost use Rattle.wh_maint.specs.Comp.{bag_at};
 ghost use Rattle.whview.specs.CheckOutput.{line};
 ghost use Rattle.whview.specs.NightOutput.{left_text, reader_text, readers_text, report_text, step_text, view_text, views_text, work_in};
 
 use crate::answer::cause_text;
 use std::alloc::{AllocError, Global};
+use wh_carry::{CarryFault, Report};
 use wh_dag::Shape;
 use wh_load::{Dict, Names, WrittenView, write_expression, write_table};
-use wh_night::{CarryFault, Report};
-use wh_readers::Served;
+use wh_night::Served;
 use wh_row::Bag;
 use wh_strategy::Expression;
 

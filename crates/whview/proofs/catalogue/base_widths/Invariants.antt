@@ -1,6 +1,6 @@
 use Rattle.std.proofs.Common.{◌≡◌, ◌++◌, drop, length, map}
 use Rattle.wh_dag.specs.CatalogParts.{given_widths}
-use Rattle.wh_catalogue_text.specs.Definitions.{shown_view}
+use Rattle.wh_text_catalogue.specs.Definitions.{shown_view}
 use Rattle.whview.proofs.catalogue.base_widths.Given as goal
 
 abbrev pub invariant-loop-view : goal.invariant-loop-view

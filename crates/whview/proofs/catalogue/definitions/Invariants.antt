@@ -1,6 +1,6 @@
 use Rattle.std.proofs.Common.{◌≡◌, ◌++◌, drop, map}
 use Rattle.wh_dag.specs.CatalogParts.{given_definitions}
-use Rattle.wh_catalogue_text.specs.Definitions.{shown_view}
+use Rattle.wh_text_catalogue.specs.Definitions.{shown_view}
 use Rattle.whview.specs.Inner.StoredClosures.{AreSound}
 use Rattle.whview.proofs.catalogue.definitions.Given as goal
 

@@ -1,5 +1,5 @@
 use Rattle.std.proofs.Common.{map}
-use Rattle.wh_catalogue_text.specs.Definitions.{shown_view}
+use Rattle.wh_text_catalogue.specs.Definitions.{shown_view}
 use Rattle.whview.proofs.ReadRows.{read_fit}
 use Rattle.whview.proofs.night.answer.Goals as goal
 

@@ -1,5 +1,5 @@
 use Rattle.std.proofs.Common.{map}
-use Rattle.wh_catalogue_text.specs.Definitions.{shown_view}
+use Rattle.wh_text_catalogue.specs.Definitions.{shown_view}
 use Rattle.wh_load.specs.ReadingShown.{shown_given}
 use Rattle.whview.proofs.ReplayDecided.{read_fit_for_nights}
 use Rattle.whview.proofs.replay.answer.Goals as goal

@@ -1,6 +1,6 @@
 use Rattle.std.proofs.Common.{◌∙◌, ap, map, subst, sym}
-use Rattle.wh_catalogue_text.specs.Definitions.{shown_view}
-use Rattle.wh_catalogue_text.specs.ReadCatalog.{catalog_of}
+use Rattle.wh_text_catalogue.specs.Definitions.{shown_view}
+use Rattle.wh_text_catalogue.specs.ReadCatalog.{catalog_of}
 use Rattle.wh_dag.specs.Shape.{Views}
 use Rattle.wh_dag.specs.Catalog.{CatalogOf}
 use Rattle.wh_load.specs.ReadingShown.{shown_given, shown_opening}

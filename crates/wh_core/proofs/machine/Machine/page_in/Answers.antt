@@ -2,7 +2,7 @@ use Rattle.std.proofs.Common.{rules, [], ◌∷◌, ◌++◌, ◌≡◌, ◌≢�
 use Rattle.std.specs.Prelude.{is_some}
 use Rattle.wh_store.specs.Operations.{operation}
 use Rattle.wh_store.specs.Windows.{Window, Shows, applied}
-use Rattle.wh_course.specs.Legs.{At_page}
+use Rattle.wh_carry.specs.Legs.{At_page}
 use Rattle.wh_core.specs.declared.event.Event.TheVariants as event
 use Rattle.wh_core.specs.declared.reply.Reply.TheVariants as reply
 use Rattle.wh_core.specs.Log.{Paged_in, draws, ends, pages}

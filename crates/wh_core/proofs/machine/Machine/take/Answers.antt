@@ -1,6 +1,6 @@
 use Rattle.std.proofs.Common.{rules, ◌≡◌, refl, sym, ap, subst, ◌∙◌, ℕ, ◌<◌, ◌≤◌, ◌+◌, length, drop, Bool, true, false, not, Option, Some, None, arith}
 use Rattle.std.specs.Prelude.{is_some, nat_le}
-use Rattle.wh_course.specs.Legs.{turn_of, legs_of, In_wave}
+use Rattle.wh_carry.specs.Legs.{turn_of, legs_of, In_wave}
 use Rattle.wh_core.specs.declared.event.Event.TheVariants as event
 use Rattle.wh_core.specs.declared.reply.Cause.TheVariants as cause
 use Rattle.wh_core.specs.declared.reply.Reply.TheVariants as reply

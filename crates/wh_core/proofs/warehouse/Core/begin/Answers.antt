@@ -12,12 +12,12 @@ use Rattle.wh_maint.specs.Finishing.{kind_in}
 use Rattle.wh_maint.specs.Fit.{IsFitTable}
 use Rattle.wh_store.specs.Versions.{number}
 use Rattle.wh_store.specs.declared.fault.StoreFault.TheVariants as store
-use Rattle.wh_course.specs.Night.{Night, AreAllowed}
-use Rattle.wh_course.specs.Legs.{legs_of}
-use Rattle.wh_course.specs.Course.{AreParts}
+use Rattle.wh_carry.specs.Night.{Night, AreAllowed}
+use Rattle.wh_carry.specs.Legs.{legs_of}
+use Rattle.wh_carry.specs.Course.{AreParts}
 use Rattle.wh_core.specs.Log.{is_open, nights_begun}
 use Rattle.wh_core.specs.Nights.{GivenNight, next_night, versions}
-use Rattle.wh_night.specs.Refused.{IsBaseFault}
+use Rattle.wh_carry.specs.Refused.{IsBaseFault}
 use Rattle.wh_maint.specs.declared.fault.MaintFault.TheVariants as fault
 use Rattle.wh_core.specs.declared.event.Event.TheVariants as event
 use Rattle.wh_core.specs.declared.reply.Reply.TheVariants as reply

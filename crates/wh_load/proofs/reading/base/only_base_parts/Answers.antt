@@ -1,5 +1,5 @@
 use Rattle.std.proofs.Common.{inr, map, ap, sym, ◌∙◌}
-use Rattle.wh_catalogue_text.specs.Definitions.{shown_view}
+use Rattle.wh_text_catalogue.specs.Definitions.{shown_view}
 use Rattle.wh_load.specs.ReadingNight.{first_stray}
 use Rattle.wh_load.proofs.ReadingRows.{stray_named}
 use Rattle.wh_load.proofs.reading.base.only_base_parts.Goals as goal

@@ -1,5 +1,5 @@
 use Rattle.std.proofs.Common.{map}
-use Rattle.wh_catalogue_text.specs.Definitions.{shown_view}
+use Rattle.wh_text_catalogue.specs.Definitions.{shown_view}
 use Rattle.wh_load.specs.ReadingNight.{ChangeRows}
 use Rattle.wh_load.proofs.ReadingRows.{read_rows, same_changes}
 use Rattle.wh_load.proofs.reading.given.given_of.Goals as goal

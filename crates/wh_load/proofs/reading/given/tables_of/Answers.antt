@@ -1,5 +1,5 @@
 use Rattle.std.proofs.Common.{map}
-use Rattle.wh_catalogue_text.specs.Definitions.{shown_view}
+use Rattle.wh_text_catalogue.specs.Definitions.{shown_view}
 use Rattle.wh_load.specs.ReadingNight.{TableRows}
 use Rattle.wh_load.proofs.ReadingRows.{read_rows}
 use Rattle.wh_load.proofs.reading.given.tables_of.Goals as goal

@@ -1,8 +1,8 @@
 use Rattle.std.proofs.Common.{◌≡◌, map, subst, []}
 use Rattle.std.specs.Prelude.{Ok}
 use Rattle.std.specs.Cow.{cow_slice_items}
-use Rattle.wh_catalogue_text.specs.Catalogue.{shape_of}
-use Rattle.wh_catalogue_text.specs.Definitions.{definitions_of, shown_view}
+use Rattle.wh_text_catalogue.specs.Catalogue.{shape_of}
+use Rattle.wh_text_catalogue.specs.Definitions.{definitions_of, shown_view}
 use Rattle.wh_load.specs.ReadingNight.{night_over}
 use Rattle.wh_load.specs.ReadingShown.{shown_night}
 use Rattle.wh_load.proofs.ReadingRows.{night_from}

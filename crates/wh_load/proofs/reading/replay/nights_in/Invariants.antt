@@ -1,6 +1,6 @@
 use Rattle.std.proofs.Common.{◌≡◌, [], drop, map}
 use Rattle.std.specs.Cow.{cow_slice_items}
-use Rattle.wh_catalogue_text.specs.Definitions.{shown_view}
+use Rattle.wh_text_catalogue.specs.Definitions.{shown_view}
 use Rattle.wh_load.specs.ReadingReplay.{AreReadNights, nights_after}
 use Rattle.wh_load.specs.ReadingShown.{shown_given}
 use Rattle.wh_load.proofs.reading.replay.nights_in.Given as goal

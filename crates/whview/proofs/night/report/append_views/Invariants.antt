@@ -1,5 +1,5 @@
 use Rattle.std.proofs.Common.{◌≡◌, ◌++◌, drop, map}
-use Rattle.wh_catalogue_text.specs.Definitions.{shown_view}
+use Rattle.wh_text_catalogue.specs.Definitions.{shown_view}
 use Rattle.wh_maint.specs.Comp.{bag_at}
 use Rattle.whview.specs.NightOutput.{views_text}
 use Rattle.whview.proofs.night.report.append_views.Given as goal

@@ -1,0 +1,176 @@
+// The worked schedules.
+ghost use Rattle.std.specs.Prelude.{IfOk};
+ghost use Rattle.wh_core.specs.Standing.{IsFresh};
+
+use crate::machine::given::{Lists, Places, carried, machine};
+use crate::machine::schedules::{Said, Schedule, assert_run, assert_said, assert_steps, events_of};
+use std::alloc::Global;
+use std::process::Abort;
+use std::test::Fail;
+use test_given::catalogs::{Cell, Every};
+use wh_core::{Cause, Core, Event};
+
+static A_CHANGE_AND_NONE: [Lists<'static>; 2] = [&[&[(&[1], -1), (&[2], 1)], &[]], &[&[], &[]]];
+
+/// a holds (1), and v is a copy of it. The first night brings -(1) +(2), the second nothing.
+fn two_nights(rt: &impl Abort, alloc: Global, places: Places) -> Result<Core<Every, Cell>, Fail>
+    ensures { IfOk result (λ core. IsFresh core) }
+{
+    machine(rt, alloc, &[&[(&[1], 1)], &[]], &A_CHANGE_AND_NONE, places)
+}
+
+static TWO_NIGHTS: [(Event, Said); 13] = [
+    (Event::Open(0), Said::Session(0)),
+    (Event::Begin, Said::Begun),
+    (Event::Take(0), Said::Job(0)),
+    (Event::Done(0), Said::Done),
+    (Event::PageIn, Said::Paged(2)),
+    (Event::Read(0, 0, 10), Said::End(&[1])),
+    (Event::PageIn, Said::Paged(2)),
+    (Event::Commit, Said::Version(1)),
+    (Event::Read(0, 1, 10), Said::End(&[1])),
+    (Event::Open(1), Said::Session(1)),
+    (Event::Begin, Said::Begun),
+    (
+        Event::Read(0, 1, 10),
+        Said::Refused(Cause::Expired(0, 1, true)),
+    ),
+    (Event::Read(1, 1, 10), Said::End(&[2])),
+];
+
+#[test]
+fn replay_two_nights(rt: HostRuntime) -> Result<(), Fail> {
+    let places = Places {
+        desks: 2,
+        workers: 1,
+        keys: 256,
+    };
+    let mut core = two_nights(&rt, rt.alloc(), places)?;
+    assert_run(&rt, rt.alloc(), &mut core, &TWO_NIGHTS)
+}
+
+#[test]
+fn two_nights_are_carried_out_by_one_call(rt: HostRuntime) -> Result<(), Fail> {
+    let places = Places {
+        desks: 2,
+        workers: 1,
+        keys: 256,
+    };
+    let alloc = rt.alloc();
+    let events = events_of(alloc, &TWO_NIGHTS)?;
+    let base: Lists<'_> = &[&[(&[1], 1)], &[]];
+    let replies = carried(&rt, alloc, base, &A_CHANGE_AND_NONE, places, &events)?;
+    assert_said(&rt, &replies, &TWO_NIGHTS);
+    Ok(())
+}
+
+static GIVE_UP: [(Event, Said); 12] = [
+    (Event::Open(0), Said::Session(0)),
+    (Event::Begin, Said::Begun),
+    (Event::PageIn, Said::Paged(2)),
+    (Event::Commit, Said::Version(1)),
+    (Event::Open(1), Said::Session(1)),
+    (Event::Begin, Said::Begun),
+    (Event::PageIn, Said::Paged(2)),
+    (Event::GiveUp, Said::Version(2)),
+    (
+        Event::Read(0, 0, 10),
+        Said::Refused(Cause::Expired(0, 2, false)),
+    ),
+    (Event::Read(1, 0, 10), Said::End(&[2])),
+    (Event::Open(2), Said::Session(2)),
+    (Event::Read(2, 0, 10), Said::End(&[2])),
+];
+
+#[test]
+fn replay_give_up(rt: HostRuntime) -> Result<(), Fail> {
+    let places = Places {
+        desks: 3,
+        workers: 1,
+        keys: 256,
+    };
+    let changes: [Lists<'_>; 2] = [&[&[(&[1], -1), (&[2], 1)]], &[&[(&[2], -1), (&[3], 1)]]];
+    let mut core = machine(&rt, rt.alloc(), &[&[(&[1], 1)]], &changes, places)?;
+    assert_run(&rt, rt.alloc(), &mut core, &GIVE_UP)
+}
+
+static ONE_KEY_A_PAGE: [(Event, Said); 13] = [
+    (Event::Open(0), Said::Session(0)),
+    (Event::Begin, Said::Begun),
+    (Event::Read(0, 0, 1), Said::More(&[1])),
+    (Event::PageIn, Said::Paged(1)),
+    (Event::Read(0, 0, 1), Said::More(&[3])),
+    (Event::PageIn, Said::Paged(1)),
+    (Event::Read(0, 0, 1), Said::End(&[5])),
+    (Event::Commit, Said::Refused(Cause::NotReady)),
+    (Event::PageIn, Said::Paged(1)),
+    (Event::Commit, Said::Version(1)),
+    (Event::Read(0, 0, 10), Said::End(&[1, 3, 5])),
+    (Event::Open(1), Said::Session(1)),
+    (Event::Read(1, 0, 10), Said::End(&[1, 2, 4, 5])),
+];
+
+/// a holds (1), (3), (5), and a night brings +(2) -(3) +(4).
+fn one_night(rt: &impl Abort, alloc: Global) -> Result<Core<Every, Cell>, Fail>
+    ensures { IfOk result (λ core. IsFresh core) }
+{
+    let places = Places {
+        desks: 2,
+        workers: 1,
+        keys: 1,
+    };
+    let changes: [Lists<'_>; 1] = [&[&[(&[2], 1), (&[3], -1), (&[4], 1)]]];
+    machine(
+        rt,
+        alloc,
+        &[&[(&[1], 1), (&[3], 1), (&[5], 1)]],
+        &changes,
+        places,
+    )
+}
+
+#[test]
+fn replay_one_key_a_page(rt: HostRuntime) -> Result<(), Fail> {
+    let mut core = one_night(&rt, rt.alloc())?;
+    assert_run(&rt, rt.alloc(), &mut core, &ONE_KEY_A_PAGE)
+}
+
+#[test]
+fn steps_answer_as_a_run(rt: HostRuntime) -> Result<(), Fail> {
+    let mut core = one_night(&rt, rt.alloc())?;
+    assert_steps(&rt, &mut core, &ONE_KEY_A_PAGE);
+    Ok(())
+}
+
+static REFUSALS: [(Event, Said); 19] = [
+    (Event::PageIn, Said::Refused(Cause::NoNight)),
+    (Event::Take(1), Said::Refused(Cause::NoWorker)),
+    (Event::Read(0, 0, 1), Said::Refused(Cause::NoSession)),
+    (Event::Open(0), Said::Session(0)),
+    (Event::Open(0), Said::Refused(Cause::SessionOpen)),
+    (Event::Read(0, 2, 0), Said::Refused(Cause::NoView)),
+    (Event::Read(0, 0, 0), Said::Refused(Cause::Limit)),
+    (Event::Begin, Said::Begun),
+    (Event::Begin, Said::Refused(Cause::NightOpen)),
+    (Event::Done(0), Said::Refused(Cause::Idle)),
+    (Event::PageIn, Said::Refused(Cause::NotReady)),
+    (Event::Take(0), Said::Job(0)),
+    (Event::Take(0), Said::Refused(Cause::Busy)),
+    (Event::Done(0), Said::Done),
+    (Event::Take(0), Said::Refused(Cause::NoJob)),
+    (Event::Commit, Said::Refused(Cause::NotReady)),
+    (Event::Close(0), Said::Closed),
+    (Event::Close(0), Said::Refused(Cause::NoSession)),
+    (Event::Open(1), Said::Refused(Cause::NoDesk)),
+];
+
+#[test]
+fn replay_refusals(rt: HostRuntime) -> Result<(), Fail> {
+    let places = Places {
+        desks: 1,
+        workers: 1,
+        keys: 256,
+    };
+    let mut core = two_nights(&rt, rt.alloc(), places)?;
+    assert_run(&rt, rt.alloc(), &mut core, &REFUSALS)
+}

@@ -1,0 +1,153 @@
+//! Shapes, sizes and lists from the texts of examples.
+
+use std::alloc::{AllocError, Global};
+use std::process::Abort;
+use test_given::shapes::shaped;
+use wh_dag::{Shape, ShapeFault};
+use wh_strategy::{Expression, OutOfRange, SizeRow, Sizes, Sources, Strategy};
+
+pub(crate) static TWO_BASES: [(&str, &str); 3] = [("A", "-"), ("B", "-"), ("V", "A B")];
+
+pub(crate) static TWO_BASES_SIZES: [(u64, u64, u64); 3] = [(10, 12, 4), (100, 70, 30), (50, 44, 6)];
+
+/// B and C, V1 over both, V2 over B and V1.
+pub(crate) static CYCLIC: [(&str, &str); 4] = [
+    ("B", "-"),
+    ("C", "-"),
+    ("V1", "B C"),
+    ("V2", "B V1"),
+];
+
+pub(crate) static CYCLIC_SIZES: [(u64, u64, u64); 4] = [
+    (100, 90, 20),
+    (50, 55, 5),
+    (80, 60, 40),
+    (200, 190, 30),
+];
+
+/// C shrinks as much as B.
+pub(crate) static TIED_SIZES: [(u64, u64, u64); 4] = [
+    (100, 90, 20),
+    (50, 40, 10),
+    (80, 60, 40),
+    (200, 190, 30),
+];
+
+pub(crate) static SIX: [(&str, &str); 7] = [
+    ("A1", "-"),
+    ("A2", "-"),
+    ("A3", "-"),
+    ("A4", "-"),
+    ("A5", "-"),
+    ("A6", "-"),
+    ("V", "A1 A2 A3 A4 A5 A6"),
+];
+
+/// Six bases of 10 rows of which one changes.
+pub(crate) static SIX_SIZES: [(u64, u64, u64); 7] = [
+    (10, 10, 1),
+    (10, 10, 1),
+    (10, 10, 1),
+    (10, 10, 1),
+    (10, 10, 1),
+    (10, 10, 1),
+    (5, 5, 1),
+];
+
+/// Sizes from rows of pre, post and change.
+pub(crate) fn sized(
+    alloc: Global,
+    rows: &[(u64, u64, u64)],
+) -> Result<Result<Sizes, OutOfRange>, AllocError> {
+    let mut all = Vec::new(alloc);
+    for (pre, post, change) in rows {
+        all.push(SizeRow {
+            pre: *pre,
+            post: *post,
+            change: *change,
+        })?;
+    }
+    Ok(Sizes::new(all))
+}
+
+/// A shape with the sizes of its views.
+#[derive(Drop)]
+pub(crate) struct Measured {
+    pub(crate) shape: Shape,
+    pub(crate) sizes: Sizes,
+}
+
+/// These views with these sizes.
+pub(crate) fn given(
+    rt: &impl Abort,
+    alloc: Global,
+    views: &[(&str, &str)],
+    rows: &[(u64, u64, u64)],
+) -> Result<Measured, ShapeFault> {
+    let shape = shaped(alloc, views)?;
+    let sizes = sized(alloc, rows)?.expect(rt, "sizes");
+    Ok(Measured { shape, sizes })
+}
+
+/// The view of this name, or 99 for a name that is no view's.
+fn view(shape: &Shape, name: &str) -> usize {
+    for view in 0..shape.len() {
+        if shape.name(view) == name {
+            return view;
+        }
+    }
+    99
+}
+
+/// The list that `V<A+B B` writes: a Comp of V from A and B, and an Inst of B.
+pub(crate) fn listed(alloc: Global, shape: &Shape, steps: &str) -> Result<Strategy, AllocError> {
+    let mut list = Vec::new(alloc);
+    for step in steps.split_whitespace() {
+        let step = match step.split_once('<') {
+            Some((target, names)) => {
+                let mut sources = Vec::new(alloc);
+                for name in names.split('+') {
+                    sources.push(view(shape, name))?;
+                }
+                Expression::Comp(view(shape, target), Sources::new(sources))
+            }
+            None => Expression::Inst(view(shape, step)),
+        };
+        list.push(step)?;
+    }
+    Ok(Strategy::new(list))
+}
+
+/// The name of the view, or `?` where there is none of this number.
+fn name(shape: &Shape, view: usize) -> &str {
+    if view < shape.len() {
+        shape.name(view)
+    } else {
+        "?"
+    }
+}
+
+/// The text of which [`listed`] makes this list.
+pub(crate) fn written(
+    alloc: Global,
+    shape: &Shape,
+    list: &[Expression],
+) -> Result<String, AllocError> {
+    let mut text = String::new(alloc);
+    for expression in list {
+        if !text.is_empty() {
+            text.push_str(" ")?;
+        }
+        match expression {
+            Expression::Comp(target, sources) => {
+                text.push_str(name(shape, *target))?;
+                for (i, source) in sources.as_slice().iter().enumerate() {
+                    text.push_str(if i == 0 { "<" } else { "+" })?;
+                    text.push_str(name(shape, *source))?;
+                }
+            }
+            Expression::Inst(view) => text.push_str(name(shape, *view))?,
+        }
+    }
+    Ok(text)
+}

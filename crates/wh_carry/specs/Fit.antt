@@ -1,0 +1,33 @@
+-- Contents that a night can be carried out from.
+use Rattle.std.specs.Prelude.{◌≡◌, ℕ, ◌<◌, List, [], length}
+use Rattle.wh_strategy.specs.declared.expression.Expression.{Expression}
+use Rattle.wh_row.specs.Bag.{Bag, SumFits}
+use Rattle.wh_maint.specs.View.{ViewGraph}
+use Rattle.wh_maint.specs.Fit.{IsFitTable, HasGroups}
+use Rattle.wh_maint.specs.Refused.{NoneAbsent}
+use Rattle.wh_dag.specs.Catalog.{CatalogOf}
+use Rattle.wh_maint.specs.Comp.{bag_at}
+use Rattle.wh_maint.specs.Finishing.{kind_in}
+use Rattle.wh_carry.specs.Carry.{before}
+
+-- each table is fit, those of base views too
+abbrev pub AreFit : ViewGraph → (ℕ → Bag) → Type 0
+AreFit g tables = (v : ℕ) → IsFitTable (g.views v).kind (tables v)
+
+-- no base change is refused: it takes of no row more than there is, and no count leaves i64
+pub record AreChangesAllowed (g : ViewGraph) (changes tables : ℕ → Bag) : Type 0 where
+  pub none_absent : (b : ℕ) → g.children b ≡ [] → NoneAbsent (tables b) (changes b)
+  pub counts_fit : (b : ℕ) → g.children b ≡ [] → SumFits (tables b) (changes b)
+
+-- the tables are fit, and unless a base change is refused, each change that the list makes leaves them so
+pub record AreFitFor (g : ViewGraph) (changes : ℕ → Bag) (list : List Expression) (tables : ℕ → Bag) : Type 0 where
+  pub now : AreFit g tables
+  pub later : AreChangesAllowed g changes tables → (place : ℕ) → AreFit g (before g changes list tables place).tables
+
+-- each view of the catalogue has a fit table
+abbrev pub AreFitTables : CatalogOf → List Bag → Type 0
+AreFitTables catalog tables = (v : ℕ) → v < length catalog.views.children → IsFitTable (kind_in catalog v) (bag_at tables v)
+
+-- a view of the catalogue is a summary whose table has rows
+abbrev pub OneHasGroups : CatalogOf → List Bag → Type 0
+OneHasGroups catalog tables = (v : ℕ) × (v < length catalog.views.children) × HasGroups (kind_in catalog v) (bag_at tables v)

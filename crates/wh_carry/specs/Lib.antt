@@ -1,0 +1,16 @@
+pub mod Carry
+pub mod Fit
+pub mod Kept
+pub mod Laws
+pub mod Refused
+pub mod Steps
+pub mod Waves
+pub mod NightList
+pub mod AnyOrder
+pub mod Stages
+pub mod NightLaws
+pub mod Inner
+pub mod Night
+pub mod Legs
+pub mod Course
+pub mod Standing

@@ -1,0 +1,54 @@
+-- A night that is to be carried out, and where carrying out can be refused.
+use Rattle.std.specs.Prelude.{◌≡◌, ℕ, ◌-◌, List, ◌∷◌, ◌++◌, length}
+use Rattle.std.specs.List.{All, range_with_len}
+use Rattle.wh_strategy.specs.declared.expression.Expression.{Expression}
+use Rattle.wh_strategy.specs.Expression.{At}
+use Rattle.wh_row.specs.Bag.{Bag}
+use Rattle.wh_dag.specs.Catalog.{CatalogOf}
+use Rattle.wh_maint.specs.declared.fault.MaintFault.{MaintFault}
+use Rattle.wh_maint.specs.Definition.{graph_of}
+use Rattle.wh_carry.specs.Carry.{State, before}
+use Rattle.wh_carry.specs.Refused.{AreAllowedBelow, IsPassed, IsStepFault}
+
+-- the strategy that is carried out, from which tables, with which changes of the base views, and how many rows a page has at most
+pub record Night : Type 0 where
+  pub catalog : CatalogOf
+  pub list : List Expression
+  pub tables : ℕ → Bag
+  pub changes : ℕ → Bag
+  pub keys : ℕ
+
+-- what the expressions before this place have made of the tables
+abbrev pub state_at : Night → ℕ → State
+state_at night place = before (graph_of night.catalog) night.changes night.list night.tables place
+
+-- no base change is refused
+abbrev pub AreAllowed : Night → Type 0
+AreAllowed night = AreAllowedBelow night.catalog night.tables night.changes (length night.catalog.views.children)
+
+-- at this place nothing but memory can be refused
+abbrev pub IsPassedAt : Night → ℕ → Type 0
+IsPassedAt night place = (e : Expression) → At night.list place e → IsPassed night.catalog night.changes (state_at night place) e
+
+-- so it is at each of these places
+abbrev pub ArePassedAt : Night → List ℕ → Type 0
+ArePassedAt night places = All (IsPassedAt night) places
+
+-- the expression at this place is refused, for the first of its reasons
+pub record IsFaultAt (night : Night) (place : ℕ) (fault : MaintFault) : Type 0 where
+  pub expression : Expression
+  pub there : At night.list place expression
+  pub refused : IsStepFault night.catalog night.changes (state_at night place) expression fault
+
+-- of the expressions at these places, the first that is refused is refused so
+pub record IsFirstFaultOf (night : Night) (places : List ℕ) (fault : MaintFault) : Type 0 where
+  pub earlier : List ℕ
+  pub place : ℕ
+  pub later : List ℕ
+  pub split : places ≡ earlier ++ place ∷ later
+  pub passed : ArePassedAt night earlier
+  pub refused : IsFaultAt night place fault
+
+-- the places from one on, below another
+abbrev pub places_from : ℕ → ℕ → List ℕ
+places_from first end = range_with_len first (end - first)

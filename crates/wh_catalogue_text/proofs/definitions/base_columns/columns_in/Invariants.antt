@@ -1,7 +1,0 @@
-use Rattle.std.proofs.Common.{◌≡◌, [], drop, map}
-use Rattle.toml.specs.View.{view}
-use Rattle.wh_catalogue_text.specs.BaseColumns.{columns_in}
-use Rattle.wh_catalogue_text.proofs.definitions.base_columns.columns_in.Given as goal
-
-abbrev pub invariant-loop-value : goal.invariant-loop-value
-invariant-loop-value l = columns_in [] (map view l.values) ≡ columns_in l.columns.items (map view (drop l.value-index l.values))

@@ -1,4 +1,0 @@
-use Rattle.wh_catalogue_text.proofs.definitions.formula_columns.+unknown_in_expr.Given as goal
-
-abbrev pub decreases-unknown_in_expr : goal.decreases-unknown_in_expr
-decreases-unknown_in_expr l = l.levels

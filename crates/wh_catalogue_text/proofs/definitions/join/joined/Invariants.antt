@@ -1,7 +1,0 @@
-use Rattle.std.proofs.Common.{◌≡◌, [], drop, map}
-use Rattle.wh_catalogue_text.specs.Join.{joined}
-use Rattle.wh_catalogue_text.specs.Inner.Join.{seen_link}
-use Rattle.wh_catalogue_text.proofs.definitions.join.joined.Given as goal
-
-abbrev pub invariant-loop-link : goal.invariant-loop-link
-invariant-loop-link l = joined l.header [] (map seen_link l.links) ≡ joined l.header l.places.items (map seen_link (drop l.link-index l.links))

@@ -1,8 +1,0 @@
-use Rattle.std.proofs.Common.{◌≡◌, [], drop, map}
-use Rattle.toml.specs.View.{view}
-use Rattle.wh_catalogue_text.specs.Pairs.{pairs_in}
-use Rattle.wh_catalogue_text.specs.Inner.Pairs.{seen_pair}
-use Rattle.wh_catalogue_text.proofs.definitions.pairs.pairs_in.Given as goal
-
-abbrev pub invariant-loop-value : goal.invariant-loop-value
-invariant-loop-value l = pairs_in [] (map view l.values) ≡ pairs_in (map seen_pair l.pairs.items) (map view (drop l.value-index l.values))

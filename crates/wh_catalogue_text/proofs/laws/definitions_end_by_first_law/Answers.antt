@@ -1,5 +1,0 @@
-use Rattle.wh_catalogue_text.proofs.ViewFaults.{definitions-end}
-use Rattle.wh_catalogue_text.proofs.laws.definitions_end_by_first_law.Goals as goal
-
-pub returns : goal.returns
-returns c = definitions-end

@@ -1,7 +1,0 @@
-use Rattle.std.proofs.Common.{ℕ, ◌<◌}
-use Rattle.wh_row.specs.Bag.{IsTable}
-use Rattle.wh_maint.specs.Comp.{bag_at}
-use Rattle.wh_core_cases.proofs.machine.given.are_tables.Given as goal
-
-abbrev pub invariant-loop-view : goal.invariant-loop-view
-invariant-loop-view l = (v : ℕ) → v < l.view → IsTable (bag_at l.fn.tables v)

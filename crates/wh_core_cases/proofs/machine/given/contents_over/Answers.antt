@@ -1,7 +1,0 @@
-use Rattle.wh_core_cases.proofs.Given.{all_tables, opened_are_contents}
-use Rattle.wh_core_cases.proofs.machine.given.contents_over.Goals as goal
-
-pub returns-in-Ok-clause-contents : goal.returns-in-Ok-clause-contents
-returns-in-Ok-clause-contents c =
-    opened_are_contents c.args.catalog.now c.shape-shape.ensures.catalog c.args.base.items c.in-Ok.tables.items
-    (all_tables c.args.base.items c.requires.tables) c.in-Ok.ensures.contents c.in-Ok.ensures.valued

@@ -1,6 +1,0 @@
-use Rattle.std.proofs.Common.{ℕ}
-use Rattle.wh_core_cases.proofs.Given.{AreOfCatalog}
-use Rattle.wh_core_cases.proofs.machine.given.nights.Given as goal
-
-abbrev pub invariant-loop-changes : goal.invariant-loop-changes
-invariant-loop-changes g l = AreOfCatalog l.catalog l.nights.items

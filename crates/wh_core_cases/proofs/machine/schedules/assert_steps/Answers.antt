@@ -1,5 +1,0 @@
-use Rattle.std.proofs.Common.{[]}
-use Rattle.wh_core_cases.proofs.machine.schedules.assert_steps.Goals as goal
-
-pub loop-place-init : goal.loop-place-init
-loop-place-init g c = record { setup = c.requires.setup; log = []; is_setup = c.requires.is_setup; stands = c.requires.stands }

@@ -1,0 +1,46 @@
+//! What a running desk answers, for proofs: these functions do nothing.
+
+ghost use Rattle.wh_headline.specs.Alike.{DesksAnswerAsTheMachine};
+ghost use Rattle.wh_headline.specs.RunningNights.{DesksBesideNightsAnswerAsTheMachine, NightsGoOn, RunningNightsHaveALog};
+ghost use Rattle.wh_headline.specs.Told.{ToldPagesAreOfContents};
+
+use wh_desk::seen_versions_stay_law;
+
+/// Where readers see no difference between the versions that a desk sees and those of a legal run, and the desk has the
+/// session that this run has given it, it is answered as the run's desk is: `open` as Open, `page` as Read. Away and want of
+/// memory, which come from the running warehouse alone, are left out.
+pub fn desks_answer_as_the_machine()
+    ensures { DesksAnswerAsTheMachine }
+{}
+
+/// What running nights publish, one after another, has a legal run: each night whole, once all its expressions were passed,
+/// or cut, and perhaps one more that is open. As many nights have begun in the run, and readers see no difference between its
+/// versions and those of the list. The desks may have sessions of whatever versions were current once, in which they have
+/// read nothing. The run has one worker at least.
+pub fn running_nights_have_a_log()
+    ensures { RunningNightsHaveALog }
+{}
+
+/// What a night publishes behind nights that have ended is such a list again, whether it is done or refused. One that was
+/// left open, and is given up later, has ended then.
+pub fn nights_go_on()
+    ensures { NightsGoOn }
+{}
+
+/// Desks that see what running nights have published, and had no session or one that they opened while its version was
+/// current, are all answered as the desks of one legal run are at that point: what they open, the first page of each view,
+/// and why there is none. No log is assumed.
+pub fn desks_beside_nights_answer_as_the_machine()
+    ensures { DesksBesideNightsAnswerAsTheMachine }
+{
+    seen_versions_stay_law();
+}
+
+/// A page that a desk was given in a session of a version is a page of that version's contents in a writer's list, and these are
+/// the contents of a base, once the desk was told that list, which is sound and has come to that version, as `learn` tells it
+/// what `tell` says of a writer after its nights.
+pub fn told_pages_are_of_contents()
+    ensures { ToldPagesAreOfContents }
+{
+    seen_versions_stay_law();
+}

@@ -1,0 +1,55 @@
+use Rattle.std.proofs.Common.{◌≡◌, refl, sym, ap, subst, ◌∙◌, ℕ, suc, ◌+◌, List, [], ◌∷◌, ◌++◌, take, drop, length, Some, arith}
+use Rattle.std.specs.Prelude.{slice_get}
+use Rattle.std.proofs.lemmas.Option.{slice_get_read}
+use Rattle.wh_carry.specs.declared.stages.Stage.{Stage}
+use Rattle.wh_carry.specs.Kept.{kept}
+use Rattle.wh_carry.proofs.StageLaws.{lists_have_one_stages}
+use Rattle.wh_carry.specs.Standing.{place_behind}
+use Rattle.wh_carry.proofs.Waves.{split_at, take_all, take_next}
+use Rattle.wh_night.specs.Inner.Underway.{HasCome, night_given}
+use Rattle.wh_night.proofs.alone.through.Goals as goal
+
+pub loop-stage-init : goal.loop-stage-init
+loop-stage-init g c = record {
+  parts = c.requires.parts;
+  fit = c.requires.fit;
+  come = λ keys t are here. subst (λ steps. HasCome (night_given c.args.catalog.now keys t) 0 (kept c.args.state.now) steps) (sym c.new-steps.ensures.items) here;
+}
+
+pub stage_of-requires-clause-stage : goal.stage_of-requires-clause-stage
+stage_of-requires-clause-stage g c κs within =
+    let here : slice_get c.args.stages.now c.loop-stage.stage-index ≡ Some c.stage-item.result = slice_get_read c.args.stages.now (length c.args.stages.now) c.loop-stage.stage-index c.stage-item.result refl (omega arith) c.stage-item.is in
+    c.requires.stages c.loop-stage.stage-index c.stage-item.result here
+
+-- how the stages split before the one in turn
+split_here : (stages : List Stage) (i : ℕ) (x : Stage) → slice_get stages i ≡ Some x → stages ≡ take i stages ++ x ∷ drop (i + 1) stages
+split_here stages i x e = let f : suc i ≡ i + 1 = omega arith in sym (split_at stages i x e) ∙ ap (λ k. take i stages ++ x ∷ drop k stages) f
+
+pub loop-stage-preserved : goal.loop-stage-preserved
+loop-stage-preserved g c =
+    let stages : List Stage = c.args.stages.now in
+    let i : ℕ = c.loop-stage.stage-index in
+    let x : Stage = c.stage-item.result in
+    let here : slice_get stages i ≡ Some x = slice_get_read stages (length stages) i x refl (omega arith) c.stage-item.is in
+    let next : take (i + 1) stages ≡ take i stages ++ x ∷ [] = take_next stages i x here in
+    record {
+      parts = c.in_default.ensures.parts;
+      fit = c.in_default.ensures.fit;
+      come = λ keys t are at. subst (λ ts. HasCome (night_given c.args.catalog.now keys t) (place_behind ts) (kept c.stage_of.new.state) c.stage_of.new.steps.items) (sym next)
+          (c.in_default.ensures.goes keys t (take i stages) (drop (i + 1) stages) (sym are ∙ split_here stages i x here) (c.loop-stage.invariant.come keys t are at));
+    }
+
+pub returns-in-Err-clause-stops : goal.returns-in-Err-clause-stops
+returns-in-Err-clause-stops g c = λ keys t are at.
+    let stages : List Stage = c.args.stages.now in
+    let i : ℕ = c.loop-stage.stage-index in
+    let x : Stage = c.stage-item.result in
+    let here : slice_get stages i ≡ Some x = slice_get_read stages (length stages) i x refl (omega arith) c.stage-item.is in
+    c.in-Err.ensures.stops keys t (take i stages) (drop (i + 1) stages) (sym are ∙ split_here stages i x here) (c.loop-stage.invariant.come keys t are at)
+
+pub returns-clause-goes : goal.returns-clause-goes
+returns-clause-goes g c = λ keys t are at.
+    let stages : List Stage = c.args.stages.now in
+    let all : take c.loop-stage.stage-index stages ≡ stages = take_all c.loop-stage.stage-index stages (omega arith) in
+    let whole : place_behind (take c.loop-stage.stage-index stages) ≡ length t.list = ap place_behind (all ∙ are) ∙ ap length (lists_have_one_stages t.list).0.joined in
+    subst (λ p. HasCome (night_given c.args.catalog.now keys t) p (kept c.loop-stage.state) c.loop-stage.steps.items) whole (c.loop-stage.invariant.come keys t are at)

@@ -1,0 +1,55 @@
+use Rattle.std.proofs.Common.{◌≡◌, refl, sym, ap, subst, ◌∙◌, eqb, ℕ, map, cond, true, None}
+use Rattle.std.specs.List.{All}
+use Rattle.std.proofs.lemmas.Bool.{eq-eqb, or_left}
+use Rattle.wh_row.specs.Bag.{Bag, count, sum_of, written}
+use Rattle.wh_row.specs.Row.{Row}
+use Rattle.std.proofs.Common.{ℤ}
+use Rattle.wh_store.specs.Operations.{Writes}
+use Rattle.wh_store.specs.Pages.{is_page}
+use Rattle.wh_carry.specs.Kept.{Kept, kept, finished, installed}
+use Rattle.wh_carry.specs.NightList.{pages_of}
+use Rattle.wh_carry.proofs.NewCounts.{new_counts_make_tables}
+use Rattle.wh_night.specs.Tonight.{goes_out}
+use Rattle.wh_night.specs.Inner.Underway.{IsPartly, is_cut, is_refused}
+use Rattle.wh_night.proofs.insts.inst.Goals as goal
+
+pub change-requires-clause-known : goal.change-requires-clause-known
+change-requires-clause-known g c = ap (λ (k : Kept). k.known c.args.view) c.in_default.ensures.done ∙ or_left (eqb c.args.view c.args.view) ((kept c.args.state.now).known c.args.view) (eq-eqb c.args.view c.args.view refl)
+
+pub returns-in-Err-clause-err : goal.returns-in-Err-clause-err
+returns-in-Err-clause-err g c = is_refused refl c.in-Err.ensures.refused
+
+-- the pages of the change in the table that has it
+same_pages : (v keys : ℕ) (k installed_now : Kept) (over : Kept) (table change : Bag) → installed_now ≡ installed v over → table ≡ installed_now.tables v → change ≡ installed_now.changes v
+    → pages_of keys (map {A = Row × ℤ} {B = Row × ℤ} (λ e. (e.0, count table e.0)) (written change)) ≡ pages_of keys (map {A = Row × ℤ} {B = Row × ℤ} (λ e. (e.0, count (sum_of (over.tables v) (over.changes v)) e.0)) (written (over.changes v)))
+same_pages v keys k installed_now over table change whole t d =
+    let same_table : table ≡ sum_of (over.tables v) (over.changes v) = t ∙ ap (λ (k : Kept). k.tables v) whole ∙ ap (λ b. cond b (sum_of (over.tables v) (over.changes v)) (over.tables v)) (eq-eqb v v refl) in
+    let same_change : change ≡ over.changes v = d ∙ ap (λ (k : Kept). k.changes v) whole in
+    (λ i. pages_of keys (map {A = Row × ℤ} {B = Row × ℤ} (λ e. (e.0, count (same_table i) e.0)) (written (same_change i))))
+
+pub returns-in-Ok-clause-out : goal.returns-in-Ok-clause-out
+returns-in-Ok-clause-out g c =
+    let v : ℕ = c.args.view in
+    let k : Kept = kept c.args.state.now in
+    let over : Kept = finished c.args.catalog.now (λ u. eqb v u) k in
+    subst (λ pages. g.P.Publish.kept c.publish_change.new.writer ≡ goes_out (g.P.Publish.kept c.args.writer.now) (map (Writes v) pages) None)
+    (same_pages v c.args.keys k (kept c.install.new.state) over c.table.result.now c.change.result.now c.in_default.ensures.done c.table.ensures c.change.ensures)
+    c.in-Ok.ensures.out
+
+pub returns-in-Err-publish_change-clause-err : goal.returns-in-Err-publish_change-clause-err
+returns-in-Err-publish_change-clause-err g c =
+    let v : ℕ = c.args.view in
+    let k : Kept = kept c.args.state.now in
+    let over : Kept = finished c.args.catalog.now (λ u. eqb v u) k in
+    is_cut refl c.in_default.ensures.passed
+    (subst (λ pages. IsPartly (g.P.Publish.kept c.args.writer.now) (map (Writes v) pages) (g.P.Publish.kept c.publish_change.new.writer))
+    (same_pages v c.args.keys k (kept c.install.new.state) over c.table.result.now c.change.result.now c.in_default.ensures.done c.table.ensures c.change.ensures)
+    c.in-Err-publish_change.ensures.err)
+
+pub publish_change-requires-clause-good : goal.publish_change-requires-clause-good
+publish_change-requires-clause-good g c =
+    let v : ℕ = c.args.view in
+    let k : Kept = kept c.args.state.now in
+    let over : Kept = finished c.args.catalog.now (λ u. eqb v u) k in
+    subst (All (λ page. is_page page ≡ true)) (sym (same_pages v c.args.keys k (kept c.install.new.state) over c.table.result.now c.change.result.now c.in_default.ensures.done c.table.ensures c.change.ensures))
+    ((new_counts_make_tables c.args.keys (over.tables v) (over.changes v) c.requires.some).good c.requires.few c.requires.table)

@@ -1,5 +1,0 @@
-use Rattle.wh_night.proofs.FitNights.{contents_are_fit_for_nights}
-use Rattle.wh_night.proofs.laws.contents_are_fit_for_nights.Goals as goal
-
-pub returns : goal.returns
-returns c = contents_are_fit_for_nights

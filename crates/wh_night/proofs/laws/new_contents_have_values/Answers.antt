@@ -1,5 +1,0 @@
-use Rattle.wh_night.proofs.NewValues.{new_contents_have_values}
-use Rattle.wh_night.proofs.laws.new_contents_have_values.Goals as goal
-
-pub returns : goal.returns
-returns c = new_contents_have_values

@@ -1,5 +1,0 @@
-use Rattle.wh_night.proofs.NewCounts.{new_counts_make_tables}
-use Rattle.wh_night.proofs.laws.new_counts_make_tables.Goals as goal
-
-pub returns : goal.returns
-returns c = new_counts_make_tables

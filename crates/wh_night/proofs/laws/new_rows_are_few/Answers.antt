@@ -1,5 +1,0 @@
-use Rattle.wh_night.proofs.NewValues.{new_rows_are_few}
-use Rattle.wh_night.proofs.laws.new_rows_are_few.Goals as goal
-
-pub returns : goal.returns
-returns c = new_rows_are_few

@@ -1,5 +1,0 @@
-use Rattle.wh_night.proofs.NightLists.{night_lists_write_tables}
-use Rattle.wh_night.proofs.laws.night_lists_write_tables.Goals as goal
-
-pub returns : goal.returns
-returns c = night_lists_write_tables

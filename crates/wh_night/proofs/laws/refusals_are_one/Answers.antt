@@ -1,5 +1,0 @@
-use Rattle.wh_night.proofs.FirstRefusals.{refusals_are_one}
-use Rattle.wh_night.proofs.laws.refusals_are_one.Goals as goal
-
-pub returns : goal.returns
-returns c = refusals_are_one

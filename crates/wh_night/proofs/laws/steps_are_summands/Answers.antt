@@ -1,5 +1,0 @@
-use Rattle.wh_night.proofs.StepRows.{steps_are_summands}
-use Rattle.wh_night.proofs.laws.steps_are_summands.Goals as goal
-
-pub returns : goal.returns
-returns c = steps_are_summands

@@ -1,5 +1,0 @@
-use Rattle.wh_night.proofs.NewValues.{strategies_end_in_contents}
-use Rattle.wh_night.proofs.laws.strategies_end_in_contents.Goals as goal
-
-pub returns : goal.returns
-returns c = strategies_end_in_contents

@@ -1,5 +1,0 @@
-use Rattle.wh_night.proofs.Stands.{strategies_end_in_views}
-use Rattle.wh_night.proofs.laws.strategies_end_in_views.Goals as goal
-
-pub returns : goal.returns
-returns c = strategies_end_in_views

@@ -1,5 +1,0 @@
-use Rattle.wh_night.proofs.Amid.{waves_have_no_order}
-use Rattle.wh_night.proofs.laws.waves_have_no_order.Goals as goal
-
-pub returns : goal.returns
-returns c = waves_have_no_order

@@ -1,0 +1,70 @@
+-- A night that runs while readers go through the tables of before: what only proofs and private contracts use.
+use Rattle.std.specs.Prelude.{◌≡◌, ◌≤◌, ℕ, List, [], None, Some, length, IfErr, IfOk, OnOk, Ok, Result}
+use Rattle.wh_row.specs.Bag.{Bag}
+use Rattle.wh_dag.specs.Catalog.{CatalogOf}
+use Rattle.wh_strategy.specs.Rules.{Judged}
+use Rattle.wh_strategy.specs.declared.expression.Expression.{Expression}
+use Rattle.wh_maint.specs.Asked.{AreBags}
+use Rattle.wh_maint.specs.Comp.{bag_at}
+use Rattle.wh_maint.specs.Contents.{AreContents, AreContentsOf}
+use Rattle.wh_maint.specs.Definition.{graph_of}
+use Rattle.wh_maint.specs.Laws.{changed}
+use Rattle.wh_store.specs.Operations.{Opens}
+use Rattle.wh_store.specs.Pages.{Contents}
+use Rattle.wh_store.specs.Versions.{number}
+use Rattle.wh_store.specs.Faults.{publish_refusal}
+use Rattle.wh_store.specs.Ledgers.{Ledger, Warehouse, ledger, versions_in}
+use Rattle.wh_carry.specs.Fit.{AreFitFor}
+use Rattle.wh_carry.specs.NightLaws.{HaveTables}
+use Rattle.wh_carry.specs.Refused.{ArePassedBelow}
+use Rattle.wh_carry.specs.Steps.{AreSteps}
+use Rattle.wh_carry.specs.declared.report.Report.{Report}
+use Rattle.wh_desk.specs.Desks.{Sitting}
+use Rattle.wh_night.specs.declared.left.NightFault.{NightFault}
+use Rattle.wh_night.specs.declared.running.Options.{Options}
+use Rattle.wh_night.specs.Refusals.{IsRefused}
+use Rattle.wh_carry.specs.Night.{AreAllowed}
+use Rattle.wh_night.specs.Tonight.{IsDone, made_by, newest_in, tonight}
+use Rattle.wh_night.specs.declared.serving.Served.{Served}
+
+-- a warehouse that begins with these tables; nothing is published
+abbrev pub newly : Contents → Ledger
+newly tables = ledger (record { limit = 2; opening = tables }) [] None
+
+-- the desk is of this warehouse, and has a session of version 0
+abbrev pub IsSeated : Warehouse → Sitting → Type 0
+IsSeated of d = (d.of ≡ of) × (d.session ≡ Some 0)
+
+-- the desk has a session of version 0 of a warehouse of so many views
+abbrev pub IsReady : ℕ → Sitting → Type 0
+IsReady views d = (d.session ≡ Some 0) × (views ≡ length d.of.opening)
+
+-- all that a night asks for holds
+pub record CanRun (catalog : CatalogOf) (correct : Judged) (l : Ledger) (changes : List Bag) (options : Options) : Type 0 where
+  pub judged : correct.children ≡ catalog.views.children
+  pub free : publish_refusal l Opens ≡ None
+  pub wide : AreBags catalog (newest_in l)
+  pub wide_changes : AreBags catalog changes
+  pub fit : AreFitFor (graph_of catalog) (bag_at changes) correct.list (bag_at (newest_in l))
+  pub some : 1 ≤ options.workers
+  pub few : options.workers ≤ 16
+  pub least : 1 ≤ options.page_keys
+  pub most : options.page_keys ≤ 256
+
+-- what a night answers over a published list at which one can begin, and what is published then
+pub record IsRun (catalog : CatalogOf) (list : List Expression) (l : Ledger) (changes : List Bag) (keys : ℕ) (r : Result Report NightFault) (m : Ledger) : Type 0 where
+  pub done : OnOk r (IsDone (tonight catalog list l changes keys) l m)
+  pub bags : OnOk r (AreBags catalog (newest_in m))
+  pub tables : OnOk r (HaveTables (newest_in m) (length catalog.views.children) (made_by (tonight catalog list l changes keys)))
+  pub contents : OnOk r (AreContents (graph_of catalog) (bag_at (newest_in l)) → AreContentsOf (graph_of catalog) (changed (bag_at (newest_in l)) (bag_at changes)) (bag_at (newest_in m)))
+  pub version : IfOk r (λ report. report.version ≡ number (versions_in m.of m.list))
+  pub steps : IfOk r (λ report. AreSteps catalog.views.children list (bag_at (newest_in l)) (made_by (tonight catalog list l changes keys)) report.steps.items)
+  pub allowed : OnOk r (AreAllowed (tonight catalog list l changes keys))
+  pub passed : OnOk r (ArePassedBelow catalog list (bag_at (newest_in l)) (bag_at changes) (length list))
+  pub refused : IfErr r (IsRefused (tonight catalog list l changes keys))
+
+-- what is answered of a night that was done over this published list, without what readers were given
+pub record IsServed (catalog : CatalogOf) (list : List Expression) (l : Ledger) (changes : List Bag) (keys : ℕ) (s : Served) : Type 0 where
+  pub after : Ledger
+  pub run : IsRun catalog list l changes keys (Ok s.report) after
+  pub tables : s.tables.items ≡ newest_in after

@@ -1,0 +1,368 @@
+//! A night over whatever publishes.
+
+ghost use Rattle.std.specs.Prelude.{◌≡◌, ◌≢◌, ◌⊎◌, ◌≤◌, ◌++◌, ◌∷◌, [], ℕ, List, None, Some, Err, length, slice_get, OnOk, OnErr, IfOk, IfErr, MatchOption, MatchResult};
+ghost use Rattle.wh_strategy.specs.declared.expression.Expression.{Expression as Step};
+ghost use Rattle.wh_maint.specs.Asked.{AreBags};
+ghost use Rattle.wh_maint.specs.Comp.{bag_at};
+ghost use Rattle.wh_maint.specs.Contents.{AreContents, AreContentsOf};
+ghost use Rattle.wh_maint.specs.Definition.{graph_of};
+ghost use Rattle.wh_maint.specs.Laws.{changed};
+ghost use Rattle.wh_maint.specs.declared.fault.MaintFault.TheVariants.{Memory};
+ghost use Rattle.wh_store.specs.Operations.{Commits, Opens};
+ghost use Rattle.wh_store.specs.Versions.{number};
+ghost use Rattle.wh_store.specs.Faults.{publish_refusal};
+ghost use Rattle.wh_store.specs.Ledgers.{Ledger, versions_in};
+ghost use Rattle.wh_carry.specs.Fit.{AreFitFor};
+ghost use Rattle.wh_carry.specs.Kept.{kept, HaveParts, CanFinish};
+ghost use Rattle.wh_carry.specs.NightLaws.{HaveTables};
+ghost use Rattle.wh_carry.specs.Refused.{ArePassedBelow};
+ghost use Rattle.wh_carry.specs.Steps.{AreSteps};
+ghost use Rattle.wh_carry.specs.Waves.{stages_of};
+ghost use Rattle.wh_carry.specs.declared.stages.Stage.{Stage as StageOf};
+ghost use Rattle.wh_carry.specs.Night.{Night, AreAllowed};
+ghost use Rattle.wh_carry.specs.Standing.{IsStageIn, place_behind};
+ghost use Rattle.wh_night.specs.Causes.{cause_of, cause_of_begin};
+ghost use Rattle.wh_night.specs.declared.left.Left.TheVariants.{Untouched};
+ghost use Rattle.wh_night.specs.Refusals.{IsRefused};
+ghost use Rattle.wh_night.specs.Tonight.{IsDone, IsSound, IsWhole, Leaves, goes_out, made_by, newest_in, tonight};
+ghost use Rattle.wh_night.specs.Inner.Underway.{AreWide, CanStart, CanPublish, Given, HasBegun, HasCome, IsAt, IsPut, IsRefusedLater, IsStopped, WaitsToCommit, night_given};
+
+use crate::gate::Gate;
+use crate::insts::inst;
+use crate::opening::{current_tables, not_ready};
+use crate::waves::wave;
+use crate::{Left, NightCause, NightFault};
+use std::alloc::Global;
+use std::sync::Wait;
+use std::thread::Threads;
+use wh_carry::{NightState, Report, Stage, base_changes, waves};
+use wh_dag::Catalog;
+use wh_formula::{RowTest, RowValue};
+use wh_maint::MaintFault;
+use wh_row::Bag;
+use wh_store::{Op, Publish, PublishFault};
+use wh_strategy::{Correct, Expression};
+
+/// How a night is run.
+#[derive(Clone, Copy, Debug)]
+pub struct Options {
+    /// How many workers draw jobs, each in a thread, 1 to 16.
+    pub workers: usize,
+    /// How many rows of a view one operation writes at most, 1 to 256.
+    pub page_keys: usize,
+}
+
+/// What a night leaves that published nothing.
+fn untouched(cause: NightCause) -> NightFault
+    ensures { result ≡ record { cause = cause; left = Untouched } }
+{
+    NightFault {
+        cause,
+        left: Left::Untouched,
+    }
+}
+
+/// Gives the night up that has begun, or that waits to begin, and answers what is left.
+fn given_up<P: Publish, R: Wait>(rt: &R, writer: &mut P, fault: MaintFault) -> NightFault
+    ensures home { P.home writer.new ≡ P.home writer.old }
+    ensures cause { result.cause ≡ cause_of fault }
+    ensures started { result.left ≢ Untouched }
+    ensures leaves { (n : Night) (l : Ledger) → AreAllowed n → IsStopped n l fault (P.kept writer.old) → Leaves n result.cause l result.left (P.kept writer.new) }
+{
+    let left = match writer.give_up(rt) {
+        Ok(_) => Left::GivenUp,
+        Err(_) => Left::StillOpen,
+    };
+    NightFault {
+        cause: NightCause::of(fault),
+        left,
+    }
+}
+
+/// Begins a night.
+fn begin<P: Publish, R: Wait>(rt: &R, writer: &mut P) -> Result<(), NightFault>
+    requires { publish_refusal (P.kept writer.old) Opens ≡ None }
+    ensures home { P.home writer.new ≡ P.home writer.old }
+    ensures ok { OnOk result (P.kept writer.new ≡ goes_out (P.kept writer.old) (Opens ∷ []) None) }
+    ensures cause { IfErr result (λ f. f.cause ≡ cause_of Memory) }
+    ensures leaves { IfErr result (λ f. (n : Night) → AreAllowed n → Leaves n f.cause (P.kept writer.old) f.left (P.kept writer.new)) }
+{
+    match writer.publish(rt, Op::Begin) {
+        Ok(()) => Ok(()),
+        Err(PublishFault::Memory { held: true }) => Err(given_up(rt, writer, MaintFault::Memory)),
+        Err(PublishFault::Memory { held: false }) => Err(untouched(NightCause::Memory)),
+        Err(_) => unreachable!(),
+    }
+}
+
+/// Tells of a night whose commit has gone out.
+fn told<P: Publish>(writer: &P, steps: Vec<(Expression, u128)>) -> Report
+    ensures version { result.version ≡ number (versions_in (P.kept writer.now).of (P.kept writer.now).list) }
+    ensures steps { result.steps.items ≡ steps.items }
+{
+    Report {
+        version: writer.current(),
+        steps,
+    }
+}
+
+/// Publishes the commit that is held, and tells of the night.
+fn commit_held<P: Publish, R: Wait>(
+    rt: &R,
+    writer: &mut P,
+    steps: Vec<(Expression, u128)>,
+) -> Result<Report, NightFault>
+    ensures home { P.home writer.new ≡ P.home writer.old }
+    ensures version { IfOk result (λ r. r.version ≡ number (versions_in (P.kept writer.new).of (P.kept writer.new).list)) }
+    ensures steps { IfOk result (λ r. r.steps.items ≡ steps.items) }
+    ensures done { OnOk result ((n : Night) (l : Ledger) → WaitsToCommit n l (P.kept writer.old) → IsDone n l (P.kept writer.new)) }
+    ensures cause { IfErr result (λ f. f.cause ≡ cause_of Memory) }
+    ensures leaves { IfErr result (λ f. (n : Night) (l : Ledger) → AreAllowed n → WaitsToCommit n l (P.kept writer.old) → Leaves n f.cause l f.left (P.kept writer.new)) }
+{
+    match writer.give_up(rt) {
+        Ok(_) => Ok(told(writer, steps)),
+        Err(_) => Err(NightFault {
+            cause: NightCause::Memory,
+            left: Left::StillOpen,
+        }),
+    }
+}
+
+/// Publishes the commit, and tells of the night.
+fn commit<P: Publish, R: Wait>(
+    rt: &R,
+    writer: &mut P,
+    steps: Vec<(Expression, u128)>,
+) -> Result<Report, NightFault>
+    requires { publish_refusal (P.kept writer.old) Commits ≡ None }
+    ensures home { P.home writer.new ≡ P.home writer.old }
+    ensures version { IfOk result (λ r. r.version ≡ number (versions_in (P.kept writer.new).of (P.kept writer.new).list)) }
+    ensures steps { IfOk result (λ r. r.steps.items ≡ steps.items) }
+    ensures done { OnOk result ((n : Night) (l : Ledger) → IsPut n l (P.kept writer.old) → IsDone n l (P.kept writer.new)) }
+    ensures cause { IfErr result (λ f. f.cause ≡ cause_of Memory) }
+    ensures leaves { IfErr result (λ f. (n : Night) (l : Ledger) → AreAllowed n → IsPut n l (P.kept writer.old) → Leaves n f.cause l f.left (P.kept writer.new)) }
+{
+    match writer.publish(rt, Op::Commit) {
+        Ok(()) => Ok(told(writer, steps)),
+        Err(PublishFault::Memory { held: true }) => commit_held(rt, writer, steps),
+        Err(PublishFault::Memory { held: false }) => {
+            Err(given_up(rt, writer, MaintFault::Memory))
+        }
+        Err(_) => unreachable!(),
+    }
+}
+
+/// Carries a stage out.
+fn stage_of<P: Publish, F: RowTest, G: RowValue, T: Gate + Sync, R: Threads + Wait + Sync>(
+    rt: &R,
+    alloc: Global,
+    writer: &mut P,
+    catalog: &Catalog<F, G>,
+    stage: &Stage,
+    keys: usize,
+    workers: usize,
+    state: &mut NightState,
+    steps: &mut Vec<(Expression, u128)>,
+    gate: &T,
+) -> Result<(), MaintFault>
+    requires held { (P.kept writer.old).held ≡ None }
+    requires parts { HaveParts catalog.now state.old }
+    requires fit { CanFinish catalog.now (kept state.old) }
+    requires stage { IsStageIn catalog.now stage.now }
+    requires publishes { CanPublish catalog.now stage.now (kept state.old) (P.kept writer.old) }
+    requires some { 1 ≤ keys }
+    requires few { keys ≤ 256 }
+    requires least { 1 ≤ workers }
+    requires most { workers ≤ 16 }
+    ensures home { P.home writer.new ≡ P.home writer.old }
+    ensures held { OnOk result ((P.kept writer.new).held ≡ None) }
+    ensures parts { OnOk result (HaveParts catalog.now state.new) }
+    ensures fit { OnOk result (CanFinish catalog.now (kept state.new)) }
+    ensures goes { OnOk result ((t : Given) (before after : List StageOf) → stages_of t.list ≡ before ++ stage.now ∷ after
+        → IsAt (night_given catalog.now keys t) t.before (place_behind before) (kept state.old) steps.old.items (P.kept writer.old)
+        → IsAt (night_given catalog.now keys t) t.before (place_behind (before ++ stage.now ∷ [])) (kept state.new) steps.new.items (P.kept writer.new)) }
+    ensures stops { IfErr result (λ fault. (t : Given) (before after : List StageOf) → stages_of t.list ≡ before ++ stage.now ∷ after
+        → IsAt (night_given catalog.now keys t) t.before (place_behind before) (kept state.old) steps.old.items (P.kept writer.old)
+        → IsStopped (night_given catalog.now keys t) t.before fault (P.kept writer.new)) }
+{
+    match stage {
+        Stage::Wave(jobs) => wave(
+            rt,
+            alloc,
+            catalog,
+            jobs.as_slice(),
+            state,
+            steps,
+            workers,
+            gate,
+        ),
+        Stage::Inst(view) => inst(rt, alloc, writer, catalog, *view, keys, state, steps),
+    }
+}
+
+/// Carries the stages out, one after another, and reports their expressions.
+fn through<P: Publish, F: RowTest, G: RowValue, T: Gate + Sync, R: Threads + Wait + Sync>(
+    rt: &R,
+    alloc: Global,
+    writer: &mut P,
+    catalog: &Catalog<F, G>,
+    stages: &[Stage],
+    keys: usize,
+    workers: usize,
+    state: &mut NightState,
+    gate: &T,
+) -> Result<Vec<(Expression, u128)>, MaintFault>
+    requires held { (P.kept writer.old).held ≡ None }
+    requires parts { HaveParts catalog.now state.old }
+    requires fit { CanFinish catalog.now (kept state.old) }
+    requires stages { (i : ℕ) (stage : StageOf) → slice_get stages.now i ≡ Some stage → IsStageIn catalog.now stage }
+    requires begun { HasBegun catalog.now keys stages.now (kept state.old) (P.kept writer.old) }
+    requires some { 1 ≤ keys }
+    requires few { keys ≤ 256 }
+    requires least { 1 ≤ workers }
+    requires most { workers ≤ 16 }
+    ensures home { P.home writer.new ≡ P.home writer.old }
+    ensures parts { OnOk result (HaveParts catalog.now state.new) }
+    ensures goes { IfOk result (λ steps. (t : Given) → stages.now ≡ stages_of t.list
+        → IsAt (night_given catalog.now keys t) t.before 0 (kept state.old) [] (P.kept writer.old)
+        → IsAt (night_given catalog.now keys t) t.before (length t.list) (kept state.new) steps.items (P.kept writer.new)) }
+    ensures stops { IfErr result (λ fault. (t : Given) → stages.now ≡ stages_of t.list
+        → IsAt (night_given catalog.now keys t) t.before 0 (kept state.old) [] (P.kept writer.old)
+        → IsStopped (night_given catalog.now keys t) t.before fault (P.kept writer.new)) }
+{
+    let mut steps = Vec::new(alloc);
+    for stage in stages {
+        if let Err(fault) = stage_of(
+            rt, alloc, writer, catalog, stage, keys, workers, state, &mut steps, gate,
+        ) {
+            return Err(fault);
+        }
+    }
+    Ok(steps)
+}
+
+/// Publishes a night whose stages these are.
+fn run<P: Publish, F: RowTest, G: RowValue, T: Gate + Sync, R: Threads + Wait + Sync>(
+    rt: &R,
+    alloc: Global,
+    writer: &mut P,
+    catalog: &Catalog<F, G>,
+    stages: &[Stage],
+    keys: usize,
+    workers: usize,
+    state: &mut NightState,
+    gate: &T,
+) -> Result<Report, NightFault>
+    requires free { publish_refusal (P.kept writer.old) Opens ≡ None }
+    requires parts { HaveParts catalog.now state.old }
+    requires fit { CanFinish catalog.now (kept state.old) }
+    requires stages { (i : ℕ) (stage : StageOf) → slice_get stages.now i ≡ Some stage → IsStageIn catalog.now stage }
+    requires begins { CanStart catalog.now keys stages.now (kept state.old) (P.kept writer.old) }
+    requires some { 1 ≤ keys }
+    requires few { keys ≤ 256 }
+    requires least { 1 ≤ workers }
+    requires most { workers ≤ 16 }
+    ensures home { P.home writer.new ≡ P.home writer.old }
+    ensures version { IfOk result (λ r. r.version ≡ number (versions_in (P.kept writer.new).of (P.kept writer.new).list)) }
+    ensures done { IfOk result (λ r. (t : Given) → t.before ≡ P.kept writer.old → stages.now ≡ stages_of t.list → HasCome (night_given catalog.now keys t) 0 (kept state.old) []
+        → IsDone (night_given catalog.now keys t) t.before (P.kept writer.new)
+        × ArePassedBelow catalog.now t.list t.tables t.changes (length t.list)
+        × AreSteps catalog.now.views.children t.list t.tables (made_by (night_given catalog.now keys t)) r.steps.items
+        × AreWide catalog.now (made_by (night_given catalog.now keys t))) }
+    ensures refused { IfErr result (λ f. (t : Given) → t.before ≡ P.kept writer.old → stages.now ≡ stages_of t.list → HasCome (night_given catalog.now keys t) 0 (kept state.old) []
+        → AreAllowed (night_given catalog.now keys t)
+        → Leaves (night_given catalog.now keys t) f.cause t.before f.left (P.kept writer.new) × IsRefusedLater (night_given catalog.now keys t) f) }
+{
+    if let Err(fault) = begin(rt, writer) {
+        return Err(fault);
+    }
+    match through(
+        rt, alloc, writer, catalog, stages, keys, workers, state, gate,
+    ) {
+        Ok(steps) => commit(rt, writer, steps),
+        Err(fault) => Err(given_up(rt, writer, fault)),
+    }
+}
+
+/// Carries a night out over what is published, wave by wave, from the tables of the current version: one bag a view, which
+/// are fit for the night, as the contents of a base are for every night ([`crate::are_fit_for`] tests it). There is a
+/// change for each view; those of derived views are not read. The strategy was judged over this catalogue's shape (`is_of`
+/// tests it). Readers go on meanwhile.
+///
+/// [`Publish::views`] says how many views are published, and [`current_tables`] hands out their tables to be tested. The contents of
+/// a base are fit without a test: `opening_contents` gives them, and from them `carry` and each night.
+///
+/// First Held, NightOpen and LastVersion are tested, then the base changes, view by view: Absent, then Large. Then the
+/// night begins. Before a wave the derived views that its jobs are from are finished, by rising number; then its jobs are
+/// computed, and then added to what is pending, in the order of the strategy. At the Inst of a derived view that is not
+/// finished, it is; then its new counts go out, `page_keys` rows at a time. The first refusal gives the night up. Memory
+/// may be refused at any point.
+pub fn night<P: Publish, F: RowTest, G: RowValue, T: Gate + Sync, R: Threads + Wait + Sync>(
+    rt: &R,
+    alloc: Global,
+    writer: &mut P,
+    catalog: &Catalog<F, G>,
+    changes: &[Bag],
+    correct: &Correct,
+    options: Options,
+    gate: &T,
+) -> Result<Report, NightFault>
+    requires judged { correct.now.children ≡ catalog.now.views.children }
+    requires tables { AreBags catalog.now (newest_in (P.kept writer.old)) }
+    requires changes { AreBags catalog.now changes.now }
+    requires fit { AreFitFor (graph_of catalog.now) (bag_at changes.now) correct.now.list (bag_at (newest_in (P.kept writer.old))) }
+    requires one { 1 ≤ options.workers }
+    requires sixteen { options.workers ≤ 16 }
+    requires least { 1 ≤ options.page_keys }
+    requires most { options.page_keys ≤ 256 }
+    ensures home { P.home writer.new ≡ P.home writer.old }
+    ensures done { OnOk result (IsDone (tonight catalog.now correct.now.list (P.kept writer.old) changes.now options.page_keys) (P.kept writer.old) (P.kept writer.new)) }
+    ensures bags { OnOk result (AreBags catalog.now (newest_in (P.kept writer.new))) }
+    ensures tables { OnOk result (HaveTables (newest_in (P.kept writer.new)) (length catalog.now.views.children)
+        (made_by (tonight catalog.now correct.now.list (P.kept writer.old) changes.now options.page_keys))) }
+    ensures contents { OnOk result (AreContents (graph_of catalog.now) (bag_at (newest_in (P.kept writer.old)))
+        → AreContentsOf (graph_of catalog.now) (changed (bag_at (newest_in (P.kept writer.old))) (bag_at changes.now)) (bag_at (newest_in (P.kept writer.new)))) }
+    ensures version { IfOk result (λ r. r.version ≡ number (versions_in (P.kept writer.new).of (P.kept writer.new).list)) }
+    ensures steps { IfOk result (λ r. AreSteps catalog.now.views.children correct.now.list (bag_at (newest_in (P.kept writer.old)))
+        (made_by (tonight catalog.now correct.now.list (P.kept writer.old) changes.now options.page_keys)) r.steps.items) }
+    ensures allowed { OnOk result (AreAllowed (tonight catalog.now correct.now.list (P.kept writer.old) changes.now options.page_keys)) }
+    ensures passed { OnOk result (ArePassedBelow catalog.now correct.now.list (bag_at (newest_in (P.kept writer.old))) (bag_at changes.now) (length correct.now.list)) }
+    ensures leaves { IfErr result (λ f. Leaves (tonight catalog.now correct.now.list (P.kept writer.old) changes.now options.page_keys) f.cause (P.kept writer.old) f.left (P.kept writer.new)) }
+    ensures newest { OnErr result (newest_in (P.kept writer.new) ≡ newest_in (P.kept writer.old)) }
+    ensures sound { IsSound catalog.now (P.kept writer.old) → IsSound catalog.now (P.kept writer.new) }
+    ensures refused { MatchOption (publish_refusal (P.kept writer.old) Opens)
+        (IfErr result (IsRefused (tonight catalog.now correct.now.list (P.kept writer.old) changes.now options.page_keys)))
+        (λ fault. result ≡ Err (record { cause = cause_of_begin fault; left = Untouched })) }
+{
+    if let Some(cause) = not_ready(writer) {
+        return Err(untouched(cause));
+    }
+    let Ok(tables) = current_tables(alloc, writer, catalog.shape().len()) else {
+        return Err(untouched(NightCause::Memory));
+    };
+    if let Err(fault) = base_changes(alloc, catalog, &tables, changes) {
+        return Err(untouched(NightCause::of(fault)));
+    }
+    // Makes known that the list is correct.
+    let _ = correct.strategy();
+    let Ok(mut state) = NightState::over(alloc, catalog, tables, changes) else {
+        return Err(untouched(NightCause::Memory));
+    };
+    let Ok(stages) = waves(alloc, correct) else {
+        return Err(untouched(NightCause::Memory));
+    };
+    let answer = run(
+        rt,
+        alloc,
+        writer,
+        catalog,
+        stages.as_slice(),
+        options.page_keys,
+        options.workers,
+        &mut state,
+        gate,
+    );
+    // Makes known that the published list is well formed.
+    let _ = writer.current();
+    answer
+}

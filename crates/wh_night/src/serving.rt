@@ -1,0 +1,324 @@
+//! A night that runs while readers go through the tables of before.
+
+ghost use Rattle.std.specs.Prelude.{◌≡◌, ◌⊎◌, ◌≤◌, ◌<◌, ℕ, [], Ok, None, Some, length, replicate, IfErr, IfOk, IfSome, IsTrue, MatchResult, OnOk};
+ghost use Rattle.std.specs.List.{All};
+ghost use Rattle.std.specs.Thread.{IsSync};
+ghost use Rattle.wh_maint.specs.Asked.{AreBags};
+ghost use Rattle.wh_maint.specs.Comp.{bag_at};
+ghost use Rattle.wh_maint.specs.Contents.{AreContents, AreContentsOf};
+ghost use Rattle.wh_maint.specs.Definition.{graph_of};
+ghost use Rattle.wh_maint.specs.Laws.{changed};
+ghost use Rattle.wh_maint.specs.declared.fault.MaintFault.TheVariants.{Memory};
+ghost use Rattle.wh_carry.specs.Carry.{tables_after};
+ghost use Rattle.wh_carry.specs.Fit.{AreFitFor, AreFitTables};
+ghost use Rattle.wh_carry.specs.Refused.{AreAllowedBelow, ArePassedBelow};
+ghost use Rattle.wh_carry.specs.Steps.{AreSteps};
+ghost use Rattle.wh_carry.specs.Night.{Night};
+ghost use Rattle.wh_store.specs.Ledgers.{Warehouse};
+ghost use Rattle.wh_night.specs.Refusals.{IsRefused, IsRefusedSo, left_of};
+ghost use Rattle.wh_night.specs.Tonight.{newest_in, night_over};
+ghost use Rattle.wh_store.specs.Windows.{Shows, current};
+ghost use Rattle.wh_night.specs.Serving.{rows_of};
+ghost use Rattle.wh_night.specs.Inner.Serving.{CanRun, IsReady, IsRun, IsSeated, IsServed, newly};
+
+use crate::alone::night_alone;
+use crate::cause::NightCause;
+use crate::left::{Left, NightFault};
+use crate::opening::current_tables;
+use crate::reading::read_each;
+use crate::running::{Options, night};
+use crate::watch::Watch;
+use std::alloc::Global;
+use std::sync::Wait;
+use std::thread::{Threads, join_mut};
+use wh_carry::{Carried, CarryFault, Report};
+use wh_dag::Catalog;
+use wh_desk::{Desk, Writer, open_warehouse};
+use wh_formula::{RowTest, RowValue};
+use wh_maint::MaintFault;
+use wh_row::Bag;
+use wh_store::Store;
+use wh_strategy::Correct;
+
+/// Who reads beside a night.
+#[derive(Drop)]
+pub struct Readers<'w, W> {
+    /// How many readers there are, 0 to 16, each in a thread of its own where one can be started.
+    pub count: usize,
+    /// Is told of each reader, and of each job of the night.
+    pub watch: &'w W,
+}
+
+/// What a night made while readers were served.
+#[derive(Drop)]
+pub struct Served {
+    /// The new tables, one for each view.
+    pub tables: Vec<Bag>,
+    /// What each expression did, and the new version.
+    pub report: Report,
+    /// How many distinct rows each reader was given.
+    pub rows: Vec<usize>,
+}
+
+/// Opens a session of version 0 at each desk. False where one has no answer, or another version.
+fn sit_down(desks: &mut Vec<Desk>) -> bool
+    ensures len { length desks.new.items ≡ length desks.old.items }
+    ensures seated { IsTrue result → (of : Warehouse) → All (λ d. d.of ≡ of) desks.old.items → All (IsSeated of) desks.new.items }
+{
+    for place in 0..desks.len() {
+        let Ok(0) = desks[place].open() else {
+            return false;
+        };
+    }
+    true
+}
+
+/// Runs a night while desks go through all views, each in a thread of its own where one can be started, and else after the night.
+fn beside_readers<F: RowTest, G: RowValue, W: Watch + Sync, R: Threads + Wait + Sync>(
+    rt: &R,
+    alloc: Global,
+    writer: &mut Writer,
+    desks: &mut Vec<Desk>,
+    views: usize,
+    catalog: &Catalog<F, G>,
+    changes: &[Bag],
+    correct: &Correct,
+    options: Options,
+    watch: &W,
+) -> (Option<Vec<usize>>, Result<Report, NightFault>)
+    requires seated { All (IsReady views) desks.old.items }
+    requires same { All (λ d. d.of ≡ writer.old.ledger.of) desks.old.items }
+    requires ready { CanRun catalog.now correct.now writer.old.ledger changes.now options }
+    ensures rows { IfSome result.0 (λ rows. rows.items ≡ replicate (length desks.old.items) (rows_of writer.old.ledger.of.opening)) }
+    ensures night { IsRun catalog.now correct.now.list writer.old.ledger changes.now options.page_keys result.1 writer.new.ledger }
+{
+    if desks.is_empty() {
+        let night = night(rt, alloc, writer, catalog, changes, correct, options, watch);
+        return (Some(Vec::new(alloc)), night);
+    }
+    join_mut(
+        rt,
+        &mut || -> Option<Vec<usize>>
+            requires { IsSync R.row × IsSync W.row × All (IsReady views) desks.now.items }
+            ensures { (of : Warehouse) → All (λ d. d.of ≡ of) desks.entry.now.items → IfSome result (λ rows. rows.items ≡ replicate (length desks.entry.now.items) (rows_of of.opening)) }
+        {
+            let seated = std::mem::replace(desks, Vec::new(alloc));
+            read_each(rt, alloc, seated, views, watch)
+        },
+        &mut || -> Result<Report, NightFault>
+            requires { CanRun catalog.now correct.now writer.now.ledger changes.now options }
+            ensures { IsRun catalog.entry.now correct.entry.now.list writer.entry.now.ledger changes.entry.now options.page_keys result writer.exit.now.ledger }
+        { night(rt, alloc, writer, catalog, changes, correct, options, watch) },
+    )
+}
+
+/// Want of memory, of a night that leaves nothing.
+fn want_of_memory() -> CarryFault
+    ensures { result.fault ≡ Memory }
+{
+    CarryFault {
+        fault: MaintFault::Memory,
+        started: false,
+    }
+}
+
+/// Why a night is refused that could begin, and whether it had begun; want of memory where it could not be given up either.
+fn refusal(refused: NightFault) -> CarryFault
+    ensures { (n : Night) → IsRefused n refused → (result.fault ≡ Memory) ⊎ IsRefusedSo n (left_of result.started) result.fault }
+{
+    let NightFault { cause, left } = refused;
+    let started = match left {
+        Left::Untouched => false,
+        Left::GivenUp => true,
+        Left::StillOpen => return want_of_memory(),
+    };
+    let fault = match cause {
+        NightCause::Large(view) => MaintFault::Large(view),
+        NightCause::Range(view) => MaintFault::Range(view),
+        NightCause::Absent(view, row) => MaintFault::Absent(view, row),
+        _ => return want_of_memory(),
+    };
+    CarryFault { fault, started }
+}
+
+/// What a night made, from what is published after it.
+fn answer_of(
+    alloc: Global,
+    writer: &Writer,
+    views: usize,
+    night: Result<Report, NightFault>,
+    rows: Option<Vec<usize>>,
+) -> Result<Served, CarryFault>
+    requires ready { OnOk night ((writer.now.ledger.held ≡ None) × (length (newest_in writer.now.ledger) ≡ views)) }
+    ensures ok { IfOk result (λ s. (s.tables.items ≡ newest_in writer.now.ledger) × (night ≡ Ok s.report) × (rows ≡ Some s.rows)) }
+    ensures err { IfErr result (λ f. MatchResult night (λ _. f.fault ≡ Memory) (λ g. (n : Night) → IsRefused n g → (f.fault ≡ Memory) ⊎ IsRefusedSo n (left_of f.started) f.fault)) }
+{
+    match night {
+        Ok(report) => {
+            let Some(rows) = rows else {
+                return Err(want_of_memory());
+            };
+            let Ok(tables) = current_tables(alloc, writer, views) else {
+                return Err(want_of_memory());
+            };
+            Ok(Served {
+                tables,
+                report,
+                rows,
+            })
+        }
+        Err(refused) => Err(refusal(refused)),
+    }
+}
+
+/// A night without readers, over the tables as they lie.
+fn serve_none<F: RowTest, G: RowValue, W: Watch + Sync, R: Threads + Sync>(
+    rt: &R,
+    alloc: Global,
+    catalog: &Catalog<F, G>,
+    tables: Vec<Bag>,
+    changes: &[Bag],
+    correct: &Correct,
+    options: Options,
+    watch: &W,
+) -> Result<Served, CarryFault>
+    requires judged { correct.now.children ≡ catalog.now.views.children }
+    requires tables { AreBags catalog.now tables.items }
+    requires changes { AreBags catalog.now changes.now }
+    requires fit { AreFitTables catalog.now tables.items }
+    requires some { 1 ≤ options.workers }
+    requires few { options.workers ≤ 16 }
+    ensures bags { IfOk result (λ s. AreBags catalog.now s.tables.items) }
+    ensures tables { IfOk result (λ s. (v : ℕ) → v < length catalog.now.views.children
+        → bag_at s.tables.items v ≡ tables_after (graph_of catalog.now) (bag_at changes.now) correct.now.list (bag_at tables.items) v) }
+    ensures contents { IfOk result (λ s. AreContents (graph_of catalog.now) (bag_at tables.items)
+        → AreContentsOf (graph_of catalog.now) (changed (bag_at tables.items) (bag_at changes.now)) (bag_at s.tables.items)) }
+    ensures version { IfOk result (λ s. s.report.version ≡ 1) }
+    ensures steps { IfOk result (λ s. AreSteps catalog.now.views.children correct.now.list (bag_at tables.items)
+        (tables_after (graph_of catalog.now) (bag_at changes.now) correct.now.list (bag_at tables.items)) s.report.steps.items) }
+    ensures allowed { OnOk result (AreAllowedBelow catalog.now (bag_at tables.items) (bag_at changes.now) (length catalog.now.views.children)) }
+    ensures passed { OnOk result (ArePassedBelow catalog.now correct.now.list (bag_at tables.items) (bag_at changes.now) (length correct.now.list)) }
+    ensures rows { IfOk result (λ s. s.rows.items ≡ []) }
+    ensures refused { IfErr result (λ f. (f.fault ≡ Memory)
+        ⊎ ((keys : ℕ) → IsRefusedSo (night_over catalog.now correct.now.list tables.items changes.now keys) (left_of f.started) f.fault)) }
+{
+    match night_alone(
+        rt,
+        alloc,
+        catalog,
+        tables,
+        changes,
+        correct,
+        options.workers,
+        watch,
+    ) {
+        Ok(Carried { tables, report }) => Ok(Served {
+            tables,
+            report,
+            rows: Vec::new(alloc),
+        }),
+        Err(refused) => Err(refused),
+    }
+}
+
+/// A night beside one reader at least.
+fn serve_some<F: RowTest, G: RowValue, W: Watch + Sync, R: Threads + Wait + Sync>(
+    rt: &R,
+    alloc: Global,
+    catalog: &Catalog<F, G>,
+    store: Store,
+    changes: &[Bag],
+    correct: &Correct,
+    options: Options,
+    readers: usize,
+    watch: &W,
+) -> Result<Served, CarryFault>
+    requires new { Shows store (current store) [] }
+    requires limit { store.limit ≡ 2 }
+    requires ready { CanRun catalog.now correct.now (newly (current store)) changes.now options }
+    requires least { 1 ≤ readers }
+    requires most { readers ≤ 16 }
+    ensures run { IfOk result (IsServed catalog.now correct.now.list (newly (current store)) changes.now options.page_keys) }
+    ensures rows { IfOk result (λ s. s.rows.items ≡ replicate readers (rows_of (current store))) }
+    ensures refused { IfErr result (λ f. (f.fault ≡ Memory)
+        ⊎ IsRefusedSo (night_over catalog.now correct.now.list (current store) changes.now options.page_keys) (left_of f.started) f.fault) }
+{
+    let views = catalog.shape().len();
+    let Ok((mut writer, mut desks)) = open_warehouse(rt, alloc, store, readers) else {
+        return Err(want_of_memory());
+    };
+    if !sit_down(&mut desks) {
+        writer.end(rt);
+        return Err(want_of_memory());
+    }
+    let (rows, night) = beside_readers(
+        rt,
+        alloc,
+        &mut writer,
+        &mut desks,
+        views,
+        catalog,
+        changes,
+        correct,
+        options,
+        watch,
+    );
+    let answer = answer_of(alloc, &writer, views, night, rows);
+    writer.end(rt);
+    answer
+}
+
+/// Runs a night over a new warehouse of these tables while readers go through them: one bag for each view, fit for the night, as
+/// the contents of a base are for every night (`are_fit_for` tests it). There is a change for each view; those of derived views are
+/// not read. The strategy was judged over this catalogue's shape (`is_of` tests it).
+///
+/// Each reader opens its session before the night begins, and reads each view once, in pages of 256 rows. The watch is told before
+/// a reader's first page and after its last, and of each job as a [`wh_night::Gate`] is; readers for which no thread can be started
+/// read after the night. The night goes wave by wave and is refused as [`wh_night::night`] refuses it; want of memory is also told
+/// where a reader was not answered. Where there are no readers the tables are changed where they lie, and none is copied.
+pub fn serve_night<F: RowTest, G: RowValue, W: Watch + Sync, R: Threads + Wait + Sync>(
+    rt: &R,
+    alloc: Global,
+    catalog: &Catalog<F, G>,
+    tables: Vec<Bag>,
+    changes: &[Bag],
+    correct: &Correct,
+    options: Options,
+    readers: Readers<'_, W>,
+) -> Result<Served, CarryFault>
+    requires judged { correct.now.children ≡ catalog.now.views.children }
+    requires tables { AreBags catalog.now tables.items }
+    requires changes { AreBags catalog.now changes.now }
+    requires fit { AreFitFor (graph_of catalog.now) (bag_at changes.now) correct.now.list (bag_at tables.items) }
+    requires some { 1 ≤ options.workers }
+    requires few { options.workers ≤ 16 }
+    requires least { 1 ≤ options.page_keys }
+    requires most { options.page_keys ≤ 256 }
+    requires readers { readers.count ≤ 16 }
+    ensures bags { IfOk result (λ s. AreBags catalog.now s.tables.items) }
+    ensures tables { IfOk result (λ s. (v : ℕ) → v < length catalog.now.views.children
+        → bag_at s.tables.items v ≡ tables_after (graph_of catalog.now) (bag_at changes.now) correct.now.list (bag_at tables.items) v) }
+    ensures contents { IfOk result (λ s. AreContents (graph_of catalog.now) (bag_at tables.items)
+        → AreContentsOf (graph_of catalog.now) (changed (bag_at tables.items) (bag_at changes.now)) (bag_at s.tables.items)) }
+    ensures version { IfOk result (λ s. s.report.version ≡ 1) }
+    ensures steps { IfOk result (λ s. AreSteps catalog.now.views.children correct.now.list (bag_at tables.items)
+        (tables_after (graph_of catalog.now) (bag_at changes.now) correct.now.list (bag_at tables.items)) s.report.steps.items) }
+    ensures allowed { OnOk result (AreAllowedBelow catalog.now (bag_at tables.items) (bag_at changes.now) (length catalog.now.views.children)) }
+    ensures passed { OnOk result (ArePassedBelow catalog.now correct.now.list (bag_at tables.items) (bag_at changes.now) (length correct.now.list)) }
+    ensures rows { IfOk result (λ s. s.rows.items ≡ replicate readers.entry.count (rows_of tables.items)) }
+    ensures refused { IfErr result (λ f. (f.fault ≡ Memory)
+        ⊎ IsRefusedSo (night_over catalog.now correct.now.list tables.items changes.now options.page_keys) (left_of f.started) f.fault) }
+{
+    // Makes known that the strategy keeps the rules.
+    let _ = correct.strategy();
+    let Readers { count, watch } = readers;
+    if count == 0 {
+        return serve_none(rt, alloc, catalog, tables, changes, correct, options, watch);
+    }
+    let Ok(store) = Store::new(alloc, tables) else {
+        return Err(want_of_memory());
+    };
+    serve_some(
+        rt, alloc, catalog, store, changes, correct, options, count, watch,
+    )
+}

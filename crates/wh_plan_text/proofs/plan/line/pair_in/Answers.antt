@@ -1,6 +1,0 @@
-use Rattle.std.proofs.Common.{refl}
-use Rattle.wh_plan_text.proofs.plan.line.pair_in.Goals as goal
-
-pub returns : goal.returns
-returns c =
-    rw (c.pair_from.ensures, c.number.ensures, c.number-2.ensures, c.number-3.ensures, c.natural.ensures, c.word_at.ensures, c.word_at-2.ensures, c.word_at-3.ensures, c.word_at-4.ensures) refl

@@ -1,9 +1,0 @@
-use Rattle.std.proofs.Common.{◌≡◌, ◌++◌, drop, option_map}
-use Rattle.wh_plan_text.specs.NodeLine.{expressions_of}
-use Rattle.wh_plan_text.proofs.CycleParts.{parted}
-use Rattle.wh_plan_text.proofs.plan.node.with_parts.Given as goal
-
-abbrev pub invariant-loop-part : goal.invariant-loop-part
-invariant-loop-part l =
-    option_map (λ more. l.fn.list.items ++ more) (expressions_of l.names (parted l.parts))
-    ≡ option_map (λ more. l.list.items ++ more) (expressions_of l.names (parted (drop l.part-index l.parts)))

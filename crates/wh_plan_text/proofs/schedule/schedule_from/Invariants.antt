@@ -1,7 +1,0 @@
-use Rattle.std.proofs.Common.{◌≡◌}
-use Rattle.std.specs.List.{flat_map}
-use Rattle.wh_plan_text.specs.ScheduleText.{events_in}
-use Rattle.wh_plan_text.proofs.schedule.schedule_from.Given as goal
-
-abbrev pub invariant-loop-line : goal.invariant-loop-line
-invariant-loop-line l = l.events.items ≡ flat_map events_in l.yielded

@@ -1,5 +1,0 @@
-use Rattle.wh_plan_text.proofs.ScheduleGrammars.{schedule_faults, schedule_grammar_holds}
-use Rattle.wh_plan_text.proofs.schedule.schedule_grammar_law.Goals as goal
-
-pub returns : goal.returns
-returns c = record { grammar = schedule_grammar_holds; faults = schedule_faults }

@@ -1,6 +1,0 @@
-use Rattle.std.proofs.Common.{◌≡◌, ◌++◌, take}
-use Rattle.wh_plan_text.specs.StrategyText.{strategy_text}
-use Rattle.wh_plan_text.proofs.strategy.append_strategy.Given as goal
-
-abbrev pub invariant-loop-expression : goal.invariant-loop-expression
-invariant-loop-expression l = l.out.items ≡ l.initial.out.items ++ strategy_text l.names (take l.expression-index l.expression-items)

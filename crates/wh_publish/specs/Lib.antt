@@ -1,3 +1,0 @@
-pub mod Ledgers
-pub mod Faults
-pub mod Inner

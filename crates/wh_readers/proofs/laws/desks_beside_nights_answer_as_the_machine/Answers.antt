@@ -1,5 +1,0 @@
-use Rattle.wh_readers.proofs.Logs.{desks_beside}
-use Rattle.wh_readers.proofs.laws.desks_beside_nights_answer_as_the_machine.Goals as goal
-
-pub returns : goal.returns
-returns c = desks_beside c.seen_versions_stay_law.ensures

@@ -1,5 +1,0 @@
-use Rattle.std.proofs.Common.{length}
-use Rattle.wh_run.proofs.asked.+can_run_wave.Given as goal
-
-abbrev pub decreases-can_run_wave : goal.decreases-can_run_wave
-decreases-can_run_wave g l = length l.jobs.now

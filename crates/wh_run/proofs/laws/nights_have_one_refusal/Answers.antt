@@ -1,5 +1,0 @@
-use Rattle.wh_run.proofs.OneRefusal.{one_refusal}
-use Rattle.wh_run.proofs.laws.nights_have_one_refusal.Goals as goal
-
-pub returns : goal.returns
-returns c = one_refusal

@@ -1,6 +1,0 @@
-use Rattle.std.proofs.Common.{◌≡◌, take}
-use Rattle.wh_run.specs.Tonight.{newest_in}
-use Rattle.wh_run.proofs.opening.current_tables.Given as goal
-
-abbrev pub invariant-loop-view : goal.invariant-loop-view
-invariant-loop-view g l = l.tables.items ≡ take l.view (newest_in (g.P.Publish.kept l.writer))

@@ -1,2 +1,0 @@
-pub mod RefusedWaves
-pub mod Underway

@@ -1,0 +1,61 @@
+//! What publishes.
+
+ghost use Rattle.std.specs.Prelude.{◌≡◌, ◌++◌, ◌∷◌, [], ◌<◌, List, None, length, is_some, IfOk, IfErr, OnOk, IsTrue, MatchOption, MatchResult, Option};
+ghost use Rattle.wh_store.specs.Operations.{operation};
+ghost use Rattle.wh_store.specs.Versions.{is_active, is_well_formed, number, table_in};
+ghost use Rattle.wh_store.specs.Faults.{publish_refusal, refused, IsOkUnlessMemory, Ends, EndsLater};
+ghost use Rattle.wh_store.specs.Ledgers.{Ledger, ledger, versions_in};
+
+use crate::operation::Op;
+use crate::{Ended, PublishFault};
+use std::alloc::AllocError;
+use std::sync::Wait;
+use wh_row::Bag;
+
+/// A night publishes its operations one after another, all of one warehouse. What is published forms a list, which is well formed; an
+/// operation that could not be published for want of memory may be held, and goes out before any other.
+pub trait Publish {
+    ghost kept: { Self → Ledger };
+
+    // By what warehouses are told apart.
+    ghost Home: { Type 0 };
+
+    ghost home: { Self → Home };
+
+    /// Publishes an operation. A refusal publishes nothing; the fault is [`PublishFault::Held`] or the first of a store's reasons.
+    fn publish<R: Wait>(&mut self, rt: &R, op: Op) -> Result<(), PublishFault>
+        ensures home { home self.new ≡ home self.old }
+        ensures ok { OnOk result (kept self.new ≡ ledger (kept self.old).of ((kept self.old).list ++ operation op ∷ []) None) }
+        ensures err { IfErr result (λ fault. kept self.new ≡ refused (kept self.old) (operation op) fault) }
+        ensures refused { MatchOption (publish_refusal (kept self.old) (operation op)) (IsOkUnlessMemory result) (λ fault. result ≡ Err fault) };
+
+    /// Publishes what is held, and then gives up the night that is open, if one is. After want of memory, which is met only where there
+    /// is something to publish, what was held may have gone out, and the end of the night may be held.
+    fn give_up<R: Wait>(&mut self, rt: &R) -> Result<Ended, AllocError>
+        ensures home { home self.new ≡ home self.old }
+        ensures ends { MatchResult result (Ends (kept self.old) (kept self.new)) (λ _. EndsLater (kept self.old) (kept self.new)) };
+
+    /// The number of the current version.
+    fn current(&self) -> u64
+        ensures number { result ≡ number (versions_in (kept self.now).of (kept self.now).list) }
+        ensures well_formed { IsTrue (is_well_formed (length (kept self.now).of.opening) (kept self.now).list) };
+
+    /// Whether a night is open.
+    fn active(&self) -> bool
+        ensures { result ≡ is_active (versions_in (kept self.now).of (kept self.now).list) };
+
+    /// Whether an operation is held.
+    fn held(&self) -> bool
+        ensures { result ≡ is_some (kept self.now).held };
+
+    /// How many views there are: every version has a table for each.
+    fn views(&self) -> usize
+        ensures opening { result ≡ length (kept self.now).of.opening }
+        ensures newest { result ≡ length (versions_in (kept self.now).of (kept self.now).list).newest };
+
+    /// The table of a view in the current version.
+    fn table(&self, view: usize) -> Result<Bag, AllocError>
+        requires nothing_held { (kept self.now).held ≡ None }
+        requires view { view < length (versions_in (kept self.now).of (kept self.now).list).newest }
+        ensures { IfOk result (λ table. table ≡ table_in (versions_in (kept self.now).of (kept self.now).list).newest view) };
+}

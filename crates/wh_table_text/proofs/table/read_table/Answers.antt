@@ -1,9 +1,0 @@
-use Rattle.wh_table_text.specs.declared.table.header.Content.TheVariants.{Table}
-use Rattle.wh_table_text.proofs.TablesRead.{answer-table, answer-width}
-use Rattle.wh_table_text.proofs.table.read_table.Goals as goal
-
-pub returns-clause-table : goal.returns-clause-table
-returns-clause-table c = answer-table c.args.columns.now c.args.dict.now c.args.text.now c.read_table_part.new.dict c.read_table_part.result c.read_table_part.ensures.ok
-
-pub returns-clause-width : goal.returns-clause-width
-returns-clause-width c = answer-width Table c.args.columns.now c.args.dict.now c.args.text.now c.read_table_part.new.dict c.read_table_part.result c.read_table_part.ensures.ok

@@ -1,0 +1,7 @@
+use Rattle.std.proofs.Common.{◌≡◌, drop, map}
+use Rattle.wh_text_catalogue.specs.Pairs.{are_exprs}
+use Rattle.wh_text_catalogue.specs.Inner.Pairs.{seen_pair}
+use Rattle.wh_text_catalogue.proofs.definitions.pairs.are_exprs.Given as goal
+
+abbrev pub invariant-loop-pair : goal.invariant-loop-pair
+invariant-loop-pair l = are_exprs (map seen_pair l.pairs) ≡ are_exprs (map seen_pair (drop l.pair-index l.pairs))

@@ -1,0 +1,251 @@
+// The columns of a derived view.
+ghost use Rattle.std.specs.Prelude.{◌≡◌, ◌⊎◌, [], codes, map, Ok, Err, IfOk, IfErr};
+ghost use Rattle.toml.specs.Data.{get};
+ghost use Rattle.toml.specs.View.{view};
+ghost use Rattle.wh_text.specs.Inner.Dict.{Grows};
+ghost use Rattle.wh_text_catalogue.specs.Output.{count_column, count_written, group_written, groups, groups_of, kept, kept_alone, output_of, summed, summed_at, sums_at, sums_in, sums_of};
+ghost use Rattle.wh_text_catalogue.specs.Inner.Output.{shown_outcome};
+ghost use Rattle.wh_text_catalogue.specs.Pairs.{typed_columns};
+ghost use Rattle.wh_text_catalogue.specs.Inner.Pairs.{seen_pair};
+
+use super::base_columns::is_few;
+use super::column_names::fresh_name;
+use super::header::Header;
+use super::pairs::{Pair, are_exprs, are_references, known_pairs, pairs_written};
+use super::typed_pairs::{KindRule, grouped, typed_pairs};
+use crate::name_form::is_name;
+use indexmap::IndexSet;
+use std::alloc::Global;
+use toml::Value;
+use wh_dag::MAX_COLUMNS;
+use wh_formula::Expr;
+use wh_text::{Column, Dict, Key, Kind, LoadFault};
+
+/// What the columns of a derived view are made of.
+#[derive(Debug, Drop)]
+pub enum WrittenOutput {
+    /// A joined view keeps the value of an expression in each column.
+    Keep(Vec<Expr>),
+    /// A summary has the cells at these places, by which it groups, then the group's count, then these sums.
+    Sums {
+        /// The places in the combined row.
+        group: Vec<usize>,
+        /// What is added up.
+        sums: Vec<Expr>,
+    },
+}
+
+/// The columns of a derived view, and what they are made of.
+#[derive(Drop)]
+pub(crate) struct Outcome {
+    /// The columns.
+    pub columns: Vec<Column>,
+    /// What they are made of.
+    pub output: WrittenOutput,
+}
+
+fn kept(
+    alloc: Global,
+    header: &Header,
+    texts: &mut Dict,
+    value: &Value,
+) -> Result<Outcome, LoadFault>
+    ensures ok { IfOk result (λ outcome. kept header.now (view value.now) texts.old ≡ Ok (shown_outcome outcome, texts.new)) }
+    ensures err { IfErr result (λ f. (f ≡ LoadFault.Memory) ⊎ (kept header.now (view value.now) texts.old ≡ Err f)) }
+    ensures grows { Grows texts.old texts.new }
+{
+    let pairs = pairs_written(alloc, Key::Keep, value)?;
+    if !is_few(pairs.len()) || !are_exprs(&pairs) {
+        return Err(LoadFault::Key(Key::Keep));
+    }
+    let mut seen = IndexSet::new(alloc);
+    known_pairs(alloc, header, &mut seen, &pairs)?;
+    let mut columns = Vec::new(alloc);
+    let exprs = typed_pairs(
+        alloc,
+        header,
+        texts,
+        KindRule::AnyKind,
+        &mut columns,
+        &pairs,
+    )?;
+    Ok(Outcome {
+        columns,
+        output: WrittenOutput::Keep(exprs),
+    })
+}
+
+fn group_written(alloc: Global, value: &Value) -> Result<Vec<Pair<'_>>, LoadFault>
+    ensures ok { IfOk result (λ pairs. group_written (view value.now) ≡ Ok (map seen_pair pairs.items)) }
+    ensures err { IfErr result (λ f. (f ≡ LoadFault.Memory) ⊎ (group_written (view value.now) ≡ Err f)) }
+{
+    let pairs = pairs_written(alloc, Key::Group, value)?;
+    if !are_references(&pairs) {
+        return Err(LoadFault::Key(Key::Group));
+    }
+    Ok(pairs)
+}
+
+fn count_written(table: &Value) -> Result<&str, LoadFault>
+    ensures ok { IfOk result (λ name. count_written (view table.now) ≡ Ok name.now) }
+    ensures err { IfErr result (λ f. count_written (view table.now) ≡ Err f) }
+{
+    let Some(value) = table.get("count") else {
+        return Err(LoadFault::Key(Key::Count));
+    };
+    let Some(name) = value.as_str() else {
+        return Err(LoadFault::Key(Key::Count));
+    };
+    if !is_name(name) {
+        return Err(LoadFault::Key(Key::Count));
+    }
+    Ok(name)
+}
+
+fn sums_in(alloc: Global, value: &Value) -> Result<Vec<Pair<'_>>, LoadFault>
+    ensures ok { IfOk result (λ pairs. sums_in (view value.now) ≡ Ok (map seen_pair pairs.items)) }
+    ensures err { IfErr result (λ f. (f ≡ LoadFault.Memory) ⊎ (sums_in (view value.now) ≡ Err f)) }
+{
+    let pairs = pairs_written(alloc, Key::Sum, value)?;
+    if !are_exprs(&pairs) {
+        return Err(LoadFault::Key(Key::Sum));
+    }
+    Ok(pairs)
+}
+
+fn sums_at(alloc: Global, table: &Value) -> Result<Vec<Pair<'_>>, LoadFault>
+    ensures ok { IfOk result (λ pairs. sums_at (get (codes "sum") (view table.now)) ≡ Ok (map seen_pair pairs.items)) }
+    ensures err { IfErr result (λ f. (f ≡ LoadFault.Memory) ⊎ (sums_at (get (codes "sum") (view table.now)) ≡ Err f)) }
+{
+    match table.get("sum") {
+        Some(value) => sums_in(alloc, value),
+        None => Ok(Vec::new(alloc)),
+    }
+}
+
+// The places of a summary's groups, whose columns and names are noted.
+fn groups_of<'a>(
+    alloc: Global,
+    header: &Header,
+    seen: &mut IndexSet<&'a str>,
+    columns: &mut Vec<Column>,
+    value: &'a Value,
+) -> Result<Vec<usize>, LoadFault>
+    requires seen { seen.old.keys ≡ [] }
+    requires columns { columns.old.items ≡ [] }
+    ensures ok { IfOk result (λ places. groups_of header.now (view value.now)
+        ≡ Ok (groups (map (λ n. n.now) seen.new.keys) columns.new.items places.items)) }
+    ensures err { IfErr result (λ f. (f ≡ LoadFault.Memory) ⊎ (groups_of header.now (view value.now) ≡ Err f)) }
+{
+    let pairs = group_written(alloc, value)?;
+    known_pairs(alloc, header, seen, &pairs)?;
+    grouped(alloc, header, columns, &pairs)
+}
+
+// The expressions of a summary's sums, whose columns and names are noted.
+fn sums_of<'a>(
+    alloc: Global,
+    header: &Header,
+    texts: &mut Dict,
+    seen: &mut IndexSet<&'a str>,
+    columns: &mut Vec<Column>,
+    table: &'a Value,
+) -> Result<Vec<Expr>, LoadFault>
+    ensures ok { IfOk result (λ exprs. sums_of header.now (map (λ n. n.now) seen.old.keys) columns.old.items (view table.now) texts.old
+        ≡ Ok (typed_columns columns.new.items exprs.items, texts.new)) }
+    ensures err { IfErr result (λ f. (f ≡ LoadFault.Memory)
+        ⊎ (sums_of header.now (map (λ n. n.now) seen.old.keys) columns.old.items (view table.now) texts.old ≡ Err f)) }
+    ensures grows { Grows texts.old texts.new }
+{
+    let pairs = sums_at(alloc, table)?;
+    known_pairs(alloc, header, seen, &pairs)?;
+    typed_pairs(alloc, header, texts, KindRule::Numbers, columns, &pairs)
+}
+
+fn counted(alloc: Global, name: &str) -> Result<Column, LoadFault>
+    ensures ok { IfOk result (λ column. column ≡ count_column name.now) }
+    ensures err { IfErr result (λ f. f ≡ LoadFault.Memory) }
+{
+    let name = String::from_str(alloc, name)?;
+    Ok(Column::new(name, Kind::Int))
+}
+
+fn summed(
+    alloc: Global,
+    header: &Header,
+    texts: &mut Dict,
+    table: &Value,
+    value: &Value,
+) -> Result<Outcome, LoadFault>
+    ensures ok { IfOk result (λ outcome. summed header.now (view table.now) (view value.now) texts.old ≡ Ok (shown_outcome outcome, texts.new)) }
+    ensures err { IfErr result (λ f. (f ≡ LoadFault.Memory) ⊎ (summed header.now (view table.now) (view value.now) texts.old ≡ Err f)) }
+    ensures grows { Grows texts.old texts.new }
+{
+    let mut seen = IndexSet::new(alloc);
+    let mut columns = Vec::new(alloc);
+    let group = groups_of(alloc, header, &mut seen, &mut columns, value)?;
+    let count = count_written(table)?;
+    fresh_name(alloc, &mut seen, count)?;
+    let column = counted(alloc, count)?;
+    columns.push(column)?;
+    let sums = sums_of(alloc, header, texts, &mut seen, &mut columns, table)?;
+    if columns.len() > MAX_COLUMNS {
+        return Err(LoadFault::Key(Key::Group));
+    }
+    Ok(Outcome {
+        columns,
+        output: WrittenOutput::Sums { group, sums },
+    })
+}
+
+fn kept_alone(
+    alloc: Global,
+    header: &Header,
+    texts: &mut Dict,
+    table: &Value,
+    value: &Value,
+) -> Result<Outcome, LoadFault>
+    ensures ok { IfOk result (λ outcome. kept_alone header.now (view value.now) (get (codes "group") (view table.now)) texts.old ≡ Ok (shown_outcome outcome, texts.new)) }
+    ensures err { IfErr result (λ f. (f ≡ LoadFault.Memory) ⊎ (kept_alone header.now (view value.now) (get (codes "group") (view table.now)) texts.old ≡ Err f)) }
+    ensures grows { Grows texts.old texts.new }
+{
+    let outcome = kept(alloc, header, texts, value)?;
+    match table.get("group") {
+        Some(_) => Err(LoadFault::Key(Key::Group)),
+        None => Ok(outcome),
+    }
+}
+
+fn summed_at(
+    alloc: Global,
+    header: &Header,
+    texts: &mut Dict,
+    table: &Value,
+) -> Result<Outcome, LoadFault>
+    ensures ok { IfOk result (λ outcome. summed_at header.now (view table.now) (get (codes "group") (view table.now)) texts.old ≡ Ok (shown_outcome outcome, texts.new)) }
+    ensures err { IfErr result (λ f. (f ≡ LoadFault.Memory) ⊎ (summed_at header.now (view table.now) (get (codes "group") (view table.now)) texts.old ≡ Err f)) }
+    ensures grows { Grows texts.old texts.new }
+{
+    match table.get("group") {
+        Some(value) => summed(alloc, header, texts, table, value),
+        None => Err(LoadFault::Key(Key::Keep)),
+    }
+}
+
+/// The columns of a derived view, or its first fault, key by key: its form (Key), then Column, then Kind. The keys are
+/// `keep`; where it is missing `group`, `count` and `sum`. One of `keep` and `group` is missing.
+pub(crate) fn output_of(
+    alloc: Global,
+    header: &Header,
+    texts: &mut Dict,
+    table: &Value,
+) -> Result<Outcome, LoadFault>
+    ensures ok { IfOk result (λ outcome. output_of header.now (view table.now) texts.old ≡ Ok (shown_outcome outcome, texts.new)) }
+    ensures err { IfErr result (λ f. (f ≡ LoadFault.Memory) ⊎ (output_of header.now (view table.now) texts.old ≡ Err f)) }
+    ensures grows { Grows texts.old texts.new }
+{
+    match table.get("keep") {
+        Some(value) => kept_alone(alloc, header, texts, table, value),
+        None => summed_at(alloc, header, texts, table),
+    }
+}

@@ -1,0 +1,15 @@
+-- What the texts of tables and of changes give.
+use Rattle.std.specs.Prelude.{ℕ, List, Result}
+use Rattle.wh_row.specs.Bag.{Bag}
+use Rattle.wh_text.specs.Columns.{NamedKind}
+use Rattle.wh_text.specs.declared.fault.LoadFault.{LoadFault}
+use Rattle.wh_text_tables.specs.TableText.{text_gives}
+use Rattle.wh_text_tables.specs.declared.table.header.Content.TheVariants as content
+
+-- what the text of a table gives, over these columns, to a dictionary of these texts: the bag and the dictionary after it, or the first fault
+abbrev pub table_gives : List NamedKind → List (List ℕ) → List ℕ → Result (Bag × List (List ℕ)) LoadFault
+table_gives columns texts text = text_gives content.Table columns texts text
+
+-- the same of the text of changes
+abbrev pub changes_give : List NamedKind → List (List ℕ) → List ℕ → Result (Bag × List (List ℕ)) LoadFault
+changes_give columns texts text = text_gives content.Changes columns texts text

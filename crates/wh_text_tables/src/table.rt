@@ -1,0 +1,142 @@
+//! Tables and changes, from CSV parts: a header, and a record for each row with its count.
+ghost use Rattle.std.specs.Prelude.{◌≡◌, ◌⊎◌, ◌+◌, ◌<◌, ◌^◌, length, [], IfOk, IfErr, OnOk, OnErr, Ok, Err, None};
+ghost use Rattle.std.specs.Result.{result_err};
+ghost use Rattle.wh_row.specs.Bag.{HasWidth, IsTable, bag_of};
+ghost use Rattle.wh_row.specs.Records.{EachSumFits};
+ghost use Rattle.wh_text.specs.Inner.Dict.{BeginsWith};
+ghost use Rattle.wh_text_tables.specs.ChangesReadBack.{ChangesReadBack};
+ghost use Rattle.wh_text_tables.specs.TableReadsBack.{NamesAreText, TableReadsBack};
+ghost use Rattle.wh_text_tables.specs.TableText.{text_gives};
+ghost use Rattle.wh_text_tables.specs.Inner.TableText.{EndsSum};
+ghost use Rattle.wh_text_tables.specs.declared.table.header.Content.TheVariants.{Table, Changes};
+
+mod entry;
+mod header;
+mod rows;
+mod write;
+
+use crate::part::read_part;
+use crate::table::header::Content;
+use crate::table::rows::{RowsRead, RowsReader};
+use std::alloc::Global;
+use std::mem;
+use wh_row::{Bag, Records, RecordsFault};
+use wh_text::{Column, Dict, LoadFault};
+pub use write::write_table;
+
+// The bag that the entries add up to, or the first fault: a sum that leaves i64 comes before a fault that ended the reading.
+fn sum_up(alloc: Global, counted: &Records, read: Result<(), LoadFault>) -> Result<Bag, LoadFault>
+    requires { length counted.now + 1 < 2 ^ 64 }
+    ensures ok { IfOk result (λ bag. bag ≡ bag_of counted.now) }
+    ensures fits { OnOk result (EachSumFits counted.now × (result_err read ≡ None)) }
+    ensures err { IfErr result (λ f. (f ≡ LoadFault.Memory) ⊎ EndsSum counted.now (result_err read) f) }
+{
+    match Bag::from_records(alloc, counted) {
+        Ok(bag) => match read {
+            Ok(()) => Ok(bag),
+            Err(fault) => Err(fault),
+        },
+        Err(RecordsFault::Memory) => Err(LoadFault::Memory),
+        Err(RecordsFault::Large(place)) => Err(LoadFault::Number(place + 2)),
+    }
+}
+
+// What the text gives; where it has a fault, some of its texts may have got numbers.
+fn read_counted(
+    alloc: Global,
+    content: Content,
+    columns: &[Column],
+    text: &[u8],
+    rows: &mut RowsRead,
+) -> Result<Bag, LoadFault>
+    requires { rows.old.counted ≡ [] }
+    ensures ok { IfOk result (λ bag. text_gives content columns.now rows.old.dict text.now ≡ Ok (bag, rows.new.dict)) }
+    ensures err { IfErr result (λ f. (f ≡ LoadFault.Memory) ⊎ (text_gives content columns.now rows.old.dict text.now ≡ Err f)) }
+    ensures begins { BeginsWith rows.old.dict rows.new.dict }
+{
+    let reader = RowsReader {
+        alloc,
+        content,
+        columns,
+    };
+    let read = read_part(alloc, &reader, text, rows);
+    sum_up(alloc, &rows.counted, read)
+}
+
+// The same, but a fault leaves the dictionary as it was.
+fn read_table_part(
+    alloc: Global,
+    content: Content,
+    columns: &[Column],
+    text: &[u8],
+    dict: &mut Dict,
+) -> Result<Bag, LoadFault>
+    ensures ok { IfOk result (λ bag. text_gives content columns.now dict.old text.now ≡ Ok (bag, dict.new)) }
+    ensures err { IfErr result (λ f. (f ≡ LoadFault.Memory) ⊎ (text_gives content columns.now dict.old text.now ≡ Err f)) }
+    ensures kept { OnErr result (dict.new ≡ dict.old) }
+{
+    let texts = dict.len();
+    let mut rows = RowsRead {
+        dict: mem::replace(dict, Dict::new(alloc)),
+        counted: Records::new(alloc),
+        row: Vec::new(alloc),
+    };
+    let outcome = read_counted(alloc, content, columns, text, &mut rows);
+    let RowsRead { dict: read, .. } = rows;
+    *dict = read;
+    if outcome.is_err() {
+        dict.truncate(texts);
+    }
+    outcome
+}
+
+/// The table of these columns that the text writes: a header of the columns' names, with or without `#` before them, and
+/// a record for each row, where `#` stands with a count above zero first. Equal rows add up. A text cell is its number in
+/// the dictionary, which gets new texts record by record, each from left to right.
+///
+/// The first fault, record by record, the header being record 1: `Csv` (its length or UTF-8), `Header`, `Number` (a cell
+/// of the wrong form, a count not allowed, or equal rows whose sum leaves i64 here). After an error the dictionary is as
+/// before.
+pub fn read_table(
+    alloc: Global,
+    columns: &[Column],
+    text: &[u8],
+    dict: &mut Dict,
+) -> Result<Bag, LoadFault>
+    ensures ok { IfOk result (λ bag. text_gives Table columns.now dict.old text.now ≡ Ok (bag, dict.new)) }
+    ensures table { IfOk result (λ bag. IsTable bag) }
+    ensures width { IfOk result (λ bag. HasWidth bag (length columns.now)) }
+    ensures err { IfErr result (λ f. (f ≡ LoadFault.Memory) ⊎ (text_gives Table columns.now dict.old text.now ≡ Err f)) }
+    ensures kept { OnErr result (dict.new ≡ dict.old) }
+{
+    read_table_part(alloc, Content::Table, columns, text, dict)
+}
+
+/// The changes to a table of these columns that the text writes: as [`read_table`], but the header always has `#`, and a
+/// count is any number but zero, below zero for rows that leave. A row whose counts cancel is not among the changes.
+pub fn read_changes(
+    alloc: Global,
+    columns: &[Column],
+    text: &[u8],
+    dict: &mut Dict,
+) -> Result<Bag, LoadFault>
+    ensures ok { IfOk result (λ bag. text_gives Changes columns.now dict.old text.now ≡ Ok (bag, dict.new)) }
+    ensures width { IfOk result (λ bag. HasWidth bag (length columns.now)) }
+    ensures err { IfErr result (λ f. (f ≡ LoadFault.Memory) ⊎ (text_gives Changes columns.now dict.old text.now ≡ Err f)) }
+    ensures kept { OnErr result (dict.new ≡ dict.old) }
+{
+    read_table_part(alloc, Content::Changes, columns, text, dict)
+}
+
+/// A law of the definitions: a table that was written is read back as it was, and leaves the dictionary as it is. It asks
+/// that the columns' names are UTF-8, as those that are read of a catalogue are.
+pub fn table_reads_back_law()
+    ensures back { TableReadsBack }
+    ensures names { NamesAreText }
+{}
+
+/// A law of the definitions: changes that were written, as [`write_table`] writes a bag of any sign, are read back as they
+/// were, and leave the dictionary as it is. It asks what [`table_reads_back_law`] asks, but for the sign.
+pub fn changes_read_back_law()
+    ensures { ChangesReadBack }
+{}
