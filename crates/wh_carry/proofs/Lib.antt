@@ -20,7 +20,7 @@ pub mod NightLists
 pub mod Fitted
 pub mod Sources
 pub mod Growing
-pub mod Waves
+pub mod CourseWaves
 pub mod Pages
 pub mod Lengths
 pub mod Parts

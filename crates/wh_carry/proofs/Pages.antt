@@ -9,7 +9,7 @@ use Rattle.wh_carry.specs.declared.course.Part.TheVariants as part
 use Rattle.wh_carry.specs.Inner.Standing.{ArePages, PutsPages}
 use Rattle.std.specs.Global.{Vec}
 use Rattle.std.proofs.Common.{ℤ}
-use Rattle.wh_carry.proofs.Waves.{take_all}
+use Rattle.wh_carry.proofs.CourseWaves.{take_all}
 
 short : {A : Type 0} (k : ℕ) (xs : List A) → length (drop k xs) ≤ length xs
 short zero xs = omega arith

@@ -39,7 +39,7 @@ use Rattle.wh_carry.proofs.Refusals.{passed_here, same_fit, told_first, told_nex
 use Rattle.wh_carry.proofs.StageLaws.{lists_have_one_stages, waves_are_side_by_side}
 use Rattle.wh_strategy.specs.Rules.{IsCorrect}
 use Rattle.wh_carry.proofs.Sources.{job_at}
-use Rattle.wh_carry.proofs.Waves.{split_at}
+use Rattle.wh_carry.proofs.CourseWaves.{split_at}
 use Rattle.wh_carry.specs.declared.course.Part.{Part}
 use Rattle.wh_carry.specs.declared.course.Part.TheVariants as part
 use Rattle.wh_carry.specs.Night.{Night, ArePassedAt, IsFaultAt, IsFirstFaultOf, IsPassedAt, places_from, state_at}

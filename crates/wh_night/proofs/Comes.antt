@@ -40,7 +40,7 @@ use Rattle.wh_carry.specs.Night.{Night, state_at}
 use Rattle.wh_carry.specs.Standing.{is_source}
 use Rattle.wh_carry.specs.Inner.Standing.{IsWaveAt, StandsAt}
 use Rattle.wh_carry.proofs.Sources.{all_before, its_inst, its_job, job_at, source_finishes, source_of}
-use Rattle.wh_carry.proofs.Waves.{source_among, split_at}
+use Rattle.wh_carry.proofs.CourseWaves.{source_among, split_at}
 use Rattle.wh_night.specs.Refusals.{IsWaveFault}
 use Rattle.wh_night.specs.Tonight.{made_by}
 use Rattle.wh_night.specs.Underway.{AreAdded, CanCompute, IsFirstUncomputed, SourcesAreKnown}

@@ -19,7 +19,7 @@ use Rattle.wh_carry.specs.Night.{Night, state_at}
 use Rattle.wh_carry.specs.Standing.{is_source}
 use Rattle.wh_carry.specs.Inner.Standing.{IsWaveAt}
 use Rattle.wh_carry.proofs.Sources.{job_at}
-use Rattle.wh_carry.proofs.Waves.{source_among}
+use Rattle.wh_carry.proofs.CourseWaves.{source_among}
 use Rattle.wh_night.specs.Refusals.{IsOfJobs, IsWaveFault, number_of, rank_in}
 use Rattle.wh_night.specs.Inner.Underway.{SourcesFinish}
 

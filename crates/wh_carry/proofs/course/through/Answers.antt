@@ -13,7 +13,7 @@ use Rattle.wh_carry.specs.Standing.{place_behind}
 use Rattle.wh_carry.specs.Inner.Standing.{StandsAt, legs_at}
 use Rattle.wh_carry.proofs.Parts.{drop_stage, ends_so, starts_so}
 use Rattle.wh_carry.proofs.Pages.{drop_past}
-use Rattle.wh_carry.proofs.Waves.{split_at, take_all, take_next}
+use Rattle.wh_carry.proofs.CourseWaves.{split_at, take_all, take_next}
 use Rattle.wh_carry.proofs.course.through.Goals as goal
 
 pub loop-stage-init : goal.loop-stage-init

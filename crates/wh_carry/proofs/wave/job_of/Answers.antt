@@ -8,7 +8,7 @@ use Rattle.std.proofs.Common.{refl}
 use Rattle.wh_carry.specs.declared.stages.Job.{Job}
 use Rattle.wh_carry.specs.Night.{Night}
 use Rattle.wh_carry.specs.Inner.Standing.{IsFirstOf, IsWaveAt}
-use Rattle.wh_carry.proofs.Waves.{Tried, amid_refused, amid_tried, fit_tried, known_tried, outcome_tried, source_refused, tried_so}
+use Rattle.wh_carry.proofs.CourseWaves.{Tried, amid_refused, amid_tried, fit_tried, known_tried, outcome_tried, source_refused, tried_so}
 use Rattle.wh_carry.proofs.wave.job_of.Given.{Over}
 use Rattle.wh_carry.proofs.wave.job_of.Goals.{In_ok-refusal}
 use Rattle.wh_carry.proofs.wave.job_of.Goals as goal

@@ -9,7 +9,7 @@ use Rattle.wh_carry.specs.declared.wave.Refusal.{Refusal}
 use Rattle.wh_carry.specs.Course.{IsOutcome}
 use Rattle.wh_carry.specs.Inner.Standing.{IsAmid, answer_of}
 use Rattle.wh_carry.proofs.Growing.{front_item, last_item, longer}
-use Rattle.wh_carry.proofs.Waves.{all_of, source_among, stands_over, starts_amid}
+use Rattle.wh_carry.proofs.CourseWaves.{all_of, source_among, stands_over, starts_amid}
 use Rattle.wh_carry.proofs.wave.wave_of.Goals as goal
 
 pub loop-job-init : goal.loop-job-init

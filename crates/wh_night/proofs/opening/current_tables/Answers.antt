@@ -1,7 +1,7 @@
 use Rattle.std.proofs.Common.{◌≡◌, refl, sym, ap, ◌∙◌, ℕ, zero, suc, ◌+◌, ◌<◌, List, [], ◌∷◌, ◌++◌, take, length, arith}
 use Rattle.wh_row.specs.Bag.{Bag}
 use Rattle.wh_store.specs.Versions.{table_in}
-use Rattle.wh_carry.proofs.Waves.{take_all}
+use Rattle.wh_carry.proofs.CourseWaves.{take_all}
 use Rattle.wh_night.specs.Tonight.{newest_in}
 use Rattle.wh_night.proofs.opening.current_tables.Goals as goal
 

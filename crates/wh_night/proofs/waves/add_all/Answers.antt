@@ -6,7 +6,7 @@ use Rattle.wh_row.specs.Bag.{Bag}
 use Rattle.wh_maint.specs.Comp.{PendingOf}
 use Rattle.wh_carry.specs.declared.stages.Job.{Job}
 use Rattle.wh_carry.specs.Kept.{Kept, kept}
-use Rattle.wh_carry.proofs.Waves.{source_among}
+use Rattle.wh_carry.proofs.CourseWaves.{source_among}
 use Rattle.wh_night.specs.Underway.{IsAdded}
 use Rattle.wh_night.specs.Inner.Underway.{HasCome, night_given}
 use Rattle.wh_night.proofs.Comes.{all_computable, job_comes, not_added}

@@ -4,7 +4,7 @@ use Rattle.std.proofs.lemmas.Option.{same_Some, slice_get_read}
 use Rattle.std.proofs.lemmas.Result.{IfErr-weaker, IfOk-weaker}
 use Rattle.wh_carry.specs.Kept.{kept}
 use Rattle.wh_carry.specs.Refused.{IsCompFaultIn}
-use Rattle.wh_carry.proofs.Waves.{source_among}
+use Rattle.wh_carry.proofs.CourseWaves.{source_among}
 use Rattle.wh_night.specs.Underway.{IsAdded}
 use Rattle.wh_night.proofs.waves.added_at.Goals as goal
 

@@ -5,7 +5,7 @@ use Rattle.std.proofs.lemmas.Option.{slice_get_read}
 use Rattle.wh_dag.specs.Shape.{has}
 use Rattle.wh_carry.specs.declared.stages.Job.{Job}
 use Rattle.wh_carry.specs.Standing.{is_source}
-use Rattle.wh_carry.proofs.Waves.{take_next}
+use Rattle.wh_carry.proofs.CourseWaves.{take_next}
 use Rattle.wh_night.proofs.waves.sources_of.Goals as goal
 
 none : (u : ℕ) → has [] u ≡ false
