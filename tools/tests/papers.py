@@ -1,10 +1,11 @@
-"""Tests of papers: links lead somewhere, definitions are all said, and each example stands in its list with its command."""
+"""Tests of papers: links and walks lead somewhere, maps and lists are whole, and examples have their commands."""
 
 import re
 import unittest
 from functools import lru_cache
 
 from whtools.examples import FOLDERS, examples
+from whtools.layers import layers
 from whtools.program import ROOT
 from whtools.sources import uses
 
@@ -57,6 +58,26 @@ class Definitions(unittest.TestCase):
             files = {path.name for path in (ROOT / "crates" / crate / "specs").glob("*.antt")} - {"Lib.antt", "Inner.antt"}
             named = set(re.findall(r"\w+\.antt", said.get(crate, "")))
             self.assertEqual(sorted(files - named), [], f"files of {crate} that DEFINITIONS does not name")
+
+
+class Architecture(unittest.TestCase):
+    def setUp(self):
+        self.text = (ROOT / "docs/ARCHITECTURE.md").read_text()
+
+    def test_each_step_of_a_walk_is_a_call_of_its_file(self):
+        steps = re.findall(r"^\| `(\w+/src/[\w/]+\.rt)` \| ([^|]+) \|", self.text, re.MULTILINE)
+        self.assertGreater(len(steps), 50)
+        for file, calls in steps:
+            source = (ROOT / "crates" / file).read_text()
+            for call in re.findall(r"`(\w+)`", calls):
+                self.assertRegex(source, rf"\bfn {call}\b", f"{file} has no {call}")
+
+    def test_its_map_is_what_tools_crates_prints(self):
+        def lasting(lines):
+            return [*lines[:-1], re.sub(r" \d+", "", lines[-1])]
+
+        shown = self.text.partition("## The rooms\n")[2].partition("```text\n")[2].partition("\n```")[0]
+        self.assertEqual(lasting(shown.split("\n")), lasting(list(layers())), "tools/crates --layers prints another map")
 
 
 class Examples(unittest.TestCase):
