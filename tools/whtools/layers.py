@@ -58,7 +58,7 @@ def layers():
         for crate in crates:
             yield f"{room if crate == crates[0] else '':9} {crate:17} {', '.join(direct[crate])}".rstrip()
     few, all_edges = (sum(map(len, each.values())) for each in (direct, used))
-    yield f"{few} edges, of {all_edges} in crates.txt: each other one is there by a longer way"
+    yield f"{few} edges, of {all_edges} between crates in crates.txt: each other one is there by a longer way"
     chain = longest(used, lines)
     told = ", ".join(f"{crate} {lines[crate] / 1000:.0f}" for crate in chain)
     total = sum(lines[crate] for crate in chain)
