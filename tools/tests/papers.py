@@ -49,6 +49,16 @@ class Links(unittest.TestCase):
             self.assertIn(name, anchors(led), said)
 
 
+class Crates(unittest.TestCase):
+    def test_readme_leads_to_each_once(self):
+        text = (ROOT / "README.md").read_text().partition("\n## The crates\n")[2].partition("\n## ")[0]
+        self.assertEqual(re.findall(r"\(crates/(\w+)/README\.md\)", text), list(uses()))
+
+    def test_promises_have_one_table_each(self):
+        found = re.findall(r"^### `(\w+)`$", (ROOT / "docs/PROMISES.md").read_text(), re.MULTILINE)
+        self.assertEqual(found, [crate for crate in uses() if crate in found], "one table a crate, in the order of crates.txt")
+
+
 class Definitions(unittest.TestCase):
     def test_each_file_of_a_crate_stands_in_the_one_section_of_it(self):
         sections = re.split(r"^## `(\w+)`\n", (ROOT / "docs/DEFINITIONS.md").read_text(), flags=re.MULTILINE)[1:]
@@ -84,5 +94,5 @@ class Examples(unittest.TestCase):
     def test_each_stands_in_the_list_with_its_command(self):
         said = (ROOT / "examples/README.md").read_text()
         rows = dict(re.findall(r"^\| `(\w+)` \|.*\| `\./whview ([^`]*)` \|$", said, re.MULTILINE))
-        shown = {each.name: f"{' '.join(each.words)} --input examples/{each.name}.bundle" for each in examples() if each.path.parent == FOLDERS[0]}
-        self.assertEqual(rows, shown)
+        shown = [each for each in examples() if each.path.parent == FOLDERS[0]]
+        self.assertEqual(rows, {each.name: " ".join([*each.words, "--input", f"examples/{each.path.name}"]) for each in shown})
