@@ -17,7 +17,7 @@ use Rattle.wh_store.specs.Versions.{Versions, is_active, is_unexpired, kept_coun
 use Rattle.wh_maint.specs.declared.fault.MaintFault.{MaintFault}
 use Rattle.wh_maint.specs.declared.fault.MaintFault.TheVariants as fault
 use Rattle.wh_carry.specs.Night.{Night, places_from}
-use Rattle.wh_carry.specs.Legs.{Turn, In_wave, At_page, Over, legs_of, carried_up_to, turn_of}
+use Rattle.wh_carry.specs.Legs.{Turn, In_wave, At_page, Over, carried_up_to, legs_of, turn_of, untouched}
 use Rattle.wh_core.specs.declared.event.Event.{Event}
 use Rattle.wh_core.specs.declared.event.Event.TheVariants.{Begin, Take, Done, PageIn, Commit, GiveUp, Open, Read, Close}
 use Rattle.wh_core.specs.declared.reply.Cause.{Cause}
@@ -34,8 +34,8 @@ use Rattle.wh_core.proofs.Moves.{active-open, eq_true}
 use Rattle.wh_core.proofs.Runs.{leave_legal}
 use Rattle.wh_core.proofs.Sessions.{read_tables, version_stays}
 use Rattle.wh_core.proofs.Sound.{commits_make_contents, given_at, number-newest, sound, versions_are_contents}
-use Rattle.wh_core.proofs.Steps.{le_false, le_true}
-use Rattle.wh_core.proofs.Underway.{lt_true, versions_from-append}
+use Rattle.wh_core.proofs.Steps.{le_false, le_true, lt_true}
+use Rattle.wh_core.proofs.Underway.{versions_from-append}
 
 -- ---- what was done only grows
 
@@ -278,11 +278,11 @@ take_own w (In_wave place jobs drawn) = unless_say (Owns (Take w)) (λ c. refl) 
 take_own w (At_page place view rows) = refl
 take_own w Over = refl
 
-done_own : (w : ℕ) (n : Night) (now next : Turn) (held : Option ℕ) → AllSay (Owns (Done w)) (done_by n now next held)
-done_own w n now next None = refl
-done_own w n (In_wave place jobs drawn) next (Some job) = refl
-done_own w n (At_page place view rows) next (Some job) = refl
-done_own w n Over next (Some job) = refl
+done_own : (w : ℕ) (n : Night) (now : Turn) (last : Bool) (next : Turn) (held : Option ℕ) → AllSay (Owns (Done w)) (done_by n now last next held)
+done_own w n now last next None = refl
+done_own w n (In_wave place jobs drawn) last next (Some job) = refl
+done_own w n (At_page place view rows) last next (Some job) = refl
+done_own w n Over last next (Some job) = refl
 
 page_own : (n : Night) (now next : Turn) → AllSay (Owns PageIn) (page_ruling n now next)
 page_own n (In_wave place jobs drawn) next = refl
@@ -313,7 +313,7 @@ rulings_own s log (Take w) =
     (unless_say (Owns (Take w)) (λ c. refl) (is_some (holding log w)) _ _ (take_own w (turn s log))))
 rulings_own s log (Done w) =
     unless_say (Owns (Done w)) (λ c. refl) (nat_le s.workers w) _ _
-    (unless_say (Owns (Done w)) (λ c. refl) (not (is_open log)) _ _ (done_own w (night s log) (turn s log) _ (holding log w)))
+    (unless_say (Owns (Done w)) (λ c. refl) (not (is_open log)) _ _ (done_own w (night s log) (turn s log) _ _ (holding log w)))
 rulings_own s log PageIn = unless_say (Owns PageIn) (λ c. refl) (not (is_open log)) _ _ (page_own (night s log) (turn s log) _)
 rulings_own s log Commit = unless_say (Owns Commit) (λ c. refl) (not (is_open log)) _ _ (commit_own (number (versions s log) + 1) (turn s log))
 rulings_own s log GiveUp = unless_say (Owns GiveUp) (λ c. refl) (not (is_open log)) _ _ refl
@@ -402,7 +402,7 @@ module _ (join : PagesJoin) (stay : VersionsStay) (s : Setup) (events : List Eve
       let more : nights_begun (at i) < length s.nights = subst (λ n. n < length s.nights) (sym (begun_is i closed)) left in
       let b = skip (nat_le (length s.nights) (nights_begun (at i))) cause.NoNight _ r (le_false (length s.nights) (nights_begun (at i)) more) a in
       let n : Night = next_night s (at i) in
-      begun_so (at i) (number (versions s (at i)) + 1 == 2 ^ 64) n (places_from 0 (carried_up_to n (turn_of (legs_of n) 0 0 0))) r (λ e. ap (λ n. n + 1) (ended_is s (at i)) ∙ eq_true (number (versions s (at i)) + 1) (2 ^ 64) e) b
+      begun_so (at i) (number (versions s (at i)) + 1 == 2 ^ 64) n (places_from 0 (carried_up_to n (turn_of (untouched (legs_of n))))) r (λ e. ap (λ n. n + 1) (ended_is s (at i)) ∙ eq_true (number (versions s (at i)) + 1) (2 ^ 64) e) b
 
   commit_made : (i k : ℕ) → IsAnswered events replies i Commit (reply.Version k) → (is_open (at i) ≡ true) × (k ≡ nights_ended (at i) + 1) × CarriesOver s made (nights_ended (at i))
   commit_made i k there =

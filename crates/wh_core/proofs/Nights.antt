@@ -16,10 +16,10 @@ use Rattle.wh_carry.specs.NightList.{IsBeginning, IsCutNight, IsNightList, night
 use Rattle.wh_carry.specs.Refused.{ArePassedBelow, HaveValuesBelow}
 use Rattle.wh_carry.specs.Waves.{expressions_of, stages_of}
 use Rattle.wh_carry.specs.Night.{Night}
-use Rattle.wh_carry.specs.Legs.{Leg, Wave, Page, Turn, In_wave, At_page, Over, legs_of, turn_of, carried_up_to}
+use Rattle.wh_carry.specs.Legs.{Leg, Wave, Page, Remaining, Turn, In_wave, At_page, Over, turn_of}
 use Rattle.wh_core.specs.Laws.{AreNights, IsEnded, IsMadeOfNights, PublishedAreNights, none as no_night, one_more as night_more}
-use Rattle.wh_core.specs.Log.{Deed, Log, Began, Drew, Finished, Paged_in, Committed, Gave_up, Sat_down, Turned, Left, nights_begun, is_open, draws, ends, pages, holding}
-use Rattle.wh_core.specs.Nights.{Setup, night, night_from, published, turn, versions}
+use Rattle.wh_core.specs.Log.{Deed, Log, Began, Drew, Finished, Paged_in, Committed, Gave_up, Sat_down, Turned, Left, nights_begun, is_open, pages, holding}
+use Rattle.wh_core.specs.Nights.{Setup, night, night_from, published, remaining, turn, versions}
 use Rattle.wh_core.proofs.Deeds.{AreDeeds, IsDeed, deeds_of, none, one_more}
 use Rattle.wh_core.proofs.Puts.{IsFront, front_of}
 use Rattle.wh_core.proofs.Stages.{stages_join}
@@ -37,7 +37,7 @@ no_rest : {A : Type 0} (xs ys : List A) → length (xs ++ ys) ≡ length xs → 
 no_rest xs [] e = refl
 no_rest xs (y ∷ ys) e = let l = length-append xs (y ∷ ys) in absurd (omega (arith, e, l))
 
-module _ (have : PassedHaveValues) (n : Night) (start ops : List Operation) (d e p : ℕ) (hold : ℕ → Option ℕ) (us vs : List ℕ) (a : IsAt n start ops d e p hold us vs) where
+module _ (have : PassedHaveValues) (n : Night) (start ops : List Operation) (r : Remaining) (p : ℕ) (hold : ℕ → Option ℕ) (us vs : List ℕ) (a : IsAt n start ops r p hold us vs) where
   front : IsFront (graph_of n.catalog) n.changes n.keys 0 (at_first n.tables) n.list a.over a.rest
   front = subst (λ l. IsFront (graph_of n.catalog) n.changes n.keys 0 (at_first n.tables) l a.over a.rest) (stages_join [] n.list)
       (front_of (graph_of n.catalog) n.changes n.keys 0 (at_first n.tables) (stages_of n.list) a.over a.rest a.split)
@@ -46,7 +46,7 @@ module _ (have : PassedHaveValues) (n : Night) (start ops : List Operation) (d e
   came = (let z : length front.front ≡ 0 + length front.front = omega arith in z) ∙ front.reached ∙ (let z : 0 + length n.list ≡ length n.list = omega arith in ap (λ k. come_to k a.rest) z)
 
   values : HaveValuesBelow n.catalog n.list n.tables n.changes (length front.front)
-  values q x l at = have n.catalog n.changes _ x (a.passes q (subst (λ k. q < k) (came ∙ sym (reach_is n a.rest a.drawn a.ended a.within)) l) x at)
+  values q x l at = have n.catalog n.changes _ x (a.passes q (subst (λ k. q < k) (came ∙ sym (reach_is n a.rest a.drawn)) l) x at)
 
   below_front : night_below (graph_of n.catalog) n.changes n.keys n.list n.tables (length front.front) ≡ Opens ∷ ops_of a.over ++ front.more
   below_front = ap (λ l. Opens ∷ puts_of (graph_of n.catalog) n.changes n.keys l (at_first n.tables)) (ap (take (length front.front)) front.split ∙ take-length front.front front.back) ∙ ap (λ l. Opens ∷ l) front.puts
@@ -61,9 +61,9 @@ module _ (have : PassedHaveValues) (n : Night) (start ops : List Operation) (d e
   }
 
   -- where nothing more is in turn, it is the whole list
-  pub ended : turn_of (legs_of n) d e p ≡ Over → IsNightList n.catalog n.list n.tables n.changes n.keys (Opens ∷ ops_of a.over ++ Commits ∷ [])
+  pub ended : turn_of r ≡ Over → IsNightList n.catalog n.list n.tables n.changes n.keys (Opens ∷ ops_of a.over ++ Commits ∷ [])
   ended is =
-      let nothing : a.rest ≡ [] = over_legs a.rest a.drawn a.ended a.within (sym (now n start ops d e p hold us vs a) ∙ is) in
+      let nothing : a.rest ≡ [] = over_legs a.rest a.drawn (sym (now n start ops r p hold us vs a) ∙ is) in
       let all : length front.front ≡ length n.list = came ∙ ap (come_to (length n.list)) nothing in
       let same : night_below (graph_of n.catalog) n.changes n.keys n.list n.tables (length n.list) ≡ Opens ∷ ops_of a.over =
       ap (night_below (graph_of n.catalog) n.changes n.keys n.list n.tables) (sym all) ∙ below_front ∙ ap (λ m. Opens ∷ ops_of a.over ++ m) (front.exact nothing) ∙ append-nil (Opens ∷ ops_of a.over) in
@@ -71,14 +71,14 @@ module _ (have : PassedHaveValues) (n : Night) (start ops : List Operation) (d e
       (whole (subst (HaveValuesBelow n.catalog n.list n.tables n.changes) all values))
 
   -- and all expressions are passed, and all that the list publishes is published
-  pub whole_puts : turn_of (legs_of n) d e p ≡ Over → ArePassedBelow n.catalog n.list n.tables n.changes (length n.list) × (puts_of (graph_of n.catalog) n.changes n.keys n.list (at_first n.tables) ≡ ops_of a.over)
+  pub whole_puts : turn_of r ≡ Over → ArePassedBelow n.catalog n.list n.tables n.changes (length n.list) × (puts_of (graph_of n.catalog) n.changes n.keys n.list (at_first n.tables) ≡ ops_of a.over)
   whole_puts is =
-      let nothing : a.rest ≡ [] = over_legs a.rest a.drawn a.ended a.within (sym (now n start ops d e p hold us vs a) ∙ is) in
+      let nothing : a.rest ≡ [] = over_legs a.rest a.drawn (sym (now n start ops r p hold us vs a) ∙ is) in
       let all : length front.front ≡ length n.list = came ∙ ap (come_to (length n.list)) nothing in
       let split = front.split in
       let back : front.back ≡ [] = no_rest front.front front.back (sym (ap length split) ∙ sym all) in
       let same : n.list ≡ front.front = split ∙ ap (λ l. front.front ++ l) back ∙ append-nil front.front in (
-        λ q x l at. a.passes q (subst (λ k. q < k) (sym all ∙ came ∙ sym (reach_is n a.rest a.drawn a.ended a.within)) l) x at,
+        λ q x l at. a.passes q (subst (λ k. q < k) (sym all ∙ came ∙ sym (reach_is n a.rest a.drawn)) l) x at,
         ap (λ l. puts_of (graph_of n.catalog) n.changes n.keys l (at_first n.tables)) same ∙ front.puts ∙ ap (λ m. ops_of a.over ++ m) (front.exact nothing) ∙ append-nil (ops_of a.over),
       )
 
@@ -166,11 +166,11 @@ module _ (have : PassedHaveValues) (s : Setup) where
       subst (λ b. AreNights s (cond b (nights_begun log - 1) (nights_begun log)) (cond b (start_of s log) (published s (Paged_in ∷ log)))) (sym deed.0) (of_open log (nights log before) deed.0)
   nights _ (one_more log Committed before deed) =
       one_night log before deed.0 Commits
-      (λ a. inl (Opens ∷ ops_of a.over, ended have (night s log) (start_of s log) (published s log) (draws log) (ends log) (pages log) (holding log) _ _ a deed.1, refl))
+      (λ a. inl (Opens ∷ ops_of a.over, ended have (night s log) (start_of s log) (published s log) (remaining s log) (pages log) (holding log) _ _ a deed.1, refl))
       (of_open log (nights log before) deed.0)
   nights _ (one_more log Gave_up before deed) =
       one_night log before deed Gives_up
-      (λ a. inr (record { puts = ops_of a.over; beginning = beginning have (night s log) (start_of s log) (published s log) (draws log) (ends log) (pages log) (holding log) _ _ a; cut = refl }))
+      (λ a. inr (record { puts = ops_of a.over; beginning = beginning have (night s log) (start_of s log) (published s log) (remaining s log) (pages log) (holding log) _ _ a; cut = refl }))
       (of_open log (nights log before) deed)
   nights _ (one_more log (Sat_down d v) before deed) = nights log before
   nights _ (one_more log (Turned d v page) before deed) = nights log before
@@ -190,7 +190,7 @@ are_nights have s log setup legal =
             whole = a.whole;
             nights = subst (λ b. AreNights s (cond b (nights_begun log - 1) (nights_begun log)) (start_of s log)) (sym opened) (of_open have s log r opened);
             closed = λ t. absurd (false≢true (sym t ∙ opened));
-            open_night = λ t. (beginning have (night s log) (start_of s log) (published s log) (draws log) (ends log) (pages log) (holding log) _ _ a, (let n = a.paged in omega (arith, n)));
+            open_night = λ t. (beginning have (night s log) (start_of s log) (published s log) (remaining s log) (pages log) (holding log) _ _ a, (let n = a.paged in omega (arith, n)));
             given = within s log deeds;
           }
       | false ↦ λ shut. record {

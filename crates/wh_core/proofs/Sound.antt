@@ -28,10 +28,10 @@ use Rattle.wh_store.specs.Operations.{Operation, Opens, Writes, Commits, Gives_u
 use Rattle.wh_store.specs.Pages.{Contents}
 use Rattle.wh_store.specs.Versions.{Versions, after, number, opened as opened_by, table_in, written_over, version, versions_from, versions_of}
 use Rattle.wh_carry.specs.Night.{Night, AreAllowed}
-use Rattle.wh_carry.specs.Legs.{Leg, Wave, Page, Turn, In_wave, At_page, Over, legs_of, turn_of}
+use Rattle.wh_carry.specs.Legs.{Leg, Wave, Page, Turn, In_wave, At_page, Over}
 use Rattle.wh_core.specs.Laws.{CommitsMakeContents, IsGivenNight, IsSetup, VersionsAreContents}
-use Rattle.wh_core.specs.Log.{Deed, Log, Began, Drew, Finished, Paged_in, Committed, Gave_up, Sat_down, Turned, Left, nights_begun, is_open, draws, ends, pages, holding}
-use Rattle.wh_core.specs.Nights.{GivenNight, Setup, next_night, night, night_from, last_night, page_in_turn, published, turn, turn_in, versions}
+use Rattle.wh_core.specs.Log.{Deed, Log, Began, Drew, Finished, Paged_in, Committed, Gave_up, Sat_down, Turned, Left, nights_begun, is_open, pages, holding}
+use Rattle.wh_core.specs.Nights.{GivenNight, Setup, next_night, night, night_from, last_night, page_in_turn, published, remaining, turn, turn_in, versions}
 use Rattle.wh_core.proofs.Deeds.{AreDeeds, IsDeed, deeds_of, none, one_more}
 use Rattle.wh_core.proofs.Nights.{begun_once, night-start, whole_puts}
 use Rattle.wh_core.proofs.Sessions.{version_stays}
@@ -133,7 +133,7 @@ module _ (stay : VersionsStay) (s : Setup) (setup : IsSetup s) where
     Passes m = ArePassedBelow m.catalog m.list m.tables m.changes (length m.list) × (puts_of (graph_of m.catalog) m.changes m.keys m.list (at_first m.tables) ≡ ops_of a.over)
 
     passes : Passes n
-    passes = subst Passes (night-start s log before opened) (whole_puts passed_have_values (night s log) (start_of s log) (published s log) (draws log) (ends log) (pages log) (holding log) _ _ a over)
+    passes = subst Passes (night-start s log before opened) (whole_puts passed_have_values (night s log) (start_of s log) (published s log) (remaining s log) (pages log) (holding log) _ _ a over)
 
     -- before the commit the night's puts are being written
     versions_now : versions s log ≡ versions_from (writing v0 v0.newest) (ops_of a.over)

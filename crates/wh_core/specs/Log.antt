@@ -48,23 +48,7 @@ is_open (Committed ∷ log) = false
 is_open (Gave_up ∷ log) = false
 is_open (d ∷ log) = is_open log
 
--- in the open night: jobs drawn, jobs done, pages put
-abbrev pub draws : Log → ℕ
-draws [] = 0
-draws (Began ∷ log) = 0
-draws (Committed ∷ log) = 0
-draws (Gave_up ∷ log) = 0
-draws (Drew w n ∷ log) = draws log + 1
-draws (d ∷ log) = draws log
-
-abbrev pub ends : Log → ℕ
-ends [] = 0
-ends (Began ∷ log) = 0
-ends (Committed ∷ log) = 0
-ends (Gave_up ∷ log) = 0
-ends (Finished w ∷ log) = ends log + 1
-ends (d ∷ log) = ends log
-
+-- how many pages are put in the open night
 abbrev pub pages : Log → ℕ
 pages [] = 0
 pages (Began ∷ log) = 0
