@@ -1,9 +1,9 @@
 -- Where a machine stands after one deed more: of the night that is under way.
-use Rattle.std.proofs.Common.{◌≡◌, ◌≢◌, refl, sym, ap, subst, ◌∙◌, ℕ, zero, suc, ◌+◌, ◌-◌, ◌<◌, ◌≤◌, List, [], ◌∷◌, ◌++◌, length, drop, Bool, true, false, not, cond, Option, Some, None, ◌⊎◌, ⊎_elim, inl, inr, arith}
+use Rattle.std.proofs.Common.{◌≡◌, ◌≢◌, refl, sym, ap, subst, ◌∙◌, ℕ, zero, suc, ◌+◌, ◌-◌, ◌<◌, ◌≤◌, List, [], ◌∷◌, ◌++◌, length, drop, Bool, true, false, not, Option, Some, None, ◌⊎◌, ⊎_elim, inl, inr, arith}
 use Rattle.std.specs.Prelude.{is_some, is_none, slice_get, nat_lt, nat_le, option_map, ◌&&◌}
 use Rattle.std.specs.List.{All, list_all}
 use Rattle.std.proofs.Math.Seq.{drop-nil}
-use Rattle.std.proofs.lemmas.Bool.{cases_lt, false≢true}
+use Rattle.std.proofs.lemmas.Bool.{false≢true}
 use Rattle.std.proofs.lemmas.List.Elements.{All-cons, All-nil}
 use Rattle.std.proofs.lemmas.Option.{same_Some, slice_get_within}
 use Rattle.wh_row.specs.Weigh.{Counted}

@@ -1,7 +1,7 @@
 -- Where an open night stands: which legs are over, which jobs of the wave in turn are done, and what is published.
 use Rattle.std.proofs.Common.{◌≡◌, refl, sym, ap, ◌∙◌, subst, ℕ, zero, suc, ◌+◌, ◌-◌, ◌<◌, ◌≤◌, List, [], ◌∷◌, ◌++◌, map, length, drop, Bool, true, false, not, arith, Option, Some, None, cond, eqb, ◌||◌, ⊎_elim}
 use mathlib.Core.Logic.{◌⊎◌, inl, inr}
-use Rattle.std.specs.Prelude.{nat_lt, nat_le, is_some, slice_get}
+use Rattle.std.specs.Prelude.{nat_le, is_some, slice_get}
 use Rattle.std.specs.List.{All, flat_map, range_with_len}
 use Rattle.std.proofs.lemmas.Bool.{eqb-true, eq-eqb, ne_eqb, false≢true, cases_lt}
 use Rattle.std.proofs.lemmas.List.{append-nil, append_assoc, length-append, length-map}
@@ -12,7 +12,7 @@ use Rattle.wh_dag.proofs.Members.{has-head, has-tail, length-le_members}
 use Rattle.wh_row.specs.Weigh.{Counted}
 use Rattle.wh_store.specs.Operations.{Operation, Opens, Writes, Commits, Gives_up}
 use Rattle.wh_store.specs.Versions.{Versions, after, opened, versions_from, versions_of}
-use Rattle.wh_core.specs.Log.{Log, Began, Drew, Finished, Paged_in, Committed, Gave_up, Sat_down, Turned, Left, nights_begun, is_open, pages, holding}
+use Rattle.wh_core.specs.Log.{Log, Began, Drew, Finished, Paged_in, Committed, Gave_up, Sat_down, Turned, Left, last_begun, nights_begun, is_open, pages, holding}
 use Rattle.wh_core.specs.Nights.{Setup, next_night, night, night_from, last_night, page_in_turn, published, remaining, remaining_in, turn, turn_in, versions}
 use Rattle.wh_core.proofs.Stages.{stages_join}
 use Rattle.wh_core.proofs.Deeds.{AreDeeds, IsDeed, none, one_more}
@@ -649,14 +649,13 @@ newest-paged v Over = refl
 pub night-began : (s : Setup) (log : Log) → night s (Began ∷ log) ≡ next_night s log
 unfolding published
 night-began s log =
-    let n : nights_begun log + 1 - 1 ≡ nights_begun log = omega arith in
-    (λ i. night_from s ((ap (λ (v : Versions). v.newest) (versions_from-append (opened s.opening) (published s log) (Opens ∷ []))) i) (n i))
+    ap (λ (v : Versions). night_from s v.newest (nights_begun log)) (versions_from-append (opened s.opening) (published s log) (Opens ∷ []))
 
 pub night-paged : (s : Setup) (log : Log) → night s (Paged_in ∷ log) ≡ night s log
 unfolding published
 night-paged s log =
     let t : Turn = turn_in (last_night s log (published s log)) log in
-    (λ i. night_from s ((ap (λ (v : Versions). v.newest) (versions_from-append (opened s.opening) (published s log) (page_in_turn t)) ∙ newest-paged (versions s log) t) i) (nights_begun log - 1))
+    (λ i. night_from s ((ap (λ (v : Versions). v.newest) (versions_from-append (opened s.opening) (published s log) (page_in_turn t)) ∙ newest-paged (versions s log) t) i) (last_begun log))
 
 -- what was published when the night that began last began
 abbrev pub start_of : Setup → Log → List Operation

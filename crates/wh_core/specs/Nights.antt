@@ -1,5 +1,5 @@
 -- The nights that a machine can begin, what is in turn in one, and the operations that it publishes.
-use Rattle.std.specs.Prelude.{ℕ, ◌+◌, ◌-◌, List, [], ◌∷◌, ◌++◌, slice_index_or}
+use Rattle.std.specs.Prelude.{ℕ, List, [], ◌∷◌, ◌++◌, slice_index_or}
 use Rattle.wh_dag.specs.Catalog.{CatalogOf}
 use Rattle.wh_strategy.specs.declared.expression.Expression.{Expression}
 use Rattle.wh_row.specs.Bag.{Bag}
@@ -9,7 +9,7 @@ use Rattle.wh_store.specs.Pages.{Contents}
 use Rattle.wh_store.specs.Versions.{Versions, versions_of}
 use Rattle.wh_carry.specs.Night.{Night}
 use Rattle.wh_carry.specs.Legs.{Remaining, Turn, At_page, after_done, after_draw, after_page, legs_of, turn_of, untouched}
-use Rattle.wh_core.specs.Log.{Log, Began, Drew, Finished, Paged_in, Committed, Gave_up, Sat_down, Turned, Left, nights_begun}
+use Rattle.wh_core.specs.Log.{Log, Began, Drew, Finished, Paged_in, Committed, Gave_up, Sat_down, Turned, Left, last_begun, nights_begun}
 
 -- the changes of the base views that a night brings, and the strategy that carries them out
 pub record GivenNight : Type 0 where
@@ -44,7 +44,7 @@ page_in_turn t = []
 
 -- the night that began last, where these operations are published: while it is open, the newest contents are those that it began from
 abbrev pub last_night : Setup → Log → List Operation → Night
-last_night s log ops = night_from s (versions_of s.opening ops).newest (nights_begun log - 1)
+last_night s log ops = night_from s (versions_of s.opening ops).newest (last_begun log)
 
 -- what is left of a night after what was done since one began last
 abbrev pub remaining_in : Night → Log → Remaining

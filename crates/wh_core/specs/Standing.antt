@@ -1,5 +1,5 @@
 -- Where a machine stands after what was done.
-use Rattle.std.specs.Prelude.{◌≡◌, ℕ, ◌+◌, ◌<◌, ◌≤◌, Vec, List, [], ◌∷◌, length, map, drop, slice_get, Option, Some, None, option_map, true}
+use Rattle.std.specs.Prelude.{◌≡◌, ℕ, ◌<◌, ◌≤◌, Vec, List, [], ◌∷◌, length, map, drop, slice_get, Option, Some, None, option_map, true}
 use Rattle.wh_dag.specs.Catalog.{CatalogOf}
 use Rattle.wh_strategy.specs.Rules.{Judged}
 use Rattle.wh_row.specs.Bag.{Bag}
