@@ -1,5 +1,5 @@
 -- The places from one on, below another, are so many numbers from the first on.
-use Rattle.std.proofs.Common.{◌≡◌, refl, ap, ◌∙◌, ℕ, zero, suc, ◌+◌, ◌-◌, drop, arith}
+use Rattle.std.proofs.Common.{◌≡◌, ap, ◌∙◌, ℕ, zero, suc, ◌+◌, ◌-◌, drop, arith}
 use Rattle.std.specs.List.{range_with_len}
 use Rattle.wh_carry.specs.Night.{places_from}
 
