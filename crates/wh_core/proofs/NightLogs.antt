@@ -16,11 +16,12 @@ use Rattle.wh_core.specs.declared.event.Event.TheVariants as event
 use Rattle.wh_core.specs.declared.reply.Cause.TheVariants as cause
 use Rattle.wh_core.specs.declared.reply.Reply.TheVariants as reply
 use Rattle.wh_core.specs.Laws.{IsSetup}
-use Rattle.wh_core.specs.Log.{Log, Began, Committed, Gave_up, draws, ends, holding, is_open, nights_begun, pages, session}
-use Rattle.wh_core.specs.Nights.{GivenNight, Setup, next_night, night, published, turn, versions}
+use Rattle.wh_core.specs.Log.{Log, Began, Committed, Gave_up, holding, is_open, nights_begun, pages, session}
+use Rattle.wh_core.specs.Nights.{GivenNight, Setup, next_night, night, published, remaining, remaining_in, turn, versions}
 use Rattle.wh_core.specs.Replies.{IsLegalLog, IsReply, IsRuled, commit_ruling, more}
 use Rattle.wh_core.proofs.Deeds.{deeds_of}
 use Rattle.wh_core.proofs.FirstTurn.{first_passed}
+use Rattle.wh_core.proofs.Legs.{have_jobs}
 use Rattle.wh_core.proofs.Moves.{not_equal}
 use Rattle.wh_core.proofs.Nights.{whole_puts}
 use Rattle.wh_core.proofs.OneWorker.{IsUpTo, carried_out}
@@ -84,7 +85,7 @@ module _ (s : Setup) (setup : IsSetup s) (log : Log) (legal : IsLegalLog s log) 
       legal = began;
       opened = refl;
       is = night-began s log;
-      ahead = λ x y z. let e : 0 + z ≡ z = omega arith in ap (turn_of (legs_of (next_night s log)) (0 + x) (0 + y)) e;
+      left = refl;
       free = refl;
       start = refl;
       begun = refl;
@@ -92,15 +93,11 @@ module _ (s : Setup) (setup : IsSetup s) (log : Log) (legal : IsLegalLog s log) 
     }
 
     last_up : (later : Log) × IsUpTo s (next_night s log) (Began ∷ log) [] 0 later
-    last_up = carried_out s some (next_night s log) each_passed (Began ∷ log) (legs_of (next_night s log)) (Began ∷ log) first_up
+    last_up = carried_out s some (next_night s log) each_passed (Began ∷ log) (legs_of (next_night s log)) (have_jobs (next_night s log)) (Began ∷ log) first_up
 
     module _ (later : Log) (u : IsUpTo s (next_night s log) (Began ∷ log) [] 0 later) where
       over : turn s later ≡ Over
-      over =
-          let d : draws later ≡ draws later + 0 = omega arith in
-          let e : ends later ≡ ends later + 0 = omega arith in
-          let p : pages later ≡ pages later + 0 = omega arith in
-          (λ i. turn_of (legs_of (u.is i)) (d i) (e i) (p i)) ∙ u.ahead 0 0 0
+      over = (λ i. turn_of (remaining_in (u.is i) later)) ∙ ap turn_of u.left
 
       committed : IsLegalLog s (Committed ∷ later)
       committed =
@@ -113,7 +110,7 @@ module _ (s : Setup) (setup : IsSetup s) (log : Log) (legal : IsLegalLog s log) 
       all_put : published s later ++ Commits ∷ [] ≡ published s log ++ night_ops (next_night s log)
       all_put =
           let a = underway s later (deeds_of s later u.legal) u.opened in
-          let puts = (whole_puts passed_have_values (night s later) (start_of s later) (published s later) (draws later) (ends later) (pages later) (holding later) _ _ a over).1 in
+          let puts = (whole_puts passed_have_values (night s later) (start_of s later) (published s later) (remaining s later) (pages later) (holding later) _ _ a over).1 in
           let own : List Operation = Opens ∷ ops_of a.over ++ Commits ∷ [] in
           let these : night_ops (night s later) ≡ own = ap (λ ops. Opens ∷ ops ++ Commits ∷ []) puts in
           let list : published s later ++ Commits ∷ [] ≡ published s log ++ own =
