@@ -23,7 +23,7 @@ abbrev row : ℕ → ℕ → ℕ → SizeRow
 row pre post change = record { pre = pre; post = post; change = change }
 
 -- each row costs 1
-abbrev ones : Prices
+abbrev pub ones : Prices
 ones = record { comp = 1; inst = 1 }
 
 abbrev three_sizes : List SizeRow
