@@ -120,9 +120,7 @@ ends_amid view (x ∷ y ∷ rows) (suc (suc k)) mark few e =
     let at : ℕ → Option Bookmark = λ i. option_map (mark_at view) (slice_get (x ∷ y ∷ take k rows) i) in
     let here : at (suc (length (y ∷ take k rows) - 1)) ≡ Some mark = ap at (sym step) ∙ e in
     let r = ends_amid view (y ∷ rows) (suc k) mark (omega (arith, few)) here in
-    let more : Counted = r.before ++ r.end ∷ r.next ∷ r.rest in
-    let split : y ∷ rows ≡ more = r.split in
-    record { before = x ∷ r.before; end = r.end; next = r.next; rest = r.rest; split = ap (λ (es : Counted). x ∷ es) split; same = r.same }
+    record { before = x ∷ r.before; end = r.end; next = r.next; rest = r.rest; split = ap (λ (es : Counted). x ∷ es) r.split; same = r.same }
 
 more_left : (a b : ℕ) → nat_le a b ≡ false → b < a
 more_left a b h = grind (arith, nat_tests)
