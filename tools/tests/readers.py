@@ -5,7 +5,7 @@ import unittest
 from whtools.bundle import parts_of, pieces
 from whtools.catalogue import views_of
 from whtools.evaluator import Evaluator, Refused, Unbounded, added, difference
-from whtools.program import ROOT
+from whtools.examples import examples
 from whtools.strategies import broken
 from whtools.warehouses import Warehouse
 
@@ -34,10 +34,9 @@ class Bundles(unittest.TestCase):
         self.assertEqual(each, [{"changes a": ["1", "@2"]}, {"strategy": ["inst a"]}])
 
     def test_pieces_are_the_bytes_of_a_bundle(self):
-        for path in sorted(ROOT.glob("examples/*.bundle")):
-            given = path.read_bytes()
-            if given.startswith(b"@"):
-                self.assertEqual(b"".join(pieces(given)), given, path.name)
+        for example in examples():
+            if example.bundle.startswith(b"@"):
+                self.assertEqual(b"".join(pieces(example.bundle)), example.bundle, example.name)
 
 
 class Catalogues(unittest.TestCase):

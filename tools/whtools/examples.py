@@ -1,37 +1,36 @@
-"""The worked examples: each bundle of examples/ with its words and the answer beside it, for the tools that run them all."""
+"""The bundles of examples/ and tools/tests/bundles/, each with its words and its answer, for the tools that run them all."""
 
+from pathlib import Path
 from typing import NamedTuple
 
 from whtools.program import ROOT
+
+FOLDERS = (ROOT / "examples", ROOT / "tools/tests/bundles")
 
 
 class Example(NamedTuple):
     """A bundle, the words that it is run with, and what is printed, with the line of the status."""
 
-    name: str
+    path: Path
     words: list
     bundle: bytes
     answer: bytes
 
     @property
-    def path(self):
-        return ROOT / f"examples/{self.name}.bundle"
+    def name(self):
+        return self.path.stem
 
 
-def words_of(name):
+def words_of(path):
     """The words beside a bundle, or the command that its name begins with, which is `check` where it begins with no other."""
-    given = ROOT / f"examples/{name}.words"
+    given = path.with_suffix(".words")
     if given.exists():
         return given.read_text().split()
-    command = name.partition("_")[0]
+    command = path.stem.partition("_")[0]
     return [command if command in ("plan", "certify", "night", "replay") else "check"]
 
 
 def examples():
-    """All examples, by name."""
-    names = sorted(path.stem for path in ROOT.glob("examples/*.bundle"))
-    folder = ROOT / "examples"
-    return [
-        Example(name, words_of(name), (folder / f"{name}.bundle").read_bytes(), (folder / f"{name}.answer").read_bytes())
-        for name in names
-    ]
+    """The bundles of both folders, by name."""
+    paths = sorted((path for folder in FOLDERS for path in folder.glob("*.bundle")), key=lambda path: path.stem)
+    return [Example(path, words_of(path), path.read_bytes(), path.with_suffix(".answer").read_bytes()) for path in paths]

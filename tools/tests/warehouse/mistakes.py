@@ -9,6 +9,7 @@ from collections import Counter
 from pathlib import Path
 
 from whtools.bundle import parts_of
+from whtools.examples import examples
 from whtools.warehouse.catalogue import Catalogue
 from whtools.warehouse.folder import Folder
 
@@ -25,12 +26,12 @@ def give_headers(folder):
 
 
 def example_folders(room):
-    """The shop, and each worked example of a night as a folder, where it has no fault."""
+    """The shop, and each bundle of a night as a folder, where it has no fault."""
     found = [shutil.copytree(SHOP, room / "shop")]
-    for example in sorted(SHOP.parent.glob("night_*.bundle")):
-        folder = room / example.stem
+    for example in (each for each in examples() if each.name.startswith("night_")):
+        folder = room / example.name
         try:
-            once, nights = parts_of(example.read_text())
+            once, nights = parts_of(example.path.read_text())
             unpacked = {"catalogue.toml" if part == "catalogue" else f"{part.replace(' ', '/')}.csv": once[part] for part in once}
             unpacked |= {f"{part.replace(' ', '/')}.csv": lines for part, lines in nights[0].items() if part != "strategy"}
             for file, lines in unpacked.items():
