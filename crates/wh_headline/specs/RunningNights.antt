@@ -62,8 +62,8 @@ pub data AreRunningNights (s : Setup) : ℕ → Bool → List Operation → Type
 
 -- ---- a night that runs
 
--- behind this ledger, in which all nights have ended, the night of this number can begin: it is the given one, a Begin is not refused, and a
--- page has rows
+-- behind this ledger, in which all nights have ended, the night of this number can begin: it is the given one, a page has rows, and a Begin is
+-- not refused; where it is, `night` says so and leaves all as it was
 pub record ComesNext (s : Setup) (n keys : ℕ) (given : GivenNight) (l : Ledger) : Type 0 where
   pub of : l.of ≡ warehouse_of s
   pub ended : AreEndedNights s n l.list
