@@ -16,8 +16,7 @@ use Rattle.wh_core.specs.Laws.{IsSetup}
 use Rattle.wh_core.specs.Log.{Bookmark, Log, SessionOf, Sat_down, Turned, bookmark_after, is_open, nights_begun, session}
 use Rattle.wh_core.specs.Nights.{Setup, published, versions}
 use Rattle.wh_core.specs.Replies.{IsLegalLog, IsReply, goes_on, more}
-use Rattle.wh_core.proofs.Steps.{le_false, le_true, onward}
-use Rattle.wh_core.proofs.Underway.{lt_true}
+use Rattle.wh_core.proofs.Steps.{le_false, le_true, lt_true, onward}
 use Rattle.wh_headline.specs.Alike.{row_read}
 use Rattle.wh_headline.specs.RunningNights.{IsSeat}
 use Rattle.wh_headline.proofs.Answered.{pages}
