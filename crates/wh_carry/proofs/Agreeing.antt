@@ -21,7 +21,8 @@ use Rattle.wh_maint.specs.Summary.{change_of}
 use Rattle.wh_maint.specs.Definition.{graph_of, view_of, kind_of, values_at, with_first, value_of, summand}
 use Rattle.wh_maint.specs.Comp.{at_set, bag_at, comp, comp_columns, merged, term_rows, changed_rows, TermsHaveValues}
 use Rattle.wh_maint.specs.Value.{AllHaveValues}
-use Rattle.wh_maint.specs.Size.{capped, operand_rows_of, product_of, reach, IsTooLarge}
+use Rattle.wh_maint.specs.Size.{capped, operand_rows_of, reach, IsTooLarge}
+use Rattle.wh_join.specs.CombinedRows.{product_of}
 use Rattle.wh_maint.specs.Laws.{AreAmong}
 use Rattle.wh_maint.specs.Finishing.{kind_in}
 use Rattle.wh_maint.proofs.Differences.{sum-empty}

@@ -23,4 +23,5 @@ pub mod Growing
 pub mod CourseWaves
 pub mod Pages
 pub mod Lengths
+pub mod Places
 pub mod Parts

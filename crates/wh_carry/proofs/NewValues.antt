@@ -17,14 +17,14 @@ use Rattle.wh_row.specs.Row.{Row}
 use Rattle.wh_row.specs.Weigh.{Counted, weigh}
 use Rattle.wh_row.specs.Bag.{Bag, IsTable, count, empty, size, sum_of, written}
 use Rattle.wh_row.proofs.BagLaws.{each_entry, weigh-sum_of}
-use Rattle.wh_maint.specs.Bounds.{size_in}
+use Rattle.wh_join.specs.CombinedRows.{size_in, product_of}
 use Rattle.wh_maint.specs.Asked.{AreBags}
 use Rattle.wh_maint.specs.Comp.{at_set, bag_at, changed_rows}
 use Rattle.wh_maint.specs.Contents.{AreBaseTables, AreContents, AreContentsOf, AreValues, contents}
 use Rattle.wh_maint.specs.Definition.{graph_of, view_of}
 use Rattle.wh_maint.specs.Laws.{AreAmong, changed}
 use Rattle.wh_maint.specs.Product.{combined}
-use Rattle.wh_maint.specs.Size.{HaveTooMany, IsTooLarge, product_of, reach}
+use Rattle.wh_maint.specs.Size.{HaveTooMany, IsTooLarge, reach}
 use Rattle.wh_maint.specs.Summary.{read_back, shown, summary}
 use Rattle.wh_maint.specs.Value.{ChangeHasValue, HasValue, HaveValues, SumsFit, accumulators, view_value}
 use Rattle.wh_maint.specs.View.{IsViewGraph, Joined, Summed, View, ViewGraph, column, value}

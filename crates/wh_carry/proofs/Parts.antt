@@ -44,6 +44,7 @@ use Rattle.wh_carry.specs.declared.course.Part.{Part}
 use Rattle.wh_carry.specs.declared.course.Part.TheVariants as part
 use Rattle.wh_carry.specs.Night.{Night, ArePassedAt, IsFaultAt, IsFirstFaultOf, IsPassedAt, places_from, state_at}
 use Rattle.wh_carry.specs.Legs.{Leg, Page, legs_after, legs_of}
+use Rattle.wh_carry.proofs.Places.{places_are}
 use Rattle.wh_carry.specs.Course.{AreParts, IsOutcome, IsStop, start_of}
 use Rattle.wh_carry.specs.Standing.{IsStageIn, place_behind}
 use Rattle.wh_carry.specs.Inner.Standing.{ArePages, GoesPast, IsWaveAt, PutsPages, StandsAt, legs_at}
@@ -64,13 +65,17 @@ places_split : (a b c : ℕ) → a ≤ b → b ≤ c → places_from a c ≡ pla
 places_split a b c l m =
     let x : c - a ≡ (b - a) + (c - b) = omega arith in
     let y : a + (b - a) ≡ b = omega arith in
-    ap (range_with_len a) x ∙ range_split (b - a) (c - b) a ∙ ap (λ q. range_with_len a (b - a) ++ range_with_len q (c - b)) y
+    places_are a c
+    ∙ ap (range_with_len a) x
+    ∙ range_split (b - a) (c - b) a
+    ∙ ap (λ q. range_with_len a (b - a) ++ range_with_len q (c - b)) y
+    ∙ sym (λ i. places_are a b i ++ places_are b c i)
 
 no_places : (a : ℕ) → places_from a a ≡ []
-no_places a = let e : a - a ≡ 0 = omega arith in ap (range_with_len a) e
+no_places a = let e : a - a ≡ 0 = omega arith in places_are a a ∙ ap (range_with_len a) e
 
 first_place : (a b : ℕ) → a < b → places_from a b ≡ a ∷ places_from (a + 1) b
-first_place a b l = let e : b - a ≡ suc (b - (a + 1)) = omega arith in ap (range_with_len a) e
+first_place a b l = let e : b - a ≡ suc (b - (a + 1)) = omega arith in places_are a b ∙ ap (range_with_len a) e ∙ ap (λ ps. a ∷ ps) (sym (places_are (a + 1) b))
 
 none_passed : (n : Night) (a : ℕ) → ArePassedAt n (places_from a a)
 none_passed n a = subst (ArePassedAt n) (sym (no_places a)) (All-nil (IsPassedAt n))

@@ -22,7 +22,7 @@ use Rattle.wh_maint.specs.Definition.{graph_of}
 use Rattle.wh_maint.specs.Contents.{if_base}
 use Rattle.wh_maint.proofs.Differences.{is_difference}
 use Rattle.wh_carry.specs.Carry.{State, at_first, change_in, step, carried, before, tables_after}
-use Rattle.wh_carry.specs.Steps.{true_sizes, rows_at}
+use Rattle.wh_carry.specs.Steps.{true_sizes, one_each, rows_at}
 use Rattle.wh_carry.specs.Laws.{StepsAreSummands}
 use Rattle.wh_carry.proofs.Prefixes.{take_whole, there, place_within, before_next, new_next}
 use Rattle.wh_carry.proofs.Stands.{graph, mixed}
@@ -181,7 +181,7 @@ module _ (shape : List (List ℕ)) (views : ℕ → View) (list : List Expressio
       (term (true_sizes old end) list p (children_of shape v))
       (parts ys)
       (all_mono (λ part. AreAmong part ys) _ (parts ys) (λ part among. term_at p v ys part at within among) (parts_among ys ys (λ u t. t))) in
-      ap capped (sums ∙ omega arith ∙ sym (cost_of_comp shape (true_sizes old end) 1 1 list p v ys at))
+      ap capped (sums ∙ omega arith ∙ sym (cost_of_comp shape (true_sizes old end) one_each list p v ys at))
 
   pub inst_writes : (p v : ℕ) → At list p (Inst v) → size (change_in (graph shape views) changes (before (graph shape views) changes list old p) v) < 2 ^ 128
       → size (change_in (graph shape views) changes (before (graph shape views) changes list old p) v) ≡ rows_at shape list old (tables_after (graph shape views) changes list old) p
@@ -189,7 +189,7 @@ module _ (shape : List (List ℕ)) (views : ℕ → View) (list : List Expressio
       let end : ℕ → Bag = tables_after (graph shape views) changes list old in
       let n : ℕ = size (change_in (graph shape views) changes (before (graph shape views) changes list old p) v) in
       let e : n ≡ size (difference_of (end v) (old v)) = ap size (change_at_inst p v at) in
-      sym (min-eq_left (let l : n < 2 ^ 128 = small in omega arith)) ∙ ap capped (e ∙ omega arith ∙ sym (cost_of_inst shape (true_sizes old end) 1 1 list p v at))
+      sym (min-eq_left (let l : n < 2 ^ 128 = small in omega arith)) ∙ ap capped (e ∙ omega arith ∙ sym (cost_of_inst shape (true_sizes old end) one_each list p v at))
 
 pub steps_are_summands : StepsAreSummands
 steps_are_summands = λ catalog list tables changes is ok. record {

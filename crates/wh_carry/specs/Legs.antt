@@ -1,5 +1,5 @@
 -- The course of a night: waves of jobs and pages of changes, one after another.
-use Rattle.std.specs.Prelude.{ℕ, zero, suc, ◌+◌, ◌-◌, List, [], ◌∷◌, ◌++◌, map, length, nat_lt, if◌then◌else◌}
+use Rattle.std.specs.Prelude.{ℕ, ◌+◌, ◌==◌, Bool, false, List, [], ◌∷◌, ◌++◌, map, length, drop, if◌then◌else◌}
 use Rattle.wh_row.specs.Bag.{Bag}
 use Rattle.wh_row.specs.Weigh.{Counted}
 use Rattle.wh_maint.specs.View.{ViewGraph}
@@ -36,13 +36,46 @@ pub data Turn : Type 0 where
   At_page : (place view : ℕ) → (rows : Counted) → Turn
   Over : Turn
 
--- after so many jobs drawn, jobs done and pages put, in the whole night: a wave is over when all its jobs are done
-abbrev pub turn_of : List Leg → ℕ → ℕ → ℕ → Turn
-turn_of [] drawn ended paged = Over
-turn_of (Wave place n ∷ legs) drawn ended paged =
-    if nat_lt ended n then In_wave place n drawn else turn_of legs (drawn - n) (ended - n) paged
-turn_of (Page place view rows ∷ legs) drawn ended zero = At_page place view rows
-turn_of (Page place view rows ∷ legs) drawn ended (suc paged) = turn_of legs drawn ended paged
+-- what is left of a night: the legs that are not over, and how many jobs of the first are drawn and done, where it is a wave
+pub record Remaining : Type 0 where
+  pub legs : List Leg
+  pub drawn : ℕ
+  pub ended : ℕ
+
+-- these legs, of which nothing is drawn
+abbrev pub untouched : List Leg → Remaining
+untouched legs = record { legs = legs; drawn = 0; ended = 0 }
+
+-- a draw takes the next job of the wave
+abbrev pub after_draw : Remaining → Remaining
+after_draw r = record { legs = r.legs; drawn = r.drawn + 1; ended = r.ended }
+
+-- of the wave that comes first, so many of whose jobs are done, one job alone is left to do
+abbrev pub is_one_left : List Leg → ℕ → Bool
+is_one_left (Wave place jobs ∷ legs) ended = ended + 1 == jobs
+is_one_left (Page place view rows ∷ legs) ended = false
+is_one_left [] ended = false
+
+-- the next Done is the last of its wave
+abbrev pub is_last : Remaining → Bool
+is_last r = is_one_left r.legs r.ended
+
+-- the last Done of a wave takes the wave off the list
+abbrev pub after_done : Remaining → Remaining
+after_done r = if is_last r then untouched (drop 1 r.legs) else record { legs = r.legs; drawn = r.drawn; ended = r.ended + 1 }
+
+-- a page takes itself off the list
+abbrev pub after_page : Remaining → Remaining
+after_page r = untouched (drop 1 r.legs)
+
+-- the first of the legs is in turn
+abbrev pub turn_at : List Leg → ℕ → Turn
+turn_at (Wave place jobs ∷ legs) drawn = In_wave place jobs drawn
+turn_at (Page place view rows ∷ legs) drawn = At_page place view rows
+turn_at [] drawn = Over
+
+abbrev pub turn_of : Remaining → Turn
+turn_of r = turn_at r.legs r.drawn
 
 -- how many expressions of the list are carried out where this is in turn: those before a wave, and those up to an Inst whose pages are put
 abbrev pub carried_up_to : Night → Turn → ℕ

@@ -1,5 +1,5 @@
 -- A night that is to be carried out, and where carrying out can be refused.
-use Rattle.std.specs.Prelude.{◌≡◌, ℕ, ◌-◌, List, ◌∷◌, ◌++◌, length}
+use Rattle.std.specs.Prelude.{◌≡◌, ℕ, List, ◌∷◌, ◌++◌, drop, length}
 use Rattle.std.specs.List.{All, range_with_len}
 use Rattle.wh_strategy.specs.declared.expression.Expression.{Expression}
 use Rattle.wh_strategy.specs.Expression.{At}
@@ -49,6 +49,6 @@ pub record IsFirstFaultOf (night : Night) (places : List ℕ) (fault : MaintFaul
   pub passed : ArePassedAt night earlier
   pub refused : IsFaultAt night place fault
 
--- the places from one on, below another
+-- the places from one on, below another: 0, 1 and so on below the end, without those below the first
 abbrev pub places_from : ℕ → ℕ → List ℕ
-places_from first end = range_with_len first (end - first)
+places_from first end = drop first (range_with_len 0 end)

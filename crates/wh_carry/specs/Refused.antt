@@ -106,7 +106,9 @@ IsOf (Inst v) (ChangeHasNoValue u) = u ≡ v
 IsOf (Inst v) (TableIsLarge u) = u ≡ v
 IsOf (Inst v) reason = ⊥
 
--- the turn of a reason: base changes first, then the changes of derived views, then Comps, then tables; each by rising number of the view, and of one view in the order of its answers
+-- The turn of a reason, as three numbers: what it is of, base changes first, then the changes of derived views, then Comps, then tables;
+-- the view, the lower number first; and which of the view's own it is, a lacking row before a large change, counts before sums, and of a
+-- Comp too many rows before a missing value, that before what is pending
 abbrev pub rank : Reason → ℕ × ℕ × ℕ
 rank (RowIsLacking b) = (0, b, 0)
 rank (BaseIsLarge b) = (0, b, 1)
@@ -117,6 +119,7 @@ rank (CompMeetsNoValue v ys) = (2, v, 1)
 rank (PendingIsLarge v ys) = (2, v, 2)
 rank (TableIsLarge v) = (3, v, 0)
 
+-- the first numbers that differ decide
 abbrev pub IsEarlier : ℕ × ℕ × ℕ → ℕ × ℕ × ℕ → Type 0
 IsEarlier a b = (a.0 < b.0) ⊎ ((a.0 ≡ b.0) × ((a.1 < b.1) ⊎ ((a.1 ≡ b.1) × (a.2 < b.2))))
 

@@ -5,6 +5,7 @@ use Rattle.std.proofs.lemmas.List.{append_assoc, map-append, length-map, drop_mo
 use Rattle.std.proofs.lemmas.List.Elements.{All-append}
 use Rattle.std.proofs.lemmas.Option.{slice_get-get_or}
 use Rattle.std.proofs.lemmas.Bool.{and_parts, cases_Bool, cond-true, cond-false, le-ltb, ltb-true}
+use Rattle.wh_strategy.specs.Prices.{Prices}
 use Rattle.wh_strategy.specs.Sizes.{Size}
 use Rattle.wh_cert.specs.Inner.Descent.{turned, past}
 use Rattle.wh_cert.specs.Search.{Placed, IsGood, IsGoodNode, IsFirstBad, lower_first, higher_first, nodes_below, nodes_of}
@@ -108,10 +109,10 @@ Rises node.Bound = Unit {0}
 Rises (node.Cycle list) = Unit {0}
 Rises (node.Branch couple) = nat_lt couple.lower couple.higher ≡ true
 
-pub good_rises : (shape : List (List ℕ)) (sizes : ℕ → Size) (comp inst work : ℕ) (above : List (ℕ × ℕ)) (x : TreeNode) → IsGood shape sizes comp inst work above x → Rises x
-good_rises shape sizes comp inst work above node.Bound good = tt
-good_rises shape sizes comp inst work above (node.Cycle list) good = tt
-good_rises shape sizes comp inst work above (node.Branch couple) good = (and_parts _ _ good.couple).0
+pub good_rises : (shape : List (List ℕ)) (sizes : ℕ → Size) (prices : Prices) (work : ℕ) (above : List (ℕ × ℕ)) (x : TreeNode) → IsGood shape sizes prices work above x → Rises x
+good_rises shape sizes prices work above node.Bound good = tt
+good_rises shape sizes prices work above (node.Cycle list) good = tt
+good_rises shape sizes prices work above (node.Branch couple) good = (and_parts _ _ good.couple).0
 
 after_leaf : (above : List (ℕ × ℕ)) (trees : List CaseTree) (leaf x : TreeNode) (rest : List Placed) → past leaf above ≡ turned above → record { above = above; node = leaf } ∷ later above trees ≡ record { above = above; node = x } ∷ rest → (others : List CaseTree) × (rest ≡ ahead (past x above) others)
 after_leaf above trees leaf x rest is e =
@@ -182,9 +183,9 @@ all_so_far P tree nodes h i x l is above trees e before good =
     subst (All P) (sym (take_more (nodes_of tree) i here lt ∙ ap (λ p. take i (nodes_of tree) ++ p ∷ []) (stands_here tree nodes h i x l is above trees e)))
     (All-append P (take i (nodes_of tree)) (here ∷ []) before (one_holds P here good))
 
-pub first_bad_here : (shape : List (List ℕ)) (sizes : ℕ → Size) (comp inst work : ℕ) (tree : CaseTree) (nodes : List TreeNode) → IsTreeOf nodes tree → (i : ℕ) (x : TreeNode) → i < length nodes → x ≡ get_or nodes i x → (above : List (ℕ × ℕ)) (trees : List CaseTree) → drop i (nodes_of tree) ≡ ahead above trees
-    → All (IsGoodNode shape sizes comp inst work) (take i (nodes_of tree)) → (IsGood shape sizes comp inst work above x → ⊥) → IsFirstBad shape sizes comp inst work tree (i + 1)
-first_bad_here shape sizes comp inst work tree nodes h i x l is above trees e before bad =
+pub first_bad_here : (shape : List (List ℕ)) (sizes : ℕ → Size) (prices : Prices) (work : ℕ) (tree : CaseTree) (nodes : List TreeNode) → IsTreeOf nodes tree → (i : ℕ) (x : TreeNode) → i < length nodes → x ≡ get_or nodes i x → (above : List (ℕ × ℕ)) (trees : List CaseTree) → drop i (nodes_of tree) ≡ ahead above trees
+    → All (IsGoodNode shape sizes prices work) (take i (nodes_of tree)) → (IsGood shape sizes prices work above x → ⊥) → IsFirstBad shape sizes prices work tree (i + 1)
+first_bad_here shape sizes prices work tree nodes h i x l is above trees e before bad =
     let here : Placed = record { above = above; node = x } in
     let many = as_many tree nodes h in
     record {

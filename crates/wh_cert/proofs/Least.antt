@@ -11,6 +11,7 @@ use Rattle.wh_strategy.specs.declared.expression.Expression.{Expression}
 use Rattle.wh_strategy.specs.declared.expression.Expression.TheVariants.{Comp, Inst}
 use Rattle.wh_strategy.specs.declared.sizes.SizeRow.{SizeRow}
 use Rattle.wh_strategy.specs.Expression.{At, is_new}
+use Rattle.wh_strategy.specs.Prices.{Prices}
 use Rattle.wh_strategy.specs.Rules.{IsCorrect}
 use Rattle.wh_strategy.specs.Sizes.{Size, AreSizes, sizes_of}
 use Rattle.wh_strategy.specs.Sums.{sum_below, parts}
@@ -215,18 +216,18 @@ insts_cost shape sizes list co =
         omega arith
 
 -- work, as its Comps and its Insts
-pub work-parts : (shape : List (List ℕ)) (sizes : ℕ → Size) (comp inst : ℕ) (list : List Expression) → work_of shape sizes comp inst list ≡ comp * rows_of shape sizes list + inst * sum_below (λ p. inst_rows sizes (slice_get list p)) (length list)
-work-parts shape sizes comp inst list =
+pub work-parts : (shape : List (List ℕ)) (sizes : ℕ → Size) (prices : Prices) (list : List Expression) → work_of shape sizes prices list ≡ prices.comp * rows_of shape sizes list + prices.inst * sum_below (λ p. inst_rows sizes (slice_get list p)) (length list)
+work-parts shape sizes prices list =
     let f : ℕ → ℕ = λ p. comp_rows shape sizes list p (slice_get list p) in
     let g : ℕ → ℕ = λ p. inst_rows sizes (slice_get list p) in
-    let a = sum_below-add (λ p. comp * f p) (λ p. inst * g p) (length list) in
-    let b = sum_below-mul comp f (length list) in
-    let c = sum_below-mul inst g (length list) in
+    let a = sum_below-add (λ p. prices.comp * f p) (λ p. prices.inst * g p) (length list) in
+    let b = sum_below-mul prices.comp f (length list) in
+    let c = sum_below-mul prices.inst g (length list) in
     omega arith
 
-pub pair_bound-le_work : (shape : List (List ℕ)) (sizes : ℕ → Size) (comp inst : ℕ) (list : List Expression) → IsShape shape → GrowWithin sizes → IsCorrect shape list → pair_bound_of shape sizes comp inst ≤ work_of shape sizes comp inst list
-pair_bound-le_work shape sizes comp inst list sh si co =
-    let a = mul-le-mul_left comp (comps_cost shape sizes list sh si co) in
-    let b = mul-le-mul_left inst (insts_cost shape sizes list co) in
-    let w = work-parts shape sizes comp inst list in
+pub pair_bound-le_work : (shape : List (List ℕ)) (sizes : ℕ → Size) (prices : Prices) (list : List Expression) → IsShape shape → GrowWithin sizes → IsCorrect shape list → pair_bound_of shape sizes prices ≤ work_of shape sizes prices list
+pair_bound-le_work shape sizes prices list sh si co =
+    let a = mul-le-mul_left prices.comp (comps_cost shape sizes list sh si co) in
+    let b = mul-le-mul_left prices.inst (insts_cost shape sizes list co) in
+    let w = work-parts shape sizes prices list in
     omega arith

@@ -4,6 +4,7 @@ use Rattle.std.specs.Prelude.{slice_get}
 use Rattle.std.specs.List.{All as Each}
 use Rattle.std.proofs.lemmas.Bool.{cases_order}
 use Rattle.std.proofs.lemmas.Option.{get_or_from_slice_get, slice_get_within}
+use Rattle.wh_strategy.specs.Prices.{Prices}
 use Rattle.wh_strategy.specs.Sizes.{Size}
 use Rattle.wh_cert.specs.Bound.{pair_bound_of}
 use Rattle.wh_cert.specs.Search.{Placed, IsGoodNode, IsAcceptedTree, IsFirstBad, nodes_of}
@@ -62,38 +63,38 @@ get_placed (x ∷ xs) zero i l = absurd (omega arith)
 get_placed (x ∷ xs) (suc n) zero l = refl
 get_placed (x ∷ xs) (suc n) (suc i) l = get_placed xs n i (omega arith)
 
-not_before : (shape : List (List ℕ)) (sizes : ℕ → Size) (comp inst work : ℕ) (tree : CaseTree) (a b : ℕ) (first : IsFirstBad shape sizes comp inst work tree a) (second : IsFirstBad shape sizes comp inst work tree b) → first.index < second.index → ⊥
-not_before shape sizes comp inst work tree a b first second l =
-    not_both_trees (IsGoodNode shape sizes comp inst work) (take second.index (nodes_of tree)) first.index first.placed second.earlier
+not_before : (shape : List (List ℕ)) (sizes : ℕ → Size) (prices : Prices) (work : ℕ) (tree : CaseTree) (a b : ℕ) (first : IsFirstBad shape sizes prices work tree a) (second : IsFirstBad shape sizes prices work tree b) → first.index < second.index → ⊥
+not_before shape sizes prices work tree a b first second l =
+    not_both_trees (IsGoodNode shape sizes prices work) (take second.index (nodes_of tree)) first.index first.placed second.earlier
     (get_placed (nodes_of tree) second.index first.index l ∙ first.there) first.bad
 
-one_node : (shape : List (List ℕ)) (sizes : ℕ → Size) (comp inst work : ℕ) (tree : CaseTree) (a b : ℕ) → IsFirstBad shape sizes comp inst work tree a → IsFirstBad shape sizes comp inst work tree b → a ≡ b
-one_node shape sizes comp inst work tree a b first second =
+one_node : (shape : List (List ℕ)) (sizes : ℕ → Size) (prices : Prices) (work : ℕ) (tree : CaseTree) (a b : ℕ) → IsFirstBad shape sizes prices work tree a → IsFirstBad shape sizes prices work tree b → a ≡ b
+one_node shape sizes prices work tree a b first second =
     let i : a ≡ first.index + 1 = first.counted in
     let j : b ≡ second.index + 1 = second.counted in
     ⊎_elim
     (λ e. omega arith)
     (λ r. ⊎_elim
-    (λ l. absurd (not_before shape sizes comp inst work tree a b first second l))
-    (λ l. absurd (not_before shape sizes comp inst work tree b a second first l))
+    (λ l. absurd (not_before shape sizes prices work tree a b first second l))
+    (λ l. absurd (not_before shape sizes prices work tree b a second first l))
     r)
     (cases_order first.index second.index)
 
-not_accepted : (shape : List (List ℕ)) (sizes : ℕ → Size) (comp inst work : ℕ) (tree : CaseTree) (place : ℕ) → IsAcceptedTree shape sizes comp inst work tree → IsFirstBad shape sizes comp inst work tree place → ⊥
-not_accepted shape sizes comp inst work tree place all first = not_both_trees (IsGoodNode shape sizes comp inst work) (nodes_of tree) first.index first.placed all first.there first.bad
+not_accepted : (shape : List (List ℕ)) (sizes : ℕ → Size) (prices : Prices) (work : ℕ) (tree : CaseTree) (place : ℕ) → IsAcceptedTree shape sizes prices work tree → IsFirstBad shape sizes prices work tree place → ⊥
+not_accepted shape sizes prices work tree place all first = not_both_trees (IsGoodNode shape sizes prices work) (nodes_of tree) first.index first.placed all first.there first.bad
 
-pub verdicts_same : (shape : List (List ℕ)) (sizes : ℕ → Size) (comp inst work : ℕ) (certificate : Certificate) (verdict other : Verdict) → IsJudged shape sizes comp inst work certificate verdict → IsJudged shape sizes comp inst work certificate other → verdict ≡ other
-verdicts_same shape sizes comp inst work (Pairs lines) All All a b = refl
-verdicts_same shape sizes comp inst work (Pairs lines) All OneWay a b = absurd b
-verdicts_same shape sizes comp inst work (Pairs lines) All (Rejected line) a b = absurd (not_all shape sizes work (pair_bound_of shape sizes comp inst) lines line a b)
-verdicts_same shape sizes comp inst work (Pairs lines) OneWay other a b = absurd a
-verdicts_same shape sizes comp inst work (Pairs lines) (Rejected line) All a b = absurd (not_all shape sizes work (pair_bound_of shape sizes comp inst) lines line b a)
-verdicts_same shape sizes comp inst work (Pairs lines) (Rejected line) OneWay a b = absurd b
-verdicts_same shape sizes comp inst work (Pairs lines) (Rejected line) (Rejected line') a b = ap Rejected (same_line shape sizes work (pair_bound_of shape sizes comp inst) lines line line' a b)
-verdicts_same shape sizes comp inst work (Search nodes) All other a b = absurd a
-verdicts_same shape sizes comp inst work (Search nodes) OneWay All a b = absurd b
-verdicts_same shape sizes comp inst work (Search nodes) OneWay OneWay a b = refl
-verdicts_same shape sizes comp inst work (Search nodes) OneWay (Rejected place) a b = absurd (not_accepted shape sizes comp inst work (tree_of nodes) place a.1 b.1)
-verdicts_same shape sizes comp inst work (Search nodes) (Rejected place) All a b = absurd b
-verdicts_same shape sizes comp inst work (Search nodes) (Rejected place) OneWay a b = absurd (not_accepted shape sizes comp inst work (tree_of nodes) place b.1 a.1)
-verdicts_same shape sizes comp inst work (Search nodes) (Rejected place) (Rejected place') a b = ap Rejected (one_node shape sizes comp inst work (tree_of nodes) place place' a.1 b.1)
+pub verdicts_same : (shape : List (List ℕ)) (sizes : ℕ → Size) (prices : Prices) (work : ℕ) (certificate : Certificate) (verdict other : Verdict) → IsJudged shape sizes prices work certificate verdict → IsJudged shape sizes prices work certificate other → verdict ≡ other
+verdicts_same shape sizes prices work (Pairs lines) All All a b = refl
+verdicts_same shape sizes prices work (Pairs lines) All OneWay a b = absurd b
+verdicts_same shape sizes prices work (Pairs lines) All (Rejected line) a b = absurd (not_all shape sizes work (pair_bound_of shape sizes prices) lines line a b)
+verdicts_same shape sizes prices work (Pairs lines) OneWay other a b = absurd a
+verdicts_same shape sizes prices work (Pairs lines) (Rejected line) All a b = absurd (not_all shape sizes work (pair_bound_of shape sizes prices) lines line b a)
+verdicts_same shape sizes prices work (Pairs lines) (Rejected line) OneWay a b = absurd b
+verdicts_same shape sizes prices work (Pairs lines) (Rejected line) (Rejected line') a b = ap Rejected (same_line shape sizes work (pair_bound_of shape sizes prices) lines line line' a b)
+verdicts_same shape sizes prices work (Search nodes) All other a b = absurd a
+verdicts_same shape sizes prices work (Search nodes) OneWay All a b = absurd b
+verdicts_same shape sizes prices work (Search nodes) OneWay OneWay a b = refl
+verdicts_same shape sizes prices work (Search nodes) OneWay (Rejected place) a b = absurd (not_accepted shape sizes prices work (tree_of nodes) place a.1 b.1)
+verdicts_same shape sizes prices work (Search nodes) (Rejected place) All a b = absurd b
+verdicts_same shape sizes prices work (Search nodes) (Rejected place) OneWay a b = absurd (not_accepted shape sizes prices work (tree_of nodes) place b.1 a.1)
+verdicts_same shape sizes prices work (Search nodes) (Rejected place) (Rejected place') a b = ap Rejected (one_node shape sizes prices work (tree_of nodes) place place' a.1 b.1)

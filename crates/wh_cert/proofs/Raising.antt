@@ -9,7 +9,9 @@ use Rattle.std.proofs.lemmas.Nat.{mul-le}
 use Rattle.std.proofs.lemmas.Option.{slice_get_cases, get_or_from_slice_get}
 use Rattle.wh_dag.specs.Shape.{has, Distinct, IsShape, children_of}
 use Rattle.wh_dag.proofs.Sums.{sum_by-same, sum_by-plus}
+use Rattle.wh_strategy.specs.declared.costs.Costs.{Costs}
 use Rattle.wh_strategy.specs.declared.sizes.SizeRow.{SizeRow}
+use Rattle.wh_strategy.specs.Prices.{Prices, prices_of}
 use Rattle.wh_strategy.specs.Sizes.{Size, AreSizes, sizes_of}
 use Rattle.wh_strategy.specs.Sums.{sum_below}
 use Rattle.wh_cert.specs.Bound.{in_order, pair_min, sum_pairs, rows_by, decided_value, decided_bound_of}
@@ -196,13 +198,13 @@ sum_below-same f g (suc n) h = let r = sum_below-same f g n h in let k = h n in 
 regroup : (c r x i : ℕ) → c * (r + x) + i ≡ c * r + i + c * x
 regroup c r x i = grind arith
 
-pub bound_more : (shape : List (List ℕ)) (sizes : ℕ → Size) (comp inst : ℕ) (ds : List (ℕ × ℕ)) (a b e : ℕ) → IsShape shape → a ≢ b → decides ds a b ≡ false → decides ds b a ≡ false → in_order sizes a b ≡ pair_min sizes a b + e → decided_bound_of shape sizes comp inst (ds ++ (a, b) ∷ []) ≡ decided_bound_of shape sizes comp inst ds + comp * sum_below (more_under shape a b e) (length shape)
-bound_more shape sizes comp inst ds a b e sh n o o' is =
+pub bound_more : (shape : List (List ℕ)) (sizes : ℕ → Size) (prices : Prices) (ds : List (ℕ × ℕ)) (a b e : ℕ) → IsShape shape → a ≢ b → decides ds a b ≡ false → decides ds b a ≡ false → in_order sizes a b ≡ pair_min sizes a b + e → decided_bound_of shape sizes prices (ds ++ (a, b) ∷ []) ≡ decided_bound_of shape sizes prices ds + prices.comp * sum_below (more_under shape a b e) (length shape)
+bound_more shape sizes prices ds a b e sh n o o' is =
     let f : ℕ → ℕ = λ v. rows_by (decided_value sizes ds) sizes (children_of shape v) in
     let each = sum_below-same (λ v. rows_by (decided_value sizes (ds ++ (a, b) ∷ [])) sizes (children_of shape v)) (λ v. f v + more_under shape a b e v) (length shape) (λ v. rows v) in
     let parts = sum_below-add f (more_under shape a b e) (length shape) in
-    ap (λ z. comp * z + inst * sum_below (λ v. (sizes v).change) (length shape)) (each ∙ parts)
-    ∙ regroup comp (sum_below f (length shape)) (sum_below (more_under shape a b e) (length shape)) (inst * sum_below (λ v. (sizes v).change) (length shape))
+    ap (λ z. prices.comp * z + prices.inst * sum_below (λ v. (sizes v).change) (length shape)) (each ∙ parts)
+    ∙ regroup prices.comp (sum_below f (length shape)) (sum_below (more_under shape a b e) (length shape)) (prices.inst * sum_below (λ v. (sizes v).change) (length shape))
   where
     rows : (v : ℕ) → rows_by (decided_value sizes (ds ++ (a, b) ∷ [])) sizes (children_of shape v) ≡ rows_by (decided_value sizes ds) sizes (children_of shape v) + more_under shape a b e v
     rows v =
@@ -253,14 +255,14 @@ below_small f m (suc n) h =
     grind arith
 
 -- a bound is far below what a number of 128 bits can hold
-pub bound_small : (shape : List (List ℕ)) (rows : List SizeRow) (comp inst : ℕ) (ds : List (ℕ × ℕ)) → IsShape shape → AreSizes rows → comp ≤ 1000000 → inst ≤ 1000000 → decided_bound_of shape (sizes_of rows) comp inst ds < 2 ^ 128
-bound_small shape rows comp inst ds sh are c i =
+pub bound_small : (shape : List (List ℕ)) (rows : List SizeRow) (costs : Costs) (ds : List (ℕ × ℕ)) → IsShape shape → AreSizes rows → decided_bound_of shape (sizes_of rows) (prices_of costs) ds < 2 ^ 128
+bound_small shape rows costs ds sh are =
     let sizes : ℕ → Size = sizes_of rows in
     let few : length shape ≤ 64 = sh.few_views in
     let r : sum_below (λ v. rows_by (decided_value sizes ds) sizes (children_of shape v)) (length shape) ≤ length shape * 2 ^ 50 = below_small (λ v. rows_by (decided_value sizes ds) sizes (children_of shape v)) (2 ^ 50) (length shape) (λ v. under v) in
     let s : sum_below (λ v. (sizes v).change) (length shape) ≤ length shape * 2 ^ 50 = below_small (λ v. (sizes v).change) (2 ^ 50) (length shape) (λ v. let k : (sizes v).change ≤ 2 ^ 40 = (size_small rows are v).2 in omega arith) in
-    let x = mul-le comp (sum_below (λ v. rows_by (decided_value sizes ds) sizes (children_of shape v)) (length shape)) 1000000 (64 * 2 ^ 50) c (omega arith) in
-    let y = mul-le inst (sum_below (λ v. (sizes v).change) (length shape)) 1000000 (64 * 2 ^ 50) i (omega arith) in
+    let x = mul-le costs.comp (sum_below (λ v. rows_by (decided_value sizes ds) sizes (children_of shape v)) (length shape)) 1000000 (64 * 2 ^ 50) costs.comp_most (omega arith) in
+    let y = mul-le costs.inst (sum_below (λ v. (sizes v).change) (length shape)) 1000000 (64 * 2 ^ 50) costs.inst_most (omega arith) in
     omega arith
   where
     under : (v : ℕ) → rows_by (decided_value (sizes_of rows) ds) (sizes_of rows) (children_of shape v) ≤ 2 ^ 50

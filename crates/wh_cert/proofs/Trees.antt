@@ -10,6 +10,7 @@ use Rattle.wh_dag.specs.Siblings.{have_parent}
 use Rattle.wh_strategy.specs.declared.expression.Expression.{Expression}
 use Rattle.wh_strategy.specs.declared.expression.Expression.TheVariants.{Comp, Inst}
 use Rattle.wh_strategy.specs.Expression.{At}
+use Rattle.wh_strategy.specs.Prices.{Prices}
 use Rattle.wh_strategy.specs.Rules.{IsCorrect, IsOneWay}
 use Rattle.wh_strategy.specs.Sizes.{Size}
 use Rattle.wh_strategy.specs.Work.{work_of}
@@ -122,11 +123,11 @@ value_paid shape sizes list decided sh co ow ag v u w m m' ne =
     backward false false f = omega arith
 
 -- no one-way strategy that agrees costs less than the decided bound
-pub decided_bound-le_work : (shape : List (List ℕ)) (sizes : ℕ → Size) (comp inst : ℕ) (list : List Expression) (decided : List (ℕ × ℕ)) → IsShape shape → IsCorrect shape list → IsOneWay list → Agrees list decided → decided_bound_of shape sizes comp inst decided ≤ work_of shape sizes comp inst list
-decided_bound-le_work shape sizes comp inst list decided sh co ow ag =
-    let a = mul-le-mul_left comp (comps_cost_least shape sizes list (decided_value sizes decided) sh co (λ v u w m m' n. value_paid shape sizes list decided sh co ow ag v u w m m' n)) in
-    let b = mul-le-mul_left inst (insts_cost shape sizes list co) in
-    let w = work-parts shape sizes comp inst list in
+pub decided_bound-le_work : (shape : List (List ℕ)) (sizes : ℕ → Size) (prices : Prices) (list : List Expression) (decided : List (ℕ × ℕ)) → IsShape shape → IsCorrect shape list → IsOneWay list → Agrees list decided → decided_bound_of shape sizes prices decided ≤ work_of shape sizes prices list
+decided_bound-le_work shape sizes prices list decided sh co ow ag =
+    let a = mul-le-mul_left prices.comp (comps_cost_least shape sizes list (decided_value sizes decided) sh co (λ v u w m m' n. value_paid shape sizes list decided sh co ow ag v u w m m' n)) in
+    let b = mul-le-mul_left prices.inst (insts_cost shape sizes list co) in
+    let w = work-parts shape sizes prices list in
     omega arith
 
 -- one more decision
@@ -183,14 +184,14 @@ insts_differ list p u w a b l =
     omega arith
 
 -- below any decisions: where each node is good, no one-way strategy that agrees with them costs less
-pub good_shows : (shape : List (List ℕ)) (sizes : ℕ → Size) (comp inst work : ℕ) (list : List Expression) → IsShape shape → IsCorrect shape list → IsOneWay list → (above : List (ℕ × ℕ)) (tree : CaseTree) → Each (IsGoodNode shape sizes comp inst work) (nodes_below above tree) → Agrees list above → work ≤ work_of shape sizes comp inst list
-good_shows shape sizes comp inst work list sh co ow above Bound good ag =
-    let b = decided_bound-le_work shape sizes comp inst list above sh co ow ag in
-    let g : work ≤ decided_bound_of shape sizes comp inst above = good.0 in
+pub good_shows : (shape : List (List ℕ)) (sizes : ℕ → Size) (prices : Prices) (work : ℕ) (list : List Expression) → IsShape shape → IsCorrect shape list → IsOneWay list → (above : List (ℕ × ℕ)) (tree : CaseTree) → Each (IsGoodNode shape sizes prices work) (nodes_below above tree) → Agrees list above → work ≤ work_of shape sizes prices list
+good_shows shape sizes prices work list sh co ow above Bound good ag =
+    let b = decided_bound-le_work shape sizes prices list above sh co ow ag in
+    let g : work ≤ decided_bound_of shape sizes prices above = good.0 in
     omega arith
-good_shows shape sizes comp inst work list sh co ow above (Cycle es) good ag = absurd (no_cycle shape list above sh co ow ag es good.0)
-good_shows shape sizes comp inst work list sh co ow above (Branch couple left right) good ag =
-    let P : Placed → Type 0 = IsGoodNode shape sizes comp inst work in
+good_shows shape sizes prices work list sh co ow above (Cycle es) good ag = absurd (no_cycle shape list above sh co ow ag es good.0)
+good_shows shape sizes prices work list sh co ow above (Branch couple left right) good ag =
+    let P : Placed → Type 0 = IsGoodNode shape sizes prices work in
     let free : IsOpen shape above couple = good.0 in
     let both = and_parts _ _ free.couple in
     let lt : couple.lower < couple.higher = ltb-true couple.lower couple.higher both.0 in
@@ -204,15 +205,15 @@ good_shows shape sizes comp inst work list sh co ow above (Branch couple left ri
     ⊎_elim
     (λ e. absurd (insts_differ list b.0 couple.lower couple.higher (subst (λ z. At list z (Inst couple.lower)) e a.1) b.1 lt))
     (λ o. ⊎_elim
-    (λ l. good_shows shape sizes comp inst work list sh co ow (lower_first couple ∷ above) left
+    (λ l. good_shows shape sizes prices work list sh co ow (lower_first couple ∷ above) left
     (each_left P (nodes_below (lower_first couple ∷ above) left) (nodes_below (higher_first couple ∷ above) right) good.1)
     (agrees_more list above couple.lower couple.higher (λ r t x y. let i = co.one_inst r a.0 couple.lower x a.1 in let j = co.one_inst t b.0 couple.higher y b.1 in omega arith) ag))
-    (λ l. good_shows shape sizes comp inst work list sh co ow (higher_first couple ∷ above) right
+    (λ l. good_shows shape sizes prices work list sh co ow (higher_first couple ∷ above) right
     (each_right P (nodes_below (lower_first couple ∷ above) left) (nodes_below (higher_first couple ∷ above) right) good.1)
     (agrees_more list above couple.higher couple.lower (λ r t x y. let i = co.one_inst r b.0 couple.higher x b.1 in let j = co.one_inst t a.0 couple.lower y a.1 in omega arith) ag))
     o)
     (cases_order a.0 b.0)
 
-pub accepted_shows : (shape : List (List ℕ)) (sizes : ℕ → Size) (comp inst work : ℕ) (tree : CaseTree) (list : List Expression) → IsShape shape → IsAcceptedTree shape sizes comp inst work tree → IsCorrect shape list → IsOneWay list → work ≤ work_of shape sizes comp inst list
-accepted_shows shape sizes comp inst work tree list sh good co ow =
-    good_shows shape sizes comp inst work list sh co ow [] tree (each_of_all (IsGoodNode shape sizes comp inst work) (nodes_below [] tree) good) (agrees_with_none list)
+pub accepted_shows : (shape : List (List ℕ)) (sizes : ℕ → Size) (prices : Prices) (work : ℕ) (tree : CaseTree) (list : List Expression) → IsShape shape → IsAcceptedTree shape sizes prices work tree → IsCorrect shape list → IsOneWay list → work ≤ work_of shape sizes prices list
+accepted_shows shape sizes prices work tree list sh good co ow =
+    good_shows shape sizes prices work list sh co ow [] tree (each_of_all (IsGoodNode shape sizes prices work) (nodes_below [] tree) good) (agrees_with_none list)

@@ -2,6 +2,7 @@
 use Rattle.std.specs.Prelude.{ℕ, ◌+◌, ◌*◌, List, [], ◌∷◌, length, min, if◌then◌else◌}
 use Rattle.std.specs.List.{sum_by}
 use Rattle.wh_dag.specs.Shape.{children_of}
+use Rattle.wh_strategy.specs.Prices.{Prices}
 use Rattle.wh_strategy.specs.Sizes.{Size}
 use Rattle.wh_strategy.specs.Sums.{sum_below}
 use Rattle.wh_cert.specs.Graph.{decides}
@@ -24,13 +25,13 @@ abbrev pub rows_by : (ℕ → ℕ → ℕ) → (ℕ → Size) → List ℕ → �
 rows_by pair sizes children = sum_by (λ u. (sizes u).change) children + sum_pairs pair children
 
 -- the cost of all views' Comps and Insts, where this is what each pair costs
-abbrev pub cost_by : (ℕ → ℕ → ℕ) → List (List ℕ) → (ℕ → Size) → ℕ → ℕ → ℕ
-cost_by pair shape sizes comp inst =
-    comp * sum_below (λ v. rows_by pair sizes (children_of shape v)) (length shape) + inst * sum_below (λ v. (sizes v).change) (length shape)
+abbrev pub cost_by : (ℕ → ℕ → ℕ) → List (List ℕ) → (ℕ → Size) → Prices → ℕ
+cost_by pair shape sizes prices =
+    prices.comp * sum_below (λ v. rows_by pair sizes (children_of shape v)) (length shape) + prices.inst * sum_below (λ v. (sizes v).change) (length shape)
 
 -- the pair bound: each pair at its minimum
-abbrev pub pair_bound_of : List (List ℕ) → (ℕ → Size) → ℕ → ℕ → ℕ
-pair_bound_of shape sizes comp inst = cost_by (pair_min sizes) shape sizes comp inst
+abbrev pub pair_bound_of : List (List ℕ) → (ℕ → Size) → Prices → ℕ
+pair_bound_of shape sizes prices = cost_by (pair_min sizes) shape sizes prices
 
 -- what a pair costs by these decisions: that of the decided order, or the minimum where neither order is decided
 abbrev pub decided_value : (ℕ → Size) → List (ℕ × ℕ) → ℕ → ℕ → ℕ
@@ -39,5 +40,5 @@ decided_value sizes decided u w =
     else (if decides decided w u then in_order sizes w u else pair_min sizes u w)
 
 -- the decided bound: the same with each decided couple at its decision's value, under every common parent
-abbrev pub decided_bound_of : List (List ℕ) → (ℕ → Size) → ℕ → ℕ → List (ℕ × ℕ) → ℕ
-decided_bound_of shape sizes comp inst decided = cost_by (decided_value sizes decided) shape sizes comp inst
+abbrev pub decided_bound_of : List (List ℕ) → (ℕ → Size) → Prices → List (ℕ × ℕ) → ℕ
+decided_bound_of shape sizes prices decided = cost_by (decided_value sizes decided) shape sizes prices

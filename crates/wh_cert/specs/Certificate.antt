@@ -2,6 +2,7 @@
 use Rattle.std.specs.Prelude.{◌≡◌, ◌≢◌, ℕ, ◌+◌, List, map, take, slice_get, if◌then◌else◌}
 use Rattle.wh_dag.specs.Siblings.{sibling_pairs_of}
 use Rattle.wh_dag.specs.declared.siblings.SiblingPair.{SiblingPair}
+use Rattle.wh_strategy.specs.Prices.{Prices}
 use Rattle.wh_strategy.specs.Sizes.{Size}
 use Rattle.wh_cert.specs.Bound.{pair_min, pair_bound_of}
 use Rattle.wh_cert.specs.Order.{comes_first}
@@ -46,10 +47,10 @@ pub data IsRejected (shape : List (List ℕ)) (sizes : ℕ → Size) (work bound
 
 -- What the verdict on a certificate says, at these costs and this work of the strategy. A certificate by a tree is the nodes of one tree
 -- and nothing after them: what is no such tree gets no verdict.
-abbrev pub IsJudged : List (List ℕ) → (ℕ → Size) → ℕ → ℕ → ℕ → Certificate → Verdict → Type 0
-IsJudged shape sizes comp inst work (Pairs lines) All = IsAccepted shape sizes work (pair_bound_of shape sizes comp inst) lines
-IsJudged shape sizes comp inst work (Pairs lines) OneWay = ⊥
-IsJudged shape sizes comp inst work (Pairs lines) (Rejected line) = IsRejected shape sizes work (pair_bound_of shape sizes comp inst) lines line
-IsJudged shape sizes comp inst work (Search nodes) All = ⊥
-IsJudged shape sizes comp inst work (Search nodes) OneWay = IsTreeOf nodes (tree_of nodes) × IsAcceptedTree shape sizes comp inst work (tree_of nodes)
-IsJudged shape sizes comp inst work (Search nodes) (Rejected place) = IsTreeOf nodes (tree_of nodes) × IsFirstBad shape sizes comp inst work (tree_of nodes) place
+abbrev pub IsJudged : List (List ℕ) → (ℕ → Size) → Prices → ℕ → Certificate → Verdict → Type 0
+IsJudged shape sizes prices work (Pairs lines) All = IsAccepted shape sizes work (pair_bound_of shape sizes prices) lines
+IsJudged shape sizes prices work (Pairs lines) OneWay = ⊥
+IsJudged shape sizes prices work (Pairs lines) (Rejected line) = IsRejected shape sizes work (pair_bound_of shape sizes prices) lines line
+IsJudged shape sizes prices work (Search nodes) All = ⊥
+IsJudged shape sizes prices work (Search nodes) OneWay = IsTreeOf nodes (tree_of nodes) × IsAcceptedTree shape sizes prices work (tree_of nodes)
+IsJudged shape sizes prices work (Search nodes) (Rejected place) = IsTreeOf nodes (tree_of nodes) × IsFirstBad shape sizes prices work (tree_of nodes) place

@@ -3,6 +3,7 @@ use Rattle.std.specs.Prelude.{◌≡◌, ℕ, List, [], ◌∷◌, refl}
 use Rattle.wh_dag.specs.Shape.{has, children_of}
 use Rattle.wh_dag.specs.Siblings.{each_below, sibling_pairs_of, have_parent, couples_of}
 use Rattle.wh_strategy.specs.declared.sizes.SizeRow.{SizeRow}
+use Rattle.wh_strategy.specs.Examples.{ones}
 use Rattle.wh_strategy.specs.Sizes.{sizes_of}
 use Rattle.wh_strategy.specs.Sums.{sum_below}
 use Rattle.wh_cert.specs.declared.certificate.PairMin.{PairMin}
@@ -24,7 +25,7 @@ abbrev three_sizes : List SizeRow
 three_sizes = row 10 12 4 ∷ row 100 70 30 ∷ row 50 44 6 ∷ []
 
 -- min(10 + 70, 100 + 12) and changes of 4 and 30, and Insts of 4, 30 and 6
-pub plan_all_bound : pair_bound_of v_over_a_b (sizes_of three_sizes) 1 1 ≡ 154
+pub plan_all_bound : pair_bound_of v_over_a_b (sizes_of three_sizes) ones ≡ 154
 unfolding sum_below sum_pairs has children_of sizes_of
 plan_all_bound = refl
 
@@ -41,7 +42,7 @@ abbrev four_sizes : List SizeRow
 four_sizes = row 100 90 20 ∷ row 50 55 5 ∷ row 80 60 40 ∷ row 200 190 30 ∷ []
 
 -- minima of 140 and 160, changes of 85, and Insts of 95
-pub plan_one_way_bound : pair_bound_of v2_over_b_v1 (sizes_of four_sizes) 1 1 ≡ 480
+pub plan_one_way_bound : pair_bound_of v2_over_b_v1 (sizes_of four_sizes) ones ≡ 480
 unfolding sum_below sum_pairs has children_of sizes_of
 plan_one_way_bound = refl
 
@@ -54,6 +55,6 @@ unfolding has each_below have_parent couples_of
 plan_one_way_couples = refl
 
 -- V over six views of 10 rows of which one changes: 15 pairs of 20, six changes of 1, and seven Insts of 1
-pub six_children_bound : pair_bound_of ([] ∷ [] ∷ [] ∷ [] ∷ [] ∷ [] ∷ (0 ∷ 1 ∷ 2 ∷ 3 ∷ 4 ∷ 5 ∷ []) ∷ []) (sizes_of (row 10 10 1 ∷ row 10 10 1 ∷ row 10 10 1 ∷ row 10 10 1 ∷ row 10 10 1 ∷ row 10 10 1 ∷ row 5 5 1 ∷ [])) 1 1 ≡ 313
+pub six_children_bound : pair_bound_of ([] ∷ [] ∷ [] ∷ [] ∷ [] ∷ [] ∷ (0 ∷ 1 ∷ 2 ∷ 3 ∷ 4 ∷ 5 ∷ []) ∷ []) (sizes_of (row 10 10 1 ∷ row 10 10 1 ∷ row 10 10 1 ∷ row 10 10 1 ∷ row 10 10 1 ∷ row 10 10 1 ∷ row 5 5 1 ∷ [])) ones ≡ 313
 unfolding sum_below sum_pairs has children_of sizes_of
 six_children_bound = refl

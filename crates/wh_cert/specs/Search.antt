@@ -3,6 +3,7 @@ use Rattle.std.specs.Prelude.{◌≡◌, ℕ, ◌+◌, ◌≤◌, List, [], ◌�
 use Rattle.std.specs.List.{All}
 use Rattle.wh_dag.specs.Siblings.{is_couple}
 use Rattle.wh_dag.specs.declared.siblings.Couple.{Couple}
+use Rattle.wh_strategy.specs.Prices.{Prices}
 use Rattle.wh_strategy.specs.Sizes.{Size}
 use Rattle.wh_cert.specs.Bound.{decided_bound_of}
 use Rattle.wh_cert.specs.Graph.{decides, IsCycle}
@@ -41,24 +42,24 @@ pub record IsOpen (shape : List (List ℕ)) (above : List (ℕ × ℕ)) (pair : 
 
 -- A node is good below these decisions, for a strategy of this work: under them the bound is at least the work, the list is a
 -- cycle of their graph, the pair is a couple that they leave open.
-abbrev pub IsGood : List (List ℕ) → (ℕ → Size) → ℕ → ℕ → ℕ → List (ℕ × ℕ) → TreeNode → Type 0
-IsGood shape sizes comp inst work above node.Bound = work ≤ decided_bound_of shape sizes comp inst above
-IsGood shape sizes comp inst work above (node.Cycle list) = IsCycle shape above list
-IsGood shape sizes comp inst work above (node.Branch pair) = IsOpen shape above pair
+abbrev pub IsGood : List (List ℕ) → (ℕ → Size) → Prices → ℕ → List (ℕ × ℕ) → TreeNode → Type 0
+IsGood shape sizes prices work above node.Bound = work ≤ decided_bound_of shape sizes prices above
+IsGood shape sizes prices work above (node.Cycle list) = IsCycle shape above list
+IsGood shape sizes prices work above (node.Branch pair) = IsOpen shape above pair
 
 -- the same of a node where it stands
-abbrev pub IsGoodNode : List (List ℕ) → (ℕ → Size) → ℕ → ℕ → ℕ → Placed → Type 0
-IsGoodNode shape sizes comp inst work placed = IsGood shape sizes comp inst work placed.above placed.node
+abbrev pub IsGoodNode : List (List ℕ) → (ℕ → Size) → Prices → ℕ → Placed → Type 0
+IsGoodNode shape sizes prices work placed = IsGood shape sizes prices work placed.above placed.node
 
 -- a tree is accepted for a strategy of this work: each of its nodes is good
-abbrev pub IsAcceptedTree : List (List ℕ) → (ℕ → Size) → ℕ → ℕ → ℕ → CaseTree → Type 0
-IsAcceptedTree shape sizes comp inst work tree = All (IsGoodNode shape sizes comp inst work) (nodes_of tree)
+abbrev pub IsAcceptedTree : List (List ℕ) → (ℕ → Size) → Prices → ℕ → CaseTree → Type 0
+IsAcceptedTree shape sizes prices work tree = All (IsGoodNode shape sizes prices work) (nodes_of tree)
 
 -- this is its first bad node in preorder, counted from 1
-pub record IsFirstBad (shape : List (List ℕ)) (sizes : ℕ → Size) (comp inst work : ℕ) (tree : CaseTree) (place : ℕ) : Type 0 where
+pub record IsFirstBad (shape : List (List ℕ)) (sizes : ℕ → Size) (prices : Prices) (work : ℕ) (tree : CaseTree) (place : ℕ) : Type 0 where
   pub index : ℕ
   pub counted : place ≡ index + 1
   pub placed : Placed
   pub there : slice_get (nodes_of tree) index ≡ Some placed
-  pub bad : IsGoodNode shape sizes comp inst work placed → ⊥
-  pub earlier : All (IsGoodNode shape sizes comp inst work) (take index (nodes_of tree))
+  pub bad : IsGoodNode shape sizes prices work placed → ⊥
+  pub earlier : All (IsGoodNode shape sizes prices work) (take index (nodes_of tree))

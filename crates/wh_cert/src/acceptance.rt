@@ -3,6 +3,7 @@
 ghost use Rattle.std.specs.Prelude.{◌≡◌, ◌≤◌, ℕ, List, length};
 ghost use Rattle.wh_strategy.specs.declared.expression.Expression.{Expression};
 ghost use Rattle.wh_dag.specs.Shape.{IsShape};
+ghost use Rattle.wh_strategy.specs.Prices.{Prices, prices_of};
 ghost use Rattle.wh_strategy.specs.Rules.{IsCorrect, IsOneWay};
 ghost use Rattle.wh_strategy.specs.Sizes.{Size, sizes_of};
 ghost use Rattle.wh_strategy.specs.Work.{work_of};
@@ -29,8 +30,8 @@ fn judge_pairs(
 ) -> Verdict
     requires same { correct.now.children ≡ shape.now.children }
     requires sizes { length sizes.now ≡ length shape.now.children }
-    ensures judged { IsJudged shape.now.children (sizes_of sizes.now) costs.comp costs.inst (work_of shape.now.children (sizes_of sizes.now) costs.comp costs.inst correct.now.list) (Certificate.Pairs lines.now) result }
-    ensures least { result ≡ Verdict.All → (list : List Expression) → IsCorrect shape.now.children list → work_of shape.now.children (sizes_of sizes.now) costs.comp costs.inst correct.now.list ≤ work_of shape.now.children (sizes_of sizes.now) costs.comp costs.inst list }
+    ensures judged { IsJudged shape.now.children (sizes_of sizes.now) (prices_of costs) (work_of shape.now.children (sizes_of sizes.now) (prices_of costs) correct.now.list) (Certificate.Pairs lines.now) result }
+    ensures least { result ≡ Verdict.All → (list : List Expression) → IsCorrect shape.now.children list → work_of shape.now.children (sizes_of sizes.now) (prices_of costs) correct.now.list ≤ work_of shape.now.children (sizes_of sizes.now) (prices_of costs) list }
 {
     if let Some(line) = first_wrong(shape.child_lists(), sizes, lines) {
         return Verdict::Rejected(line);
@@ -45,8 +46,8 @@ fn judge_pairs(
 fn judge_tree(shape: &Shape, sizes: &Sizes, costs: Costs, correct: &Correct, tree: &Tree) -> Verdict
     requires same { correct.now.children ≡ shape.now.children }
     requires sizes { length sizes.now ≡ length shape.now.children }
-    ensures judged { IsJudged shape.now.children (sizes_of sizes.now) costs.comp costs.inst (work_of shape.now.children (sizes_of sizes.now) costs.comp costs.inst correct.now.list) (Certificate.Search tree.now) result }
-    ensures one_way { result ≡ Verdict.OneWay → (list : List Expression) → IsCorrect shape.now.children list → IsOneWay list → work_of shape.now.children (sizes_of sizes.now) costs.comp costs.inst correct.now.list ≤ work_of shape.now.children (sizes_of sizes.now) costs.comp costs.inst list }
+    ensures judged { IsJudged shape.now.children (sizes_of sizes.now) (prices_of costs) (work_of shape.now.children (sizes_of sizes.now) (prices_of costs) correct.now.list) (Certificate.Search tree.now) result }
+    ensures one_way { result ≡ Verdict.OneWay → (list : List Expression) → IsCorrect shape.now.children list → IsOneWay list → work_of shape.now.children (sizes_of sizes.now) (prices_of costs) correct.now.list ≤ work_of shape.now.children (sizes_of sizes.now) (prices_of costs) list }
 {
     // The proof needs what the lists of a shape and the nodes of a tree keep to.
     let (_lists, _nodes) = (shape.child_lists(), tree.as_slice());
@@ -67,9 +68,9 @@ pub fn certify(
 ) -> Verdict
     requires same { correct.now.children ≡ shape.now.children }
     requires sizes { length sizes.now ≡ length shape.now.children }
-    ensures judged { IsJudged shape.now.children (sizes_of sizes.now) costs.comp costs.inst (work_of shape.now.children (sizes_of sizes.now) costs.comp costs.inst correct.now.list) certificate.now result }
-    ensures least { result ≡ Verdict.All → (list : List Expression) → IsCorrect shape.now.children list → work_of shape.now.children (sizes_of sizes.now) costs.comp costs.inst correct.now.list ≤ work_of shape.now.children (sizes_of sizes.now) costs.comp costs.inst list }
-    ensures one_way { result ≡ Verdict.OneWay → (list : List Expression) → IsCorrect shape.now.children list → IsOneWay list → work_of shape.now.children (sizes_of sizes.now) costs.comp costs.inst correct.now.list ≤ work_of shape.now.children (sizes_of sizes.now) costs.comp costs.inst list }
+    ensures judged { IsJudged shape.now.children (sizes_of sizes.now) (prices_of costs) (work_of shape.now.children (sizes_of sizes.now) (prices_of costs) correct.now.list) certificate.now result }
+    ensures least { result ≡ Verdict.All → (list : List Expression) → IsCorrect shape.now.children list → work_of shape.now.children (sizes_of sizes.now) (prices_of costs) correct.now.list ≤ work_of shape.now.children (sizes_of sizes.now) (prices_of costs) list }
+    ensures one_way { result ≡ Verdict.OneWay → (list : List Expression) → IsCorrect shape.now.children list → IsOneWay list → work_of shape.now.children (sizes_of sizes.now) (prices_of costs) correct.now.list ≤ work_of shape.now.children (sizes_of sizes.now) (prices_of costs) list }
 {
     match certificate {
         Certificate::Pairs(lines) => judge_pairs(shape, sizes, costs, correct, lines.as_slice()),
@@ -79,10 +80,10 @@ pub fn certify(
 
 /// A law: where a tree is accepted for a work, no correct one-way strategy costs less.
 pub fn no_one_way_strategy_is_below_a_tree()
-    ensures { (shape : List (List ℕ)) (sizes : ℕ → Size) (comp inst work : ℕ) (tree : CaseTree) (list : List Expression) → IsShape shape → IsAcceptedTree shape sizes comp inst work tree → IsCorrect shape list → IsOneWay list → work ≤ work_of shape sizes comp inst list }
+    ensures { (shape : List (List ℕ)) (sizes : ℕ → Size) (prices : Prices) (work : ℕ) (tree : CaseTree) (list : List Expression) → IsShape shape → IsAcceptedTree shape sizes prices work tree → IsCorrect shape list → IsOneWay list → work ≤ work_of shape sizes prices list }
 {}
 
 /// A law: at these costs and a work, a certificate has one verdict only.
 pub fn one_verdict()
-    ensures { (shape : List (List ℕ)) (sizes : ℕ → Size) (comp inst work : ℕ) (certificate : Certificate) (verdict other : Verdict) → IsJudged shape sizes comp inst work certificate verdict → IsJudged shape sizes comp inst work certificate other → verdict ≡ other }
+    ensures { (shape : List (List ℕ)) (sizes : ℕ → Size) (prices : Prices) (work : ℕ) (certificate : Certificate) (verdict other : Verdict) → IsJudged shape sizes prices work certificate verdict → IsJudged shape sizes prices work certificate other → verdict ≡ other }
 {}

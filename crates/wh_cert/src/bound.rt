@@ -5,6 +5,7 @@ ghost use Rattle.std.specs.List.{All, sum_by};
 ghost use Rattle.wh_dag.specs.Shape.{IsShape};
 ghost use Rattle.wh_strategy.specs.declared.expression.Expression.{Expression};
 ghost use Rattle.wh_strategy.specs.declared.sizes.SizeRow.{SizeRow};
+ghost use Rattle.wh_strategy.specs.Prices.{Prices, prices_of};
 ghost use Rattle.wh_strategy.specs.Rules.{IsCorrect};
 ghost use Rattle.wh_strategy.specs.Sizes.{AreSizes, sizes_of};
 ghost use Rattle.wh_strategy.specs.Work.{work_of};
@@ -104,7 +105,7 @@ fn least_rows(sizes: &Sizes, decided: &Decisions<'_>, children: &[usize]) -> u12
 /// order in which its parent names the two. Takes no memory: the decisions are looked up in a table on the stack, made first.
 pub fn decided_bound(shape: &Shape, sizes: &Sizes, costs: Costs, decided: &[(usize, usize)]) -> u128
     requires { length sizes.now ≡ length shape.now.children }
-    ensures { result ≡ decided_bound_of shape.now.children (sizes_of sizes.now) costs.comp costs.inst decided.now }
+    ensures { result ≡ decided_bound_of shape.now.children (sizes_of sizes.now) (prices_of costs) decided.now }
 {
     // Each pair asks twice, so going over all decisions each time would take most of the time.
     let decisions = Decisions::of(decided);
@@ -155,13 +156,13 @@ pub fn decided_bound_with(
     second: usize,
 ) -> u128
     requires same { length sizes.now ≡ length shape.now.children }
-    requires bound { bound ≡ decided_bound_of shape.now.children (sizes_of sizes.now) costs.comp costs.inst decided.now }
+    requires bound { bound ≡ decided_bound_of shape.now.children (sizes_of sizes.now) (prices_of costs) decided.now }
     requires first { first < length sizes.now }
     requires second { second < length sizes.now }
     requires two { first ≢ second }
     requires open { decides decided.now first second ≡ false }
     requires open_too { decides decided.now second first ≡ false }
-    ensures { result ≡ decided_bound_of shape.now.children (sizes_of sizes.now) costs.comp costs.inst (decided.now ++ (first, second) ∷ []) }
+    ensures { result ≡ decided_bound_of shape.now.children (sizes_of sizes.now) (prices_of costs) (decided.now ++ (first, second) ∷ []) }
 {
     // The proof needs what was decided, and what the rows of sizes keep to.
     let (_decided, _views) = (decided, sizes.len());
@@ -173,7 +174,7 @@ pub fn decided_bound_with(
 #[tactic(auto, unfolding(crate::specs::Graph::decides))]
 fn bound_of(shape: &Shape, sizes: &Sizes, costs: Costs) -> u128
     requires { length sizes.now ≡ length shape.now.children }
-    ensures value { result ≡ pair_bound_of shape.now.children (sizes_of sizes.now) costs.comp costs.inst }
+    ensures value { result ≡ pair_bound_of shape.now.children (sizes_of sizes.now) (prices_of costs) }
     ensures shape { IsShape shape.now.children }
     ensures sizes { AreSizes sizes.now }
 {
@@ -186,13 +187,13 @@ fn bound_of(shape: &Shape, sizes: &Sizes, costs: Costs) -> u128
 /// number of views, costs at least as much. Takes no memory.
 pub fn pair_bound(shape: &Shape, sizes: &Sizes, costs: Costs) -> u128
     requires { length sizes.now ≡ length shape.now.children }
-    ensures value { result ≡ pair_bound_of shape.now.children (sizes_of sizes.now) costs.comp costs.inst }
-    ensures least { (list : List Expression) → IsCorrect shape.now.children list → result ≤ work_of shape.now.children (sizes_of sizes.now) costs.comp costs.inst list }
+    ensures value { result ≡ pair_bound_of shape.now.children (sizes_of sizes.now) (prices_of costs) }
+    ensures least { (list : List Expression) → IsCorrect shape.now.children list → result ≤ work_of shape.now.children (sizes_of sizes.now) (prices_of costs) list }
 {
     bound_of(shape, sizes, costs)
 }
 
 /// A law: over every shape, sizes and costs, every correct strategy costs at least the pair bound.
 pub fn no_strategy_is_below_the_bound()
-    ensures { (shape : List (List ℕ)) (rows : List SizeRow) (comp inst : ℕ) (list : List Expression) → IsShape shape → AreSizes rows → IsCorrect shape list → pair_bound_of shape (sizes_of rows) comp inst ≤ work_of shape (sizes_of rows) comp inst list }
+    ensures { (shape : List (List ℕ)) (rows : List SizeRow) (prices : Prices) (list : List Expression) → IsShape shape → AreSizes rows → IsCorrect shape list → pair_bound_of shape (sizes_of rows) prices ≤ work_of shape (sizes_of rows) prices list }
 {}

@@ -1,6 +1,7 @@
 //! The verdict on a tree.
 
 ghost use Rattle.std.specs.Prelude.{◌≡◌, ◌↔◌, IsTrue, MatchOption, length};
+ghost use Rattle.wh_strategy.specs.Prices.{prices_of};
 ghost use Rattle.wh_strategy.specs.Sizes.{sizes_of};
 ghost use Rattle.wh_cert.specs.Search.{IsOpen, IsGood, IsAcceptedTree, IsFirstBad};
 ghost use Rattle.wh_cert.specs.Tree.{tree_of};
@@ -31,7 +32,7 @@ fn is_good(
     node: &TreeNode,
 ) -> bool
     requires { length sizes.now ≡ length shape.now.children }
-    ensures { IsTrue result ↔ IsGood shape.now.children (sizes_of sizes.now) costs.comp costs.inst work decided.now node.now }
+    ensures { IsTrue result ↔ IsGood shape.now.children (sizes_of sizes.now) (prices_of costs) work decided.now node.now }
 {
     match node {
         TreeNode::Bound => work <= decided_bound(shape, sizes, costs, decided),
@@ -49,7 +50,7 @@ pub(crate) fn first_bad(
     tree: &Tree,
 ) -> Option<usize>
     requires { length sizes.now ≡ length shape.now.children }
-    ensures { MatchOption result (IsAcceptedTree shape.now.children (sizes_of sizes.now) costs.comp costs.inst work (tree_of tree.now)) (λ place. IsFirstBad shape.now.children (sizes_of sizes.now) costs.comp costs.inst work (tree_of tree.now) place) }
+    ensures { MatchOption result (IsAcceptedTree shape.now.children (sizes_of sizes.now) (prices_of costs) work (tree_of tree.now)) (λ place. IsFirstBad shape.now.children (sizes_of sizes.now) (prices_of costs) work (tree_of tree.now) place) }
 {
     let mut above = Descent::new();
     for (i, node) in tree.as_slice().iter().enumerate() {

@@ -5,7 +5,7 @@ use mathlib.Core.Logic.{◌⊎◌, inl, inr}
 use Rattle.wh_store.specs.Pages.{Shown, page_of}
 use Rattle.wh_store.specs.Versions.{number, is_active, is_unexpired, version, table_of}
 use Rattle.wh_carry.specs.Night.{Night, ArePassedAt, places_from, AreAllowed}
-use Rattle.wh_carry.specs.Legs.{Turn, In_wave, At_page, Over, legs_of, turn_of, carried_up_to}
+use Rattle.wh_carry.specs.Legs.{Turn, In_wave, At_page, Over, after_done, after_page, carried_up_to, is_last, legs_of, turn_of, untouched}
 use Rattle.wh_row.specs.Weigh.{Counted}
 use Rattle.wh_core.specs.declared.event.Event.{Event}
 use Rattle.wh_core.specs.declared.event.Event.TheVariants.{Begin, Take, Done, PageIn, Commit, GiveUp, Open, Read, Close}
@@ -13,22 +13,22 @@ use Rattle.wh_core.specs.declared.reply.Cause.{Cause}
 use Rattle.wh_core.specs.declared.reply.Cause.TheVariants as cause
 use Rattle.wh_core.specs.declared.reply.Reply.{Reply}
 use Rattle.wh_core.specs.declared.reply.Reply.TheVariants as reply
-use Rattle.wh_core.specs.Log.{Deed, Log, Began, Drew, Finished, Paged_in, Committed, Gave_up, Sat_down, Turned, Left, SessionOf, logged, nights_begun, is_open, draws, ends, pages, holding, session}
-use Rattle.wh_core.specs.Nights.{Setup, next_night, night, turn, versions}
-use Rattle.wh_core.specs.Replies.{IsCarried, IsLegalLog, IsReply, IsRuled, Ruling, Says, Takes, Carries, Starts, nothing, more, unless, goes_on, read_ruling, take_ruling, done_by, done_ruling, page_ruling, commit_ruling, ruling}
+use Rattle.wh_core.specs.Log.{Deed, Log, Began, Drew, Finished, Paged_in, Committed, Gave_up, Sat_down, Turned, Left, SessionOf, logged, nights_begun, is_open, holding, session}
+use Rattle.wh_core.specs.Nights.{Setup, next_night, night, remaining, turn, versions}
+use Rattle.wh_core.specs.Replies.{IsCarried, IsLegalLog, IsReply, IsRuled, Ruling, Says, Takes, Carries, Starts, nothing, more, unless, carried_by_done, goes_on, read_ruling, take_ruling, done_by, done_ruling, page_ruling, commit_ruling, ruling}
 
 -- what was known when a deed was done
 abbrev pub IsDeed : Setup → Log → Deed → Type 0
 IsDeed s log Began =
     (is_open log ≡ false) × (nights_begun log < length s.nights) × AreAllowed (next_night s log)
-    × ArePassedAt (next_night s log) (places_from 0 (carried_up_to (next_night s log) (turn_of (legs_of (next_night s log)) 0 0 0)))
+    × ArePassedAt (next_night s log) (places_from 0 (carried_up_to (next_night s log) (turn_of (untouched (legs_of (next_night s log))))))
 IsDeed s log (Drew w n) = (is_open log ≡ true) × (holding log w ≡ None) × (place : ℕ) × (jobs : ℕ) × (turn s log ≡ In_wave place jobs n) × (n < jobs)
 IsDeed s log (Finished w) =
     (is_open log ≡ true) × (job : ℕ) × (holding log w ≡ Some job) × (place : ℕ) × (jobs : ℕ) × (drawn : ℕ) × (turn s log ≡ In_wave place jobs drawn)
-    × ArePassedAt (night s log) ((place + job) ∷ places_from (place + jobs) (carried_up_to (night s log) (turn_of (legs_of (night s log)) (draws log) (ends log + 1) (pages log))))
+    × ArePassedAt (night s log) (carried_by_done (night s log) place jobs job (is_last (remaining s log)) (turn_of (after_done (remaining s log))))
 IsDeed s log Paged_in =
     (is_open log ≡ true) × (place : ℕ) × (view : ℕ) × (rows : Counted) × (turn s log ≡ At_page place view rows)
-    × ArePassedAt (night s log) (places_from (place + 1) (carried_up_to (night s log) (turn_of (legs_of (night s log)) (draws log) (ends log) (pages log + 1))))
+    × ArePassedAt (night s log) (places_from (place + 1) (carried_up_to (night s log) (turn_of (after_page (remaining s log)))))
 IsDeed s log Committed = (is_open log ≡ true) × (turn s log ≡ Over)
 IsDeed s log Gave_up = is_open log ≡ true
 IsDeed s log (Sat_down d v) = (session log d ≡ None) × (v ≡ number (versions s log))
@@ -101,20 +101,20 @@ take_leaves s log w (reply.Job n) h =
     inr (Drew w n, refl, (not_false _ b.0, not_some _ c.0, d.0, d.1, d.2, d.3))
 take_leaves s log w r h = inl refl
 
-done_turn : (n : Night) (now next : Turn) (held : Option ℕ) → IsRuled (done_by n now next held) reply.Done
-    → (job : ℕ) × (held ≡ Some job) × (place : ℕ) × (jobs : ℕ) × (drawn : ℕ) × (now ≡ In_wave place jobs drawn) × ArePassedAt n ((place + job) ∷ places_from (place + jobs) (carried_up_to n next))
-done_turn n (In_wave place jobs drawn) next (Some job) h =
+done_turn : (n : Night) (now : Turn) (last : Bool) (next : Turn) (held : Option ℕ) → IsRuled (done_by n now last next held) reply.Done
+    → (job : ℕ) × (held ≡ Some job) × (place : ℕ) × (jobs : ℕ) × (drawn : ℕ) × (now ≡ In_wave place jobs drawn) × ArePassedAt n (carried_by_done n place jobs job last next)
+done_turn n (In_wave place jobs drawn) last next (Some job) h =
     let a = carried n _ reply.Done reply.Done (λ c e. cc) h in (job, refl, place, jobs, drawn, refl, a.0)
-done_turn n (At_page place view rows) next (Some job) h = cc
-done_turn n Over next (Some job) h = cc
-done_turn n now next None h = cc
+done_turn n (At_page place view rows) last next (Some job) h = cc
+done_turn n Over last next (Some job) h = cc
+done_turn n now last next None h = cc
 
 done_leaves : (s : Setup) (log : Log) (w : ℕ) (r : Reply) → IsReply s log (Done w) r → Leaves s log (logged log (Done w) r)
 done_leaves s log w reply.Done h =
     let accepted : (other : Cause) → reply.Done ≢ reply.Refused other = λ c e. cc in
     let a = through (nat_le s.workers w) _ _ reply.Done accepted h in
     let b = through (not (is_open log)) _ _ reply.Done accepted a.1 in
-    let t = done_turn (night s log) (turn s log) _ (holding log w) b.1 in
+    let t = done_turn (night s log) (turn s log) _ _ (holding log w) b.1 in
     inr (Finished w, refl, (not_false _ b.0, t.0, t.1, t.2, t.3, t.4, t.5, t.6))
 done_leaves s log w r h = inl refl
 

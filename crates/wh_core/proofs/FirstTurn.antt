@@ -1,5 +1,5 @@
 -- What comes before the first turn of a night: Insts of base views, which are passed where the base changes are allowed.
-use Rattle.std.proofs.Common.{◌≡◌, refl, sym, ap, ◌∙◌, subst, ℕ, ◌+◌, ◌-◌, ◌<◌, List, [], ◌∷◌, length, true, false, arith, cond}
+use Rattle.std.proofs.Common.{◌≡◌, refl, sym, ap, ◌∙◌, subst, ℕ, ◌+◌, ◌<◌, List, [], ◌∷◌, length, true, false, arith, cond}
 use Rattle.std.proofs.lemmas.Bool.{false≢true}
 use Rattle.std.proofs.lemmas.List.FromFn.{get_or-range_with_len, length-range_with_len}
 use Rattle.wh_dag.specs.Catalog.{is_base, is_empty}
@@ -20,10 +20,10 @@ use Rattle.wh_carry.specs.Refused.{IsOf, IsRuledOut, Reason, RowIsLacking, BaseI
 use Rattle.wh_carry.proofs.Prefixes.{place_within}
 use Rattle.wh_carry.proofs.StepRows.{table_at}
 use Rattle.wh_carry.specs.Night.{Night, ArePassedAt, IsPassedAt, places_from, state_at, AreAllowed}
-use Rattle.wh_carry.specs.Legs.{Leg, Wave, Page, legs_of, carried_up_to, turn_of}
+use Rattle.wh_carry.specs.Legs.{Leg, Wave, Page, carried_up_to, legs_of, turn_of, untouched}
 use Rattle.wh_core.specs.Laws.{IsCompAt}
-use Rattle.wh_core.proofs.Legs.{Covers, are_covered, have_jobs}
-use Rattle.wh_core.proofs.Underway.{come_to, fresh, reach_is}
+use Rattle.wh_core.proofs.Legs.{Covers, are_covered}
+use Rattle.wh_core.proofs.Underway.{come_to, reach_is}
 
 -- no Comp stands before the first leg
 none_before : (list : List Expression) (end : ℕ) (legs : List Leg) → Covers list 0 legs → (p : ℕ) → p < come_to end legs → ¬ (IsCompAt list p)
@@ -91,10 +91,10 @@ module _ (n : Night) (ok : IsCorrect n.catalog.views.children n.list) (allowed :
   passes p l (Inst v) at reason of = inst_passes p v l at reason of
 
   -- so a night whose base changes are allowed begins
-  pub first_passed : ArePassedAt n (places_from 0 (carried_up_to n (turn_of (legs_of n) 0 0 0)))
+  pub first_passed : ArePassedAt n (places_from 0 (carried_up_to n (turn_of (untouched (legs_of n)))))
   first_passed =
-      let end : ℕ = carried_up_to n (turn_of (legs_of n) 0 0 0) in
-      let same : end ≡ first_turn n = reach_is n (legs_of n) 0 0 (fresh (legs_of n) (have_jobs n)) in
+      let end : ℕ = carried_up_to n (turn_of (untouched (legs_of n))) in
+      let same : end ≡ first_turn n = reach_is n (legs_of n) 0 in
       λ k d l.
-      let small : k < end - 0 = subst (λ m. k < m) (length-range_with_len 0 (end - 0)) l in
-      subst (IsPassedAt n) (sym (get_or-range_with_len 0 (end - 0) k d small)) (passes (0 + k) (omega (arith, same, small)))
+      let small : k < end = subst (λ m. k < m) (length-range_with_len 0 end) l in
+      subst (IsPassedAt n) (sym (get_or-range_with_len 0 end k d small)) (passes (0 + k) (omega (arith, same, small)))

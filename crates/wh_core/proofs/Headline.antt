@@ -2,7 +2,6 @@
 use Rattle.std.proofs.Common.{◌≡◌, refl, sym, ap, ◌∙◌, subst, ℕ, zero, suc, ◌+◌, ◌-◌, ◌<◌, ◌≤◌, ◌^◌, List, [], ◌∷◌, ◌++◌, length, Bool, true, false, not, arith, Option, Some, None, ◌⊎◌, ⊎_elim, inl, inr}
 use Rattle.std.specs.Prelude.{◌==◌, ◌&&◌, ◌||◌, is_none, is_some, nat_le, nat_lt, reverse, slice_get, slice_index_or, take}
 use Rattle.std.specs.List.{flat_map}
-use Rattle.std.proofs.lemmas.Bool.{false≢true}
 use Rattle.std.proofs.lemmas.List.{append_assoc}
 use Rattle.wh_row.specs.Bag.{Bag, written}
 use Rattle.wh_maint.specs.Comp.{bag_at}
@@ -17,25 +16,26 @@ use Rattle.wh_store.specs.Versions.{Versions, is_active, is_unexpired, kept_coun
 use Rattle.wh_maint.specs.declared.fault.MaintFault.{MaintFault}
 use Rattle.wh_maint.specs.declared.fault.MaintFault.TheVariants as fault
 use Rattle.wh_carry.specs.Night.{Night, places_from}
-use Rattle.wh_carry.specs.Legs.{Turn, In_wave, At_page, Over, legs_of, carried_up_to, turn_of}
+use Rattle.wh_carry.specs.Legs.{Turn, In_wave, At_page, Over, carried_up_to, legs_of, turn_of, untouched}
 use Rattle.wh_core.specs.declared.event.Event.{Event}
 use Rattle.wh_core.specs.declared.event.Event.TheVariants.{Begin, Take, Done, PageIn, Commit, GiveUp, Open, Read, Close}
 use Rattle.wh_core.specs.declared.reply.Cause.{Cause}
 use Rattle.wh_core.specs.declared.reply.Cause.TheVariants as cause
 use Rattle.wh_core.specs.declared.reply.Reply.{Reply}
 use Rattle.wh_core.specs.declared.reply.Reply.TheVariants as reply
-use Rattle.wh_core.specs.Headline.{CarriesOver, ComesTrue, IsAnswered, IsBegun, IsNewSession, IsNextPage, IsReadable, RunsComeTrue, done_before, has_begun, is_reply_to, last_version, next_page, nights_ended, of_rows, wants_memory}
+use Rattle.wh_core.specs.Headline.{CarriesOver, ComesTrue, IsAnswered, IsBegun, IsNewSession, IsNextPage, IsReadable, RunsComeTrue, done_before, has_begun, is_reply_to, last_version, next_page, of_rows, wants_memory}
 use Rattle.wh_core.specs.Laws.{IsSetup, log_after}
-use Rattle.wh_core.specs.Log.{Log, Began, Drew, Finished, Paged_in, Committed, Gave_up, Sat_down, Turned, Left, SessionOf, holding, is_open, logged, nights_begun, session}
+use Rattle.wh_core.specs.Log.{Log, Began, Drew, Finished, Paged_in, Committed, Gave_up, Sat_down, Turned, Left, SessionOf, holding, is_open, last_begun, logged, nights_begun, nights_ended, session}
 use Rattle.wh_core.specs.Nights.{GivenNight, Setup, next_night, night, page_in_turn, published, turn, versions}
 use Rattle.wh_core.specs.Replies.{IsCarried, IsLegalLog, IsLegalRun, IsMemory, IsReply, IsRuled, IsRunFrom, Ruling, Says, Takes, Carries, Starts, cause_of, commit_ruling, done_by, goes_on, more, nothing, page_ruling, read_ruling, ruling, take_ruling, unless}
-use Rattle.wh_core.proofs.Deeds.{AreDeeds, below, deeds_of, leaves, none, not_false, not_some, one_more, through}
+use Rattle.wh_core.proofs.Deeds.{below, deeds_of, leaves, not_false, not_some, through}
 use Rattle.wh_core.proofs.Moves.{active-open, eq_true}
 use Rattle.wh_core.proofs.Runs.{leave_legal}
 use Rattle.wh_core.proofs.Sessions.{read_tables, version_stays}
 use Rattle.wh_core.proofs.Sound.{commits_make_contents, given_at, number-newest, sound, versions_are_contents}
-use Rattle.wh_core.proofs.Steps.{le_false, le_true}
-use Rattle.wh_core.proofs.Underway.{lt_true, versions_from-append}
+use Rattle.wh_core.proofs.Nights.{in_order, last_is}
+use Rattle.wh_core.proofs.Steps.{le_false, le_true, lt_true}
+use Rattle.wh_core.proofs.Underway.{versions_from-append}
 
 -- ---- what was done only grows
 
@@ -131,26 +131,6 @@ ended_is s (Finished w ∷ log) = ended_is s log
 ended_is s (Sat_down d v ∷ log) = ended_is s log
 ended_is s (Turned d v page ∷ log) = ended_is s log
 ended_is s (Left d ∷ log) = ended_is s log
-
--- a night ends before the next begins
-record AreInOrder (log : Log) : Type 0 where
-  within : is_open log ≡ true → nights_begun log ≡ nights_ended log + 1
-  outside : is_open log ≡ false → nights_begun log ≡ nights_ended log
-
-in_order : (s : Setup) (log : Log) → AreDeeds s log → AreInOrder log
-in_order s _ none = record { within = λ t. absurd (false≢true t); outside = λ t. refl }
-in_order s _ (one_more log Began before deed) = record {
-  within = λ t. ap (λ k. k + 1) ((in_order s log before).outside deed.0);
-  outside = λ t. absurd (false≢true (sym t));
-}
-in_order s _ (one_more log Committed before deed) = record { within = λ t. absurd (false≢true t); outside = λ t. (in_order s log before).within deed.0 }
-in_order s _ (one_more log Gave_up before deed) = record { within = λ t. absurd (false≢true t); outside = λ t. (in_order s log before).within deed }
-in_order s _ (one_more log Paged_in before deed) = let r = in_order s log before in record { within = r.within; outside = r.outside }
-in_order s _ (one_more log (Drew w n) before deed) = let r = in_order s log before in record { within = r.within; outside = r.outside }
-in_order s _ (one_more log (Finished w) before deed) = let r = in_order s log before in record { within = r.within; outside = r.outside }
-in_order s _ (one_more log (Sat_down d v) before deed) = let r = in_order s log before in record { within = r.within; outside = r.outside }
-in_order s _ (one_more log (Turned d v page) before deed) = let r = in_order s log before in record { within = r.within; outside = r.outside }
-in_order s _ (one_more log (Left d) before deed) = let r = in_order s log before in record { within = r.within; outside = r.outside }
 
 -- ---- rulings
 
@@ -278,11 +258,11 @@ take_own w (In_wave place jobs drawn) = unless_say (Owns (Take w)) (λ c. refl) 
 take_own w (At_page place view rows) = refl
 take_own w Over = refl
 
-done_own : (w : ℕ) (n : Night) (now next : Turn) (held : Option ℕ) → AllSay (Owns (Done w)) (done_by n now next held)
-done_own w n now next None = refl
-done_own w n (In_wave place jobs drawn) next (Some job) = refl
-done_own w n (At_page place view rows) next (Some job) = refl
-done_own w n Over next (Some job) = refl
+done_own : (w : ℕ) (n : Night) (now : Turn) (last : Bool) (next : Turn) (held : Option ℕ) → AllSay (Owns (Done w)) (done_by n now last next held)
+done_own w n now last next None = refl
+done_own w n (In_wave place jobs drawn) last next (Some job) = refl
+done_own w n (At_page place view rows) last next (Some job) = refl
+done_own w n Over last next (Some job) = refl
 
 page_own : (n : Night) (now next : Turn) → AllSay (Owns PageIn) (page_ruling n now next)
 page_own n (In_wave place jobs drawn) next = refl
@@ -313,7 +293,7 @@ rulings_own s log (Take w) =
     (unless_say (Owns (Take w)) (λ c. refl) (is_some (holding log w)) _ _ (take_own w (turn s log))))
 rulings_own s log (Done w) =
     unless_say (Owns (Done w)) (λ c. refl) (nat_le s.workers w) _ _
-    (unless_say (Owns (Done w)) (λ c. refl) (not (is_open log)) _ _ (done_own w (night s log) (turn s log) _ (holding log w)))
+    (unless_say (Owns (Done w)) (λ c. refl) (not (is_open log)) _ _ (done_own w (night s log) (turn s log) _ _ (holding log w)))
 rulings_own s log PageIn = unless_say (Owns PageIn) (λ c. refl) (not (is_open log)) _ _ (page_own (night s log) (turn s log) _)
 rulings_own s log Commit = unless_say (Owns Commit) (λ c. refl) (not (is_open log)) _ _ (commit_own (number (versions s log) + 1) (turn s log))
 rulings_own s log GiveUp = unless_say (Owns GiveUp) (λ c. refl) (not (is_open log)) _ _ refl
@@ -402,7 +382,7 @@ module _ (join : PagesJoin) (stay : VersionsStay) (s : Setup) (events : List Eve
       let more : nights_begun (at i) < length s.nights = subst (λ n. n < length s.nights) (sym (begun_is i closed)) left in
       let b = skip (nat_le (length s.nights) (nights_begun (at i))) cause.NoNight _ r (le_false (length s.nights) (nights_begun (at i)) more) a in
       let n : Night = next_night s (at i) in
-      begun_so (at i) (number (versions s (at i)) + 1 == 2 ^ 64) n (places_from 0 (carried_up_to n (turn_of (legs_of n) 0 0 0))) r (λ e. ap (λ n. n + 1) (ended_is s (at i)) ∙ eq_true (number (versions s (at i)) + 1) (2 ^ 64) e) b
+      begun_so (at i) (number (versions s (at i)) + 1 == 2 ^ 64) n (places_from 0 (carried_up_to n (turn_of (untouched (legs_of n))))) r (λ e. ap (λ n. n + 1) (ended_is s (at i)) ∙ eq_true (number (versions s (at i)) + 1) (2 ^ 64) e) b
 
   commit_made : (i k : ℕ) → IsAnswered events replies i Commit (reply.Version k) → (is_open (at i) ≡ true) × (k ≡ nights_ended (at i) + 1) × CarriesOver s made (nights_ended (at i))
   commit_made i k there =
@@ -414,7 +394,8 @@ module _ (join : PagesJoin) (stay : VersionsStay) (s : Setup) (events : List Eve
       let n : ℕ = nights_ended (at i) in
       let begun : nights_begun (at i) ≡ n + 1 = (in_order s (at i) deeds).within opened in
       let few = (sound stay s is (at i) deeds).begun in
-      let last : nights_begun (at i) - 1 ≡ n = omega (arith, begun) in
+      let own = last_is s (at i) deeds opened in
+      let last : last_begun (at i) ≡ n = omega (arith, own, begun) in
       let nobody : GivenNight = record { changes = []; list = [] } in
       let new : made (n + 1) ≡ (versions s (Committed ∷ at i)).newest = subst (λ l. made (nights_ended l) ≡ (versions s l).newest) step.next (newest_made (suc i)) in (
         opened,
@@ -423,7 +404,7 @@ module _ (join : PagesJoin) (stay : VersionsStay) (s : Setup) (events : List Eve
           slice_index_or s.nights n nobody,
           given_at s.nights n nobody (omega (arith, begun, few)),
           contents_moved (graph_of s.catalog) (versions s (at i)).newest (made n)
-              (slice_index_or s.nights (nights_begun (at i) - 1) nobody).changes (slice_index_or s.nights n nobody).changes
+              (slice_index_or s.nights (last_begun (at i)) nobody).changes (slice_index_or s.nights n nobody).changes
               (versions s (Committed ∷ at i)).newest (made (n + 1)) (sym (newest_made i)) (ap (λ m. (slice_index_or s.nights m nobody).changes) last) (sym new)
               (commits_make_contents stay s (at i) is (legal i) opened over.0),
         ),

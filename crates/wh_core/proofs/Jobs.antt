@@ -5,55 +5,52 @@ use Rattle.std.proofs.lemmas.Bool.{cases_lt, eqb-true, false≢true}
 use Rattle.wh_dag.specs.Shape.{Distinct, has}
 use Rattle.wh_strategy.specs.declared.expression.Expression.TheVariants.{Comp}
 use Rattle.wh_carry.specs.Night.{Night}
-use Rattle.wh_carry.specs.Legs.{Leg, Wave, Page, Turn, In_wave, At_page, Over, legs_of, turn_of}
+use Rattle.wh_carry.specs.Legs.{Leg, Wave, Page, Turn, In_wave, At_page, Over, turn_at}
 use Rattle.wh_core.specs.Laws.{AreDrawnOnce, IsCompAt, JobsAreDrawnOnce, WorkersDoTheirJobs, done_places, done_up_to, drawn_places, drawn_up_to, falls, held_place, latest_of}
-use Rattle.wh_core.specs.Log.{Log, Began, Drew, Finished, Paged_in, Committed, Gave_up, Sat_down, Turned, Left, draws, ends, holding, is_open, pages}
-use Rattle.wh_core.specs.Nights.{Setup, night, published, turn}
+use Rattle.wh_core.specs.Log.{Log, Began, Drew, Finished, Paged_in, Committed, Gave_up, Sat_down, Turned, Left, holding, is_open, pages}
+use Rattle.wh_core.specs.Nights.{Setup, night, published, remaining, turn}
 use Rattle.wh_core.specs.Replies.{IsLegalLog}
 use Rattle.wh_core.proofs.Deeds.{AreDeeds, deeds_of, none, one_more}
-use Rattle.wh_core.specs.Standing.{IsWithin}
 use Rattle.wh_core.proofs.Legs.{Covers, IsRising, get-within}
-use Rattle.wh_core.proofs.Underway.{IsAt, front, now, start_of, underway, wave_place, wave_turn}
+use Rattle.wh_core.proofs.Underway.{IsAt, front, now, start_of, underway, wave_place}
 
-module _ (n : Night) (us vs : List ℕ) (from upto drawn ended : ℕ) where
+module _ (n : Night) (us vs : List ℕ) (from upto drawn : ℕ) where
   -- where a leg is in turn, the Comps before it and those drawn of it
-  all_drawn : (rest : List Leg) → IsWithin rest drawn ended → Covers n.list upto rest → ((p : ℕ) → p < upto → IsCompAt n.list p → has us p ≡ true) → ((j : ℕ) → j < drawn → has us (wave_place rest + j) ≡ true)
-      → (p : ℕ) → IsCompAt n.list p → p < drawn_up_to n (turn_of rest drawn ended 0) → has us p ≡ true
-  all_drawn [] w c all wave p comp l = ⊎_elim (λ m. all p m comp) (λ m. absurd (c p m comp)) (cases_lt p upto)
-  all_drawn (Page q v rows ∷ legs) w c all wave p comp l = ⊎_elim (λ m. all p m comp) (λ m. absurd (c.0 p m (omega (arith, l)) comp)) (cases_lt p upto)
-  all_drawn (Wave q m ∷ legs) w c all wave p comp l =
-      let in_it : p < q + drawn = subst (λ t. p < drawn_up_to n t) (wave_turn q m drawn ended legs w.1) l in
-      ⊎_elim (λ k. all p k comp) (λ k. ⊎_elim (λ h. absurd (c.0 p k h comp)) (λ h. let at : q + (p - q) ≡ p = omega arith in subst (λ x. has us x ≡ true) at (wave (p - q) (omega (arith, h, in_it)))) (cases_lt p q)) (cases_lt p upto)
+  all_drawn : (rest : List Leg) → Covers n.list upto rest → ((p : ℕ) → p < upto → IsCompAt n.list p → has us p ≡ true) → ((j : ℕ) → j < drawn → has us (wave_place rest + j) ≡ true)
+      → (p : ℕ) → IsCompAt n.list p → p < drawn_up_to n (turn_at rest drawn) → has us p ≡ true
+  all_drawn [] c all wave p comp l = ⊎_elim (λ m. all p m comp) (λ m. absurd (c p m comp)) (cases_lt p upto)
+  all_drawn (Page q v rows ∷ legs) c all wave p comp l = ⊎_elim (λ m. all p m comp) (λ m. absurd (c.0 p m (omega (arith, l)) comp)) (cases_lt p upto)
+  all_drawn (Wave q m ∷ legs) c all wave p comp l =
+      ⊎_elim (λ k. all p k comp) (λ k. ⊎_elim (λ h. absurd (c.0 p k h comp)) (λ h. let at : q + (p - q) ≡ p = omega arith in subst (λ x. has us x ≡ true) at (wave (p - q) (omega (arith, h, l)))) (cases_lt p q)) (cases_lt p upto)
 
-  all_done : (rest : List Leg) → IsWithin rest drawn ended → Covers n.list upto rest → ((p : ℕ) → p < upto → IsCompAt n.list p → has vs p ≡ true)
-      → (p : ℕ) → IsCompAt n.list p → p < done_up_to n (turn_of rest drawn ended 0) → has vs p ≡ true
-  all_done [] w c all p comp l = ⊎_elim (λ m. all p m comp) (λ m. absurd (c p m comp)) (cases_lt p upto)
-  all_done (Page q v rows ∷ legs) w c all p comp l = ⊎_elim (λ m. all p m comp) (λ m. absurd (c.0 p m (omega (arith, l)) comp)) (cases_lt p upto)
-  all_done (Wave q m ∷ legs) w c all p comp l =
-      let in_it : p < q = subst (λ t. p < done_up_to n t) (wave_turn q m drawn ended legs w.1) l in
-      ⊎_elim (λ k. all p k comp) (λ k. absurd (c.0 p k in_it comp)) (cases_lt p upto)
+  all_done : (rest : List Leg) → Covers n.list upto rest → ((p : ℕ) → p < upto → IsCompAt n.list p → has vs p ≡ true)
+      → (p : ℕ) → IsCompAt n.list p → p < done_up_to n (turn_at rest drawn) → has vs p ≡ true
+  all_done [] c all p comp l = ⊎_elim (λ m. all p m comp) (λ m. absurd (c p m comp)) (cases_lt p upto)
+  all_done (Page q v rows ∷ legs) c all p comp l = ⊎_elim (λ m. all p m comp) (λ m. absurd (c.0 p m (omega (arith, l)) comp)) (cases_lt p upto)
+  all_done (Wave q m ∷ legs) c all p comp l =
+      ⊎_elim (λ k. all p k comp) (λ k. absurd (c.0 p k l comp)) (cases_lt p upto)
 
-  comps_before : (rest : List Leg) → IsWithin rest drawn ended → IsRising from rest → (p : ℕ) → IsCompAt n.list p → p < front from rest drawn → p < drawn_up_to n (turn_of rest drawn ended 0)
-  comps_before [] w r p comp l = get-within n.list p (Comp comp.0 comp.1) comp.2
-  comps_before (Page q v rows ∷ legs) w r p comp l = let f = r.0 in omega (arith, f, l)
-  comps_before (Wave q m ∷ legs) w r p comp l = subst (λ t. p < drawn_up_to n t) (sym (wave_turn q m drawn ended legs w.1)) l
+  comps_before : (rest : List Leg) → IsRising from rest → (p : ℕ) → IsCompAt n.list p → p < front from rest drawn → p < drawn_up_to n (turn_at rest drawn)
+  comps_before [] r p comp l = get-within n.list p (Comp comp.0 comp.1) comp.2
+  comps_before (Page q v rows ∷ legs) r p comp l = let f = r.0 in omega (arith, f, l)
+  comps_before (Wave q m ∷ legs) r p comp l = l
 
 pub drawn_once : JobsAreDrawnOnce
 drawn_once s log legal opened =
     let a = underway s log (deeds_of s log legal) opened in
     let n : Night = night s log in
-    let is : turn s log ≡ turn_of a.rest a.drawn a.ended 0 = now n (start_of s log) (published s log) (draws log) (ends log) (pages log) (holding log) _ _ a in
+    let is : turn s log ≡ turn_at a.rest a.drawn = now n (start_of s log) (published s log) (remaining s log) (pages log) (holding log) _ _ a in
     let us : List ℕ = drawn_places s log in
     let vs : List ℕ = done_places s log in
     record {
       rising = a.falling;
       comps = λ p t.
           let c = a.drawn_comps p t in
-          (c, subst (λ t. p < drawn_up_to n t) (sym is) (comps_before n us vs a.from a.upto a.drawn a.ended a.rest a.within a.rising p c (a.drawn_before p t)));
-      all_drawn = λ p c l. all_drawn n us vs a.from a.upto a.drawn a.ended a.rest a.within a.covers a.drawn_all a.drawn_wave p c (subst (λ t. p < drawn_up_to n t) is l);
+          (c, subst (λ t. p < drawn_up_to n t) (sym is) (comps_before n us vs a.from a.upto a.drawn a.rest a.rising p c (a.drawn_before p t)));
+      all_drawn = λ p c l. all_drawn n us vs a.from a.upto a.drawn a.rest a.covers a.drawn_all a.drawn_wave p c (subst (λ t. p < drawn_up_to n t) is l);
       once = a.done_once;
       drawn = a.done_drawn;
-      all_done = λ p c l. all_done n us vs a.from a.upto a.drawn a.ended a.rest a.within a.covers a.done_all p c (subst (λ t. p < done_up_to n t) is l);
+      all_done = λ p c l. all_done n us vs a.from a.upto a.drawn a.rest a.covers a.done_all p c (subst (λ t. p < done_up_to n t) is l);
     }
 
 latest : (log : Log) (w n : ℕ) → holding log w ≡ Some n → latest_of log w ≡ Some (Drew w n)

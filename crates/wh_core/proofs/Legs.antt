@@ -12,7 +12,7 @@ use Rattle.wh_dag.proofs.Members.{has-head, has-tail, length-le_members}
 use Rattle.wh_row.specs.Weigh.{Counted}
 use Rattle.wh_store.specs.Operations.{Operation, Opens, Writes, Commits, Gives_up}
 use Rattle.wh_store.specs.Versions.{Versions, after, opened, versions_from, versions_of}
-use Rattle.wh_core.specs.Log.{Deed, Log, Began, Drew, Finished, Paged_in, Committed, Gave_up, Sat_down, Turned, Left, nights_begun, is_open, draws, ends, pages, holding}
+use Rattle.wh_core.specs.Log.{Deed, Log, Began, Drew, Finished, Paged_in, Committed, Gave_up, Sat_down, Turned, Left, nights_begun, is_open, pages, holding}
 use Rattle.wh_core.specs.Nights.{Setup, next_night, night, night_from, last_night, page_in_turn, published, turn, turn_in, versions}
 use Rattle.wh_core.proofs.Stages.{stages_join}
 use Rattle.wh_core.proofs.Deeds.{AreDeeds, IsDeed, none, one_more}

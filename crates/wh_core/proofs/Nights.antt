@@ -16,10 +16,10 @@ use Rattle.wh_carry.specs.NightList.{IsBeginning, IsCutNight, IsNightList, night
 use Rattle.wh_carry.specs.Refused.{ArePassedBelow, HaveValuesBelow}
 use Rattle.wh_carry.specs.Waves.{expressions_of, stages_of}
 use Rattle.wh_carry.specs.Night.{Night}
-use Rattle.wh_carry.specs.Legs.{Leg, Wave, Page, Turn, In_wave, At_page, Over, legs_of, turn_of, carried_up_to}
+use Rattle.wh_carry.specs.Legs.{Leg, Wave, Page, Remaining, Turn, In_wave, At_page, Over, turn_of}
 use Rattle.wh_core.specs.Laws.{AreNights, IsEnded, IsMadeOfNights, PublishedAreNights, none as no_night, one_more as night_more}
-use Rattle.wh_core.specs.Log.{Deed, Log, Began, Drew, Finished, Paged_in, Committed, Gave_up, Sat_down, Turned, Left, nights_begun, is_open, draws, ends, pages, holding}
-use Rattle.wh_core.specs.Nights.{Setup, night, night_from, published, turn, versions}
+use Rattle.wh_core.specs.Log.{Deed, Log, Began, Drew, Finished, Paged_in, Committed, Gave_up, Sat_down, Turned, Left, last_begun, nights_begun, nights_ended, is_open, pages, holding}
+use Rattle.wh_core.specs.Nights.{Setup, night, night_from, published, remaining, turn}
 use Rattle.wh_core.proofs.Deeds.{AreDeeds, IsDeed, deeds_of, none, one_more}
 use Rattle.wh_core.proofs.Puts.{IsFront, front_of}
 use Rattle.wh_core.proofs.Stages.{stages_join}
@@ -37,7 +37,7 @@ no_rest : {A : Type 0} (xs ys : List A) → length (xs ++ ys) ≡ length xs → 
 no_rest xs [] e = refl
 no_rest xs (y ∷ ys) e = let l = length-append xs (y ∷ ys) in absurd (omega (arith, e, l))
 
-module _ (have : PassedHaveValues) (n : Night) (start ops : List Operation) (d e p : ℕ) (hold : ℕ → Option ℕ) (us vs : List ℕ) (a : IsAt n start ops d e p hold us vs) where
+module _ (have : PassedHaveValues) (n : Night) (start ops : List Operation) (r : Remaining) (p : ℕ) (hold : ℕ → Option ℕ) (us vs : List ℕ) (a : IsAt n start ops r p hold us vs) where
   front : IsFront (graph_of n.catalog) n.changes n.keys 0 (at_first n.tables) n.list a.over a.rest
   front = subst (λ l. IsFront (graph_of n.catalog) n.changes n.keys 0 (at_first n.tables) l a.over a.rest) (stages_join [] n.list)
       (front_of (graph_of n.catalog) n.changes n.keys 0 (at_first n.tables) (stages_of n.list) a.over a.rest a.split)
@@ -46,7 +46,7 @@ module _ (have : PassedHaveValues) (n : Night) (start ops : List Operation) (d e
   came = (let z : length front.front ≡ 0 + length front.front = omega arith in z) ∙ front.reached ∙ (let z : 0 + length n.list ≡ length n.list = omega arith in ap (λ k. come_to k a.rest) z)
 
   values : HaveValuesBelow n.catalog n.list n.tables n.changes (length front.front)
-  values q x l at = have n.catalog n.changes _ x (a.passes q (subst (λ k. q < k) (came ∙ sym (reach_is n a.rest a.drawn a.ended a.within)) l) x at)
+  values q x l at = have n.catalog n.changes _ x (a.passes q (subst (λ k. q < k) (came ∙ sym (reach_is n a.rest a.drawn)) l) x at)
 
   below_front : night_below (graph_of n.catalog) n.changes n.keys n.list n.tables (length front.front) ≡ Opens ∷ ops_of a.over ++ front.more
   below_front = ap (λ l. Opens ∷ puts_of (graph_of n.catalog) n.changes n.keys l (at_first n.tables)) (ap (take (length front.front)) front.split ∙ take-length front.front front.back) ∙ ap (λ l. Opens ∷ l) front.puts
@@ -61,9 +61,9 @@ module _ (have : PassedHaveValues) (n : Night) (start ops : List Operation) (d e
   }
 
   -- where nothing more is in turn, it is the whole list
-  pub ended : turn_of (legs_of n) d e p ≡ Over → IsNightList n.catalog n.list n.tables n.changes n.keys (Opens ∷ ops_of a.over ++ Commits ∷ [])
+  pub ended : turn_of r ≡ Over → IsNightList n.catalog n.list n.tables n.changes n.keys (Opens ∷ ops_of a.over ++ Commits ∷ [])
   ended is =
-      let nothing : a.rest ≡ [] = over_legs a.rest a.drawn a.ended a.within (sym (now n start ops d e p hold us vs a) ∙ is) in
+      let nothing : a.rest ≡ [] = over_legs a.rest a.drawn (sym (now n start ops r p hold us vs a) ∙ is) in
       let all : length front.front ≡ length n.list = came ∙ ap (come_to (length n.list)) nothing in
       let same : night_below (graph_of n.catalog) n.changes n.keys n.list n.tables (length n.list) ≡ Opens ∷ ops_of a.over =
       ap (night_below (graph_of n.catalog) n.changes n.keys n.list n.tables) (sym all) ∙ below_front ∙ ap (λ m. Opens ∷ ops_of a.over ++ m) (front.exact nothing) ∙ append-nil (Opens ∷ ops_of a.over) in
@@ -71,30 +71,51 @@ module _ (have : PassedHaveValues) (n : Night) (start ops : List Operation) (d e
       (whole (subst (HaveValuesBelow n.catalog n.list n.tables n.changes) all values))
 
   -- and all expressions are passed, and all that the list publishes is published
-  pub whole_puts : turn_of (legs_of n) d e p ≡ Over → ArePassedBelow n.catalog n.list n.tables n.changes (length n.list) × (puts_of (graph_of n.catalog) n.changes n.keys n.list (at_first n.tables) ≡ ops_of a.over)
+  pub whole_puts : turn_of r ≡ Over → ArePassedBelow n.catalog n.list n.tables n.changes (length n.list) × (puts_of (graph_of n.catalog) n.changes n.keys n.list (at_first n.tables) ≡ ops_of a.over)
   whole_puts is =
-      let nothing : a.rest ≡ [] = over_legs a.rest a.drawn a.ended a.within (sym (now n start ops d e p hold us vs a) ∙ is) in
+      let nothing : a.rest ≡ [] = over_legs a.rest a.drawn (sym (now n start ops r p hold us vs a) ∙ is) in
       let all : length front.front ≡ length n.list = came ∙ ap (come_to (length n.list)) nothing in
       let split = front.split in
       let back : front.back ≡ [] = no_rest front.front front.back (sym (ap length split) ∙ sym all) in
       let same : n.list ≡ front.front = split ∙ ap (λ l. front.front ++ l) back ∙ append-nil front.front in (
-        λ q x l at. a.passes q (subst (λ k. q < k) (sym all ∙ came ∙ sym (reach_is n a.rest a.drawn a.ended a.within)) l) x at,
+        λ q x l at. a.passes q (subst (λ k. q < k) (sym all ∙ came ∙ sym (reach_is n a.rest a.drawn)) l) x at,
         ap (λ l. puts_of (graph_of n.catalog) n.changes n.keys l (at_first n.tables)) same ∙ front.puts ∙ ap (λ m. ops_of a.over ++ m) (front.exact nothing) ∙ append-nil (ops_of a.over),
       )
 
 -- ---- the log
 
-pub begun_once : (s : Setup) (log : Log) → AreDeeds s log → is_open log ≡ true → 1 ≤ nights_begun log
-begun_once s _ none e = cc
-begun_once s _ (one_more log Began before deed) e = omega arith
-begun_once s _ (one_more log (Drew w k) before deed) e = begun_once s log before e
-begun_once s _ (one_more log (Finished w) before deed) e = begun_once s log before e
-begun_once s _ (one_more log Paged_in before deed) e = begun_once s log before e
-begun_once s _ (one_more log Committed before deed) e = absurd (false≢true e)
-begun_once s _ (one_more log Gave_up before deed) e = absurd (false≢true e)
-begun_once s _ (one_more log (Sat_down d v) before deed) e = begun_once s log before e
-begun_once s _ (one_more log (Turned d v page) before deed) e = begun_once s log before e
-begun_once s _ (one_more log (Left d) before deed) e = begun_once s log before e
+-- the night that began last is the last of those that began
+pub last_is : (s : Setup) (log : Log) → AreDeeds s log → is_open log ≡ true → last_begun log + 1 ≡ nights_begun log
+last_is s _ none e = cc
+last_is s _ (one_more log Began before deed) e = refl
+last_is s _ (one_more log (Drew w k) before deed) e = last_is s log before e
+last_is s _ (one_more log (Finished w) before deed) e = last_is s log before e
+last_is s _ (one_more log Paged_in before deed) e = last_is s log before e
+last_is s _ (one_more log Committed before deed) e = absurd (false≢true e)
+last_is s _ (one_more log Gave_up before deed) e = absurd (false≢true e)
+last_is s _ (one_more log (Sat_down d v) before deed) e = last_is s log before e
+last_is s _ (one_more log (Turned d v page) before deed) e = last_is s log before e
+last_is s _ (one_more log (Left d) before deed) e = last_is s log before e
+
+-- a night ends before the next begins
+pub record AreInOrder (log : Log) : Type 0 where
+  pub within : is_open log ≡ true → nights_begun log ≡ nights_ended log + 1
+  pub outside : is_open log ≡ false → nights_begun log ≡ nights_ended log
+
+pub in_order : (s : Setup) (log : Log) → AreDeeds s log → AreInOrder log
+in_order s _ none = record { within = λ t. absurd (false≢true t); outside = λ t. refl }
+in_order s _ (one_more log Began before deed) = record {
+  within = λ t. ap (λ k. k + 1) ((in_order s log before).outside deed.0);
+  outside = λ t. absurd (false≢true (sym t));
+}
+in_order s _ (one_more log Committed before deed) = record { within = λ t. absurd (false≢true t); outside = λ t. (in_order s log before).within deed.0 }
+in_order s _ (one_more log Gave_up before deed) = record { within = λ t. absurd (false≢true t); outside = λ t. (in_order s log before).within deed }
+in_order s _ (one_more log Paged_in before deed) = let r = in_order s log before in record { within = r.within; outside = r.outside }
+in_order s _ (one_more log (Drew w n) before deed) = let r = in_order s log before in record { within = r.within; outside = r.outside }
+in_order s _ (one_more log (Finished w) before deed) = let r = in_order s log before in record { within = r.within; outside = r.outside }
+in_order s _ (one_more log (Sat_down d v) before deed) = let r = in_order s log before in record { within = r.within; outside = r.outside }
+in_order s _ (one_more log (Turned d v page) before deed) = let r = in_order s log before in record { within = r.within; outside = r.outside }
+in_order s _ (one_more log (Left d) before deed) = let r = in_order s log before in record { within = r.within; outside = r.outside }
 
 -- no more nights begin than were given
 within : (s : Setup) (log : Log) → AreDeeds s log → nights_begun log ≤ length s.nights
@@ -110,12 +131,10 @@ within s _ (one_more log (Turned d v page) before deed) = within s log before
 within s _ (one_more log (Left d) before deed) = within s log before
 
 -- the night is still the one from the contents that were the newest when it began
-pub night-start : (s : Setup) (log : Log) → AreDeeds s log → is_open log ≡ true → night s log ≡ night_from s (versions_of s.opening (start_of s log)).newest (nights_begun log - 1)
+pub night-start : (s : Setup) (log : Log) → AreDeeds s log → is_open log ≡ true → night s log ≡ night_from s (versions_of s.opening (start_of s log)).newest (last_begun log)
 unfolding published
 night-start s _ none e = cc
-night-start s _ (one_more log Began before deed) e =
-    let n : nights_begun log ≡ nights_begun log + 1 - 1 = omega arith in
-    night-began s log ∙ ap (night_from s (versions s log).newest) n
+night-start s _ (one_more log Began before deed) e = night-began s log
 night-start s _ (one_more log (Drew w k) before deed) e = night-start s log before e
 night-start s _ (one_more log (Finished w) before deed) e = night-start s log before e
 night-start s _ (one_more log Paged_in before deed) e = night-paged s log ∙ night-start s log before e
@@ -125,59 +144,56 @@ night-start s _ (one_more log (Sat_down d v) before deed) e = night-start s log 
 night-start s _ (one_more log (Turned d v page) before deed) e = night-start s log before e
 night-start s _ (one_more log (Left d) before deed) e = night-start s log before e
 
-count_of : Log → ℕ
-count_of log = cond (is_open log) (nights_begun log - 1) (nights_begun log)
-
 ended_of : Setup → Log → List Operation
 ended_of s log = cond (is_open log) (start_of s log) (published s log)
 
 module _ (have : PassedHaveValues) (s : Setup) where
   -- one night more, which has ended so
-  one_night : (log : Log) → AreDeeds s log → is_open log ≡ true → (last : Operation) → ((a : Underway s log) → IsEnded (night s log) (Opens ∷ ops_of a.over ++ last ∷ [])) → AreNights s (nights_begun log - 1) (start_of s log)
-      → AreNights s (nights_begun log) (published s log ++ last ∷ [])
+  one_night : (log : Log) → AreDeeds s log → is_open log ≡ true → (last : Operation) → ((a : Underway s log) → IsEnded (night s log) (Opens ∷ ops_of a.over ++ last ∷ [])) → AreNights s (nights_ended log) (start_of s log)
+      → AreNights s (nights_ended log + 1) (published s log ++ last ∷ [])
   one_night log before opened last is_ended earlier =
       let a = underway s log before opened in
-      let some = begun_once s log before opened in
-      let n : nights_begun log - 1 + 1 ≡ nights_begun log = omega (arith, some) in
-      let same : start_of s log ++ (Opens ∷ ops_of a.over ++ last ∷ []) ≡ published s log ++ last ∷ [] =
+      let own = last_is s log before opened in
+      let order = (in_order s log before).within opened in
+      let number : last_begun log ≡ nights_ended log = omega (arith, own, order) in
+      let ops : List Operation = Opens ∷ ops_of a.over ++ last ∷ [] in
+      let same : start_of s log ++ ops ≡ published s log ++ last ∷ [] =
       sym (append_assoc (start_of s log) (Opens ∷ ops_of a.over) (last ∷ [])) ∙ ap (λ l. l ++ last ∷ []) (sym a.whole) in
-      subst (AreNights s (nights_begun log)) same
-      (subst (λ k. AreNights s k (start_of s log ++ (Opens ∷ ops_of a.over ++ last ∷ []))) n
-      (night_more (nights_begun log - 1) (start_of s log) (Opens ∷ ops_of a.over ++ last ∷ []) earlier
-      (subst (λ m. IsEnded m (Opens ∷ ops_of a.over ++ last ∷ [])) (night-start s log before opened) (is_ended a))))
+      subst (AreNights s (nights_ended log + 1)) same
+      (night_more (nights_ended log) (start_of s log) ops earlier
+      (subst (λ k. IsEnded (night_from s (versions_of s.opening (start_of s log)).newest k) ops) number
+      (subst (λ m. IsEnded m ops) (night-start s log before opened) (is_ended a))))
 
-  of_open : (log : Log) → AreNights s (count_of log) (ended_of s log) → is_open log ≡ true → AreNights s (nights_begun log - 1) (start_of s log)
-  unfolding count_of ended_of
-  of_open log r e = subst (λ b. AreNights s (cond b (nights_begun log - 1) (nights_begun log)) (cond b (start_of s log) (published s log))) e r
+  of_open : (log : Log) → AreNights s (nights_ended log) (ended_of s log) → is_open log ≡ true → AreNights s (nights_ended log) (start_of s log)
+  unfolding ended_of
+  of_open log r e = subst (λ b. AreNights s (nights_ended log) (cond b (start_of s log) (published s log))) e r
 
-  of_closed : (log : Log) → AreNights s (count_of log) (ended_of s log) → is_open log ≡ false → AreNights s (nights_begun log) (published s log)
-  unfolding count_of ended_of
-  of_closed log r e = subst (λ b. AreNights s (cond b (nights_begun log - 1) (nights_begun log)) (cond b (start_of s log) (published s log))) e r
+  of_closed : (log : Log) → AreNights s (nights_ended log) (ended_of s log) → is_open log ≡ false → AreNights s (nights_ended log) (published s log)
+  unfolding ended_of
+  of_closed log r e = subst (λ b. AreNights s (nights_ended log) (cond b (start_of s log) (published s log))) e r
 
-  nights : (log : Log) → AreDeeds s log → AreNights s (count_of log) (ended_of s log)
-  unfolding count_of ended_of published
+  nights : (log : Log) → AreDeeds s log → AreNights s (nights_ended log) (ended_of s log)
+  unfolding ended_of published
   nights _ none = no_night
-  nights _ (one_more log Began before deed) =
-      let n : nights_begun log ≡ nights_begun log + 1 - 1 = omega arith in
-      subst (λ k. AreNights s k (published s log)) n (of_closed log (nights log before) deed.0)
+  nights _ (one_more log Began before deed) = of_closed log (nights log before) deed.0
   nights _ (one_more log (Drew w k) before deed) = nights log before
   nights _ (one_more log (Finished w) before deed) = nights log before
   nights _ (one_more log Paged_in before deed) =
-      subst (λ b. AreNights s (cond b (nights_begun log - 1) (nights_begun log)) (cond b (start_of s log) (published s (Paged_in ∷ log)))) (sym deed.0) (of_open log (nights log before) deed.0)
+      subst (λ b. AreNights s (nights_ended log) (cond b (start_of s log) (published s (Paged_in ∷ log)))) (sym deed.0) (of_open log (nights log before) deed.0)
   nights _ (one_more log Committed before deed) =
       one_night log before deed.0 Commits
-      (λ a. inl (Opens ∷ ops_of a.over, ended have (night s log) (start_of s log) (published s log) (draws log) (ends log) (pages log) (holding log) _ _ a deed.1, refl))
+      (λ a. inl (Opens ∷ ops_of a.over, ended have (night s log) (start_of s log) (published s log) (remaining s log) (pages log) (holding log) _ _ a deed.1, refl))
       (of_open log (nights log before) deed.0)
   nights _ (one_more log Gave_up before deed) =
       one_night log before deed Gives_up
-      (λ a. inr (record { puts = ops_of a.over; beginning = beginning have (night s log) (start_of s log) (published s log) (draws log) (ends log) (pages log) (holding log) _ _ a; cut = refl }))
+      (λ a. inr (record { puts = ops_of a.over; beginning = beginning have (night s log) (start_of s log) (published s log) (remaining s log) (pages log) (holding log) _ _ a; cut = refl }))
       (of_open log (nights log before) deed)
   nights _ (one_more log (Sat_down d v) before deed) = nights log before
   nights _ (one_more log (Turned d v page) before deed) = nights log before
   nights _ (one_more log (Left d) before deed) = nights log before
 
 pub are_nights : PassedHaveValues → PublishedAreNights
-unfolding count_of ended_of
+unfolding ended_of
 are_nights have s log setup legal =
     let deeds = deeds_of s log legal in
     let r = nights have s log deeds in
@@ -188,16 +204,16 @@ are_nights have s log setup legal =
             ended = start_of s log;
             begun = Opens ∷ ops_of a.over;
             whole = a.whole;
-            nights = subst (λ b. AreNights s (cond b (nights_begun log - 1) (nights_begun log)) (start_of s log)) (sym opened) (of_open have s log r opened);
+            nights = of_open have s log r opened;
             closed = λ t. absurd (false≢true (sym t ∙ opened));
-            open_night = λ t. (beginning have (night s log) (start_of s log) (published s log) (draws log) (ends log) (pages log) (holding log) _ _ a, (let n = a.paged in omega (arith, n)));
+            open_night = λ t. (beginning have (night s log) (start_of s log) (published s log) (remaining s log) (pages log) (holding log) _ _ a, (let n = a.paged in omega (arith, n)));
             given = within s log deeds;
           }
       | false ↦ λ shut. record {
         ended = published s log;
         begun = [];
         whole = sym (append-nil (published s log));
-        nights = subst (λ b. AreNights s (cond b (nights_begun log - 1) (nights_begun log)) (published s log)) (sym shut) (of_closed have s log r shut);
+        nights = of_closed have s log r shut;
         closed = λ t. refl;
         open_night = λ t. absurd (false≢true (sym shut ∙ t));
         given = within s log deeds;

@@ -28,12 +28,12 @@ use Rattle.wh_store.specs.Operations.{Operation, Opens, Writes, Commits, Gives_u
 use Rattle.wh_store.specs.Pages.{Contents}
 use Rattle.wh_store.specs.Versions.{Versions, after, number, opened as opened_by, table_in, written_over, version, versions_from, versions_of}
 use Rattle.wh_carry.specs.Night.{Night, AreAllowed}
-use Rattle.wh_carry.specs.Legs.{Leg, Wave, Page, Turn, In_wave, At_page, Over, legs_of, turn_of}
+use Rattle.wh_carry.specs.Legs.{Leg, Wave, Page, Turn, In_wave, At_page, Over}
 use Rattle.wh_core.specs.Laws.{CommitsMakeContents, IsGivenNight, IsSetup, VersionsAreContents}
-use Rattle.wh_core.specs.Log.{Deed, Log, Began, Drew, Finished, Paged_in, Committed, Gave_up, Sat_down, Turned, Left, nights_begun, is_open, draws, ends, pages, holding}
-use Rattle.wh_core.specs.Nights.{GivenNight, Setup, next_night, night, night_from, last_night, page_in_turn, published, turn, turn_in, versions}
+use Rattle.wh_core.specs.Log.{Deed, Log, Began, Drew, Finished, Paged_in, Committed, Gave_up, Sat_down, Turned, Left, last_begun, nights_begun, is_open, pages, holding}
+use Rattle.wh_core.specs.Nights.{GivenNight, Setup, next_night, night, night_from, last_night, page_in_turn, published, remaining, turn, turn_in, versions}
 use Rattle.wh_core.proofs.Deeds.{AreDeeds, IsDeed, deeds_of, none, one_more}
-use Rattle.wh_core.proofs.Nights.{begun_once, night-start, whole_puts}
+use Rattle.wh_core.proofs.Nights.{last_is, night-start, whole_puts}
 use Rattle.wh_core.proofs.Sessions.{version_stays}
 use Rattle.wh_core.proofs.Underway.{IsAt, Underway, night-began, night-paged, ops_of, start_of, underway, versions_from-append}
 use Rattle.wh_core.proofs.Writes.{IsWritten, puts_written, writing}
@@ -118,22 +118,22 @@ module _ (stay : VersionsStay) (s : Setup) (setup : IsSetup s) where
     v0 = versions_of s.opening (start_of s log)
 
     abbrev given : GivenNight
-    given = slice_index_or s.nights (nights_begun log - 1) (record { changes = []; list = [] })
+    given = slice_index_or s.nights (last_begun log) (record { changes = []; list = [] })
 
     abbrev n : Night
-    n = night_from s v0.newest (nights_begun log - 1)
+    n = night_from s v0.newest (last_begun log)
 
     abbrev a : Underway s log
     a = underway s log before opened
 
     fits : IsGivenNight s.catalog given
-    fits = given_night v0.newest (nights_begun log - 1) (let b = r.begun in let some = begun_once s log before opened in omega (arith, b, some))
+    fits = given_night v0.newest (last_begun log) (let b = r.begun in let some = last_is s log before opened in omega (arith, b, some))
 
     abbrev Passes : Night → Type 0
     Passes m = ArePassedBelow m.catalog m.list m.tables m.changes (length m.list) × (puts_of (graph_of m.catalog) m.changes m.keys m.list (at_first m.tables) ≡ ops_of a.over)
 
     passes : Passes n
-    passes = subst Passes (night-start s log before opened) (whole_puts passed_have_values (night s log) (start_of s log) (published s log) (draws log) (ends log) (pages log) (holding log) _ _ a over)
+    passes = subst Passes (night-start s log before opened) (whole_puts passed_have_values (night s log) (start_of s log) (published s log) (remaining s log) (pages log) (holding log) _ _ a over)
 
     -- before the commit the night's puts are being written
     versions_now : versions s log ≡ versions_from (writing v0 v0.newest) (ops_of a.over)

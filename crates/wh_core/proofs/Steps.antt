@@ -1,9 +1,9 @@
 -- Where a machine stands after one deed more: of the night that is under way.
-use Rattle.std.proofs.Common.{◌≡◌, ◌≢◌, refl, sym, ap, subst, ◌∙◌, ℕ, zero, suc, ◌+◌, ◌-◌, ◌<◌, ◌≤◌, List, [], ◌∷◌, ◌++◌, length, drop, Bool, true, false, not, cond, Option, Some, None, ◌⊎◌, ⊎_elim, inl, inr, arith}
+use Rattle.std.proofs.Common.{◌≡◌, ◌≢◌, refl, sym, ap, subst, ◌∙◌, ℕ, zero, suc, ◌+◌, ◌-◌, ◌<◌, ◌≤◌, List, [], ◌∷◌, ◌++◌, length, drop, Bool, true, false, not, Option, Some, None, ◌⊎◌, ⊎_elim, inl, inr, arith}
 use Rattle.std.specs.Prelude.{is_some, is_none, slice_get, nat_lt, nat_le, option_map, ◌&&◌}
 use Rattle.std.specs.List.{All, list_all}
 use Rattle.std.proofs.Math.Seq.{drop-nil}
-use Rattle.std.proofs.lemmas.Bool.{cases_lt, false≢true}
+use Rattle.std.proofs.lemmas.Bool.{false≢true}
 use Rattle.std.proofs.lemmas.List.Elements.{All-cons, All-nil}
 use Rattle.std.proofs.lemmas.Option.{same_Some, slice_get_within}
 use Rattle.wh_row.specs.Weigh.{Counted}
@@ -14,19 +14,19 @@ use Rattle.wh_store.specs.Operations.{Operation, Writes, operation}
 use Rattle.wh_carry.specs.declared.course.Part.{Part}
 use Rattle.wh_carry.specs.declared.course.Part.TheVariants as part
 use Rattle.wh_carry.specs.Night.{Night, ArePassedAt, IsPassedAt, IsFaultAt, IsFirstFaultOf, places_from}
-use Rattle.wh_carry.specs.Legs.{Leg, Wave, Page, Turn, In_wave, At_page, Over, legs_of, turn_of, carried_up_to}
+use Rattle.wh_carry.specs.Legs.{Leg, Wave, Page, Remaining, In_wave, At_page, Over, after_done, after_draw, after_page, carried_up_to, is_last, turn_at, turn_of, untouched}
 use Rattle.wh_carry.specs.Course.{AreParts, IsOutcome, IsPart, IsStop, is_passed, start_of, end_of}
 use Rattle.wh_core.specs.declared.reply.Cause.{Cause}
 use Rattle.wh_core.specs.declared.reply.Cause.TheVariants as cause
 use Rattle.wh_core.specs.declared.reply.Reply.{Reply}
 use Rattle.wh_core.specs.declared.reply.Reply.TheVariants as reply
-use Rattle.wh_core.specs.Log.{Log, draws, ends, holding, is_open, pages}
-use Rattle.wh_core.specs.Nights.{Setup, night, turn}
+use Rattle.wh_core.specs.Log.{Log, holding, is_open}
+use Rattle.wh_core.specs.Nights.{Setup, night, remaining, turn}
 use Rattle.wh_core.specs.Replies.{IsLegalLog, IsRuled, Ruling, Says, Takes, Carries, cause_of, take_ruling, done_by, page_ruling, commit_ruling, unless}
 use Rattle.wh_core.specs.Standing.{AreLeft, HaveJobs, IsWithin}
 use Rattle.wh_core.specs.Inner.Standing.{page_in, wave_in}
 use Rattle.wh_core.proofs.Deeds.{deeds_of}
-use Rattle.wh_core.proofs.Underway.{IsAt, all_below, come_to, few, fresh, ge_false, head_or, lt_true, now, reach_is, underway, wave_legs, wave_place, wave_turn}
+use Rattle.wh_core.proofs.Underway.{all_below, come_to, fresh, head_or, last_of, not_last_of, now, of_legs, off_the_list, on_the_list, reach_is, underway, wave_legs, wave_place}
 
 -- ---- rulings
 
@@ -41,6 +41,9 @@ le_false a b h = grind arith
 
 pub le_true : (a b : ℕ) → a ≤ b → nat_le a b ≡ true
 le_true a b h = grind arith
+
+pub lt_true : (a b : ℕ) → a < b → nat_lt a b ≡ true
+lt_true a b h = grind arith
 
 -- ---- parts
 
@@ -150,161 +153,135 @@ is_stopped n from legs parts stop fault are e s = none_first legs (subst (λ ps.
 
 -- ---- turns
 
-pub turn_here : (n : Night) (d e p : ℕ) (parts : List Part) (stop : Option MaintFault) (drawn ended : ℕ) (g : AreLeft n d e p parts stop drawn ended)
-    → turn_of (legs_of n) d e p ≡ turn_of g.legs drawn ended 0
-turn_here n d e p parts stop drawn ended g =
-    let x : d ≡ d + 0 = omega arith in
-    let y : e ≡ e + 0 = omega arith in
-    let z : p ≡ p + 0 = omega arith in
-    let u : drawn + 0 ≡ drawn = omega arith in
-    let v : ended + 0 ≡ ended = omega arith in
-    (λ i. turn_of (legs_of n) (x i) (y i) (z i)) ∙ g.ahead 0 0 0 ∙ (λ i. turn_of g.legs (u i) (v i) 0)
+pub turn_here : (n : Night) (r : Remaining) (parts : List Part) (stop : Option MaintFault) (drawn ended : ℕ) (g : AreLeft n r parts stop drawn ended) → turn_of r ≡ turn_at g.legs drawn
+turn_here n r parts stop drawn ended g = ap turn_of g.is
 
-module _ (n : Night) (d e p : ℕ) (parts : List Part) (stop : Option MaintFault) (drawn ended : ℕ) (g : AreLeft n d e p parts stop drawn ended) where
+module _ (n : Night) (r : Remaining) (parts : List Part) (stop : Option MaintFault) (drawn ended : ℕ) (g : AreLeft n r parts stop drawn ended) where
   pub wave_here : (os : List (Option MaintFault)) → wave_in parts ≡ Some os → InWave n g.legs parts os stop drawn ended
   wave_here os w = in_wave n g.from g.legs parts os stop drawn ended g.are w g.within
 
-  pub wave_turn_here : (os : List (Option MaintFault)) (w : wave_in parts ≡ Some os) → turn_of (legs_of n) d e p ≡ In_wave (wave_here os w).place (length os) drawn
+  pub wave_turn_here : (os : List (Option MaintFault)) (w : wave_in parts ≡ Some os) → turn_of r ≡ In_wave (wave_here os w).place (length os) drawn
   wave_turn_here os w =
       let v = wave_here os w in
-      turn_here n d e p parts stop drawn ended g ∙ ap (λ legs. turn_of legs drawn ended 0) v.is ∙ wave_turn v.place (length os) drawn ended v.later v.some
+      turn_here n r parts stop drawn ended g ∙ ap (λ legs. turn_at legs drawn) v.is
 
   pub page_here : (op : Op) → page_in parts ≡ Some op → AtPage n g.legs parts op stop drawn ended
   page_here op w = at_page n g.from g.legs parts op stop drawn ended g.are w g.within
 
-  pub page_turn_here : (op : Op) (w : page_in parts ≡ Some op) → turn_of (legs_of n) d e p ≡ At_page (page_here op w).place (page_here op w).view (page_here op w).rows
-  page_turn_here op w = let v = page_here op w in turn_here n d e p parts stop drawn ended g ∙ ap (λ legs. turn_of legs drawn ended 0) v.is
+  pub page_turn_here : (op : Op) (w : page_in parts ≡ Some op) → turn_of r ≡ At_page (page_here op w).place (page_here op w).view (page_here op w).rows
+  page_turn_here op w = let v = page_here op w in turn_here n r parts stop drawn ended g ∙ ap (λ legs. turn_at legs drawn) v.is
 
-  pub end_turn_here : parts ≡ [] → turn_of (legs_of n) d e p ≡ Over
+  pub end_turn_here : parts ≡ [] → turn_of r ≡ Over
   end_turn_here w =
-      turn_here n d e p parts stop drawn ended g
-      ∙ ap (λ legs. turn_of legs drawn ended 0) (at_end n g.from g.legs stop (subst (λ ps. AreParts n g.from g.legs ps stop) w g.are) (g.over w))
+      turn_here n r parts stop drawn ended g
+      ∙ ap (λ legs. turn_at legs drawn) (at_end n g.from g.legs stop (subst (λ ps. AreParts n g.from g.legs ps stop) w g.are) (g.over w))
 
 -- of three turns one is in turn
-pub data IsKind (n : Night) (d e p : ℕ) (parts : List Part) (drawn : ℕ) : Type 0 where
-  wave : (place jobs : ℕ) (os : List (Option MaintFault)) → wave_in parts ≡ Some os → turn_of (legs_of n) d e p ≡ In_wave place jobs drawn → IsKind n d e p parts drawn
-  page : (place view : ℕ) (rows : Counted) (op : Op) → page_in parts ≡ Some op → turn_of (legs_of n) d e p ≡ At_page place view rows → IsKind n d e p parts drawn
-  over : parts ≡ [] → turn_of (legs_of n) d e p ≡ Over → IsKind n d e p parts drawn
+pub data IsKind (n : Night) (r : Remaining) (parts : List Part) (drawn : ℕ) : Type 0 where
+  wave : (place jobs : ℕ) (os : List (Option MaintFault)) → wave_in parts ≡ Some os → turn_of r ≡ In_wave place jobs drawn → IsKind n r parts drawn
+  page : (place view : ℕ) (rows : Counted) (op : Op) → page_in parts ≡ Some op → turn_of r ≡ At_page place view rows → IsKind n r parts drawn
+  over : parts ≡ [] → turn_of r ≡ Over → IsKind n r parts drawn
 
-pub kind_here : (n : Night) (d e p : ℕ) (parts : List Part) (stop : Option MaintFault) (drawn ended : ℕ) → AreLeft n d e p parts stop drawn ended → IsKind n d e p parts drawn
-kind_here n d e p [] stop drawn ended g = over refl (end_turn_here n d e p [] stop drawn ended g refl)
-kind_here n d e p (part.Wave v ∷ parts) stop drawn ended g =
-    wave (wave_here n d e p (part.Wave v ∷ parts) stop drawn ended g v.items refl).place (length v.items) v.items refl (wave_turn_here n d e p (part.Wave v ∷ parts) stop drawn ended g v.items refl)
-kind_here n d e p (part.Page op ∷ parts) stop drawn ended g =
-    let v = page_here n d e p (part.Page op ∷ parts) stop drawn ended g op refl in
-    page v.place v.view v.rows op refl (page_turn_here n d e p (part.Page op ∷ parts) stop drawn ended g op refl)
+pub kind_here : (n : Night) (r : Remaining) (parts : List Part) (stop : Option MaintFault) (drawn ended : ℕ) → AreLeft n r parts stop drawn ended → IsKind n r parts drawn
+kind_here n r [] stop drawn ended g = over refl (end_turn_here n r [] stop drawn ended g refl)
+kind_here n r (part.Wave v ∷ parts) stop drawn ended g =
+    wave (wave_here n r (part.Wave v ∷ parts) stop drawn ended g v.items refl).place (length v.items) v.items refl (wave_turn_here n r (part.Wave v ∷ parts) stop drawn ended g v.items refl)
+kind_here n r (part.Page op ∷ parts) stop drawn ended g =
+    let v = page_here n r (part.Page op ∷ parts) stop drawn ended g op refl in
+    page v.place v.view v.rows op refl (page_turn_here n r (part.Page op ∷ parts) stop drawn ended g op refl)
 
 -- ---- one deed more
 
-module _ (n : Night) (d e p : ℕ) (parts : List Part) (stop : Option MaintFault) (drawn ended : ℕ) (g : AreLeft n d e p parts stop drawn ended) where
-  pub drew : (os : List (Option MaintFault)) → wave_in parts ≡ Some os → drawn < length os → AreLeft n (d + 1) e p parts stop (drawn + 1) ended
+module _ (n : Night) (r : Remaining) (parts : List Part) (stop : Option MaintFault) (drawn ended : ℕ) (g : AreLeft n r parts stop drawn ended) where
+  pub drew : (os : List (Option MaintFault)) → wave_in parts ≡ Some os → drawn < length os → AreLeft n (after_draw r) parts stop (drawn + 1) ended
   drew os w l =
-      let v = wave_here n d e p parts stop drawn ended g os w in
+      let v = wave_here n r parts stop drawn ended g os w in
       record {
         from = g.from;
         legs = g.legs;
-        ahead = λ x y z. let m : (k : ℕ) → k + 1 + x ≡ k + (1 + x) = λ k. omega arith in
-            (λ i. turn_of (legs_of n) (m d i) (e + y) (p + z)) ∙ g.ahead (1 + x) y z ∙ (λ i. turn_of g.legs (sym (m drawn) i) (ended + y) z);
+        is = ap after_draw g.is;
         within = subst (λ legs. IsWithin legs (drawn + 1) ended) (sym v.is) (omega arith, v.some);
         some = g.some;
         are = g.are;
         over = g.over;
       }
 
-  pub ended_one : (os : List (Option MaintFault)) → wave_in parts ≡ Some os → ended + 1 < length os → AreLeft n d (e + 1) p parts stop drawn (ended + 1)
+  -- of the wave in turn
+  waves : (os : List (Option MaintFault)) (w : wave_in parts ≡ Some os)
+      → r ≡ of_legs drawn ended (Wave (wave_here n r parts stop drawn ended g os w).place (length os) ∷ (wave_here n r parts stop drawn ended g os w).later)
+  waves os w = g.is ∙ ap (of_legs drawn ended) (wave_here n r parts stop drawn ended g os w).is
+
+  pub one_of_more : (os : List (Option MaintFault)) → wave_in parts ≡ Some os → ended + 1 < length os → is_last r ≡ false
+  one_of_more os w l =
+      let v = wave_here n r parts stop drawn ended g os w in
+      ap is_last (waves os w) ∙ not_last_of v.place (length os) ended v.later l
+
+  pub ended_one : (os : List (Option MaintFault)) → wave_in parts ≡ Some os → ended + 1 < length os → AreLeft n (after_done r) parts stop drawn (ended + 1)
   ended_one os w l =
-      let v = wave_here n d e p parts stop drawn ended g os w in
+      let v = wave_here n r parts stop drawn ended g os w in
       record {
         from = g.from;
         legs = g.legs;
-        ahead = λ x y z. let m : (k : ℕ) → k + 1 + y ≡ k + (1 + y) = λ k. omega arith in
-            (λ i. turn_of (legs_of n) (d + x) (m e i) (p + z)) ∙ g.ahead x (1 + y) z ∙ (λ i. turn_of g.legs (drawn + x) (sym (m ended) i) z);
+        is = ap after_done (waves os w) ∙ on_the_list v.place (length os) drawn ended v.later l ∙ ap (of_legs drawn (ended + 1)) (sym v.is);
         within = subst (λ legs. IsWithin legs drawn (ended + 1)) (sym v.is) (v.few, l);
         some = g.some;
         are = g.are;
         over = g.over;
       }
 
-  pub next_in_wave : (os : List (Option MaintFault)) (w : wave_in parts ≡ Some os) → ended + 1 < length os → turn_of (legs_of n) d (e + 1) p ≡ In_wave (wave_here n d e p parts stop drawn ended g os w).place (length os) drawn
-  next_in_wave os w l =
-      let v = wave_here n d e p parts stop drawn ended g os w in
-      let x : d ≡ d + 0 = omega arith in
-      let z : p ≡ p + 0 = omega arith in
-      let a : drawn + 0 ≡ drawn = omega arith in
-      (λ i. turn_of (legs_of n) (x i) (e + 1) (z i)) ∙ g.ahead 0 1 0 ∙ (λ i. turn_of (v.is i) (a i) (ended + 1) 0) ∙ wave_turn v.place (length os) drawn (ended + 1) v.later l
+  -- when the wave is over
+  pub last_of_all : (os : List (Option MaintFault)) → wave_in parts ≡ Some os → ended + 1 ≡ length os → is_last r ≡ true
+  last_of_all os w l =
+      let v = wave_here n r parts stop drawn ended g os w in
+      ap is_last (waves os w) ∙ last_of v.place (length os) ended v.later l
 
-  -- what is ahead when the wave is over
-  pub after_wave : (os : List (Option MaintFault)) (w : wave_in parts ≡ Some os) → ended + 1 ≡ length os → drawn ≡ length os
-      → (x y z : ℕ) → turn_of (legs_of n) (d + x) (e + 1 + y) (p + z) ≡ turn_of (wave_here n d e p parts stop drawn ended g os w).later (0 + x) (0 + y) z
-  after_wave os w l m x y z =
-      let v = wave_here n d e p parts stop drawn ended g os w in
-      let a : e + 1 + y ≡ e + (1 + y) = omega arith in
-      let b : drawn + x - length os ≡ 0 + x = omega arith in
-      let c : ended + (1 + y) - length os ≡ 0 + y = omega arith in
-      (λ i. turn_of (legs_of n) (d + x) (a i) (p + z))
-      ∙ g.ahead x (1 + y) z
-      ∙ ap (λ legs. turn_of legs (drawn + x) (ended + (1 + y)) z) v.is
-      ∙ ap (λ t. cond t (In_wave v.place (length os) (drawn + x)) (turn_of v.later (drawn + x - length os) (ended + (1 + y) - length os) z)) (ge_false (ended + (1 + y)) (length os) (omega arith))
-      ∙ (λ i. turn_of v.later (b i) (c i) z)
+  after_wave : (os : List (Option MaintFault)) (w : wave_in parts ≡ Some os) → ended + 1 ≡ length os → after_done r ≡ untouched (wave_here n r parts stop drawn ended g os w).later
+  after_wave os w l =
+      let v = wave_here n r parts stop drawn ended g os w in
+      ap after_done (waves os w) ∙ off_the_list v.place (length os) drawn ended v.later l
 
-  later_jobs : (os : List (Option MaintFault)) (w : wave_in parts ≡ Some os) → HaveJobs (wave_here n d e p parts stop drawn ended g os w).later
-  later_jobs os w = (subst HaveJobs (wave_here n d e p parts stop drawn ended g os w).is g.some).1
+  later_jobs : (os : List (Option MaintFault)) (w : wave_in parts ≡ Some os) → HaveJobs (wave_here n r parts stop drawn ended g os w).later
+  later_jobs os w = (subst HaveJobs (wave_here n r parts stop drawn ended g os w).is g.some).1
 
-  pub wave_over : (os : List (Option MaintFault)) → wave_in parts ≡ Some os → ended + 1 ≡ length os → drawn ≡ length os → list_all is_none os ≡ true → (drop 1 parts ≢ []) ⊎ (stop ≡ None)
-      → AreLeft n d (e + 1) p (drop 1 parts) stop 0 0
-  wave_over os w l m all on =
-      let v = wave_here n d e p parts stop drawn ended g os w in
+  pub wave_over : (os : List (Option MaintFault)) → wave_in parts ≡ Some os → ended + 1 ≡ length os → list_all is_none os ≡ true → (drop 1 parts ≢ []) ⊎ (stop ≡ None) → AreLeft n (after_done r) (drop 1 parts) stop 0 0
+  wave_over os w l all on =
+      let v = wave_here n r parts stop drawn ended g os w in
       record {
         from = v.place + length os;
         legs = v.later;
-        ahead = after_wave os w l m;
+        is = after_wave os w l;
         within = fresh v.later (later_jobs os w);
         some = later_jobs os w;
         are = v.next all;
         over = λ none. ⊎_elim (λ no. absurd (no none)) (λ e. e) on;
       }
 
-  pub reach_after_wave : (os : List (Option MaintFault)) (w : wave_in parts ≡ Some os) → ended + 1 ≡ length os → drawn ≡ length os
-      → carried_up_to n (turn_of (legs_of n) d (e + 1) p) ≡ come_to (length n.list) (wave_here n d e p parts stop drawn ended g os w).later
-  reach_after_wave os w l m =
-      let v = wave_here n d e p parts stop drawn ended g os w in
-      let x : d ≡ d + 0 = omega arith in
-      let y : e + 1 ≡ e + 1 + 0 = omega arith in
-      let z : p ≡ p + 0 = omega arith in
-      ap (carried_up_to n) ((λ i. turn_of (legs_of n) (x i) (y i) (z i)) ∙ after_wave os w l m 0 0 0) ∙ reach_is n v.later 0 0 (fresh v.later (later_jobs os w))
+  pub reach_after_wave : (os : List (Option MaintFault)) (w : wave_in parts ≡ Some os) → ended + 1 ≡ length os
+      → carried_up_to n (turn_of (after_done r)) ≡ come_to (length n.list) (wave_here n r parts stop drawn ended g os w).later
+  reach_after_wave os w l = ap (λ left. carried_up_to n (turn_of left)) (after_wave os w l) ∙ reach_is n (wave_here n r parts stop drawn ended g os w).later 0
 
   -- and when the page is put
-  pub after_page : (op : Op) (w : page_in parts ≡ Some op) → (x y z : ℕ) → turn_of (legs_of n) (d + x) (e + y) (p + 1 + z) ≡ turn_of (page_here n d e p parts stop drawn ended g op w).later (0 + x) (0 + y) z
-  after_page op w x y z =
-      let v = page_here n d e p parts stop drawn ended g op w in
-      let a : p + 1 + z ≡ p + suc z = omega arith in
-      (λ i. turn_of (legs_of n) (d + x) (e + y) (a i))
-      ∙ g.ahead x y (suc z)
-      ∙ (λ i. turn_of (v.is i) (v.none_drawn i + x) (v.none_ended i + y) (suc z))
+  after_paged : (op : Op) (w : page_in parts ≡ Some op) → after_page r ≡ untouched (page_here n r parts stop drawn ended g op w).later
+  after_paged op w = ap after_page g.is ∙ ap (λ legs. untouched (drop 1 legs)) (page_here n r parts stop drawn ended g op w).is
 
-  page_jobs : (op : Op) (w : page_in parts ≡ Some op) → HaveJobs (page_here n d e p parts stop drawn ended g op w).later
-  page_jobs op w = subst HaveJobs (page_here n d e p parts stop drawn ended g op w).is g.some
+  page_jobs : (op : Op) (w : page_in parts ≡ Some op) → HaveJobs (page_here n r parts stop drawn ended g op w).later
+  page_jobs op w = subst HaveJobs (page_here n r parts stop drawn ended g op w).is g.some
 
-  pub page_over : (op : Op) → page_in parts ≡ Some op → (drop 1 parts ≢ []) ⊎ (stop ≡ None) → AreLeft n d e (p + 1) (drop 1 parts) stop 0 0
+  pub page_over : (op : Op) → page_in parts ≡ Some op → (drop 1 parts ≢ []) ⊎ (stop ≡ None) → AreLeft n (after_page r) (drop 1 parts) stop 0 0
   page_over op w on =
-      let v = page_here n d e p parts stop drawn ended g op w in
+      let v = page_here n r parts stop drawn ended g op w in
       record {
         from = v.place + 1;
         legs = v.later;
-        ahead = after_page op w;
+        is = after_paged op w;
         within = fresh v.later (page_jobs op w);
         some = page_jobs op w;
         are = v.next;
         over = λ none. ⊎_elim (λ no. absurd (no none)) (λ e. e) on;
       }
 
-  pub reach_after_page : (op : Op) (w : page_in parts ≡ Some op) → carried_up_to n (turn_of (legs_of n) d e (p + 1)) ≡ come_to (length n.list) (page_here n d e p parts stop drawn ended g op w).later
-  reach_after_page op w =
-      let v = page_here n d e p parts stop drawn ended g op w in
-      let x : d ≡ d + 0 = omega arith in
-      let y : e ≡ e + 0 = omega arith in
-      let z : p + 1 ≡ p + 1 + 0 = omega arith in
-      ap (carried_up_to n) ((λ i. turn_of (legs_of n) (x i) (y i) (z i)) ∙ after_page op w 0 0 0) ∙ reach_is n v.later 0 0 (fresh v.later (page_jobs op w))
+  pub reach_after_page : (op : Op) (w : page_in parts ≡ Some op) → carried_up_to n (turn_of (after_page r)) ≡ come_to (length n.list) (page_here n r parts stop drawn ended g op w).later
+  reach_after_page op w = ap (λ left. carried_up_to n (turn_of left)) (after_paged op w) ∙ reach_is n (page_here n r parts stop drawn ended g op w).later 0
 
 -- ---- the last job of a wave
 
@@ -320,78 +297,43 @@ outcome_none : (n : Night) (q : ℕ) (o : Option MaintFault) → IsPassedAt n q 
 outcome_none n q None h f = refl
 outcome_none n q (Some fault) h f = absurd (conflict n q fault h f)
 
--- where a wave is in turn for as long by two accounts, as many of its jobs are done
-not_less : (place jobs drawn a b : ℕ) (l m : List Leg) → a < b → b < jobs → HaveJobs m
-    → ((x y z : ℕ) → turn_of (Wave place jobs ∷ l) (drawn + x) (a + y) z ≡ turn_of (Wave place jobs ∷ m) (drawn + x) (b + y) z) → ⊥
-not_less place jobs drawn a b l m k within some h =
-    let y : ℕ = jobs - b in
-    let x : ℕ = jobs in
-    let left : turn_of (Wave place jobs ∷ l) (drawn + x) (a + y) 0 ≡ In_wave place jobs (drawn + x) = wave_turn place jobs (drawn + x) (a + y) l (omega arith) in
-    let gone : b + y - jobs ≡ 0 = omega arith in
-    let right : turn_of (Wave place jobs ∷ m) (drawn + x) (b + y) 0 ≡ turn_of m (drawn + x - jobs) 0 0 =
-    ap (λ t. cond t (In_wave place jobs (drawn + x)) (turn_of m (drawn + x - jobs) (b + y - jobs) 0)) (ge_false (b + y) jobs (omega arith)) ∙ ap (λ k. turn_of m (drawn + x - jobs) k 0) gone in
-    other m some (sym right ∙ sym (h x y 0) ∙ left)
-  where
-    other : (m : List Leg) → HaveJobs m → turn_of m (drawn + jobs - jobs) 0 0 ≡ In_wave place jobs (drawn + jobs) → ⊥
-    other [] some e = cc
-    other (Page q v r ∷ m) some e = cc
-    other (Wave q k ∷ m) some e =
-        let f : In_wave q k (drawn + jobs - jobs) ≡ In_wave place jobs (drawn + jobs) = sym (wave_turn q k (drawn + jobs - jobs) 0 m some.0) ∙ e in
-        let g : drawn + jobs - jobs ≡ drawn + jobs = cc in
-        omega arith
-
-same_ended : (place jobs drawn a b : ℕ) (l m : List Leg) → a < jobs → b < jobs → HaveJobs l → HaveJobs m
-    → ((x y z : ℕ) → turn_of (Wave place jobs ∷ l) (drawn + x) (a + y) z ≡ turn_of (Wave place jobs ∷ m) (drawn + x) (b + y) z) → a ≡ b
-same_ended place jobs drawn a b l m u v some others h =
-    ⊎_elim (λ k. absurd (not_less place jobs drawn a b l m k v others h))
-    (λ k. ⊎_elim (λ k. absurd (not_less place jobs drawn b a m l k u some (λ x y z. sym (h x y z)))) (λ j. omega arith) (cases_lt b a))
-    (cases_lt a b)
-
 -- the jobs of the wave in turn that are done, and the one that a worker holds
-pub record AreLast (n : Night) (place jobs drawn : ℕ) (job : ℕ) : Type 0 where
-  pub least : jobs ≤ drawn
+pub record AreLast (n : Night) (place jobs job : ℕ) : Type 0 where
   pub passed : (j : ℕ) → j < jobs → (j ≡ job) ⊎ IsPassedAt n (place + j)
 
 -- a job that is held is one of the wave
 pub held_within : (s : Setup) (log : Log) (w job place jobs drawn : ℕ) → IsLegalLog s log → is_open log ≡ true → holding log w ≡ Some job → turn s log ≡ In_wave place jobs drawn → job < drawn
 held_within s log w job place jobs drawn legal o h t =
     let a = underway s log (deeds_of s log legal) o in
-    let v = wave_legs a.rest a.drawn a.ended place jobs drawn a.within (sym (now _ _ _ _ _ _ _ _ _ a) ∙ t) in
+    let v = wave_legs a.rest a.drawn place jobs drawn (sym (now _ _ _ _ _ _ _ _ a) ∙ t) in
     subst (λ k. job < k) v.2 (a.held w job h).0
 
 pub last_done : (s : Setup) (log : Log) (parts : List Part) (stop : Option MaintFault) (drawn ended w job : ℕ) (os : List (Option MaintFault)) → IsLegalLog s log → is_open log ≡ true
-    → (g : AreLeft (night s log) (draws log) (ends log) (pages log) parts stop drawn ended) (first : wave_in parts ≡ Some os) → holding log w ≡ Some job → ended + 1 ≡ length os
-    → AreLast (night s log) (wave_here (night s log) (draws log) (ends log) (pages log) parts stop drawn ended g os first).place (length os) drawn job
+    → (g : AreLeft (night s log) (remaining s log) parts stop drawn ended) (first : wave_in parts ≡ Some os) → holding log w ≡ Some job → ended + 1 ≡ length os
+    → AreLast (night s log) (wave_here (night s log) (remaining s log) parts stop drawn ended g os first).place (length os) job
 unfolding Distinct
 last_done s log parts stop drawn ended w job os legal o g first h l =
     let n : Night = night s log in
     let a = underway s log (deeds_of s log legal) o in
-    let here = wave_here n (draws log) (ends log) (pages log) parts stop drawn ended g os first in
+    let here = wave_here n (remaining s log) parts stop drawn ended g os first in
     let jobs : ℕ = length os in
-    let t : turn s log ≡ In_wave here.place jobs drawn = wave_turn_here n (draws log) (ends log) (pages log) parts stop drawn ended g os first in
-    let v = wave_legs a.rest a.drawn a.ended here.place jobs drawn a.within (sym (now _ _ _ _ _ _ _ _ _ a) ∙ t) in
-    let later : List Leg = v.0 in
-    let rest : a.rest ≡ Wave here.place jobs ∷ later = v.1 in
-    let same_drawn : a.drawn ≡ drawn = v.2 in
+    let same : of_legs a.drawn a.ended a.rest ≡ of_legs drawn ended g.legs = sym a.is ∙ g.is in
+    let rest : a.rest ≡ Wave here.place jobs ∷ here.later = ap (λ (r : Remaining). r.legs) same ∙ here.is in
+    let each : a.ended ≡ ended = ap (λ (r : Remaining). r.ended) same in
     let inside : (a.drawn ≤ jobs) × (a.ended < jobs) = subst (λ legs. IsWithin legs a.drawn a.ended) rest a.within in
-    let both : (x y z : ℕ) → turn_of (Wave here.place jobs ∷ later) (drawn + x) (a.ended + y) z ≡ turn_of (Wave here.place jobs ∷ here.later) (drawn + x) (ended + y) z = λ x y z.
-    (λ i. turn_of (sym rest i) (sym same_drawn i + x) (a.ended + y) z) ∙ sym (a.ahead x y z) ∙ g.ahead x y z ∙ ap (λ legs. turn_of legs (drawn + x) (ended + y) z) here.is in
-    let each : a.ended ≡ ended = same_ended here.place jobs drawn a.ended ended later here.later inside.1 here.some (subst HaveJobs rest a.some).1 (subst HaveJobs here.is g.some).1 both in
     let held = a.held w job h in
     let apart : Distinct (job ∷ a.done) = (held.1, a.distinct) in
     let low : (q : ℕ) → has (job ∷ a.done) q ≡ true → q < a.drawn = λ q m. ⊎_elim (λ e. subst (λ k. k < a.drawn) e held.0) (a.below q) (head_or job q a.done m) in
-    let many : length (job ∷ a.done) ≤ a.drawn = few (job ∷ a.done) a.drawn apart low in
     let count : length (job ∷ a.done) ≡ jobs = let f = a.each in omega (arith, f, each, l) in
     record {
-      least = omega (arith, many, count, same_drawn);
       passed = λ j m. ⊎_elim (λ e. inl (sym e)) (λ e. inr (subst (λ legs. IsPassedAt n (wave_place legs + j)) rest (a.jobs_pass j e)))
           (head_or job j a.done (all_below (job ∷ a.done) jobs j apart (λ q m. let k = low q m in let f = inside.0 in omega arith) count m));
     }
 
 -- where the last job is not refused, none is
-pub all_are_passed : (n : Night) (place drawn job : ℕ) (os : List (Option MaintFault)) → ((j : ℕ) (o : Option MaintFault) → slice_get os j ≡ Some o → IsOutcome n (place + j) o)
-    → slice_get os job ≡ Some None → AreLast n place (length os) drawn job → list_all is_none os ≡ true
-all_are_passed n place drawn job os outcomes own last =
+pub all_are_passed : (n : Night) (place job : ℕ) (os : List (Option MaintFault)) → ((j : ℕ) (o : Option MaintFault) → slice_get os j ≡ Some o → IsOutcome n (place + j) o)
+    → slice_get os job ≡ Some None → AreLast n place (length os) job → list_all is_none os ≡ true
+all_are_passed n place job os outcomes own last =
     all_none os (λ j o e. ⊎_elim
     (λ same. same_Some o None (sym e ∙ ap (slice_get os) same ∙ own))
     (λ passed. outcome_none n (place + j) o passed (outcomes j o e))

@@ -2,13 +2,14 @@
 use Rattle.std.proofs.Common.{◌≡◌, refl, sym, ap, ◌∙◌, subst, ℕ, zero, suc, ◌+◌, ◌-◌, ◌<◌, ◌≤◌, ◌^◌, List, [], ◌∷◌, ◌++◌, length, Bool, true, false, not, arith, Option, Some, None, ◌⊎◌, ⊎_elim, inl, inr}
 use Rattle.std.specs.Prelude.{◌==◌, ◌||◌, is_none, is_some, nat_le, nat_lt}
 use Rattle.std.specs.List.{All, range_with_len}
-use Rattle.std.proofs.lemmas.Bool.{cases_lt, false≢true}
+use Rattle.std.proofs.lemmas.Bool.{cases_lt, eqb-true, false≢true}
 use Rattle.wh_dag.specs.Shape.{Distinct, has}
 use Rattle.wh_maint.specs.declared.fault.MaintFault.{MaintFault}
 use Rattle.wh_store.specs.Pages.{page_of}
 use Rattle.wh_store.specs.Versions.{is_active, is_unexpired, number, table_of, version}
 use Rattle.wh_carry.specs.Night.{Night, ArePassedAt, IsFaultAt, IsFirstFaultOf, IsPassedAt, places_from, AreAllowed}
-use Rattle.wh_carry.specs.Legs.{Leg, Wave, Turn, In_wave, At_page, Over, legs_of, carried_up_to, turn_of}
+use Rattle.wh_carry.specs.Legs.{Leg, Wave, Turn, In_wave, At_page, Over, after_done, after_page, carried_up_to, is_last, legs_of, turn_at, turn_of, untouched}
+use Rattle.wh_carry.proofs.Places.{places_are}
 use Rattle.wh_core.specs.declared.event.Event.{Event}
 use Rattle.wh_core.specs.declared.event.Event.TheVariants.{Begin, Take, Done, PageIn, Commit, GiveUp, Open, Read, Close}
 use Rattle.wh_core.specs.declared.reply.Cause.{Cause}
@@ -16,12 +17,12 @@ use Rattle.wh_core.specs.declared.reply.Cause.TheVariants as cause
 use Rattle.wh_core.specs.declared.reply.Reply.{Reply}
 use Rattle.wh_core.specs.declared.reply.Reply.TheVariants as reply
 use Rattle.wh_core.specs.Laws.{IsBefore, IsToldInTurn, RefusalsAreToldInTurn, after_inst, after_wave, before_first, is_of_rows, of_base, of_job}
-use Rattle.wh_core.specs.Log.{Log, SessionOf, draws, ends, holding, is_open, nights_begun, pages, session}
-use Rattle.wh_core.specs.Nights.{Setup, next_night, night, published, turn, versions}
-use Rattle.wh_core.specs.Replies.{IsCarried, IsLegalLog, IsReply, IsRuled, Ruling, Says, Takes, Carries, cause_of, commit_ruling, done_by, goes_on, page_ruling, read_ruling, take_ruling, unless}
+use Rattle.wh_core.specs.Log.{Log, SessionOf, holding, is_open, nights_begun, pages, session}
+use Rattle.wh_core.specs.Nights.{Setup, next_night, night, published, remaining, remaining_in, turn, versions}
+use Rattle.wh_core.specs.Replies.{IsCarried, IsLegalLog, IsReply, IsRuled, Ruling, Says, Takes, Carries, carried_by_done, cause_of, commit_ruling, done_by, goes_on, page_ruling, read_ruling, take_ruling, unless}
 use Rattle.wh_core.specs.Standing.{IsWithin}
 use Rattle.wh_core.proofs.Deeds.{deeds_of, not_false}
-use Rattle.wh_core.proofs.Underway.{Underway, all-head, all-tail, all_below, head_or, night-began, night-paged, now, start_of, underway, wave_legs, wave_place, wave_turn}
+use Rattle.wh_core.proofs.Underway.{Underway, all-head, all-tail, all_below, head_or, night-began, night-paged, now, of_legs, start_of, underway, wave_legs, wave_place}
 
 -- ---- places
 
@@ -59,14 +60,15 @@ record IsStop (n : Night) (a b : ℕ) (f : MaintFault) : Type 0 where
 
 stop_of : (n : Night) (a b : ℕ) (f : MaintFault) → IsFirstFaultOf n (places_from a b) f → IsStop n a b f
 stop_of n a b f first =
-    let within = split_within a (b - a) first.earlier first.place first.later first.split in
+    let split : range_with_len a (b - a) ≡ first.earlier ++ first.place ∷ first.later = sym (places_are a b) ∙ first.split in
+    let within = split_within a (b - a) first.earlier first.place first.later split in
     let lo = within.0 in
     let hi = within.1 in
     record {
       place = first.place;
       least = lo;
       below = omega (arith, lo, hi);
-      passed = λ q l k. split_passed (IsPassedAt n) a (b - a) first.earlier first.place first.later first.split first.passed q l k;
+      passed = λ q l k. split_passed (IsPassedAt n) a (b - a) first.earlier first.place first.later split first.passed q l k;
       refused = first.refused;
     }
 
@@ -90,6 +92,16 @@ one_or_later n x xs f first = by first.earlier first.place first.later first.spl
             refused = refused;
           },
         )
+
+-- where a job is the last of its wave, a fault is its own or one behind the wave, and else its own
+own_or_behind : (n : Night) (place jobs job : ℕ) (last : Bool) (next : Turn) (f : MaintFault) → IsFirstFaultOf n (carried_by_done n place jobs job last next) f
+    → IsFaultAt n (place + job) f ⊎ (IsPassedAt n (place + job) × IsFirstFaultOf n (places_from (place + jobs) (carried_up_to n next)) f × (last ≡ true))
+own_or_behind n place jobs job true next f first = ⊎_elim (λ own. inl own) (λ later. inr (later.0, later.1, refl)) (one_or_later n (place + job) (places_from (place + jobs) (carried_up_to n next)) f first)
+own_or_behind n place jobs job false next f first = ⊎_elim (λ own. inl own) (λ later. absurd (none_first later.1.earlier later.1.place later.1.later later.1.split)) (one_or_later n (place + job) [] f first)
+  where
+    none_first : (earlier : List ℕ) (p : ℕ) (later : List ℕ) → [] ≡ earlier ++ p ∷ later → ⊥
+    none_first [] p later e = cc
+    none_first (x ∷ earlier) p later e = cc
 
 before_turn : (n : Night) (t : Turn) (p : ℕ) → p < carried_up_to n t → IsBefore n t p
 before_turn n (In_wave first jobs drawn) p l = l
@@ -140,12 +152,12 @@ module _ (s : Setup) (log : Log) (why : Cause) (is : is_of_rows why ≡ true) wh
       named : (c : Cause) → reply.Refused why ≡ reply.Refused c → c ≡ why
       named c e = cc
 
-      of_first : AreAllowed (next_night s log) → (f : MaintFault) × IsFirstFaultOf (next_night s log) (places_from 0 (carried_up_to (next_night s log) (turn_of (legs_of (next_night s log)) 0 0 0))) f × (cause_of f ≡ why) → Told s log Begin why
+      of_first : AreAllowed (next_night s log) → (f : MaintFault) × IsFirstFaultOf (next_night s log) (places_from 0 (carried_up_to (next_night s log) (turn_of (untouched (legs_of (next_night s log)))))) f × (cause_of f ≡ why) → Told s log Begin why
       of_first allowed f =
-          let stop = stop_of (next_night s log) 0 (carried_up_to (next_night s log) (turn_of (legs_of (next_night s log)) 0 0 0)) f.0 f.1 in
-          let before : IsBefore (next_night s log) (turn_of (legs_of (next_night s log)) 0 0 0) stop.place = before_turn (next_night s log) (turn_of (legs_of (next_night s log)) 0 0 0) stop.place stop.below in
+          let stop = stop_of (next_night s log) 0 (carried_up_to (next_night s log) (turn_of (untouched (legs_of (next_night s log))))) f.0 f.1 in
+          let before : IsBefore (next_night s log) (turn_of (untouched (legs_of (next_night s log)))) stop.place = before_turn (next_night s log) (turn_of (untouched (legs_of (next_night s log)))) stop.place stop.below in
           let passed : (q : ℕ) → q < stop.place → IsPassedAt (next_night s log) q = λ q l. stop.passed q (omega arith) l in
-          (f.0, f.2, before_first stop.place allowed (subst (λ m. IsBefore (next_night s log) (turn_of (legs_of m) 0 0 0) stop.place) (sym (night-began s log)) before) (record { passed = passed; refused = stop.refused }))
+          (f.0, f.2, before_first stop.place allowed (subst (λ m. IsBefore (next_night s log) (turn_of (untouched (legs_of m))) stop.place) (sym (night-began s log)) before) (record { passed = passed; refused = stop.refused }))
 
   no_take : (t : Turn) → ¬ (IsRuled (take_ruling t) (reply.Refused why))
   no_take (In_wave place jobs drawn) h = let a = onwards (nat_le jobs drawn) cause.NoJob (Says (reply.Job drawn)) why is refl h in let e : reply.Refused why ≡ reply.Job drawn = a.1 in cc
@@ -166,8 +178,8 @@ module _ (s : Setup) (log : Log) (why : Cause) (is : is_of_rows why ≡ true) wh
     abbrev a : Underway s log
     a = underway s log (deeds_of s log legal) opened
 
-    now_is : turn s log ≡ turn_of a.rest a.drawn a.ended 0
-    now_is = now n (start_of s log) (published s log) (draws log) (ends log) (pages log) (holding log) _ _ a
+    now_is : turn s log ≡ turn_at a.rest a.drawn
+    now_is = now n (start_of s log) (published s log) (remaining s log) (pages log) (holding log) _ _ a
 
     -- what stands before the turn is passed
     passed_before : (t : Turn) → turn s log ≡ t → (q : ℕ) → q < carried_up_to n t → IsPassedAt n q
@@ -175,31 +187,17 @@ module _ (s : Setup) (log : Log) (why : Cause) (is : is_of_rows why ≡ true) wh
 
     module _ (w job first jobs drawn : ℕ) (at : turn s log ≡ In_wave first jobs drawn) (held : holding log w ≡ Some job) where
       abbrev next : Turn
-      next = turn_of (legs_of n) (draws log) (ends log + 1) (pages log)
+      next = turn_of (after_done (remaining s log))
 
       wave : (later : List Leg) × (a.rest ≡ Wave first jobs ∷ later) × (a.drawn ≡ drawn)
-      wave = wave_legs a.rest a.drawn a.ended first jobs drawn a.within (sym now_is ∙ at)
+      wave = wave_legs a.rest a.drawn first jobs drawn (sym now_is ∙ at)
 
       within : (a.drawn ≤ jobs) × (a.ended < jobs)
       within = subst (λ legs. IsWithin legs a.drawn a.ended) wave.1 a.within
 
-      next_is : next ≡ turn_of a.rest a.drawn (a.ended + 1) 0
-      next_is =
-          let x : draws log ≡ draws log + 0 = omega arith in
-          let z : pages log ≡ pages log + 0 = omega arith in
-          let u : a.drawn + 0 ≡ a.drawn = omega arith in
-          (λ i. turn_of (legs_of n) (x i) (ends log + 1) (z i)) ∙ a.ahead 0 1 0 ∙ (λ i. turn_of a.rest (u i) (a.ended + 1) 0)
-
-      -- a place behind the wave stands before the next turn only where this job is the last that was not done
-      last_job : (p : ℕ) → first + jobs ≤ p → p < carried_up_to n next → a.ended + 1 ≡ jobs
-      last_job p l k =
-          ⊎_elim
-          (λ more.
-          let still : next ≡ In_wave first jobs a.drawn = next_is ∙ ap (λ r. turn_of r a.drawn (a.ended + 1) 0) wave.1 ∙ wave_turn first jobs a.drawn (a.ended + 1) wave.0 more in
-          let under : p < first = subst (λ t. p < carried_up_to n t) still k in
-          absurd (omega (arith, l, under)))
-          (λ all. let e = within.1 in omega (arith, all, e))
-          (cases_lt (a.ended + 1) jobs)
+      -- a Done is the last of the wave only where this job is the last that was not done
+      last_job : is_last (remaining s log) ≡ true → a.ended + 1 ≡ jobs
+      last_job e = eqb-true (a.ended + 1) jobs (sym (ap is_last (a.is ∙ ap (of_legs a.drawn a.ended) wave.1)) ∙ e)
 
       -- then all jobs of the wave are passed
       job_passed : a.ended + 1 ≡ jobs → IsPassedAt n (first + job) → (j : ℕ) → j < jobs → IsPassedAt n (first + j)
@@ -216,17 +214,17 @@ module _ (s : Setup) (log : Log) (why : Cause) (is : is_of_rows why ≡ true) wh
           (λ q t. ⊎_elim (λ e. (let b = mine.0 in omega (arith, b, e, most))) (λ t. (let b = a.below q t in omega (arith, b, most))) (head_or job q a.done t))
           (let each = a.each in omega (arith, each, last)) l))
 
-      own_or_after : (f : MaintFault) → IsFirstFaultOf n ((first + job) ∷ places_from (first + jobs) (carried_up_to n next)) f → IsToldInTurn s log f (Done w)
+      own_or_after : (f : MaintFault) → IsFirstFaultOf n (carried_by_done n first jobs job (is_last (remaining s log)) next) f → IsToldInTurn s log f (Done w)
       unfolding published
       own_or_after f fault =
           ⊎_elim
           (λ own. of_job w first jobs drawn job at held (record { passed = passed_before (In_wave first jobs drawn) at; refused = own }))
           (λ later.
           let stop = stop_of n (first + jobs) (carried_up_to n next) f later.1 in
-          let last = last_job stop.place stop.least stop.below in
+          let last = last_job later.2 in
           after_wave w first jobs drawn job stop.place at held stop.least (before_turn n next stop.place stop.below)
           (record { passed = passed_below stop.place stop.passed (job_passed last later.0); refused = stop.refused }))
-          (one_or_later n (first + job) (places_from (first + jobs) (carried_up_to n next)) f fault)
+          (own_or_behind n first jobs job (is_last (remaining s log)) next f fault)
         where
           passed_below : (p : ℕ) → ((q : ℕ) → first + jobs ≤ q → q < p → IsPassedAt n q) → ((j : ℕ) → j < jobs → IsPassedAt n (first + j)) → (q : ℕ) → q < p → IsPassedAt n q
           passed_below p behind amid q l =
@@ -239,7 +237,7 @@ module _ (s : Setup) (log : Log) (why : Cause) (is : is_of_rows why ≡ true) wh
               (cases_lt q first)
 
     done_by_told : (w : ℕ) (held : Option ℕ) → holding log w ≡ held → (t : Turn) → turn s log ≡ t
-        → IsRuled (done_by n t (turn_of (legs_of n) (draws log) (ends log + 1) (pages log)) held) (reply.Refused why) → Told s log (Done w) why
+        → IsRuled (done_by n t (is_last (remaining s log)) (turn_of (after_done (remaining s log))) held) (reply.Refused why) → Told s log (Done w) why
     done_by_told w None e t at h = absurd (not_other why cause.Idle is refl h)
     done_by_told w (Some job) e (At_page place view rows) at h = absurd (not_other why cause.Idle is refl h)
     done_by_told w (Some job) e Over at h = absurd (not_other why cause.Idle is refl h)
@@ -247,11 +245,11 @@ module _ (s : Setup) (log : Log) (why : Cause) (is : is_of_rows why ≡ true) wh
         let f = carries_fault n _ reply.Done why is (λ e. cc) h in
         (f.0, f.2, own_or_after w job first jobs drawn at e f.0 f.1)
 
-    page_told_at : (t : Turn) → turn s log ≡ t → IsRuled (page_ruling n t (turn_of (legs_of n) (draws log) (ends log) (pages log + 1))) (reply.Refused why) → Told s log PageIn why
+    page_told_at : (t : Turn) → turn s log ≡ t → IsRuled (page_ruling n t (turn_of (after_page (remaining s log)))) (reply.Refused why) → Told s log PageIn why
     page_told_at (In_wave first jobs drawn) at h = absurd (not_other why cause.NotReady is refl h)
     page_told_at Over at h = absurd (not_other why cause.NotReady is refl h)
     page_told_at (At_page inst view rows) at h =
-        let after : Turn = turn_of (legs_of n) (draws log) (ends log) (pages log + 1) in
+        let after : Turn = turn_of (after_page (remaining s log)) in
         let f = carries_fault n _ (reply.Paged (length rows)) why is (λ e. cc) h in
         let stop = stop_of n (inst + 1) (carried_up_to n after) f.0 f.1 in
         let least = stop.least in
@@ -260,7 +258,7 @@ module _ (s : Setup) (log : Log) (why : Cause) (is : is_of_rows why ≡ true) wh
           f.0,
           f.2,
           after_inst inst view rows stop.place at (omega (arith, least))
-              (subst (λ m. IsBefore n (turn_of (legs_of m) (draws log) (ends log) (pages log + 1)) stop.place) (sym (night-paged s log)) (before_turn n after stop.place stop.below))
+              (subst (λ m. IsBefore n (turn_of (after_page (remaining_in m log))) stop.place) (sym (night-paged s log)) (before_turn n after stop.place stop.below))
               (record { passed = passed; refused = stop.refused }),
         )
 

@@ -1,9 +1,9 @@
 -- Where an open night stands: which legs are over, which jobs of the wave in turn are done, and what is published.
-use Rattle.std.proofs.Common.{◌≡◌, refl, sym, ap, ◌∙◌, subst, ℕ, zero, suc, ◌+◌, ◌-◌, ◌<◌, ◌≤◌, List, [], ◌∷◌, ◌++◌, map, length, Bool, true, false, not, arith, Option, Some, None, cond, eqb, ◌||◌, ⊎_elim}
+use Rattle.std.proofs.Common.{◌≡◌, refl, sym, ap, ◌∙◌, subst, ℕ, zero, suc, ◌+◌, ◌-◌, ◌<◌, ◌≤◌, List, [], ◌∷◌, ◌++◌, map, length, drop, Bool, true, false, not, arith, Option, Some, None, cond, eqb, ◌||◌, ⊎_elim}
 use mathlib.Core.Logic.{◌⊎◌, inl, inr}
-use Rattle.std.specs.Prelude.{nat_lt, nat_le, is_some, slice_get}
+use Rattle.std.specs.Prelude.{nat_le, is_some, slice_get}
 use Rattle.std.specs.List.{All, flat_map, range_with_len}
-use Rattle.std.proofs.lemmas.Bool.{eqb-true, eq-eqb, false≢true, cases_lt}
+use Rattle.std.proofs.lemmas.Bool.{eqb-true, eq-eqb, ne_eqb, false≢true, cases_lt}
 use Rattle.std.proofs.lemmas.List.{append-nil, append_assoc, length-append, length-map}
 use Rattle.std.proofs.lemmas.List.FromFn.{get_or-range_with_len, length-range_with_len}
 use Rattle.std.proofs.lemmas.List.Elements.{All-get_or}
@@ -12,8 +12,8 @@ use Rattle.wh_dag.proofs.Members.{has-head, has-tail, length-le_members}
 use Rattle.wh_row.specs.Weigh.{Counted}
 use Rattle.wh_store.specs.Operations.{Operation, Opens, Writes, Commits, Gives_up}
 use Rattle.wh_store.specs.Versions.{Versions, after, opened, versions_from, versions_of}
-use Rattle.wh_core.specs.Log.{Deed, Log, Began, Drew, Finished, Paged_in, Committed, Gave_up, Sat_down, Turned, Left, nights_begun, is_open, draws, ends, pages, holding}
-use Rattle.wh_core.specs.Nights.{Setup, next_night, night, night_from, last_night, page_in_turn, published, turn, turn_in, versions}
+use Rattle.wh_core.specs.Log.{Log, Began, Drew, Finished, Paged_in, Committed, Gave_up, Sat_down, Turned, Left, last_begun, nights_begun, is_open, pages, holding}
+use Rattle.wh_core.specs.Nights.{Setup, next_night, night, night_from, last_night, page_in_turn, published, remaining, remaining_in, turn, turn_in, versions}
 use Rattle.wh_core.proofs.Stages.{stages_join}
 use Rattle.wh_core.proofs.Deeds.{AreDeeds, IsDeed, none, one_more}
 use Rattle.wh_row.specs.Bag.{Bag}
@@ -28,9 +28,11 @@ use Rattle.wh_carry.specs.Carry.{State, at_first}
 use Rattle.wh_carry.specs.Waves.{comp_of, expressions_of, is_target_among, stages_after, stages_of, wave_of}
 use Rattle.wh_carry.specs.NightList.{inst_pages}
 use Rattle.wh_core.specs.Laws.{IsCompAt, done_places, drawn_places, falls, held_place, job_place}
+use Rattle.wh_core.specs.Replies.{carried_by_done}
 use Rattle.wh_core.specs.Standing.{HaveJobs, IsWithin}
 use Rattle.wh_carry.specs.Night.{Night, ArePassedAt, IsPassedAt, places_from}
-use Rattle.wh_carry.specs.Legs.{Leg, Wave, Page, Turn, In_wave, At_page, Over, legs_after, legs_of, turn_of, carried_up_to}
+use Rattle.wh_carry.specs.Legs.{Leg, Wave, Page, Remaining, Turn, In_wave, At_page, Over, after_done, after_draw, after_page, carried_up_to, is_last, is_one_left, legs_of, turn_at, turn_of, untouched}
+use Rattle.wh_carry.proofs.Places.{places_are}
 use Rattle.wh_core.proofs.Legs.{Covers, IsRising, are_covered, are_rising, have_jobs}
 
 -- what the pages among these legs publish
@@ -56,16 +58,20 @@ front from [] drawn = from
 front from (Wave place jobs ∷ legs) drawn = place + drawn
 front from (Page place view rows ∷ legs) drawn = from
 
--- after so many jobs drawn, jobs done and pages put in the whole night, with these jobs held, where these operations are published, and
--- the Comps at these places are drawn and done
-pub record IsAt (n : Night) (start ops : List Operation) (draws ends pages : ℕ) (hold : ℕ → Option ℕ) (places_drawn places_done : List ℕ) : Type 0 where
+-- these legs are left, and of the first so many jobs are drawn and done
+abbrev pub of_legs : ℕ → ℕ → List Leg → Remaining
+of_legs drawn ended legs = record { legs = legs; drawn = drawn; ended = ended }
+
+-- where this is left of a night and so many pages are put, with these jobs held, where these operations are published, and the Comps at
+-- these places are drawn and done
+pub record IsAt (n : Night) (start ops : List Operation) (r : Remaining) (pages : ℕ) (hold : ℕ → Option ℕ) (places_drawn places_done : List ℕ) : Type 0 where
   pub over : List Leg
   pub rest : List Leg
   pub drawn : ℕ
   pub ended : ℕ
   pub done : List ℕ
   pub split : legs_of n ≡ over ++ rest
-  pub ahead : (x y z : ℕ) → turn_of (legs_of n) (draws + x) (ends + y) (pages + z) ≡ turn_of rest (drawn + x) (ended + y) z
+  pub is : r ≡ of_legs drawn ended rest
   pub within : IsWithin rest drawn ended
   pub some : HaveJobs rest
   pub each : length done ≡ ended
@@ -73,7 +79,7 @@ pub record IsAt (n : Night) (start ops : List Operation) (draws ends pages : ℕ
   pub below : (j : ℕ) → has done j ≡ true → j < drawn
   pub held : (w j : ℕ) → hold w ≡ Some j → (j < drawn) × (has done j ≡ false)
   pub alone : (w u j : ℕ) → hold w ≡ Some j → hold u ≡ Some j → w ≡ u
-  pub passes : (p : ℕ) → p < carried_up_to n (turn_of rest drawn ended 0) → IsPassedAt n p
+  pub passes : (p : ℕ) → p < carried_up_to n (turn_at rest drawn) → IsPassedAt n p
   pub jobs_pass : (j : ℕ) → has done j ≡ true → IsPassedAt n (wave_place rest + j)
   pub whole : ops ≡ start ++ Opens ∷ ops_of over
   pub paged : length (ops_of over) ≡ pages
@@ -92,55 +98,49 @@ pub record IsAt (n : Night) (start ops : List Operation) (draws ends pages : ℕ
   pub done_wave : (j : ℕ) → has done j ≡ true → has places_done (wave_place rest + j) ≡ true
   pub held_drawn : (w j : ℕ) → hold w ≡ Some j → (has places_drawn (wave_place rest + j) ≡ true) × (has places_done (wave_place rest + j) ≡ false)
 
--- ---- numbers
-
-pub lt_true : (a b : ℕ) → a < b → nat_lt a b ≡ true
-lt_true a b h = grind arith
-
-pub ge_false : (a b : ℕ) → b ≤ a → nat_lt a b ≡ false
-ge_false a b h = grind arith
-
 -- what is in turn
-pub now : (n : Night) (start ops : List Operation) (d e p : ℕ) (hold : ℕ → Option ℕ) (us vs : List ℕ) (a : IsAt n start ops d e p hold us vs) → turn_of (legs_of n) d e p ≡ turn_of a.rest a.drawn a.ended 0
-now n start ops d e p hold us vs a =
-    let x : d ≡ d + 0 = omega arith in
-    let y : e ≡ e + 0 = omega arith in
-    let z : p ≡ p + 0 = omega arith in
-    let u : a.drawn + 0 ≡ a.drawn = omega arith in
-    let v : a.ended + 0 ≡ a.ended = omega arith in
-    (λ i. turn_of (legs_of n) (x i) (y i) (z i)) ∙ a.ahead 0 0 0 ∙ (λ i. turn_of a.rest (u i) (v i) 0)
-
-pub wave_turn : (place jobs drawn ended : ℕ) (legs : List Leg) → ended < jobs → turn_of (Wave place jobs ∷ legs) drawn ended 0 ≡ In_wave place jobs drawn
-wave_turn place jobs drawn ended legs l = ap (λ b. cond b (In_wave place jobs drawn) (turn_of legs (drawn - jobs) (ended - jobs) 0)) (lt_true ended jobs l)
+pub now : (n : Night) (start ops : List Operation) (r : Remaining) (p : ℕ) (hold : ℕ → Option ℕ) (us vs : List ℕ) (a : IsAt n start ops r p hold us vs) → turn_of r ≡ turn_at a.rest a.drawn
+now n start ops r p hold us vs a = ap turn_of a.is
 
 -- the legs where a wave is in turn
-pub wave_legs : (legs : List Leg) (drawn ended place jobs k : ℕ) → IsWithin legs drawn ended → turn_of legs drawn ended 0 ≡ In_wave place jobs k
-    → (later : List Leg) × (legs ≡ Wave place jobs ∷ later) × (drawn ≡ k)
-wave_legs [] drawn ended place jobs k w e = cc
-wave_legs (Page q v rows ∷ legs) drawn ended place jobs k w e = cc
-wave_legs (Wave q m ∷ legs) drawn ended place jobs k w e =
-    let t : In_wave q m drawn ≡ In_wave place jobs k = sym (ap (λ b. cond b (In_wave q m drawn) (turn_of legs (drawn - m) (ended - m) 0)) (lt_true ended m w.1)) ∙ e in
+pub wave_legs : (legs : List Leg) (drawn place jobs k : ℕ) → turn_at legs drawn ≡ In_wave place jobs k → (later : List Leg) × (legs ≡ Wave place jobs ∷ later) × (drawn ≡ k)
+wave_legs [] drawn place jobs k e = cc
+wave_legs (Page q v rows ∷ legs) drawn place jobs k e = cc
+wave_legs (Wave q m ∷ legs) drawn place jobs k e =
     let a : q ≡ place = cc in
     let b : m ≡ jobs = cc in
     let c : drawn ≡ k = cc in
     (legs, (λ i. Wave (a i) (b i) ∷ legs), c)
 
-page_legs : (legs : List Leg) (drawn ended place view : ℕ) (rows : Counted) → IsWithin legs drawn ended → turn_of legs drawn ended 0 ≡ At_page place view rows
-    → (later : List Leg) × (legs ≡ Page place view rows ∷ later)
-page_legs [] drawn ended place view rows w e = cc
-page_legs (Page q v r ∷ legs) drawn ended place view rows w e =
+page_legs : (legs : List Leg) (drawn place view : ℕ) (rows : Counted) → turn_at legs drawn ≡ At_page place view rows → (later : List Leg) × (legs ≡ Page place view rows ∷ later)
+page_legs [] drawn place view rows e = cc
+page_legs (Page q v r ∷ legs) drawn place view rows e =
     let a : q ≡ place = cc in
     let b : v ≡ view = cc in
     let c : r ≡ rows = cc in
     (legs, λ i. Page (a i) (b i) (c i) ∷ legs)
-page_legs (Wave q m ∷ legs) drawn ended place view rows w e =
-    let t : In_wave q m drawn ≡ At_page place view rows = sym (ap (λ b. cond b (In_wave q m drawn) (turn_of legs (drawn - m) (ended - m) 0)) (lt_true ended m w.1)) ∙ e in cc
+page_legs (Wave q m ∷ legs) drawn place view rows e = cc
 
-pub over_legs : (legs : List Leg) (drawn ended : ℕ) → IsWithin legs drawn ended → turn_of legs drawn ended 0 ≡ Over → legs ≡ []
-over_legs [] drawn ended w e = refl
-over_legs (Page q v r ∷ legs) drawn ended w e = cc
-over_legs (Wave q m ∷ legs) drawn ended w e =
-    let t : In_wave q m drawn ≡ Over = sym (ap (λ b. cond b (In_wave q m drawn) (turn_of legs (drawn - m) (ended - m) 0)) (lt_true ended m w.1)) ∙ e in cc
+pub over_legs : (legs : List Leg) (drawn : ℕ) → turn_at legs drawn ≡ Over → legs ≡ []
+over_legs [] drawn e = refl
+over_legs (Page q v r ∷ legs) drawn e = cc
+over_legs (Wave q m ∷ legs) drawn e = cc
+
+-- the last Done of a wave takes it off the list, another one leaves it there
+pub last_of : (place jobs ended : ℕ) (legs : List Leg) → ended + 1 ≡ jobs → is_one_left (Wave place jobs ∷ legs) ended ≡ true
+last_of place jobs ended legs e = eq-eqb (ended + 1) jobs e
+
+pub not_last_of : (place jobs ended : ℕ) (legs : List Leg) → ended + 1 < jobs → is_one_left (Wave place jobs ∷ legs) ended ≡ false
+not_last_of place jobs ended legs l = ne_eqb (ended + 1) jobs (λ e. omega (arith, e, l))
+
+pub off_the_list : (place jobs drawn ended : ℕ) (legs : List Leg) → ended + 1 ≡ jobs → after_done (of_legs drawn ended (Wave place jobs ∷ legs)) ≡ untouched legs
+off_the_list place jobs drawn ended legs e =
+    ap (λ b. cond b (untouched legs) (of_legs drawn (ended + 1) (Wave place jobs ∷ legs))) (last_of place jobs ended legs e)
+
+pub on_the_list : (place jobs drawn ended : ℕ) (legs : List Leg) → ended + 1 < jobs
+    → after_done (of_legs drawn ended (Wave place jobs ∷ legs)) ≡ of_legs drawn (ended + 1) (Wave place jobs ∷ legs)
+on_the_list place jobs drawn ended legs l =
+    ap (λ b. cond b (untouched legs) (of_legs drawn (ended + 1) (Wave place jobs ∷ legs))) (not_last_of place jobs ended legs l)
 
 -- how many expressions are carried out where legs are in turn
 abbrev pub come_to : ℕ → List Leg → ℕ
@@ -148,10 +148,10 @@ come_to end [] = end
 come_to end (Wave place jobs ∷ legs) = place
 come_to end (Page place view rows ∷ legs) = place + 1
 
-pub reach_is : (n : Night) (legs : List Leg) (drawn ended : ℕ) → IsWithin legs drawn ended → carried_up_to n (turn_of legs drawn ended 0) ≡ come_to (length n.list) legs
-reach_is n [] drawn ended w = refl
-reach_is n (Page q v r ∷ legs) drawn ended w = refl
-reach_is n (Wave q m ∷ legs) drawn ended w = ap (λ b. carried_up_to n (cond b (In_wave q m drawn) (turn_of legs (drawn - m) (ended - m) 0))) (lt_true ended m w.1)
+pub reach_is : (n : Night) (legs : List Leg) (drawn : ℕ) → carried_up_to n (turn_at legs drawn) ≡ come_to (length n.list) legs
+reach_is n [] drawn = refl
+reach_is n (Page q v r ∷ legs) drawn = refl
+reach_is n (Wave q m ∷ legs) drawn = refl
 
 -- legs of which nothing is drawn
 pub fresh : (legs : List Leg) → HaveJobs legs → IsWithin legs 0 0
@@ -167,13 +167,18 @@ among P a b p all l m =
     let small : i < b - a = omega arith in
     let at : a + i ≡ p = omega arith in
     subst P (get_or-range_with_len a (b - a) i 0 small ∙ at)
-    (All-get_or P (places_from a b) i 0 (subst (λ k. i < k) (sym (length-range_with_len a (b - a))) small) all)
+    (All-get_or P (range_with_len a (b - a)) i 0 (subst (λ k. i < k) (sym (length-range_with_len a (b - a))) small) (subst (All P) (places_are a b) all))
 
 pub all-head : (P : ℕ → Type 0) (x : ℕ) (xs : List ℕ) → All P (x ∷ xs) → P x
 all-head P x xs all = all 0 x (omega arith)
 
 pub all-tail : (P : ℕ → Type 0) (x : ℕ) (xs : List ℕ) → All P (x ∷ xs) → All P xs
 all-tail P x xs all = λ k d l. all (suc k) d (omega arith)
+
+-- with a job its place is passed, and with the last one the places behind the wave
+pub own_passed : (n : Night) (place jobs job : ℕ) (last : Bool) (next : Turn) → ArePassedAt n (carried_by_done n place jobs job last next) → IsPassedAt n (place + job)
+own_passed n place jobs job true next passed = all-head (IsPassedAt n) (place + job) (places_from (place + jobs) (carried_up_to n next)) passed
+own_passed n place jobs job false next passed = all-head (IsPassedAt n) (place + job) [] passed
 
 -- ---- jobs
 
@@ -225,7 +230,7 @@ abbrev pub holds_at : ℕ → Option ℕ → (ℕ → Option ℕ) → ℕ → Op
 holds_at w o hold u = cond (eqb w u) o (hold u)
 
 module _ (n : Night) where
-  pub begins : (ops : List Operation) → HaveJobs (legs_of n) → IsRising 0 (legs_of n) → Covers n.list 0 (legs_of n) → ArePassedAt n (places_from 0 (carried_up_to n (turn_of (legs_of n) 0 0 0))) → IsAt n ops (ops ++ Opens ∷ []) 0 0 0 (λ _. None) [] []
+  pub begins : (ops : List Operation) → HaveJobs (legs_of n) → IsRising 0 (legs_of n) → Covers n.list 0 (legs_of n) → ArePassedAt n (places_from 0 (carried_up_to n (turn_of (untouched (legs_of n))))) → IsAt n ops (ops ++ Opens ∷ []) (untouched (legs_of n)) 0 (λ _. None) [] []
   unfolding Distinct has
   begins ops jobs rising covers passed = record {
     over = [];
@@ -234,7 +239,7 @@ module _ (n : Night) where
     ended = 0;
     done = [];
     split = refl;
-    ahead = λ x y z. let e : 0 + z ≡ z = omega arith in ap (turn_of (legs_of n) (0 + x) (0 + y)) e;
+    is = refl;
     within = fresh (legs_of n) jobs;
     some = jobs;
     each = refl;
@@ -242,7 +247,7 @@ module _ (n : Night) where
     below = λ j e. absurd (false≢true e);
     held = λ w j e. cc;
     alone = λ w u j e f. cc;
-    passes = λ p l. among (IsPassedAt n) 0 (carried_up_to n (turn_of (legs_of n) 0 0 0)) p passed (omega arith) l;
+    passes = λ p l. among (IsPassedAt n) 0 (carried_up_to n (turn_of (untouched (legs_of n)))) p passed (omega arith) l;
     jobs_pass = λ j e. absurd (false≢true e);
     whole = refl;
     paged = refl;
@@ -262,14 +267,10 @@ module _ (n : Night) where
     held_drawn = λ w j e. cc;
   }
 
-  wave_now : (rest later : List Leg) (place jobs drawn ended : ℕ) → rest ≡ Wave place jobs ∷ later → ended < jobs → turn_of rest drawn ended 0 ≡ In_wave place jobs drawn
-  wave_now rest later place jobs drawn ended is l =
-      ap (λ r. turn_of r drawn ended 0) is ∙ ap (λ b. cond b (In_wave place jobs drawn) (turn_of later (drawn - jobs) (ended - jobs) 0)) (lt_true ended jobs l)
-
-  pub drew : (start ops : List Operation) (d e p : ℕ) (hold : ℕ → Option ℕ) (us vs : List ℕ) (w place jobs k : ℕ) → IsAt n start ops d e p hold us vs → turn_of (legs_of n) d e p ≡ In_wave place jobs k → k < jobs → hold w ≡ None
-      → IsAt n start ops (d + 1) e p (holds_at w (Some k) hold) ((place + k) ∷ us) vs
+  pub drew : (start ops : List Operation) (r : Remaining) (p : ℕ) (hold : ℕ → Option ℕ) (us vs : List ℕ) (w place jobs k : ℕ) → IsAt n start ops r p hold us vs → turn_of r ≡ In_wave place jobs k → k < jobs → hold w ≡ None
+      → IsAt n start ops (after_draw r) p (holds_at w (Some k) hold) ((place + k) ∷ us) vs
   unfolding has Distinct
-  drew start ops d e p hold us vs w place jobs k a is l free =
+  drew start ops r p hold us vs w place jobs k a is l free =
       record {
         over = a.over;
         rest = a.rest;
@@ -277,10 +278,7 @@ module _ (n : Night) where
         ended = a.ended;
         done = a.done;
         split = a.split;
-        ahead = λ x y z.
-            let f : d + 1 + x ≡ d + (1 + x) = omega arith in
-            let g : a.drawn + (1 + x) ≡ a.drawn + 1 + x = omega arith in
-            (λ i. turn_of (legs_of n) (f i) (e + y) (p + z)) ∙ a.ahead (1 + x) y z ∙ (λ i. turn_of a.rest (g i) (a.ended + y) z);
+        is = ap after_draw a.is;
         within = subst (λ l. IsWithin l (a.drawn + 1) a.ended) (sym legs.1) (let w = subst (λ l. IsWithin l a.drawn a.ended) legs.1 a.within in let same = legs.2 in (omega (arith, same, l), w.1));
         some = a.some;
         each = a.each;
@@ -312,7 +310,7 @@ module _ (n : Night) where
       }
     where
       legs : (later : List Leg) × (a.rest ≡ Wave place jobs ∷ later) × (a.drawn ≡ k)
-      legs = wave_legs a.rest a.drawn a.ended place jobs k a.within (sym (now n start ops d e p hold us vs a) ∙ is)
+      legs = wave_legs a.rest a.drawn place jobs k (sym (now n start ops r p hold us vs a) ∙ is)
 
       covered : ((p : ℕ) → a.upto ≤ p → p < place → ¬ (IsCompAt n.list p)) × ((j : ℕ) → j < jobs → IsCompAt n.list (place + j)) × Covers n.list (place + jobs) legs.0
       covered = subst (Covers n.list a.upto) legs.1 a.covers
@@ -342,11 +340,8 @@ module _ (n : Night) where
         | false ↦ λ f. let b = subst (λ r. (has us (wave_place r + j) ≡ true) × (has vs (wave_place r + j) ≡ false)) legs.1 (a.held_drawn u j f) in (has-tail (place + k) (place + j) us b.0, b.1)
       ]
 
-      left : a.ended < jobs
-      left = (subst (λ l. IsWithin l a.drawn a.ended) legs.1 a.within).1
-
-      same_reach : carried_up_to n (turn_of a.rest (a.drawn + 1) a.ended 0) ≡ carried_up_to n (turn_of a.rest a.drawn a.ended 0)
-      same_reach = ap (carried_up_to n) (wave_now a.rest legs.0 place jobs (a.drawn + 1) a.ended legs.1 left) ∙ sym (ap (carried_up_to n) (wave_now a.rest legs.0 place jobs a.drawn a.ended legs.1 left))
+      same_reach : carried_up_to n (turn_at a.rest (a.drawn + 1)) ≡ carried_up_to n (turn_at a.rest a.drawn)
+      same_reach = reach_is n a.rest (a.drawn + 1) ∙ sym (reach_is n a.rest a.drawn)
 
       not_yet : (j : ℕ) → a.drawn ≤ j → has a.done j ≡ false
       not_yet j l = elim (has a.done j) as (λ b. has a.done j ≡ b → b ≡ false) [
@@ -369,10 +364,10 @@ module _ (n : Night) where
         ] refl
       ] refl
 
-  module _ (start ops : List Operation) (d e p : ℕ) (hold : ℕ → Option ℕ) (us vs : List ℕ) (w place jobs drawn job : ℕ) (a : IsAt n start ops d e p hold us vs) (is : turn_of (legs_of n) d e p ≡ In_wave place jobs drawn) (mine : hold w ≡ Some job)
-      (passed : ArePassedAt n ((place + job) ∷ places_from (place + jobs) (carried_up_to n (turn_of (legs_of n) d (e + 1) p)))) where
+  module _ (start ops : List Operation) (r : Remaining) (p : ℕ) (hold : ℕ → Option ℕ) (us vs : List ℕ) (w place jobs drawn job : ℕ) (a : IsAt n start ops r p hold us vs) (is : turn_of r ≡ In_wave place jobs drawn) (mine : hold w ≡ Some job)
+      (passed : ArePassedAt n (carried_by_done n place jobs job (is_last r) (turn_of (after_done r)))) where
     legs : (later : List Leg) × (a.rest ≡ Wave place jobs ∷ later) × (a.drawn ≡ drawn)
-    legs = wave_legs a.rest a.drawn a.ended place jobs drawn a.within (sym (now n start ops d e p hold us vs a) ∙ is)
+    legs = wave_legs a.rest a.drawn place jobs drawn (sym (now n start ops r p hold us vs a) ∙ is)
 
     counts : (a.drawn ≤ jobs) × (a.ended < jobs)
     counts = subst (λ l. IsWithin l a.drawn a.ended) legs.1 a.within
@@ -402,7 +397,7 @@ module _ (n : Night) where
     drawn_more = let f = few (job ∷ a.done) a.drawn distinct_now below_now in let each = a.each in omega (arith, f, each)
 
     jobs_pass_now : (j : ℕ) → has (job ∷ a.done) j ≡ true → IsPassedAt n (place + j)
-    jobs_pass_now j t = ⊎_elim (λ same. subst (λ k. IsPassedAt n (place + k)) same (all-head (IsPassedAt n) (place + job) (places_from (place + jobs) (carried_up_to n (turn_of (legs_of n) d (e + 1) p))) passed))
+    jobs_pass_now j t = ⊎_elim (λ same. subst (λ k. IsPassedAt n (place + k)) same (own_passed n place jobs job (is_last r) (turn_of (after_done r)) passed))
         (λ m. subst (λ l. IsPassedAt n (wave_place l + j)) legs.1 (a.jobs_pass j m)) (member j t)
 
     -- another worker's job is not this one
@@ -454,7 +449,7 @@ module _ (n : Night) where
     ] refl
 
     -- a job that is not the last of its wave
-    pub finished_one : a.ended + 1 < jobs → IsAt n start ops d (e + 1) p (holds_at w None hold) us ((place + job) ∷ vs)
+    pub finished_one : a.ended + 1 < jobs → IsAt n start ops (after_done r) p (holds_at w None hold) us ((place + job) ∷ vs)
     finished_one l = record {
       over = a.over;
       rest = a.rest;
@@ -462,10 +457,10 @@ module _ (n : Night) where
       ended = a.ended + 1;
       done = job ∷ a.done;
       split = a.split;
-      ahead = λ x y z.
-          let f : e + 1 + y ≡ e + (1 + y) = omega arith in
-          let g : a.ended + (1 + y) ≡ a.ended + 1 + y = omega arith in
-          (λ i. turn_of (legs_of n) (d + x) (f i) (p + z)) ∙ a.ahead x (1 + y) z ∙ (λ i. turn_of a.rest (a.drawn + x) (g i) z);
+      is =
+          ap after_done (a.is ∙ ap (of_legs a.drawn a.ended) legs.1)
+          ∙ on_the_list place jobs a.drawn a.ended legs.0 l
+          ∙ ap (of_legs a.drawn (a.ended + 1)) (sym legs.1);
       within = subst (λ r. IsWithin r a.drawn (a.ended + 1)) (sym legs.1) (counts.0, l);
       some = a.some;
       each = let each = a.each in omega (arith, each);
@@ -473,7 +468,7 @@ module _ (n : Night) where
       below = below_now;
       held = held_now;
       alone = alone_now;
-      passes = λ q m. a.passes q (subst (λ k. q < k) (ap (carried_up_to n) (wave_now a.rest legs.0 place jobs a.drawn (a.ended + 1) legs.1 l) ∙ sym (ap (carried_up_to n) (wave_now a.rest legs.0 place jobs a.drawn a.ended legs.1 counts.1))) m);
+      passes = a.passes;
       jobs_pass = λ j t. subst (λ r. IsPassedAt n (wave_place r + j)) (sym legs.1) (jobs_pass_now j t);
       whole = a.whole;
       paged = a.paged;
@@ -501,36 +496,28 @@ module _ (n : Night) where
       all_done : (j : ℕ) → j < jobs → has (job ∷ a.done) j ≡ true
       all_done j l = all_below (job ∷ a.done) jobs j distinct_now (λ q t. subst (λ k. q < k) all_drawn (below_now q t)) (let each = a.each in omega (arith, each, last)) l
 
-      next : (x y z : ℕ) → turn_of (legs_of n) (d + x) (e + 1 + y) (p + z) ≡ turn_of legs.0 (0 + x) (0 + y) z
-      next x y z =
-          let f : e + 1 + y ≡ e + (1 + y) = omega arith in
-          let drawn_all = all_drawn in
-          let g : a.drawn + x - jobs ≡ 0 + x = omega (arith, drawn_all) in
-          let h : a.ended + (1 + y) - jobs ≡ 0 + y = omega (arith, last) in
-          (λ i. turn_of (legs_of n) (d + x) (f i) (p + z)) ∙ a.ahead x (1 + y) z
-          ∙ ap (λ r. turn_of r (a.drawn + x) (a.ended + (1 + y)) z) legs.1
-          ∙ ap (λ b. cond b (In_wave place jobs (a.drawn + x)) (turn_of legs.0 (a.drawn + x - jobs) (a.ended + (1 + y) - jobs) z)) (ge_false (a.ended + (1 + y)) jobs (omega (arith, last)))
-          ∙ (λ i. turn_of legs.0 (g i) (h i) z)
+      next : after_done r ≡ untouched legs.0
+      next = ap after_done (a.is ∙ ap (of_legs a.drawn a.ended) legs.1) ∙ off_the_list place jobs a.drawn a.ended legs.0 last
 
-      next_now : turn_of (legs_of n) d (e + 1) p ≡ turn_of legs.0 0 0 0
-      next_now =
-          let x : d ≡ d + 0 = omega arith in
-          let y : e + 1 ≡ e + 1 + 0 = omega arith in
-          let z : p ≡ p + 0 = omega arith in
-          (λ i. turn_of (legs_of n) (x i) (y i) (z i)) ∙ next 0 0 0
+      last_now : is_last r ≡ true
+      last_now = ap is_last (a.is ∙ ap (of_legs a.drawn a.ended) legs.1) ∙ last_of place jobs a.ended legs.0 last
 
-      passes_now : (q : ℕ) → q < carried_up_to n (turn_of legs.0 0 0 0) → IsPassedAt n q
+      behind_passed : ArePassedAt n (places_from (place + jobs) (carried_up_to n (turn_of (after_done r))))
+      behind_passed =
+          all-tail (IsPassedAt n) (place + job) (places_from (place + jobs) (carried_up_to n (turn_of (after_done r))))
+          (subst (λ b. ArePassedAt n (carried_by_done n place jobs job b (turn_of (after_done r)))) last_now passed)
+
+      passes_now : (q : ℕ) → q < carried_up_to n (turn_at legs.0 0) → IsPassedAt n q
       passes_now q l =
           ⊎_elim
-          (λ m. a.passes q (subst (λ k. q < k) (sym (ap (carried_up_to n) (wave_now a.rest legs.0 place jobs a.drawn a.ended legs.1 counts.1))) m))
+          (λ m. a.passes q (subst (λ legs. q < carried_up_to n (turn_at legs a.drawn)) (sym legs.1) m))
           (λ m. ⊎_elim
           (λ k. let at : place + (q - place) ≡ q = omega arith in subst (IsPassedAt n) at (jobs_pass_now (q - place) (all_done (q - place) (omega arith))))
-          (λ k. among (IsPassedAt n) (place + jobs) (carried_up_to n (turn_of (legs_of n) d (e + 1) p)) q (all-tail (IsPassedAt n) (place + job) (places_from (place + jobs) (carried_up_to n (turn_of (legs_of n) d (e + 1) p))) passed) k
-          (subst (λ k. q < k) (sym (ap (carried_up_to n) next_now)) l))
+          (λ k. among (IsPassedAt n) (place + jobs) (carried_up_to n (turn_of (after_done r))) q behind_passed k (subst (λ r. q < carried_up_to n (turn_of r)) (sym next) l))
           (cases_lt q (place + jobs)))
           (cases_lt q place)
 
-      pub finished_all : IsAt n start ops d (e + 1) p (holds_at w None hold) us ((place + job) ∷ vs)
+      pub finished_all : IsAt n start ops (after_done r) p (holds_at w None hold) us ((place + job) ∷ vs)
       unfolding Distinct has
       finished_all = record {
         over = a.over ++ Wave place jobs ∷ [];
@@ -539,7 +526,7 @@ module _ (n : Night) where
         ended = 0;
         done = [];
         split = a.split ∙ ap (λ r. a.over ++ r) legs.1 ∙ sym (append_assoc a.over (Wave place jobs ∷ []) legs.0);
-        ahead = next;
+        is = next;
         within = fresh legs.0 (subst HaveJobs legs.1 a.some).1;
         some = (subst HaveJobs legs.1 a.some).1;
         each = refl;
@@ -578,20 +565,20 @@ module _ (n : Night) where
         held_drawn = λ u j t. let b = held_now u j t in absurd (false≢true (sym b.1 ∙ all_done j (subst (λ k. j < k) all_drawn b.0)));
       }
 
-    pub finished : IsAt n start ops d (e + 1) p (holds_at w None hold) us ((place + job) ∷ vs)
+    pub finished : IsAt n start ops (after_done r) p (holds_at w None hold) us ((place + job) ∷ vs)
     finished = ⊎_elim (λ l. finished_one l) (λ l. let c = counts.1 in finished_all (omega (arith, c, l))) (cases_lt (a.ended + 1) jobs)
 
-  pub paged : (start ops : List Operation) (d e p : ℕ) (hold : ℕ → Option ℕ) (us vs : List ℕ) (place view : ℕ) (rows : Counted) → IsAt n start ops d e p hold us vs → turn_of (legs_of n) d e p ≡ At_page place view rows
-      → ArePassedAt n (places_from (place + 1) (carried_up_to n (turn_of (legs_of n) d e (p + 1)))) → IsAt n start (ops ++ Writes view rows ∷ []) d e (p + 1) hold us vs
+  pub paged : (start ops : List Operation) (r : Remaining) (p : ℕ) (hold : ℕ → Option ℕ) (us vs : List ℕ) (place view : ℕ) (rows : Counted) → IsAt n start ops r p hold us vs → turn_of r ≡ At_page place view rows
+      → ArePassedAt n (places_from (place + 1) (carried_up_to n (turn_of (after_page r)))) → IsAt n start (ops ++ Writes view rows ∷ []) (after_page r) (p + 1) hold us vs
   unfolding Distinct has
-  paged start ops d e p hold us vs place view rows a is passed = record {
+  paged start ops r p hold us vs place view rows a is passed = record {
     over = a.over ++ Page place view rows ∷ [];
     rest = legs.0;
     drawn = a.drawn;
     ended = a.ended;
     done = a.done;
     split = a.split ∙ ap (λ r. a.over ++ r) legs.1 ∙ sym (append_assoc a.over (Page place view rows ∷ []) legs.0);
-    ahead = next;
+    is = next;
     within = subst (λ k. IsWithin legs.0 k a.ended) (sym none.0) (subst (λ k. IsWithin legs.0 0 k) (sym none.1) (fresh legs.0 more));
     some = more;
     each = a.each;
@@ -623,7 +610,7 @@ module _ (n : Night) where
   }
     where
       legs : (later : List Leg) × (a.rest ≡ Page place view rows ∷ later)
-      legs = page_legs a.rest a.drawn a.ended place view rows a.within (sym (now n start ops d e p hold us vs a) ∙ is)
+      legs = page_legs a.rest a.drawn place view rows (sym (now n start ops r p hold us vs a) ∙ is)
 
       none : (a.drawn ≡ 0) × (a.ended ≡ 0)
       none = subst (λ r. IsWithin r a.drawn a.ended) legs.1 a.within
@@ -634,25 +621,17 @@ module _ (n : Night) where
       more : HaveJobs legs.0
       more = subst HaveJobs legs.1 a.some
 
-      next : (x y z : ℕ) → turn_of (legs_of n) (d + x) (e + y) (p + 1 + z) ≡ turn_of legs.0 (a.drawn + x) (a.ended + y) z
-      next x y z =
-          let f : p + 1 + z ≡ p + suc z = omega arith in
-          (λ i. turn_of (legs_of n) (d + x) (e + y) (f i)) ∙ a.ahead x y (suc z) ∙ ap (λ r. turn_of r (a.drawn + x) (a.ended + y) (suc z)) legs.1
+      next : after_page r ≡ of_legs a.drawn a.ended legs.0
+      next =
+          ap after_page a.is
+          ∙ ap (λ legs. untouched (drop 1 legs)) legs.1
+          ∙ (λ i. of_legs (sym none.0 i) (sym none.1 i) legs.0)
 
-      next_now : turn_of (legs_of n) d e (p + 1) ≡ turn_of legs.0 a.drawn a.ended 0
-      next_now =
-          let x : d ≡ d + 0 = omega arith in
-          let y : e ≡ e + 0 = omega arith in
-          let z : p + 1 ≡ p + 1 + 0 = omega arith in
-          let u : a.drawn + 0 ≡ a.drawn = omega arith in
-          let v : a.ended + 0 ≡ a.ended = omega arith in
-          (λ i. turn_of (legs_of n) (x i) (y i) (z i)) ∙ next 0 0 0 ∙ (λ i. turn_of legs.0 (u i) (v i) 0)
-
-      passes_now : (q : ℕ) → q < carried_up_to n (turn_of legs.0 a.drawn a.ended 0) → IsPassedAt n q
+      passes_now : (q : ℕ) → q < carried_up_to n (turn_at legs.0 a.drawn) → IsPassedAt n q
       passes_now q l =
           ⊎_elim
-          (λ m. a.passes q (subst (λ r. q < carried_up_to n (turn_of r a.drawn a.ended 0)) (sym legs.1) m))
-          (λ m. among (IsPassedAt n) (place + 1) (carried_up_to n (turn_of (legs_of n) d e (p + 1))) q passed m (subst (λ k. q < k) (sym (ap (carried_up_to n) next_now)) l))
+          (λ m. a.passes q (subst (λ legs. q < carried_up_to n (turn_at legs a.drawn)) (sym legs.1) m))
+          (λ m. among (IsPassedAt n) (place + 1) (carried_up_to n (turn_of (after_page r))) q passed m (subst (λ r. q < carried_up_to n (turn_of r)) (sym next) l))
           (cases_lt q (place + 1))
 
 -- ---- the log
@@ -670,14 +649,13 @@ newest-paged v Over = refl
 pub night-began : (s : Setup) (log : Log) → night s (Began ∷ log) ≡ next_night s log
 unfolding published
 night-began s log =
-    let n : nights_begun log + 1 - 1 ≡ nights_begun log = omega arith in
-    (λ i. night_from s ((ap (λ (v : Versions). v.newest) (versions_from-append (opened s.opening) (published s log) (Opens ∷ []))) i) (n i))
+    ap (λ (v : Versions). night_from s v.newest (nights_begun log)) (versions_from-append (opened s.opening) (published s log) (Opens ∷ []))
 
 pub night-paged : (s : Setup) (log : Log) → night s (Paged_in ∷ log) ≡ night s log
 unfolding published
 night-paged s log =
     let t : Turn = turn_in (last_night s log (published s log)) log in
-    (λ i. night_from s ((ap (λ (v : Versions). v.newest) (versions_from-append (opened s.opening) (published s log) (page_in_turn t)) ∙ newest-paged (versions s log) t) i) (nights_begun log - 1))
+    (λ i. night_from s ((ap (λ (v : Versions). v.newest) (versions_from-append (opened s.opening) (published s log) (page_in_turn t)) ∙ newest-paged (versions s log) t) i) (last_begun log))
 
 -- what was published when the night that began last began
 abbrev pub start_of : Setup → Log → List Operation
@@ -687,24 +665,24 @@ start_of s (d ∷ log) = start_of s log
 
 -- where an open night stands
 abbrev pub Underway : Setup → Log → Type 0
-Underway s log = IsAt (night s log) (start_of s log) (published s log) (draws log) (ends log) (pages log) (holding log) (drawn_places s log) (done_places s log)
+Underway s log = IsAt (night s log) (start_of s log) (published s log) (remaining s log) (pages log) (holding log) (drawn_places s log) (done_places s log)
 
 pub underway : (s : Setup) (log : Log) → AreDeeds s log → is_open log ≡ true → Underway s log
 unfolding published
 underway s _ none e = cc
 underway s _ (one_more log Began before deed) e =
-    subst (λ n. IsAt n (published s log) (published s log ++ Opens ∷ []) 0 0 0 (λ _. None) [] []) (sym (night-began s log)) (begins (next_night s log) (published s log) (have_jobs (next_night s log)) (are_rising (next_night s log)) (are_covered (next_night s log)) deed.3)
+    subst (λ n. IsAt n (published s log) (published s log ++ Opens ∷ []) (untouched (legs_of n)) 0 (λ _. None) [] []) (sym (night-began s log)) (begins (next_night s log) (published s log) (have_jobs (next_night s log)) (are_rising (next_night s log)) (are_covered (next_night s log)) deed.3)
 underway s _ (one_more log (Drew w k) before deed) e =
-    subst (λ q. IsAt (night s log) (start_of s log) (published s log) (draws log + 1) (ends log) (pages log) (holds_at w (Some k) (holding log)) (q ∷ drawn_places s log) (done_places s log)) (sym (ap (λ t. job_place t k) deed.4))
-    (drew (night s log) (start_of s log) (published s log) (draws log) (ends log) (pages log) (holding log) (drawn_places s log) (done_places s log) w deed.2 deed.3 k (underway s log before deed.0) deed.4 deed.5 deed.1)
+    subst (λ q. IsAt (night s log) (start_of s log) (published s log) (after_draw (remaining s log)) (pages log) (holds_at w (Some k) (holding log)) (q ∷ drawn_places s log) (done_places s log)) (sym (ap (λ t. job_place t k) deed.4))
+    (drew (night s log) (start_of s log) (published s log) (remaining s log) (pages log) (holding log) (drawn_places s log) (done_places s log) w deed.2 deed.3 k (underway s log before deed.0) deed.4 deed.5 deed.1)
 underway s _ (one_more log (Finished w) before deed) e =
-    subst (λ qs. IsAt (night s log) (start_of s log) (published s log) (draws log) (ends log + 1) (pages log) (holds_at w None (holding log)) (drawn_places s log) (qs ++ done_places s log)) (sym (λ i. held_place (deed.6 i) (deed.2 i)))
-    (finished (night s log) (start_of s log) (published s log) (draws log) (ends log) (pages log) (holding log) (drawn_places s log) (done_places s log) w deed.3 deed.4 deed.5 deed.1 (underway s log before deed.0) deed.6 deed.2 deed.7)
+    subst (λ qs. IsAt (night s log) (start_of s log) (published s log) (after_done (remaining s log)) (pages log) (holds_at w None (holding log)) (drawn_places s log) (qs ++ done_places s log)) (sym (λ i. held_place (deed.6 i) (deed.2 i)))
+    (finished (night s log) (start_of s log) (published s log) (remaining s log) (pages log) (holding log) (drawn_places s log) (done_places s log) w deed.3 deed.4 deed.5 deed.1 (underway s log before deed.0) deed.6 deed.2 deed.7)
 underway s _ (one_more log Paged_in before deed) e =
     let t : turn s log ≡ At_page deed.1 deed.2 deed.3 = deed.4 in
-    let a = paged (night s log) (start_of s log) (published s log) (draws log) (ends log) (pages log) (holding log) (drawn_places s log) (done_places s log) deed.1 deed.2 deed.3 (underway s log before deed.0) t deed.5 in
-    subst (λ n. IsAt n (start_of s log) (published s (Paged_in ∷ log)) (draws log) (ends log) (pages log + 1) (holding log) (drawn_places s log) (done_places s log)) (sym (night-paged s log))
-    (subst (λ ops. IsAt (night s log) (start_of s log) ops (draws log) (ends log) (pages log + 1) (holding log) (drawn_places s log) (done_places s log)) (ap (λ t. published s log ++ page_in_turn t) (sym t)) a)
+    let a = paged (night s log) (start_of s log) (published s log) (remaining s log) (pages log) (holding log) (drawn_places s log) (done_places s log) deed.1 deed.2 deed.3 (underway s log before deed.0) t deed.5 in
+    subst (λ n. IsAt n (start_of s log) (published s (Paged_in ∷ log)) (after_page (remaining_in n log)) (pages log + 1) (holding log) (drawn_places s log) (done_places s log)) (sym (night-paged s log))
+    (subst (λ ops. IsAt (night s log) (start_of s log) ops (after_page (remaining s log)) (pages log + 1) (holding log) (drawn_places s log) (done_places s log)) (ap (λ t. published s log ++ page_in_turn t) (sym t)) a)
 underway s _ (one_more log Committed before deed) e = absurd (false≢true e)
 underway s _ (one_more log Gave_up before deed) e = absurd (false≢true e)
 underway s _ (one_more log (Sat_down d v) before deed) e = underway s log before e

@@ -33,10 +33,10 @@ use Rattle.wh_store.specs.Pages.{is_page}
 use Rattle.wh_store.specs.Versions.{is_well_formed, is_well_formed_from, may_come, opens}
 use Rattle.wh_carry.specs.Legs.{Turn, In_wave, At_page, Over}
 use Rattle.wh_core.specs.Laws.{IsSetup, PublishedAreWellFormed}
-use Rattle.wh_core.specs.Log.{Log, Began, Drew, Finished, Paged_in, Committed, Gave_up, Sat_down, Turned, Left, nights_begun, is_open, draws, ends, pages, holding}
-use Rattle.wh_core.specs.Nights.{GivenNight, Setup, night, last_night, page_in_turn, published, turn_in, versions}
+use Rattle.wh_core.specs.Log.{Log, Began, Drew, Finished, Paged_in, Committed, Gave_up, Sat_down, Turned, Left, last_begun, is_open, pages, holding}
+use Rattle.wh_core.specs.Nights.{GivenNight, Setup, night, last_night, page_in_turn, published, remaining, turn_in, versions}
 use Rattle.wh_core.proofs.Deeds.{AreDeeds, deeds_of, none, one_more}
-use Rattle.wh_core.proofs.Nights.{beginning, begun_once}
+use Rattle.wh_core.proofs.Nights.{beginning, last_is}
 use Rattle.wh_core.proofs.Puts.{puts-append}
 use Rattle.wh_core.proofs.Sound.{given_night, newest_sound, sound}
 use Rattle.wh_core.proofs.Underway.{Underway, ops_of, start_of, underway}
@@ -164,10 +164,10 @@ module _ (stay : VersionsStay) (s : Setup) (setup : IsSetup s) where
   open_night_comes : (log : Log) (deeds : AreDeeds s log) → is_open log ≡ true → (a : Underway s log) → Come (length s.opening) true (ops_of a.over)
   open_night_comes log deeds opened a =
       let r = sound stay s setup log deeds in
-      let given : GivenNight = slice_index_or s.nights (nights_begun log - 1) (record { changes = []; list = [] }) in
-      let fits = given_night stay s setup (versions s log).newest (nights_begun log - 1) (let b = r.begun in let once = begun_once s log deeds opened in omega (arith, b, once)) in
+      let given : GivenNight = slice_index_or s.nights (last_begun log) (record { changes = []; list = [] }) in
+      let fits = given_night stay s setup (versions s log).newest (last_begun log) (let b = r.begun in let once = last_is s log deeds opened in omega (arith, b, once)) in
       let from = newest_sound stay s setup log r in
-      let so_far = beginning passed_have_values (night s log) (start_of s log) (published s log) (draws log) (ends log) (pages log) (holding log) _ _ a in
+      let so_far = beginning passed_have_values (night s log) (start_of s log) (published s log) (remaining s log) (pages log) (holding log) _ _ a in
       let comes : Come (length s.catalog.views.children) false (night_below (graph_of s.catalog) (bag_at given.changes) s.keys given.list (bag_at (versions s log).newest) so_far.place) =
       night_comes s.catalog given.list (versions s log).newest given.changes s.keys setup.catalogue fits.list setup.some_keys setup.few_keys from.1 fits.changes from.0 (r.allowed opened) so_far.place in
       subst (λ n. Come n true (ops_of a.over)) (sym setup.tables.each)

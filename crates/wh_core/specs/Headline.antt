@@ -15,17 +15,10 @@ use Rattle.wh_core.specs.declared.reply.Cause.{Cause}
 use Rattle.wh_core.specs.declared.reply.Cause.TheVariants as cause
 use Rattle.wh_core.specs.declared.reply.Reply.{Reply}
 use Rattle.wh_core.specs.declared.reply.Reply.TheVariants as reply
-use Rattle.wh_core.specs.Log.{Log, Committed, Gave_up, SessionOf, is_open, session}
+use Rattle.wh_core.specs.Log.{Log, SessionOf, is_open, nights_ended, session}
 use Rattle.wh_core.specs.Nights.{GivenNight, Setup}
 use Rattle.wh_core.specs.Laws.{IsSetup, is_of_rows, log_after, pages_read}
 use Rattle.wh_core.specs.Replies.{IsLegalRun, IsMemory, goes_on}
-
--- how many nights have ended. Each of them made a version, so this is the current version's number, and the open night's, from 0
-abbrev pub nights_ended : Log → ℕ
-nights_ended [] = 0
-nights_ended (Committed ∷ log) = nights_ended log + 1
-nights_ended (Gave_up ∷ log) = nights_ended log + 1
-nights_ended (d ∷ log) = nights_ended log
 
 -- what was done before the event at this place
 abbrev pub done_before : List Event → List Reply → ℕ → Log

@@ -1,5 +1,5 @@
 -- What holds of every legal run over a catalogue, of nights that are correct and from contents of a base.
-use Rattle.std.specs.Prelude.{◌≡◌, ◌⊎◌, ℕ, ◌+◌, ◌-◌, ◌<◌, ◌≤◌, ◌==◌, Bool, true, false, ◌&&◌, IsTrue, if◌then◌else◌, List, [], ◌∷◌, ◌++◌, Option, Some, None, length, slice_get, reverse}
+use Rattle.std.specs.Prelude.{◌≡◌, ◌⊎◌, ℕ, ◌+◌, ◌<◌, ◌≤◌, ◌==◌, Bool, true, false, ◌&&◌, IsTrue, if◌then◌else◌, List, [], ◌∷◌, ◌++◌, Option, Some, None, length, slice_get, reverse}
 use Rattle.std.specs.List.{flat_map}
 use Rattle.wh_dag.specs.Shape.{Distinct, has}
 use Rattle.wh_dag.specs.Catalog.{CatalogOf, IsCatalog}
@@ -22,7 +22,7 @@ use Rattle.wh_store.specs.Pages.{Shown}
 use Rattle.wh_store.specs.Versions.{is_well_formed, number, table_of, version, versions_of}
 use Rattle.wh_carry.specs.Night.{Night, IsFaultAt, IsPassedAt, AreAllowed}
 use Rattle.wh_carry.specs.Legs.{Turn, In_wave, At_page, Over}
-use Rattle.wh_core.specs.Log.{Deed, Log, Began, Drew, Finished, Paged_in, Committed, Gave_up, Sat_down, Turned, Left, SessionOf, holding, is_open, logged, nights_begun, pages, session}
+use Rattle.wh_core.specs.Log.{Deed, Log, Began, Drew, Finished, Paged_in, Committed, Gave_up, Sat_down, Turned, Left, SessionOf, holding, is_open, logged, nights_begun, nights_ended, pages, session}
 use Rattle.wh_core.specs.Nights.{GivenNight, Setup, next_night, night, night_from, published, turn, versions}
 use Rattle.wh_core.specs.declared.event.Event.{Event}
 use Rattle.wh_core.specs.declared.event.Event.TheVariants.{Begin, Done, PageIn}
@@ -69,7 +69,7 @@ pub record IsMadeOfNights (s : Setup) (log : Log) : Type 0 where
   pub ended : List Operation
   pub begun : List Operation
   pub whole : published s log ≡ ended ++ begun
-  pub nights : AreNights s (if is_open log then nights_begun log - 1 else nights_begun log) ended
+  pub nights : AreNights s (nights_ended log) ended
   pub closed : is_open log ≡ false → begun ≡ []
   pub open_night : is_open log ≡ true → IsBeginning s.catalog (night s log).list (night s log).tables (night s log).changes s.keys begun × (length begun ≡ pages log + 1)
   pub given : nights_begun log ≤ length s.nights

@@ -40,6 +40,19 @@ nights_begun [] = 0
 nights_begun (Began ∷ log) = nights_begun log + 1
 nights_begun (d ∷ log) = nights_begun log
 
+-- the number of the night that began last, from 0: so many had begun before it
+abbrev pub last_begun : Log → ℕ
+last_begun [] = 0
+last_begun (Began ∷ log) = nights_begun log
+last_begun (d ∷ log) = last_begun log
+
+-- how many nights have ended. Each of them made a version, so this is the current version's number, and the open night's, from 0
+abbrev pub nights_ended : Log → ℕ
+nights_ended [] = 0
+nights_ended (Committed ∷ log) = nights_ended log + 1
+nights_ended (Gave_up ∷ log) = nights_ended log + 1
+nights_ended (d ∷ log) = nights_ended log
+
 -- a night has begun and has no end yet
 abbrev pub is_open : Log → Bool
 is_open [] = false
@@ -48,23 +61,7 @@ is_open (Committed ∷ log) = false
 is_open (Gave_up ∷ log) = false
 is_open (d ∷ log) = is_open log
 
--- in the open night: jobs drawn, jobs done, pages put
-abbrev pub draws : Log → ℕ
-draws [] = 0
-draws (Began ∷ log) = 0
-draws (Committed ∷ log) = 0
-draws (Gave_up ∷ log) = 0
-draws (Drew w n ∷ log) = draws log + 1
-draws (d ∷ log) = draws log
-
-abbrev pub ends : Log → ℕ
-ends [] = 0
-ends (Began ∷ log) = 0
-ends (Committed ∷ log) = 0
-ends (Gave_up ∷ log) = 0
-ends (Finished w ∷ log) = ends log + 1
-ends (d ∷ log) = ends log
-
+-- how many pages are put in the open night
 abbrev pub pages : Log → ℕ
 pages [] = 0
 pages (Began ∷ log) = 0

@@ -1,5 +1,5 @@
 -- The nights that a machine can begin, what is in turn in one, and the operations that it publishes.
-use Rattle.std.specs.Prelude.{ℕ, ◌+◌, ◌-◌, List, [], ◌∷◌, ◌++◌, slice_index_or}
+use Rattle.std.specs.Prelude.{ℕ, List, [], ◌∷◌, ◌++◌, slice_index_or}
 use Rattle.wh_dag.specs.Catalog.{CatalogOf}
 use Rattle.wh_strategy.specs.declared.expression.Expression.{Expression}
 use Rattle.wh_row.specs.Bag.{Bag}
@@ -8,8 +8,8 @@ use Rattle.wh_store.specs.Operations.{Operation, Opens, Writes, Commits, Gives_u
 use Rattle.wh_store.specs.Pages.{Contents}
 use Rattle.wh_store.specs.Versions.{Versions, versions_of}
 use Rattle.wh_carry.specs.Night.{Night}
-use Rattle.wh_carry.specs.Legs.{Turn, In_wave, At_page, Over, legs_of, turn_of}
-use Rattle.wh_core.specs.Log.{Log, Began, Drew, Finished, Paged_in, Committed, Gave_up, Sat_down, Turned, Left, nights_begun, draws, ends, pages}
+use Rattle.wh_carry.specs.Legs.{Remaining, Turn, At_page, after_done, after_draw, after_page, legs_of, turn_of, untouched}
+use Rattle.wh_core.specs.Log.{Log, Began, Drew, Finished, Paged_in, Committed, Gave_up, Sat_down, Turned, Left, last_begun, nights_begun}
 
 -- the changes of the base views that a night brings, and the strategy that carries them out
 pub record GivenNight : Type 0 where
@@ -44,11 +44,22 @@ page_in_turn t = []
 
 -- the night that began last, where these operations are published: while it is open, the newest contents are those that it began from
 abbrev pub last_night : Setup → Log → List Operation → Night
-last_night s log ops = night_from s (versions_of s.opening ops).newest (nights_begun log - 1)
+last_night s log ops = night_from s (versions_of s.opening ops).newest (last_begun log)
+
+-- what is left of a night after what was done since one began last
+abbrev pub remaining_in : Night → Log → Remaining
+remaining_in night [] = untouched (legs_of night)
+remaining_in night (Began ∷ log) = untouched (legs_of night)
+remaining_in night (Committed ∷ log) = untouched (legs_of night)
+remaining_in night (Gave_up ∷ log) = untouched (legs_of night)
+remaining_in night (Drew w job ∷ log) = after_draw (remaining_in night log)
+remaining_in night (Finished w ∷ log) = after_done (remaining_in night log)
+remaining_in night (Paged_in ∷ log) = after_page (remaining_in night log)
+remaining_in night (d ∷ log) = remaining_in night log
 
 -- what is in turn in it
 abbrev pub turn_in : Night → Log → Turn
-turn_in night log = turn_of (legs_of night) (draws log) (ends log) (pages log)
+turn_in night log = turn_of (remaining_in night log)
 
 -- the published list: the operations of the accepted events
 unfoldable pub published : Setup → Log → List Operation
@@ -63,9 +74,12 @@ published s (d ∷ log) = published s log
 abbrev pub versions : Setup → Log → Versions
 versions s log = versions_of s.opening (published s log)
 
--- the open night, and what is in turn in it
+-- the open night, what is left of it, and what is in turn in it
 abbrev pub night : Setup → Log → Night
 night s log = last_night s log (published s log)
+
+abbrev pub remaining : Setup → Log → Remaining
+remaining s log = remaining_in (night s log) log
 
 abbrev pub turn : Setup → Log → Turn
 turn s log = turn_in (night s log) log

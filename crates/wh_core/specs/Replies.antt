@@ -8,15 +8,15 @@ use Rattle.wh_carry.specs.Refused.{IsBaseFault}
 use Rattle.wh_store.specs.Pages.{Contents, Shown, page_of}
 use Rattle.wh_store.specs.Versions.{Versions, number, is_active, is_unexpired, version, table_of}
 use Rattle.wh_carry.specs.Night.{Night, ArePassedAt, IsFirstFaultOf, places_from, AreAllowed}
-use Rattle.wh_carry.specs.Legs.{Turn, In_wave, At_page, Over, legs_of, turn_of, carried_up_to}
+use Rattle.wh_carry.specs.Legs.{Turn, In_wave, At_page, Over, after_done, after_page, carried_up_to, is_last, legs_of, turn_of, untouched}
 use Rattle.wh_core.specs.declared.event.Event.{Event}
 use Rattle.wh_core.specs.declared.event.Event.TheVariants.{Begin, Take, Done, PageIn, Commit, GiveUp, Open, Read, Close}
 use Rattle.wh_core.specs.declared.reply.Cause.{Cause}
 use Rattle.wh_core.specs.declared.reply.Cause.TheVariants as cause
 use Rattle.wh_core.specs.declared.reply.Reply.{Reply}
 use Rattle.wh_core.specs.declared.reply.Reply.TheVariants as reply
-use Rattle.wh_core.specs.Log.{Bookmark, Log, SessionOf, draws, ends, holding, is_open, logged, nights_begun, pages, session}
-use Rattle.wh_core.specs.Nights.{Setup, next_night, night, turn, versions}
+use Rattle.wh_core.specs.Log.{Bookmark, Log, SessionOf, holding, is_open, logged, nights_begun, session}
+use Rattle.wh_core.specs.Nights.{Setup, next_night, night, remaining, turn, versions}
 
 -- How an event is answered: by this reply and no other; by it, unless memory is refused; or the event carries out the expressions of a
 -- night at these places, in this order, and is answered so where each of them is passed; a Begin tests the night's base changes first
@@ -53,19 +53,23 @@ take_ruling (In_wave place jobs drawn) = unless (nat_le jobs drawn) cause.NoJob 
 take_ruling (At_page place view rows) = Says (reply.Refused cause.NoJob)
 take_ruling Over = Says (reply.Refused cause.NoJob)
 
--- the job's own expression is carried out, and where it is the last of its wave, those that come up to the next turn
-abbrev pub done_ruling : Night → Turn → Turn → ℕ → Ruling
-done_ruling n (In_wave place jobs drawn) next job = Carries n ((place + job) ∷ places_from (place + jobs) (carried_up_to n next)) reply.Done
-done_ruling n (At_page place view rows) next job = Says (reply.Refused cause.Idle)
-done_ruling n Over next job = Says (reply.Refused cause.Idle)
+-- the places that a Done carries out: its job's alone, or, where it is the last of its wave, those behind the wave too, up to the next turn
+abbrev pub carried_by_done : Night → ℕ → ℕ → ℕ → Bool → Turn → List ℕ
+carried_by_done n place jobs job false next = (place + job) ∷ []
+carried_by_done n place jobs job true next = (place + job) ∷ places_from (place + jobs) (carried_up_to n next)
 
-abbrev pub done_by : Night → Turn → Turn → Option ℕ → Ruling
-done_by n now next None = Says (reply.Refused cause.Idle)
-done_by n now next (Some job) = done_ruling n now next job
+abbrev pub done_ruling : Night → Turn → Bool → Turn → ℕ → Ruling
+done_ruling n (In_wave place jobs drawn) last next job = Carries n (carried_by_done n place jobs job last next) reply.Done
+done_ruling n (At_page place view rows) last next job = Says (reply.Refused cause.Idle)
+done_ruling n Over last next job = Says (reply.Refused cause.Idle)
+
+abbrev pub done_by : Night → Turn → Bool → Turn → Option ℕ → Ruling
+done_by n now last next None = Says (reply.Refused cause.Idle)
+done_by n now last next (Some job) = done_ruling n now last next job
 
 -- ---- the writer
 
--- the next page; where it is the last one of its Inst, the expressions up to the next turn are carried out with it
+-- the next page, and with it the expressions behind its Inst up to the next turn: none, where that is one more page of the Inst
 abbrev pub page_ruling : Night → Turn → Turn → Ruling
 page_ruling n (At_page place view rows) next = Carries n (places_from (place + 1) (carried_up_to n next)) (reply.Paged (length rows))
 page_ruling n (In_wave place jobs drawn) next = Says (reply.Refused cause.NotReady)
@@ -84,7 +88,7 @@ ruling s log Begin =
     unless (is_open log) cause.NightOpen
     (unless (nat_le (length s.nights) (nights_begun log)) cause.NoNight
     (unless (number (versions s log) + 1 == 2 ^ 64) cause.LastVersion
-    (Starts (next_night s log) (places_from 0 (carried_up_to (next_night s log) (turn_of (legs_of (next_night s log)) 0 0 0))) reply.Begun)))
+    (Starts (next_night s log) (places_from 0 (carried_up_to (next_night s log) (turn_of (untouched (legs_of (next_night s log)))))) reply.Begun)))
 ruling s log (Take w) =
     unless (nat_le s.workers w) cause.NoWorker
     (unless (not (is_open log)) cause.NoNight
@@ -93,10 +97,10 @@ ruling s log (Take w) =
 ruling s log (Done w) =
     unless (nat_le s.workers w) cause.NoWorker
     (unless (not (is_open log)) cause.NoNight
-    (done_by (night s log) (turn s log) (turn_of (legs_of (night s log)) (draws log) (ends log + 1) (pages log)) (holding log w)))
+    (done_by (night s log) (turn s log) (is_last (remaining s log)) (turn_of (after_done (remaining s log))) (holding log w)))
 ruling s log PageIn =
     unless (not (is_open log)) cause.NoNight
-    (page_ruling (night s log) (turn s log) (turn_of (legs_of (night s log)) (draws log) (ends log) (pages log + 1)))
+    (page_ruling (night s log) (turn s log) (turn_of (after_page (remaining s log))))
 ruling s log Commit =
     unless (not (is_open log)) cause.NoNight
     (commit_ruling (number (versions s log) + 1) (turn s log))

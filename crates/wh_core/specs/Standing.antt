@@ -1,5 +1,5 @@
 -- Where a machine stands after what was done.
-use Rattle.std.specs.Prelude.{◌≡◌, ℕ, ◌+◌, ◌<◌, ◌≤◌, Vec, List, [], ◌∷◌, length, map, drop, slice_get, Option, Some, None, option_map, true}
+use Rattle.std.specs.Prelude.{◌≡◌, ℕ, ◌<◌, ◌≤◌, Vec, List, [], ◌∷◌, length, map, drop, slice_get, Option, Some, None, option_map, true}
 use Rattle.wh_dag.specs.Catalog.{CatalogOf}
 use Rattle.wh_strategy.specs.Rules.{Judged}
 use Rattle.wh_row.specs.Bag.{Bag}
@@ -7,14 +7,14 @@ use Rattle.wh_maint.specs.declared.fault.MaintFault.{MaintFault}
 use Rattle.wh_store.specs.Windows.{Shows}
 use Rattle.wh_carry.specs.declared.course.Part.{Part}
 use Rattle.wh_carry.specs.Night.{Night}
-use Rattle.wh_carry.specs.Legs.{Leg, Wave, Page, legs_of, turn_of}
+use Rattle.wh_carry.specs.Legs.{Leg, Wave, Page, Remaining}
 use Rattle.wh_carry.specs.Course.{AreParts}
 use Rattle.wh_core.specs.declared.session.Mark.{Mark}
 use Rattle.wh_core.specs.declared.session.Seat.{Seat}
 use Rattle.wh_core.specs.declared.machine.Machine.{Machine}
 use Rattle.wh_core.specs.declared.warehouse.Core.{Core}
-use Rattle.wh_core.specs.Log.{Bookmark, Log, SessionOf, draws, ends, holding, is_open, nights_begun, pages, session}
-use Rattle.wh_core.specs.Nights.{GivenNight, Setup, night, published}
+use Rattle.wh_core.specs.Log.{Bookmark, Log, SessionOf, holding, is_open, nights_begun, session}
+use Rattle.wh_core.specs.Nights.{GivenNight, Setup, night, published, remaining}
 use Rattle.wh_core.specs.Replies.{IsLegalLog}
 use Rattle.std.specs.declared.alloc.Global.{Global}
 use Rattle.wh_core.specs.Laws.{IsSetup}
@@ -37,12 +37,11 @@ HaveJobs [] = Unit {0}
 HaveJobs (Wave place jobs ∷ legs) = (1 ≤ jobs) × HaveJobs legs
 HaveJobs (Page place view rows ∷ legs) = HaveJobs legs
 
--- after so many jobs drawn, jobs done and pages put in the whole night: these parts are left, and of the first so many jobs are drawn and
--- done; whatever is drawn, done and put from here on, the same is in turn
-pub record AreLeft (n : Night) (draws ends pages : ℕ) (parts : List Part) (stop : Option MaintFault) (drawn ended : ℕ) : Type 0 where
+-- what is left of a night has these parts, and of the first so many jobs are drawn and done
+pub record AreLeft (n : Night) (r : Remaining) (parts : List Part) (stop : Option MaintFault) (drawn ended : ℕ) : Type 0 where
   pub from : ℕ
   pub legs : List Leg
-  pub ahead : (x y z : ℕ) → turn_of (legs_of n) (draws + x) (ends + y) (pages + z) ≡ turn_of legs (drawn + x) (ended + y) z
+  pub is : r ≡ record { legs = legs; drawn = drawn; ended = ended }
   pub within : IsWithin legs drawn ended
   pub some : HaveJobs legs
   pub are : AreParts n from legs parts stop
@@ -58,7 +57,7 @@ pub record Stands (s : Setup) (log : Log) (m : Machine) : Type 0 where
   pub sessions : (d : ℕ) → d < s.desks → slice_get (map (option_map session_of) m.seats.items) d ≡ Some (session log d)
   pub workers : length m.holders.items ≡ s.workers
   pub holders : (w : ℕ) → w < s.workers → slice_get m.holders.items w ≡ Some (holding log w)
-  pub night : is_open log ≡ true → AreLeft (night s log) (draws log) (ends log) (pages log) (drop m.place m.course.parts.items) m.course.stop m.drawn m.ended
+  pub night : is_open log ≡ true → AreLeft (night s log) (remaining s log) (drop m.place m.course.parts.items) m.course.stop m.drawn m.ended
 
 -- a night as it is given in code
 abbrev pub given_of : Vec Bag Global × Judged → GivenNight

@@ -51,7 +51,7 @@ within : (limit : ℕ) → 1 ≤ limit → limit ≤ 256 → ((limit == 0) || na
 within limit some few =
     ap (λ b. b || nat_lt 256 limit) (ne_eqb limit 0 (λ e. omega (arith, e, some))) ∙ lt-leb 257 limit (omega (arith, few))
 
-pages : (kept : ℕ) (vs : Versions) (view limit v : ℕ) (of : Option SessionOf) (page : Shown) → 1 ≤ limit → limit ≤ 256 → Some v ≡ option_map (λ x. x.version) of
+pub pages : (kept : ℕ) (vs : Versions) (view limit v : ℕ) (of : Option SessionOf) (page : Shown) → 1 ≤ limit → limit ≤ 256 → Some v ≡ option_map (λ x. x.version) of
     → is_unexpired kept vs v ≡ true → view < length (version vs v) → page ≡ page_of (table_of vs v view) (row_read view of) limit
     → IsRuled (read_ruling kept vs view limit of) (reply.Page page)
 pages kept vs view limit v None page some few e readable there is = cc

@@ -1,11 +1,10 @@
 -- What nights and readers come to, whatever the order of their steps.
-use Rattle.std.proofs.Common.{◌≡◌, ◌∙◌, ◌-◌, ◌≤◌, ℕ, List, [], ◌∷◌, ◌++◌, length, ap, arith, refl, subst, sym, ⊎_elim}
+use Rattle.std.proofs.Common.{◌≡◌, ◌∙◌, ◌-◌, ℕ, [], ◌∷◌, ◌++◌, length, ap, arith, refl, subst, sym, ⊎_elim}
 use Rattle.std.specs.Prelude.{slice_index_or}
 use Rattle.wh_store.specs.Laws.{PagesJoin, VersionsStay}
-use Rattle.wh_store.specs.Pages.{Contents}
 use Rattle.wh_store.specs.Versions.{Versions, number, version}
 use Rattle.wh_core.specs.Laws.{IsSetup, log_after}
-use Rattle.wh_core.specs.Log.{Committed, Deed, Log, logged}
+use Rattle.wh_core.specs.Log.{Committed, Deed, Log}
 use Rattle.wh_core.specs.Nights.{Setup, night, versions}
 use Rattle.wh_core.specs.Replies.{IsLegalLog, more, nothing}
 use Rattle.wh_core.proofs.Deeds.{IsDeed, leaves}

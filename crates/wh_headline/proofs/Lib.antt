@@ -1,6 +1,9 @@
 pub mod Interleaved
 pub mod Answered
 mod Told
+mod PageSizes
+mod Rows
+mod Served
 mod SeenAlike
 mod Logs
 mod GoOn

@@ -1,23 +1,25 @@
 -- Logs of the machine over events for the lists that running nights publish.
-use Rattle.std.specs.Prelude.{◌≡◌, ◌≢◌, ◌⊎◌, ℕ, ◌+◌, ◌^◌, ◌<◌, ◌≤◌, Bool, true, false, List, [], ◌∷◌, ◌++◌, Option, None, Some, length, option_map, slice_get}
+use Rattle.std.specs.Prelude.{◌≡◌, ◌≢◌, ◌⊎◌, ℕ, ◌+◌, ◌^◌, ◌<◌, ◌≤◌, Bool, true, false, List, [], ◌∷◌, ◌++◌, Option, None, Some, length, slice_get}
+use Rattle.wh_row.specs.Row.{Row}
 use Rattle.wh_maint.specs.Comp.{bag_at}
 use Rattle.wh_carry.specs.NightList.{IsCutNight}
 use Rattle.wh_carry.specs.Refused.{ArePassedBelow}
 use Rattle.wh_store.specs.Operations.{Operation, Opens}
-use Rattle.wh_store.specs.Versions.{number, versions_of}
-use Rattle.wh_store.specs.Faults.{publish_refusal, Ends}
+use Rattle.wh_store.specs.Pages.{Contents, Shown, page_of}
+use Rattle.wh_store.specs.Versions.{Versions, number, table_in, version, versions_of}
+use Rattle.wh_store.specs.Faults.{publish_refusal, Ends, EndsLater}
 use Rattle.wh_store.specs.Ledgers.{Ledger, Warehouse}
 use Rattle.wh_store.specs.declared.ended.Ended.{Ended}
 use Rattle.wh_carry.specs.Night.{Night, AreAllowed}
-use Rattle.wh_desk.specs.Desks.{Grows, OpensAt, Sitting}
+use Rattle.wh_desk.specs.Desks.{Grows, OpensAt, Reads, Sitting}
 use Rattle.wh_night.specs.Tonight.{Begin_it, IsDone, IsOpen, IsWhole, Leaves, newest_in, tonight}
 use Rattle.wh_night.specs.declared.cause.NightCause.{NightCause}
 use Rattle.wh_night.specs.declared.left.Left.{Left}
 use Rattle.wh_night.specs.declared.left.Left.TheVariants.{Untouched, GivenUp, StillOpen}
 use Rattle.wh_core.specs.Laws.{IsSetup}
-use Rattle.wh_core.specs.Log.{Log, SessionOf, is_open, nights_begun, session}
+use Rattle.wh_core.specs.Log.{Bookmark, Log, SessionOf, bookmark_after, is_open, nights_begun, session}
 use Rattle.wh_core.specs.Nights.{GivenNight, Setup, night_from, versions}
-use Rattle.wh_core.specs.Replies.{IsLegalLog}
+use Rattle.wh_core.specs.Replies.{IsLegalLog, goes_on}
 use Rattle.wh_headline.specs.Alike.{AreSeenAlike, IsAnsweredAlike, row_read}
 
 -- ---- what running nights publish
@@ -26,15 +28,17 @@ use Rattle.wh_headline.specs.Alike.{AreSeenAlike, IsAnsweredAlike, row_read}
 abbrev pub warehouse_of : Setup → Warehouse
 warehouse_of s = record { limit = s.versions; opening = s.opening }
 
--- the night of this number, from the contents that are the newest once these operations are published
-abbrev pub night_after : Setup → List Operation → ℕ → Night
-night_after s ops n = night_from s (versions_of s.opening ops).newest n
+-- the night of this number, by pages of at most so many rows, from the contents that are the newest once these operations are published
+abbrev pub night_after : Setup → List Operation → ℕ → ℕ → Night
+night_after s ops n keys = record (night_from s (versions_of s.opening ops).newest n) { keys = keys }
 
--- it can begin: it was given, the version that it makes is not the one whose number is 2^64, and its base changes are allowed
-pub record CanBegin (s : Setup) (ops : List Operation) (n : ℕ) : Type 0 where
+-- it can begin: it was given, the version that it makes is not the one whose number is 2^64, its base changes are allowed, and a page of it
+-- has rows
+pub record CanBegin (s : Setup) (ops : List Operation) (n keys : ℕ) : Type 0 where
   pub given : n < length s.nights
   pub numbered : number (versions_of s.opening ops) + 1 ≢ 2 ^ 64
-  pub allowed : AreAllowed (night_after s ops n)
+  pub allowed : AreAllowed (night_after s ops n keys)
+  pub some_keys : 1 ≤ keys
 
 -- what a night has published that ended: its whole list, each of its expressions being passed, or a beginning of it and a give-up
 abbrev pub HasEnded : Night → List Operation → Type 0
@@ -42,26 +46,30 @@ HasEnded n ops =
     (ArePassedBelow n.catalog n.list n.tables n.changes (length n.list) × IsWhole n ops)
     ⊎ IsCutNight n.catalog n.list n.tables n.changes n.keys ops
 
--- the lists of so many nights that ended, one after another, each from the contents that were the newest when it began
+-- the lists of so many nights that ended, one after another, each from the contents that were the newest when it began, and by pages of a
+-- size of its own
 pub data AreEndedNights (s : Setup) : ℕ → List Operation → Type 0 where
   none : AreEndedNights s 0 []
-  one_more : (n : ℕ) (ops last : List Operation) → AreEndedNights s n ops → CanBegin s ops n → HasEnded (night_after s ops n) last → AreEndedNights s (n + 1) (ops ++ last)
+  one_more : (n keys : ℕ) (ops last : List Operation) → AreEndedNights s n ops → CanBegin s ops n keys → HasEnded (night_after s ops n keys) last
+      → AreEndedNights s (n + 1) (ops ++ last)
 
 -- what is published of a warehouse once so many nights have begun: all have ended; or the last is open, and a beginning of its list is
 -- published, its Begin at least
 pub data AreRunningNights (s : Setup) : ℕ → Bool → List Operation → Type 0 where
   all_ended : (n : ℕ) (ops : List Operation) → AreEndedNights s n ops → AreRunningNights s n false ops
-  one_open : (n : ℕ) (ops puts : List Operation) → AreEndedNights s n ops → CanBegin s ops n → Begin_it (night_after s ops n) (Opens ∷ puts)
+  one_open : (n keys : ℕ) (ops puts : List Operation) → AreEndedNights s n ops → CanBegin s ops n keys → Begin_it (night_after s ops n keys) (Opens ∷ puts)
       → AreRunningNights s (n + 1) true (ops ++ Opens ∷ puts)
 
 -- ---- a night that runs
 
--- behind this ledger, in which all nights have ended, the night of this number can begin: it is the given one, and a Begin is not refused
-pub record ComesNext (s : Setup) (n : ℕ) (given : GivenNight) (l : Ledger) : Type 0 where
+-- behind this ledger, in which all nights have ended, the night of this number can begin: it is the given one, a page has rows, and a Begin is
+-- not refused; where it is, `night` says so and leaves all as it was
+pub record ComesNext (s : Setup) (n keys : ℕ) (given : GivenNight) (l : Ledger) : Type 0 where
   pub of : l.of ≡ warehouse_of s
   pub ended : AreEndedNights s n l.list
   pub is : slice_get s.nights n ≡ Some given
   pub free : publish_refusal l Opens ≡ None
+  pub some_keys : 1 ≤ keys
 
 -- what a night that was refused leaves: untouched, what was there; given up, the lists of one night more that ended; left open, the list
 -- that was there, while its Begin is held, or one in which it is open
@@ -70,16 +78,19 @@ GoesOnAs s n l Untouched m = m ≡ l
 GoesOnAs s n l GivenUp m = AreEndedNights s (n + 1) m.list
 GoesOnAs s n l StillOpen m = AreRunningNights s n false m.list ⊎ AreRunningNights s (n + 1) true m.list
 
--- what it publishes goes on with such a list: where it is done; where it is refused; and where it was left open and is ended later
-pub record GoOn (s : Setup) (n : ℕ) (given : GivenNight) (l m : Ledger) : Type 0 where
-  pub done : IsDone (tonight s.catalog given.list l given.changes s.keys) l m → AreAllowed (tonight s.catalog given.list l given.changes s.keys)
+-- what it publishes goes on with such a list: where it is done; where it is refused; and where it was left open and is ended later, however
+-- often want of memory has put that off: it is then left open as before
+pub record GoOn (s : Setup) (n keys : ℕ) (given : GivenNight) (l m : Ledger) : Type 0 where
+  pub done : IsDone (tonight s.catalog given.list l given.changes keys) l m → AreAllowed (tonight s.catalog given.list l given.changes keys)
       → ArePassedBelow s.catalog given.list (bag_at (newest_in l)) (bag_at given.changes) (length given.list) → AreEndedNights s (n + 1) m.list
-  pub left : (cause : NightCause) (how : Left) → Leaves (tonight s.catalog given.list l given.changes s.keys) cause l how m → GoesOnAs s n l how m
-  pub ended_later : (cause : NightCause) (k : Ledger) (answer : Ended) → IsOpen (tonight s.catalog given.list l given.changes s.keys) cause l k → Ends k m answer
+  pub left : (cause : NightCause) (how : Left) → Leaves (tonight s.catalog given.list l given.changes keys) cause l how m → GoesOnAs s n l how m
+  pub put_off : (cause : NightCause) (k : Ledger) → IsOpen (tonight s.catalog given.list l given.changes keys) cause l k → EndsLater k m
+      → IsOpen (tonight s.catalog given.list l given.changes keys) cause l m
+  pub ended_later : (cause : NightCause) (k : Ledger) (answer : Ended) → IsOpen (tonight s.catalog given.list l given.changes keys) cause l k → Ends k m answer
       → AreEndedNights s (n + 1) m.list
 
 abbrev pub NightsGoOn : Type 0
-NightsGoOn = (s : Setup) (n : ℕ) (given : GivenNight) (l m : Ledger) → ComesNext s n given l → GoOn s n given l m
+NightsGoOn = (s : Setup) (n keys : ℕ) (given : GivenNight) (l m : Ledger) → ComesNext s n keys given l → GoOn s n keys given l m
 
 -- ---- logs
 
@@ -90,41 +101,63 @@ pub record IsLogOf (s : Setup) (nights : ℕ) (night_open : Bool) (ops : List Op
   pub active : is_open log ≡ night_open
   pub begun : nights_begun log ≡ nights
 
--- the versions of the desks' sessions, none where a desk has none; each was current once
-abbrev pub AreSeats : Setup → List Operation → (ℕ → Option ℕ) → Type 0
-AreSeats s ops seats = (d v : ℕ) → d < s.desks → seats d ≡ Some v → v ≤ number (versions_of s.opening ops)
+-- this bookmark was left by a page of these contents: it ends with the bookmark's row, and more rows follow
+pub record WasLeft (contents : Contents) (mark : Bookmark) : Type 0 where
+  pub view : mark.view < length contents
+  pub row : Option Row
+  pub limit : ℕ
+  pub left : bookmark_after mark.view (page_of (table_in contents mark.view) row limit) ≡ Some mark
 
--- a session of this version, in which nothing was read yet
-abbrev pub new_session : ℕ → SessionOf
-new_session v = record { version = v; bookmark = None }
+-- a session whose version was current once; if it has a bookmark, a page of this version has left it
+pub record IsSeat (v : Versions) (of : SessionOf) : Type 0 where
+  pub there : of.version ≤ number v
+  pub stands : (mark : Bookmark) → of.bookmark ≡ Some mark → WasLeft (version v of.version) mark
 
--- in this log each desk has such a session, and has read nothing in it
-abbrev pub HaveSeats : Setup → Log → (ℕ → Option ℕ) → Type 0
-HaveSeats s log seats = (d : ℕ) → d < s.desks → session log d ≡ option_map new_session (seats d)
+-- the desks' sessions, none where a desk has none
+abbrev pub AreSeats : Setup → List Operation → (ℕ → Option SessionOf) → Type 0
+AreSeats s ops seats = (d : ℕ) (of : SessionOf) → d < s.desks → seats d ≡ Some of → IsSeat (versions_of s.opening ops) of
 
--- with one worker at least, running nights have such a log, whatever versions the desks have sessions of
+-- in this log each desk has its session
+abbrev pub HaveSeats : Setup → Log → (ℕ → Option SessionOf) → Type 0
+HaveSeats s log seats = (d : ℕ) → d < s.desks → session log d ≡ seats d
+
+-- with one worker at least, running nights have such a log, whatever sessions the desks have, and wherever in them a reader stands
 abbrev pub RunningNightsHaveALog : Type 0
 RunningNightsHaveALog =
-    (s : Setup) (nights : ℕ) (active : Bool) (ops : List Operation) (seats : ℕ → Option ℕ) → IsSetup s → 1 ≤ s.workers
+    (s : Setup) (nights : ℕ) (active : Bool) (ops : List Operation) (seats : ℕ → Option SessionOf) → IsSetup s → 1 ≤ s.workers
     → AreRunningNights s nights active ops → AreSeats s ops seats → (log : Log) × IsLogOf s nights active ops log × HaveSeats s log seats
 
 -- ---- desks beside running nights
 
+-- the desk was given this page of a view in a session of the version that its session has, and the page left this bookmark
+pub record WasGiven (before after : Sitting) (mark : Bookmark) : Type 0 where
+  pub asked : Sitting
+  pub given : Sitting
+  pub row : Option Row
+  pub limit : ℕ
+  pub page : Shown
+  pub reads : Reads asked given mark.view row limit page
+  pub same_version : before.session ≡ given.session
+  pub left : bookmark_after mark.view page ≡ Some mark
+  pub grows : Grows given after
+
 -- a desk of this warehouse that sees this list as it is answered; a session that it had before was opened at a version that was current
--- in what it saw then
-pub record IsDeskBeside (s : Setup) (ops : List Operation) (before after : Sitting) : Type 0 where
+-- in what it saw then. Its reader stands at this bookmark, which a page of the session has left, or where a view begins
+pub record IsDeskBeside (s : Setup) (ops : List Operation) (mark : Option Bookmark) (before after : Sitting) : Type 0 where
   pub of : after.of ≡ warehouse_of s
   pub list : after.list ≡ ops
   pub opened : (v : ℕ) → before.session ≡ Some v → (first : Sitting) × (last : Sitting) × OpensAt first last v × Grows last after
+  pub stands : (at : Bookmark) → mark ≡ Some at → WasGiven before after at
 
--- the desk is answered as the log's reply is, where the log's desk has read nothing: a page begins with the view's first row
-pub record IsAnsweredFirst (s : Setup) (log : Log) (d : ℕ) (before after : Sitting) : Type 0 where
-  pub from_first : (view : ℕ) → row_read view (session log d) ≡ None
+-- the desk is answered as the log's reply is, and a Read of the log goes on where the reader stands
+pub record IsAnsweredFrom (s : Setup) (log : Log) (d : ℕ) (mark : Option Bookmark) (before after : Sitting) : Type 0 where
+  pub from : (view : ℕ) → row_read view (session log d) ≡ goes_on view mark
   pub answered : IsAnsweredAlike s log d before after
 
--- there is one such log by which all desks that see the list of running nights are answered
+-- There is one such log by which all desks that see the list of running nights are answered, wherever their readers stand. So it is of each
+-- page of a session, in turn: of the first one of a view, and of each that begins after the last row of one before it, up to the last
 abbrev pub DesksBesideNightsAnswerAsTheMachine : Type 0
 DesksBesideNightsAnswerAsTheMachine =
-    (s : Setup) (nights : ℕ) (active : Bool) (ops : List Operation) (before after : ℕ → Sitting) → IsSetup s → 1 ≤ s.workers
-    → AreRunningNights s nights active ops → ((d : ℕ) → d < s.desks → IsDeskBeside s ops (before d) (after d))
-    → (log : Log) × IsLogOf s nights active ops log × ((d : ℕ) → d < s.desks → IsAnsweredFirst s log d (before d) (after d))
+    (s : Setup) (nights : ℕ) (active : Bool) (ops : List Operation) (marks : ℕ → Option Bookmark) (before after : ℕ → Sitting) → IsSetup s → 1 ≤ s.workers
+    → AreRunningNights s nights active ops → ((d : ℕ) → d < s.desks → IsDeskBeside s ops (marks d) (before d) (after d))
+    → (log : Log) × IsLogOf s nights active ops log × ((d : ℕ) → d < s.desks → IsAnsweredFrom s log d (marks d) (before d) (after d))

@@ -5,6 +5,7 @@ ghost use Rattle.wh_headline.specs.RunningNights.{DesksBesideNightsAnswerAsTheMa
 ghost use Rattle.wh_headline.specs.Told.{ToldPagesAreOfContents};
 
 use wh_desk::seen_versions_stay_law;
+use wh_store::versions_stay_law;
 
 /// Where readers see no difference between the versions that a desk sees and those of a legal run, and the desk has the
 /// session that this run has given it, it is answered as the run's desk is: `open` as Open, `page` as Read. Away and want of
@@ -14,25 +15,29 @@ pub fn desks_answer_as_the_machine()
 {}
 
 /// What running nights publish, one after another, has a legal run: each night whole, once all its expressions were passed,
-/// or cut, and perhaps one more that is open. As many nights have begun in the run, and readers see no difference between its
-/// versions and those of the list. The desks may have sessions of whatever versions were current once, in which they have
-/// read nothing. The run has one worker at least.
+/// or cut, and perhaps one more that is open; each by pages of a size of its own. As many nights have begun in the run, and
+/// readers see no difference between its versions and those of the list. The desks may have sessions of whatever versions were
+/// current once, and have read whatever pages in them. The run has one worker at least, and puts all its nights by one size.
 pub fn running_nights_have_a_log()
     ensures { RunningNightsHaveALog }
-{}
+{
+    versions_stay_law();
+}
 
 /// What a night publishes behind nights that have ended is such a list again, whether it is done or refused. One that was
-/// left open, and is given up later, has ended then.
+/// left open stays so while want of memory puts its end off, and has ended once it is given up.
 pub fn nights_go_on()
     ensures { NightsGoOn }
 {}
 
 /// Desks that see what running nights have published, and had no session or one that they opened while its version was
-/// current, are all answered as the desks of one legal run are at that point: what they open, the first page of each view,
-/// and why there is none. No log is assumed.
+/// current, are all answered as the desks of one legal run are at that point: what they open, each page of a view, and why
+/// there is none. A page is the first one, or begins after the last row of one that the desk was given in the session. No log
+/// is assumed.
 pub fn desks_beside_nights_answer_as_the_machine()
     ensures { DesksBesideNightsAnswerAsTheMachine }
 {
+    versions_stay_law();
     seen_versions_stay_law();
 }
 

@@ -12,7 +12,7 @@ use Rattle.wh_row.specs.Bag.{Bag, written, sum_of, difference_of, count, empty, 
 use Rattle.wh_row.proofs.WeighLaws.{weigh-append}
 use Rattle.wh_row.proofs.BagLaws.{same_bag, count-sum_of, count-difference_of, count-weigh, weigh-bag_of, weigh-sum_of}
 use Rattle.wh_maint.specs.Product.{combined}
-use Rattle.wh_maint.specs.Inner.Product.{over}
+use Rattle.wh_join.specs.CombinedRows.{over}
 use Rattle.wh_maint.specs.View.{Fold, value}
 use Rattle.wh_maint.specs.Inner.Share.{sum_over, share}
 use Rattle.wh_maint.specs.Comp.{at_set, term_rows, changed_rows, comp}

@@ -16,10 +16,8 @@ mod FoundRow
 mod FoundRows
 pub mod FromScratch
 pub mod GroupChanges
-mod KeyedRows
 mod Lacking
 mod LargeTables
-mod Laying
 mod LostRows
 mod MadeRows
 mod Matched
@@ -32,14 +30,11 @@ pub mod OldRows
 mod OneRow
 mod OpenedContents
 pub mod Products
-mod Rearranged
 pub mod RuledOut
-pub mod Sifted
 pub mod SizeBounds
 mod SourceTests
 mod Standing
 pub mod Summaries
-mod Swapping
 pub mod Telescope
 mod TermSums
 mod Unchanged

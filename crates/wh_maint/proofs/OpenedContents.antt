@@ -13,7 +13,8 @@ use Rattle.wh_maint.specs.Definition.{graph_of, view_of}
 use Rattle.wh_maint.specs.Opening.{CanBeEvaluated, HasNoContents, HasRowsToMeet}
 use Rattle.wh_maint.specs.Inner.Opening.{AreOpenedTo}
 use Rattle.wh_maint.specs.Product.{combined}
-use Rattle.wh_maint.specs.Size.{HaveRows, HaveTooMany, product_of}
+use Rattle.wh_maint.specs.Size.{HaveRows, HaveTooMany}
+use Rattle.wh_join.specs.CombinedRows.{product_of}
 use Rattle.wh_maint.specs.Value.{HasValue, accumulators, view_value}
 use Rattle.wh_maint.specs.View.{ViewGraph}
 use Rattle.wh_maint.specs.declared.fault.MaintFault.{MaintFault}

@@ -1,5 +1,5 @@
 -- Tables that are fit for a night.
-use Rattle.std.specs.Prelude.{◌≡◌, ◌≢◌, ℕ, ◌<◌, pos, negsuc, ◌+ℤ◌, ◌≤ℤ◌, ℤ, length}
+use Rattle.std.specs.Prelude.{◌≡◌, ◌≢◌, ℕ, ◌<◌, pos, negsuc, ◌+ℤ◌, ◌≤ℤ◌, length}
 use Rattle.std.specs.declared.cmp.Ordering.TheVariants.{Less}
 use Rattle.wh_row.specs.Row.{Row, row_cmp}
 use Rattle.wh_row.specs.Bag.{Bag, count, empty, IsTable}

@@ -3,13 +3,9 @@ pub mod Comp
 pub mod Fault
 pub mod Finishing
 pub mod Fit
-pub mod Index
-pub mod Joining
 pub mod NewSums
 pub mod Opening
-pub mod Product
 pub mod Refused
 pub mod Share
-pub mod Sieve
 pub mod Terms
 pub mod Value

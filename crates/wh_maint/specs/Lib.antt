@@ -6,7 +6,6 @@ pub mod Definition
 pub mod Fault
 pub mod Finishing
 pub mod Fit
-pub mod Index
 pub mod Laws
 pub mod MetRows
 pub mod Opening

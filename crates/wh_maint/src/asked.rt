@@ -88,6 +88,7 @@ pub fn is_fit<F: RowTest, G: RowValue>(
     }
 }
 
+/// Whether each row is a summary's, with so many sums, alone of its group.
 fn is_summary_table(alloc: Global, sums: usize, table: &Bag) -> Result<bool, AllocError>
     ensures fit { IfOk result (λ fit. IsTrue fit ↔ IsFitTable (Summed sums) table.now) }
     ensures memory { OnErr result (HasGroups (Summed sums) table.now) }

@@ -126,15 +126,9 @@ pub(crate) fn summary_change(
     ensures memory { result ≡ Err RowFault.Memory → ¬ (AreEmpty pending.now.columns) }
 {
     let mut change = Bag::new(alloc);
-    match add_counted(alloc, pending, sums, table, &mut change) {
-        Ok(()) => {}
-        Err(fault) => return Err(fault),
-    }
+    add_counted(alloc, pending, sums, table, &mut change)?;
     for number in 0..sums {
-        match add_summed(alloc, pending, sums, table, number, &mut change) {
-            Ok(()) => {}
-            Err(fault) => return Err(fault),
-        }
+        add_summed(alloc, pending, sums, table, number, &mut change)?;
     }
     Ok(change)
 }
@@ -156,9 +150,7 @@ fn add_counted(
     ensures memory { result ≡ Err RowFault.Memory → ¬ (AreEmpty pending.now.columns) }
 {
     for (group, _) in pending.counts().rows() {
-        if let Err(fault) = add_group(alloc, pending, sums, table, 0, group, change) {
-            return Err(fault);
-        }
+        add_group(alloc, pending, sums, table, 0, group, change)?;
     }
     Ok(())
 }
@@ -182,9 +174,7 @@ fn add_summed(
     ensures memory { result ≡ Err RowFault.Memory → ¬ (AreEmpty pending.now.columns) }
 {
     for (group, _) in pending.sum_rows(number) {
-        if let Err(fault) = add_group(alloc, pending, sums, table, number + 1, group, change) {
-            return Err(fault);
-        }
+        add_group(alloc, pending, sums, table, number + 1, group, change)?;
     }
     Ok(())
 }

@@ -76,10 +76,7 @@ pub(crate) fn add_group(
         return Ok(());
     }
     let old = old_row(table, sums, group);
-    match add_change(alloc, pending, sums, old, group, change) {
-        Ok(()) => Ok(()),
-        Err(fault) => Err(fault),
-    }
+    add_change(alloc, pending, sums, old, group, change)
 }
 
 /// Whether the group stands in one of the first columns of the pending accumulators, so many.
@@ -103,10 +100,7 @@ pub(crate) fn note(seen: &mut Bag, group: &[i64]) -> Result<(), RowFault>
     if seen.count(group) != 0 {
         return Ok(());
     }
-    match add_times(seen, group, 1) {
-        Ok(()) => Ok(()),
-        Err(fault) => Err(fault),
-    }
+    add_times(seen, group, 1)
 }
 
 /// Adds the group's new row, and takes its old row out.
@@ -131,13 +125,8 @@ fn add_change(
     // Range comes before Memory.
     ensures memory { result ≡ Err RowFault.Memory → AfterFits sums pending.now.columns old.entry group.now }
 {
-    match add_new(alloc, pending, sums, old, group, change) {
-        Ok(()) => match take_old(old, change) {
-            Ok(()) => Ok(()),
-            Err(fault) => Err(fault),
-        },
-        Err(fault) => Err(fault),
-    }
+    add_new(alloc, pending, sums, old, group, change)?;
+    take_old(old, change)
 }
 
 /// Adds the group's new row.
@@ -160,13 +149,9 @@ fn add_new(
     // Range comes before Memory.
     ensures memory { result ≡ Err RowFault.Memory → AfterFits sums pending.now.columns old.entry group.now }
 {
-    match new_row(alloc, pending, sums, old, group) {
-        Ok(Some(row)) => match add_times(change, row.as_slice(), 1) {
-            Ok(()) => Ok(()),
-            Err(fault) => Err(fault),
-        },
-        Ok(None) => Ok(()),
-        Err(fault) => Err(fault),
+    match new_row(alloc, pending, sums, old, group)? {
+        Some(row) => add_times(change, row.as_slice(), 1),
+        None => Ok(()),
     }
 }
 
@@ -177,10 +162,7 @@ fn take_old(old: Option<&[i64]>, change: &mut Bag) -> Result<(), RowFault>
     ensures memory { OnErr result (result ≡ Err RowFault.Memory) }
 {
     match old {
-        Some(row) => match add_times(change, row, -1) {
-            Ok(()) => Ok(()),
-            Err(fault) => Err(fault),
-        },
+        Some(row) => add_times(change, row, -1),
         None => Ok(()),
     }
 }
@@ -222,10 +204,8 @@ fn new_row(
     if count <= 0 {
         return Ok(None);
     }
-    match with_cells(alloc, pending, sums, old, group, count) {
-        Ok(row) => Ok(Some(row)),
-        Err(fault) => Err(fault),
-    }
+    let row = with_cells(alloc, pending, sums, old, group, count)?;
+    Ok(Some(row))
 }
 
 /// The group, its new count and its new sums. Where a sum leaves i64, that is the answer, also where memory is refused.

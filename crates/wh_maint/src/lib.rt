@@ -15,17 +15,11 @@ mod evaluated;
 mod fault;
 mod finished;
 mod group_change;
-mod index;
 mod installed;
 mod laws;
-mod layout;
 mod opening;
-mod order;
 mod pending;
-mod price;
-mod sieve;
 mod size;
-mod step;
 mod term;
 mod wants;
 
@@ -35,7 +29,6 @@ pub use comps::comp;
 pub use evaluated::evaluate;
 pub use fault::{MaintFault, NamedRow};
 pub use finished::finish;
-pub use index::{Found, Index};
 pub use installed::install;
 pub use laws::{
     adding_stays_within, catalogs_are_graphs, changes_are_differences, changes_are_whole,

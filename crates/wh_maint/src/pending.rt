@@ -162,6 +162,7 @@ impl Pending {
     }
 }
 
+/// So many columns of sums, each empty.
 fn no_sums(alloc: Global, sums: usize) -> Result<Vec<Sums>, AllocError>
     ensures none { IfOk result (λ none. none.items ≡ map (λ _. empty) (range_with_len 0 sums)) }
     ensures memory { OnErr result (1 ≤ sums) }

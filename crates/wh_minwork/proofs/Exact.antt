@@ -9,6 +9,7 @@ use Rattle.wh_dag.specs.Shape.{has, Distinct, IsShape, children_of}
 use Rattle.wh_strategy.specs.declared.expression.Expression.{Expression}
 use Rattle.wh_strategy.specs.declared.expression.Expression.TheVariants.{Comp, Inst}
 use Rattle.wh_strategy.specs.Expression.{At, is_new}
+use Rattle.wh_strategy.specs.Prices.{Prices}
 use Rattle.wh_strategy.specs.Rules.{IsCorrect, IsOneWay}
 use Rattle.wh_strategy.specs.Sizes.{Size}
 use Rattle.wh_strategy.specs.Sums.{sum_below, parts}
@@ -197,11 +198,11 @@ insts_are shape sizes list co =
         sum_below-only (λ p. pay_inst sizes (slice_get list p) v) (length list) w.0 (slice_get_within list w.0 (Inst v) w.1) (λ q l' n. other v w.0 q (slice_get list q) w.1 refl n) ∙ ap (λ e. pay_inst sizes e v) w.1 ∙ cond-true (eqb v v) (sizes v).change 0 (eq-eqb v v refl)
 
 -- where m is what the order of the Insts says of each couple, the work is that of m
-pub work_one_way : (shape : List (List ℕ)) (sizes : ℕ → Size) (comp inst : ℕ) (list : List Expression) (m : ℕ → ℕ → ℕ) → IsShape shape → IsCorrect shape list → IsOneWay list → ((v u w p q : ℕ) → has (children_of shape v) u ≡ true → has (children_of shape v) w ≡ true → At list p (Inst u) → At list q (Inst w) → p < q → (m u w ≡ in_order sizes u w) × (m w u ≡ in_order sizes u w)) → work_of shape sizes comp inst list ≡ cost_by m shape sizes comp inst
-work_one_way shape sizes comp inst list m sh co ow says =
+pub work_one_way : (shape : List (List ℕ)) (sizes : ℕ → Size) (prices : Prices) (list : List Expression) (m : ℕ → ℕ → ℕ) → IsShape shape → IsCorrect shape list → IsOneWay list → ((v u w p q : ℕ) → has (children_of shape v) u ≡ true → has (children_of shape v) w ≡ true → At list p (Inst u) → At list q (Inst w) → p < q → (m u w ≡ in_order sizes u w) × (m w u ≡ in_order sizes u w)) → work_of shape sizes prices list ≡ cost_by m shape sizes prices
+work_one_way shape sizes prices list m sh co ow says =
     let a = rows_are_paid shape sizes list sh co ow in
     let b = sum_below-same (λ v. sum_by (λ u. sum_by (paid sizes list v u) (children_of shape v)) (children_of shape v)) (λ v. sum_by (λ u. (sizes u).change) (children_of shape v) + sum_pairs m (children_of shape v)) (length shape) (λ v l. pairs_are (paid sizes list v) m (λ u. (sizes u).change) (children_of shape v) (sh.distinct v) (λ u q. self_is shape sizes list co ow v u q) (λ u w q q' n. two v u w l q q' n)) in
-    work-parts shape sizes comp inst list ∙ ap (λ n. comp * n + inst * sum_below (λ p. inst_rows sizes (slice_get list p)) (length list)) (a ∙ b) ∙ ap (λ n. comp * sum_below (λ v. sum_by (λ u. (sizes u).change) (children_of shape v) + sum_pairs m (children_of shape v)) (length shape) + inst * n) (insts_are shape sizes list co)
+    work-parts shape sizes prices list ∙ ap (λ n. prices.comp * n + prices.inst * sum_below (λ p. inst_rows sizes (slice_get list p)) (length list)) (a ∙ b) ∙ ap (λ n. prices.comp * sum_below (λ v. sum_by (λ u. (sizes u).change) (children_of shape v) + sum_pairs m (children_of shape v)) (length shape) + prices.inst * n) (insts_are shape sizes list co)
   where
     two : (v u w : ℕ) → v < length shape → has (children_of shape v) u ≡ true → has (children_of shape v) w ≡ true → (u ≡ w → ⊥) → paid sizes list v u w + paid sizes list v w u ≡ m u w
     two v u w l q q' n =
@@ -226,8 +227,8 @@ work_one_way shape sizes comp inst list m sh co ow says =
         (cases_order a.0 b.0)
 
 -- where the views are installed in the desired order, the work is the pair bound
-pub work_as_desired : (shape : List (List ℕ)) (sizes : ℕ → Size) (comp inst : ℕ) (list : List Expression) → IsShape shape → IsCorrect shape list → IsOneWay list → ((v u w p q : ℕ) → has (children_of shape v) u ≡ true → has (children_of shape v) w ≡ true → At list p (Inst u) → At list q (Inst w) → p < q → ComesFirst sizes u w) → work_of shape sizes comp inst list ≡ pair_bound_of shape sizes comp inst
-work_as_desired shape sizes comp inst list sh co ow des =
-    work_one_way shape sizes comp inst list (pair_min sizes) sh co ow (λ v u w p q m m' a b l.
+pub work_as_desired : (shape : List (List ℕ)) (sizes : ℕ → Size) (prices : Prices) (list : List Expression) → IsShape shape → IsCorrect shape list → IsOneWay list → ((v u w p q : ℕ) → has (children_of shape v) u ≡ true → has (children_of shape v) w ≡ true → At list p (Inst u) → At list q (Inst w) → p < q → ComesFirst sizes u w) → work_of shape sizes prices list ≡ pair_bound_of shape sizes prices
+work_as_desired shape sizes prices list sh co ow des =
+    work_one_way shape sizes prices list (pair_min sizes) sh co ow (λ v u w p q m m' a b l.
     let e = sym (desired_is_least sizes u w (des v u w p q m m' a b l)) in
     (e, pair_min-swap sizes w u ∙ e))

@@ -6,6 +6,7 @@ use Rattle.wh_dag.proofs.CommonParents.{parent_of_both, both_have_parent}
 use Rattle.wh_strategy.specs.declared.expression.Expression.{Expression}
 use Rattle.wh_strategy.specs.declared.expression.Expression.TheVariants.{Comp, Inst}
 use Rattle.wh_strategy.specs.Expression.{At}
+use Rattle.wh_strategy.specs.Prices.{Prices}
 use Rattle.wh_strategy.specs.Rules.{IsCorrect, IsOneWay}
 use Rattle.wh_strategy.specs.Sizes.{Size}
 use Rattle.wh_strategy.specs.Work.{work_of}
@@ -99,14 +100,14 @@ was_decided shape decided list so da v u w p q m m' a b l =
     (⊎_elim (λ d. d) (λ d. absurd (both_ways _ not_other d)) (da.all u w (differ, both_have_parent shape v u w m m')), not_other)
 
 -- the ordered graph: the pair bound
-pub sorted_costs : (shape : List (List ℕ)) (sizes : ℕ → Size) (comp inst : ℕ) (decided : List (ℕ × ℕ)) (list : List Expression) → IsShape shape → IsSorted shape decided list → DecidesAll shape decided → DecidesAsDesired sizes decided → work_of shape sizes comp inst list ≡ pair_bound_of shape sizes comp inst
-sorted_costs shape sizes comp inst decided list sh so da des =
-    work_as_desired shape sizes comp inst list sh (sorted_is_correct shape decided list sh so da) (sorted_is_one_way shape decided list so) (λ v u w p q m m' a b l. des u w (was_decided shape decided list so da v u w p q m m' a b l).0)
+pub sorted_costs : (shape : List (List ℕ)) (sizes : ℕ → Size) (prices : Prices) (decided : List (ℕ × ℕ)) (list : List Expression) → IsShape shape → IsSorted shape decided list → DecidesAll shape decided → DecidesAsDesired sizes decided → work_of shape sizes prices list ≡ pair_bound_of shape sizes prices
+sorted_costs shape sizes prices decided list sh so da des =
+    work_as_desired shape sizes prices list sh (sorted_is_correct shape decided list sh so da) (sorted_is_one_way shape decided list so) (λ v u w p q m m' a b l. des u w (was_decided shape decided list so da v u w p q m m' a b l).0)
 
 -- any decisions: the decided bound
-pub sorted_costs_decided : (shape : List (List ℕ)) (sizes : ℕ → Size) (comp inst : ℕ) (decided : List (ℕ × ℕ)) (list : List Expression) → IsShape shape → IsSorted shape decided list → DecidesAll shape decided → work_of shape sizes comp inst list ≡ decided_bound_of shape sizes comp inst decided
-sorted_costs_decided shape sizes comp inst decided list sh so da =
-    work_one_way shape sizes comp inst list (decided_value sizes decided) sh (sorted_is_correct shape decided list sh so da) (sorted_is_one_way shape decided list so) (λ v u w p q m m' a b l.
+pub sorted_costs_decided : (shape : List (List ℕ)) (sizes : ℕ → Size) (prices : Prices) (decided : List (ℕ × ℕ)) (list : List Expression) → IsShape shape → IsSorted shape decided list → DecidesAll shape decided → work_of shape sizes prices list ≡ decided_bound_of shape sizes prices decided
+sorted_costs_decided shape sizes prices decided list sh so da =
+    work_one_way shape sizes prices list (decided_value sizes decided) sh (sorted_is_correct shape decided list sh so da) (sorted_is_one_way shape decided list so) (λ v u w p q m m' a b l.
     let d = was_decided shape decided list so da v u w p q m m' a b l in (
       cond-true (decides decided u w) (in_order sizes u w) (cond (decides decided w u) (in_order sizes w u) (pair_min sizes u w)) d.0,
       cond-false (decides decided w u) (in_order sizes w u) (cond (decides decided u w) (in_order sizes u w) (pair_min sizes w u)) d.1 ∙ cond-true (decides decided u w) (in_order sizes u w) (pair_min sizes w u) d.0,

@@ -3,6 +3,7 @@
 ghost use Rattle.std.specs.Prelude.{◌≡◌, ◌<◌, length, IfOk, IfErr, OnOk, OnErr, List, ℕ};
 ghost use Rattle.wh_dag.specs.Shape.{IsShape};
 ghost use Rattle.wh_strategy.specs.declared.expression.Expression.{Expression};
+ghost use Rattle.wh_strategy.specs.Prices.{Prices, prices_of};
 ghost use Rattle.wh_strategy.specs.Rules.{IsCorrect, IsOneWay};
 ghost use Rattle.wh_strategy.specs.Sizes.{Size, sizes_of};
 ghost use Rattle.wh_strategy.specs.Work.{work_of};
@@ -81,19 +82,16 @@ pub fn min_work(
     ensures acyclic { OnOk result (IsAcyclicAsDesired shape.now.children (sizes_of sizes.now)) }
     ensures shape { IfOk result (λ p. p.correct.children ≡ shape.now.children) }
     ensures one_way { IfOk result (λ p. IsOneWay p.correct.list) }
-    ensures work { IfOk result (λ p. p.work ≡ work_of shape.now.children (sizes_of sizes.now) costs.comp costs.inst p.correct.list) }
-    ensures least { IfOk result (λ p. p.work ≡ pair_bound_of shape.now.children (sizes_of sizes.now) costs.comp costs.inst) }
+    ensures work { IfOk result (λ p. p.work ≡ work_of shape.now.children (sizes_of sizes.now) (prices_of costs) p.correct.list) }
+    ensures least { IfOk result (λ p. p.work ≡ pair_bound_of shape.now.children (sizes_of sizes.now) (prices_of costs)) }
     ensures scope { IfOk result (λ p. p.scope ≡ Scope.All) }
-    ensures accepted { IfOk result (λ p. IsJudged shape.now.children (sizes_of sizes.now) costs.comp costs.inst p.work p.certificate Verdict.All) }
+    ensures accepted { IfOk result (λ p. IsJudged shape.now.children (sizes_of sizes.now) (prices_of costs) p.work p.certificate Verdict.All) }
     ensures err { IfErr result (IsMinReason shape.now.children (sizes_of sizes.now)) }
 
     // Without a view nothing is refused: the plan has no expression, and takes no memory.
     ensures some { OnErr result (0 < length shape.now.children) }
 {
-    let strategy = match ordered_strategy(alloc, shape, sizes) {
-        Ok(strategy) => strategy,
-        Err(fault) => return Err(fault),
-    };
+    let strategy = ordered_strategy(alloc, shape, sizes)?;
     match check(alloc, shape, strategy) {
         Ok(correct) => {
             let certificate = Certificate::Pairs(pair_mins(alloc, shape, sizes)?);
@@ -113,7 +111,7 @@ pub fn min_work(
 /// desired order it costs exactly the pair bound, and otherwise what the decisions say. What can be sorted has no cycle.
 pub fn sorted_is_a_strategy()
     ensures correct { (shape : List (List ℕ)) (decided : List (ℕ × ℕ)) (list : List Expression) → IsShape shape → DecidesAll shape decided → IsSorted shape decided list → IsCorrect shape list × IsOneWay list }
-    ensures ordered { (shape : List (List ℕ)) (sizes : ℕ → Size) (comp inst : ℕ) (list : List Expression) → IsShape shape → IsSortedAsDesired shape sizes list → work_of shape sizes comp inst list ≡ pair_bound_of shape sizes comp inst }
-    ensures decided { (shape : List (List ℕ)) (sizes : ℕ → Size) (comp inst : ℕ) (decided : List (ℕ × ℕ)) (list : List Expression) → IsShape shape → DecidesAll shape decided → IsSorted shape decided list → work_of shape sizes comp inst list ≡ decided_bound_of shape sizes comp inst decided }
+    ensures ordered { (shape : List (List ℕ)) (sizes : ℕ → Size) (prices : Prices) (list : List Expression) → IsShape shape → IsSortedAsDesired shape sizes list → work_of shape sizes prices list ≡ pair_bound_of shape sizes prices }
+    ensures decided { (shape : List (List ℕ)) (sizes : ℕ → Size) (prices : Prices) (decided : List (ℕ × ℕ)) (list : List Expression) → IsShape shape → DecidesAll shape decided → IsSorted shape decided list → work_of shape sizes prices list ≡ decided_bound_of shape sizes prices decided }
     ensures acyclic { (shape : List (List ℕ)) (decided : List (ℕ × ℕ)) (list : List Expression) → IsSorted shape decided list → IsAcyclic shape decided }
 {}

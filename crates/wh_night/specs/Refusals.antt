@@ -20,8 +20,8 @@ abbrev pub number_of : List Job → ℕ → ℕ
 number_of [] v = 0
 number_of (job ∷ jobs) v = if job.view == v then 0 else suc (number_of jobs v)
 
--- the turn of a reason in a wave: the changes of sources first, by rising number of the view, then what each job computes, in the order of
--- the jobs, and then what is pending with it, in that order too
+-- the turn of a reason in a wave, as three numbers again: the changes of sources first, by rising number of the view; then what each job
+-- computes, in the order of the jobs; and then what is pending with it, in that order too
 abbrev pub rank_in : List Job → Reason → ℕ × ℕ × ℕ
 rank_in jobs (RowIsLacking v) = (0, v, 0)
 rank_in jobs (BaseIsLarge v) = (0, v, 1)

@@ -4,6 +4,7 @@ use Rattle.std.specs.List.{sum_by}
 use Rattle.std.proofs.lemmas.Bool.{cases_Bool, cond-true, cond-false, and_parts, or_left, or_right, or_cases}
 use Rattle.wh_dag.specs.Shape.{children_of}
 use Rattle.wh_dag.proofs.Sums.{sum_by-same}
+use Rattle.wh_strategy.specs.Prices.{Prices}
 use Rattle.wh_strategy.specs.Sizes.{Size}
 use Rattle.wh_strategy.specs.Sums.{sum_below}
 use Rattle.wh_cert.specs.Bound.{cost_by, decided_bound_of, decided_value, in_order, pair_min, rows_by, sum_pairs}
@@ -28,9 +29,9 @@ sum_pairs-same f g (x ∷ xs) h =
     omega arith
 
 -- the cost where each pair costs the same
-cost-same : (f g : ℕ → ℕ → ℕ) (shape : List (List ℕ)) (sizes : ℕ → Size) (comp inst : ℕ) → ((u w : ℕ) → f u w ≡ g u w) → cost_by f shape sizes comp inst ≡ cost_by g shape sizes comp inst
-cost-same f g shape sizes comp inst h =
-    ap (λ n. comp * n + inst * sum_below (λ v. (sizes v).change) (length shape))
+cost-same : (f g : ℕ → ℕ → ℕ) (shape : List (List ℕ)) (sizes : ℕ → Size) (prices : Prices) → ((u w : ℕ) → f u w ≡ g u w) → cost_by f shape sizes prices ≡ cost_by g shape sizes prices
+cost-same f g shape sizes prices h =
+    ap (λ n. prices.comp * n + prices.inst * sum_below (λ v. (sizes v).change) (length shape))
     (sum_below-same (λ v. rows_by f sizes (children_of shape v)) (λ v. rows_by g sizes (children_of shape v)) (length shape)
     (λ v. ap (λ n. sum_by (λ u. (sizes u).change) (children_of shape v) + n) (sum_pairs-same f g (children_of shape v) h)))
 
@@ -40,9 +41,9 @@ value-same sizes ds es h u w =
     ap (λ b. cond b (in_order sizes u w) (cond (decides ds w u) (in_order sizes w u) (pair_min sizes u w))) (h u w)
     ∙ ap (λ b. cond (decides es u w) (in_order sizes u w) (cond b (in_order sizes w u) (pair_min sizes u w))) (h w u)
 
-pub bound-reverse : (shape : List (List ℕ)) (sizes : ℕ → Size) (comp inst : ℕ) (ds : List (ℕ × ℕ)) → decided_bound_of shape sizes comp inst (reverse ds) ≡ decided_bound_of shape sizes comp inst ds
-bound-reverse shape sizes comp inst ds =
-    cost-same (decided_value sizes (reverse ds)) (decided_value sizes ds) shape sizes comp inst (value-same sizes (reverse ds) ds (decides-reverse ds))
+pub bound-reverse : (shape : List (List ℕ)) (sizes : ℕ → Size) (prices : Prices) (ds : List (ℕ × ℕ)) → decided_bound_of shape sizes prices (reverse ds) ≡ decided_bound_of shape sizes prices ds
+bound-reverse shape sizes prices ds =
+    cost-same (decided_value sizes (reverse ds)) (decided_value sizes ds) shape sizes prices (value-same sizes (reverse ds) ds (decides-reverse ds))
 
 -- each couple is decided by the completed list
 pub completed_all : (shape : List (List ℕ)) (ordered ds : List (ℕ × ℕ)) → DecidesAll shape ordered → DecidesCouples shape ds → DecidesAll shape (completed ordered ds)
@@ -69,9 +70,9 @@ completed_all shape ordered ds all couples = record {
     by_order u w n m o = completed_decides ordered ds u w ∙ or_right (decides ds u w) (not (decides ds u w || decides ds w u) && decides ordered u w) (rw (n, m) o)
 
 -- a couple that is left as it is ordered costs its minimum
-pub bound-completed : (shape : List (List ℕ)) (sizes : ℕ → Size) (comp inst : ℕ) (ordered ds : List (ℕ × ℕ)) → DecidesAsDesired sizes ordered → DecidesOneWay ds → decided_bound_of shape sizes comp inst (completed ordered ds) ≡ decided_bound_of shape sizes comp inst ds
-bound-completed shape sizes comp inst ordered ds des one =
-    cost-same (decided_value sizes (completed ordered ds)) (decided_value sizes ds) shape sizes comp inst value
+pub bound-completed : (shape : List (List ℕ)) (sizes : ℕ → Size) (prices : Prices) (ordered ds : List (ℕ × ℕ)) → DecidesAsDesired sizes ordered → DecidesOneWay ds → decided_bound_of shape sizes prices (completed ordered ds) ≡ decided_bound_of shape sizes prices ds
+bound-completed shape sizes prices ordered ds des one =
+    cost-same (decided_value sizes (completed ordered ds)) (decided_value sizes ds) shape sizes prices value
   where
     value : (u w : ℕ) → decided_value sizes (completed ordered ds) u w ≡ decided_value sizes ds u w
     value u w =

@@ -9,6 +9,7 @@ use Rattle.wh_dag.specs.Siblings.{couples_of}
 use Rattle.wh_dag.specs.declared.siblings.Couple.{Couple}
 use Rattle.wh_dag.proofs.FewCouples.{few_couples}
 use Rattle.wh_strategy.specs.declared.expression.Expression.{Expression}
+use Rattle.wh_strategy.specs.Prices.{Prices}
 use Rattle.wh_strategy.specs.Rules.{IsCorrect, IsOneWay}
 use Rattle.wh_strategy.specs.Sizes.{Size}
 use Rattle.wh_strategy.specs.Work.{work_of}
@@ -41,54 +42,54 @@ use Rattle.wh_prune.proofs.Branches.{on_cycle-reverse}
 use Rattle.wh_prune.proofs.Deciding.{decides-reverse, open-reverse}
 
 -- a sorted list of all couples' graph
-pub held_sorted : (shape : List (List ℕ)) (sizes : ℕ → Size) (comp inst work : ℕ) (ds : List (ℕ × ℕ)) (list : List Expression) → IsShape shape → DecidesAll shape ds → IsSorted shape ds list → work ≡ decided_bound_of shape sizes comp inst ds → IsHeld shape sizes comp inst work list
-held_sorted shape sizes comp inst work ds list sh da so e = record {
+pub held_sorted : (shape : List (List ℕ)) (sizes : ℕ → Size) (prices : Prices) (work : ℕ) (ds : List (ℕ × ℕ)) (list : List Expression) → IsShape shape → DecidesAll shape ds → IsSorted shape ds list → work ≡ decided_bound_of shape sizes prices ds → IsHeld shape sizes prices work list
+held_sorted shape sizes prices work ds list sh da so e = record {
   correct = sorted_is_correct shape ds list sh so da;
   one_way = sorted_is_one_way shape ds list so;
-  costs = sorted_costs_decided shape sizes comp inst ds list sh so da ∙ sym e;
+  costs = sorted_costs_decided shape sizes prices ds list sh so da ∙ sym e;
 }
 
 -- what is sorted where the couples that are not decided stand in the desired order
-pub held_completed : (shape : List (List ℕ)) (sizes : ℕ → Size) (comp inst work : ℕ) (ordered ds : List (ℕ × ℕ)) (list : List Expression) → IsShape shape → IsOrdered shape sizes ordered → AreDecisions ds → DecidesCouples shape ds → IsSorted shape (completed ordered ds) list → work ≡ decided_bound_of shape sizes comp inst ds → IsHeld shape sizes comp inst work list
-held_completed shape sizes comp inst work ordered ds list sh o once couples so e =
-    held_sorted shape sizes comp inst work (completed ordered ds) list sh (completed_all shape ordered ds o.0 couples) so
-    (e ∙ sym (bound-completed shape sizes comp inst ordered ds o.1 (decisions_one_way ds once)))
+pub held_completed : (shape : List (List ℕ)) (sizes : ℕ → Size) (prices : Prices) (work : ℕ) (ordered ds : List (ℕ × ℕ)) (list : List Expression) → IsShape shape → IsOrdered shape sizes ordered → AreDecisions ds → DecidesCouples shape ds → IsSorted shape (completed ordered ds) list → work ≡ decided_bound_of shape sizes prices ds → IsHeld shape sizes prices work list
+held_completed shape sizes prices work ordered ds list sh o once couples so e =
+    held_sorted shape sizes prices work (completed ordered ds) list sh (completed_all shape ordered ds o.0 couples) so
+    (e ∙ sym (bound-completed shape sizes prices ordered ds o.1 (decisions_one_way ds once)))
 
 -- the last node of a search
-leaf : (shape : List (List ℕ)) (sizes : ℕ → Size) (comp inst best : ℕ) (ds : List (ℕ × ℕ)) (before after : List TreeNode) (tree : CaseTree) (x : TreeNode) → preorder tree ≡ x ∷ [] → depth tree ≡ 1 → nodes_below (reverse ds) tree ≡ record { above = reverse ds; node = x } ∷ [] → after ≡ before ++ x ∷ [] → IsGood shape sizes comp inst best (reverse ds) x → TakesFromCycle shape sizes (reverse ds) x → IsExplored shape sizes comp inst best 1 ds before after
-leaf shape sizes comp inst best ds before after tree x one deep below e good on = record {
+leaf : (shape : List (List ℕ)) (sizes : ℕ → Size) (prices : Prices) (best : ℕ) (ds : List (ℕ × ℕ)) (before after : List TreeNode) (tree : CaseTree) (x : TreeNode) → preorder tree ≡ x ∷ [] → depth tree ≡ 1 → nodes_below (reverse ds) tree ≡ record { above = reverse ds; node = x } ∷ [] → after ≡ before ++ x ∷ [] → IsGood shape sizes prices best (reverse ds) x → TakesFromCycle shape sizes (reverse ds) x → IsExplored shape sizes prices best 1 ds before after
+leaf shape sizes prices best ds before after tree x one deep below e good on = record {
   tree = tree;
   nodes = e ∙ ap (λ z. before ++ z) (sym one);
   within = omega arith;
-  good = rw below (All-cons (IsGoodNode shape sizes comp inst best) (record { above = reverse ds; node = x }) [] good (All-nil (IsGoodNode shape sizes comp inst best)));
+  good = rw below (All-cons (IsGoodNode shape sizes prices best) (record { above = reverse ds; node = x }) [] good (All-nil (IsGoodNode shape sizes prices best)));
   branches = rw below (All-cons (BranchesOnCycle shape sizes) (record { above = reverse ds; node = x }) [] on (All-nil (BranchesOnCycle shape sizes)));
 }
 
-pub bound_leaf : (shape : List (List ℕ)) (sizes : ℕ → Size) (comp inst best : ℕ) (ds : List (ℕ × ℕ)) (before after : List TreeNode) → best ≤ decided_bound_of shape sizes comp inst ds → after ≡ before ++ node.Bound ∷ [] → IsExplored shape sizes comp inst best 1 ds before after
-bound_leaf shape sizes comp inst best ds before after l e =
-    leaf shape sizes comp inst best ds before after Bound node.Bound refl refl refl e (let k = bound-reverse shape sizes comp inst ds in omega arith) tt
+pub bound_leaf : (shape : List (List ℕ)) (sizes : ℕ → Size) (prices : Prices) (best : ℕ) (ds : List (ℕ × ℕ)) (before after : List TreeNode) → best ≤ decided_bound_of shape sizes prices ds → after ≡ before ++ node.Bound ∷ [] → IsExplored shape sizes prices best 1 ds before after
+bound_leaf shape sizes prices best ds before after l e =
+    leaf shape sizes prices best ds before after Bound node.Bound refl refl refl e (let k = bound-reverse shape sizes prices ds in omega arith) tt
 
-pub cycle_leaf : (shape : List (List ℕ)) (sizes : ℕ → Size) (comp inst best : ℕ) (ds : List (ℕ × ℕ)) (cycle : List Expression) (before after : List TreeNode) → IsCycle shape ds cycle → after ≡ before ++ node.Cycle cycle ∷ [] → IsExplored shape sizes comp inst best 1 ds before after
-cycle_leaf shape sizes comp inst best ds cycle before after c e =
-    leaf shape sizes comp inst best ds before after (Cycle cycle) (node.Cycle cycle) refl refl refl e (cycle_moves shape ds (reverse ds) (λ u w t. decides-reverse ds u w ∙ t) cycle c) tt
+pub cycle_leaf : (shape : List (List ℕ)) (sizes : ℕ → Size) (prices : Prices) (best : ℕ) (ds : List (ℕ × ℕ)) (cycle : List Expression) (before after : List TreeNode) → IsCycle shape ds cycle → after ≡ before ++ node.Cycle cycle ∷ [] → IsExplored shape sizes prices best 1 ds before after
+cycle_leaf shape sizes prices best ds cycle before after c e =
+    leaf shape sizes prices best ds before after (Cycle cycle) (node.Cycle cycle) refl refl refl e (cycle_moves shape ds (reverse ds) (λ u w t. decides-reverse ds u w ∙ t) cycle c) tt
 
 -- what is good for a work is good for a lower one
-good_lower : (shape : List (List ℕ)) (sizes : ℕ → Size) (comp inst work less : ℕ) → less ≤ work → (p : Placed) → IsGoodNode shape sizes comp inst work p → IsGoodNode shape sizes comp inst less p
-good_lower shape sizes comp inst work less l p h = of p.node h
+good_lower : (shape : List (List ℕ)) (sizes : ℕ → Size) (prices : Prices) (work less : ℕ) → less ≤ work → (p : Placed) → IsGoodNode shape sizes prices work p → IsGoodNode shape sizes prices less p
+good_lower shape sizes prices work less l p h = of p.node h
   where
-    of : (x : TreeNode) → IsGood shape sizes comp inst work p.above x → IsGood shape sizes comp inst less p.above x
-    of node.Bound g = let k : work ≤ decided_bound_of shape sizes comp inst p.above = g in let m : less ≤ decided_bound_of shape sizes comp inst p.above = omega arith in m
+    of : (x : TreeNode) → IsGood shape sizes prices work p.above x → IsGood shape sizes prices less p.above x
+    of node.Bound g = let k : work ≤ decided_bound_of shape sizes prices p.above = g in let m : less ≤ decided_bound_of shape sizes prices p.above = omega arith in m
     of (node.Cycle list) g = g
     of (node.Branch pair) g = g
 
 -- a branch and the trees below it
-pub fork : (shape : List (List ℕ)) (sizes : ℕ → Size) (comp inst middle best deep : ℕ) (ds : List (ℕ × ℕ)) (c : Couple) (before first second after : List TreeNode) → IsOpen shape ds c → IsOnCycle shape sizes ds c → best ≤ middle → first ≡ before ++ node.Branch c ∷ [] → IsExplored shape sizes comp inst middle deep (ds ++ (c.lower, c.higher) ∷ []) first second → IsExplored shape sizes comp inst best deep (ds ++ (c.higher, c.lower) ∷ []) second after → IsExplored shape sizes comp inst best (deep + 1) ds before after
-fork shape sizes comp inst middle best deep ds c before first second after o on l e left right =
+pub fork : (shape : List (List ℕ)) (sizes : ℕ → Size) (prices : Prices) (middle best deep : ℕ) (ds : List (ℕ × ℕ)) (c : Couple) (before first second after : List TreeNode) → IsOpen shape ds c → IsOnCycle shape sizes ds c → best ≤ middle → first ≡ before ++ node.Branch c ∷ [] → IsExplored shape sizes prices middle deep (ds ++ (c.lower, c.higher) ∷ []) first second → IsExplored shape sizes prices best deep (ds ++ (c.higher, c.lower) ∷ []) second after → IsExplored shape sizes prices best (deep + 1) ds before after
+fork shape sizes prices middle best deep ds c before first second after o on l e left right =
     let dl : depth left.tree ≤ deep = left.within in
     let dr : depth right.tree ≤ deep = right.within in
-    let P : Placed → Type 0 = IsGoodNode shape sizes comp inst best in
+    let P : Placed → Type 0 = IsGoodNode shape sizes prices best in
     let on_left : All P (nodes_below ((c.lower, c.higher) ∷ reverse ds) left.tree) =
-    subst (λ z. All P (nodes_below z left.tree)) (reverse-append ds ((c.lower, c.higher) ∷ [])) (λ k d i. good_lower shape sizes comp inst middle best l _ (left.good k d i)) in
+    subst (λ z. All P (nodes_below z left.tree)) (reverse-append ds ((c.lower, c.higher) ∷ [])) (λ k d i. good_lower shape sizes prices middle best l _ (left.good k d i)) in
     let on_right : All P (nodes_below ((c.higher, c.lower) ∷ reverse ds) right.tree) =
     subst (λ z. All P (nodes_below z right.tree)) (reverse-append ds ((c.higher, c.lower) ∷ [])) right.good in
     let Q : Placed → Type 0 = BranchesOnCycle shape sizes in
@@ -107,23 +108,23 @@ fork shape sizes comp inst middle best deep ds c before first second after o on 
     }
 
 -- a search that began with nothing
-pub accepted : (shape : List (List ℕ)) (sizes : ℕ → Size) (comp inst best deep : ℕ) (nodes : List TreeNode) → IsExplored shape sizes comp inst best deep [] [] nodes → IsAcceptedTree shape sizes comp inst best (tree_of nodes)
-accepted shape sizes comp inst best deep nodes h =
-    subst (λ t. IsAcceptedTree shape sizes comp inst best t) (sym (tree_of-preorder h.tree) ∙ ap tree_of (sym h.nodes)) h.good
+pub accepted : (shape : List (List ℕ)) (sizes : ℕ → Size) (prices : Prices) (best deep : ℕ) (nodes : List TreeNode) → IsExplored shape sizes prices best deep [] [] nodes → IsAcceptedTree shape sizes prices best (tree_of nodes)
+accepted shape sizes prices best deep nodes h =
+    subst (λ t. IsAcceptedTree shape sizes prices best t) (sym (tree_of-preorder h.tree) ∙ ap tree_of (sym h.nodes)) h.good
 
-pub branches_on_cycles : (shape : List (List ℕ)) (sizes : ℕ → Size) (comp inst best deep : ℕ) (nodes : List TreeNode) → IsExplored shape sizes comp inst best deep [] [] nodes → All (BranchesOnCycle shape sizes) (nodes_of (tree_of nodes))
-branches_on_cycles shape sizes comp inst best deep nodes h =
+pub branches_on_cycles : (shape : List (List ℕ)) (sizes : ℕ → Size) (prices : Prices) (best deep : ℕ) (nodes : List TreeNode) → IsExplored shape sizes prices best deep [] [] nodes → All (BranchesOnCycle shape sizes) (nodes_of (tree_of nodes))
+branches_on_cycles shape sizes prices best deep nodes h =
     subst (λ t. All (BranchesOnCycle shape sizes) (nodes_of t)) (sym (tree_of-preorder h.tree) ∙ ap tree_of (sym h.nodes)) h.branches
 
-pub is_tree : (shape : List (List ℕ)) (sizes : ℕ → Size) (comp inst best : ℕ) (nodes : List TreeNode) → IsShape shape → IsExplored shape sizes comp inst best (length (couples_of shape) + 1) [] [] nodes → IsTreeOf nodes (tree_of nodes)
-is_tree shape sizes comp inst best nodes sh h =
+pub is_tree : (shape : List (List ℕ)) (sizes : ℕ → Size) (prices : Prices) (best : ℕ) (nodes : List TreeNode) → IsShape shape → IsExplored shape sizes prices best (length (couples_of shape) + 1) [] [] nodes → IsTreeOf nodes (tree_of nodes)
+is_tree shape sizes prices best nodes sh h =
     let few = few_couples shape sh in
     let d : depth h.tree ≤ length (couples_of shape) + 1 = h.within in
     subst (IsTreeOf nodes) (sym (tree_of-preorder h.tree) ∙ ap tree_of (sym h.nodes)) (sym h.nodes, omega arith)
 
-pub least_found : (shape : List (List ℕ)) (sizes : ℕ → Size) (comp inst best deep : ℕ) (nodes : List TreeNode) → IsShape shape → IsExplored shape sizes comp inst best deep [] [] nodes → (list : List Expression) → IsCorrect shape list → IsOneWay list → best ≤ work_of shape sizes comp inst list
-least_found shape sizes comp inst best deep nodes sh h list co ow =
-    accepted_shows shape sizes comp inst best (tree_of nodes) list sh (accepted shape sizes comp inst best deep nodes h) co ow
+pub least_found : (shape : List (List ℕ)) (sizes : ℕ → Size) (prices : Prices) (best deep : ℕ) (nodes : List TreeNode) → IsShape shape → IsExplored shape sizes prices best deep [] [] nodes → (list : List Expression) → IsCorrect shape list → IsOneWay list → best ≤ work_of shape sizes prices list
+least_found shape sizes prices best deep nodes sh h list co ow =
+    accepted_shows shape sizes prices best (tree_of nodes) list sh (accepted shape sizes prices best deep nodes h) co ow
 
 -- there is a node at least
 pub some_power : (n : ℕ) → 2 ≤ 2 ^ (n + 1)
@@ -132,12 +133,12 @@ some_power n =
     omega arith
 
 -- a search that stopped
-pub why_stopped : (shape : List (List ℕ)) (sizes : ℕ → Size) (comp inst budget all best first : ℕ) (list : List Expression) (fault : PruneFault) → IsStopped budget all best fault → all ≡ 2 ^ (length (couples_of shape) + 1) → IsHeld shape sizes comp inst best list → best ≤ first → IsWithinLowest shape sizes comp inst first → IsSearchReason shape sizes comp inst budget fault
-why_stopped shape sizes comp inst budget all best first list Memory stopped e held down lowest = tt
-why_stopped shape sizes comp inst budget all best first list (Budget opened least) stopped e held down lowest =
+pub why_stopped : (shape : List (List ℕ)) (sizes : ℕ → Size) (prices : Prices) (budget all best first : ℕ) (list : List Expression) (fault : PruneFault) → IsStopped budget all best fault → all ≡ 2 ^ (length (couples_of shape) + 1) → IsHeld shape sizes prices best list → best ≤ first → IsWithinLowest shape sizes prices first → IsSearchReason shape sizes prices budget fault
+why_stopped shape sizes prices budget all best first list Memory stopped e held down lowest = tt
+why_stopped shape sizes prices budget all best first list (Budget opened least) stopped e held down lowest =
     let same : least ≡ best = stopped.1 in
     let more : budget + 1 < all = stopped.2 in
-    let within : first ≤ work_of shape sizes comp inst lowest.0 = lowest.4 in
+    let within : first ≤ work_of shape sizes prices lowest.0 = lowest.4 in
     record {
       all = stopped.0;
       known = (list, held.correct, held.one_way, held.costs ∙ sym same);
@@ -146,10 +147,10 @@ why_stopped shape sizes comp inst budget all best first list (Budget opened leas
     }
 
 -- what is accepted for all strategies has no tree
-pub all_within : (shape : List (List ℕ)) (sizes : ℕ → Size) (comp inst work budget : ℕ) (certificate : Certificate) → IsJudged shape sizes comp inst work certificate AllStrategies → IsWithinBudget budget certificate
-all_within shape sizes comp inst work budget (Pairs lines) judged = tt
-all_within shape sizes comp inst work budget (Search nodes) judged = absurd judged
+pub all_within : (shape : List (List ℕ)) (sizes : ℕ → Size) (prices : Prices) (work budget : ℕ) (certificate : Certificate) → IsJudged shape sizes prices work certificate AllStrategies → IsWithinBudget budget certificate
+all_within shape sizes prices work budget (Pairs lines) judged = tt
+all_within shape sizes prices work budget (Search nodes) judged = absurd judged
 
-pub all_branches : (shape : List (List ℕ)) (sizes : ℕ → Size) (comp inst work : ℕ) (certificate : Certificate) → IsJudged shape sizes comp inst work certificate AllStrategies → HasBranchesOnCycles shape sizes certificate
-all_branches shape sizes comp inst work (Pairs lines) judged = tt
-all_branches shape sizes comp inst work (Search nodes) judged = absurd judged
+pub all_branches : (shape : List (List ℕ)) (sizes : ℕ → Size) (prices : Prices) (work : ℕ) (certificate : Certificate) → IsJudged shape sizes prices work certificate AllStrategies → HasBranchesOnCycles shape sizes certificate
+all_branches shape sizes prices work (Pairs lines) judged = tt
+all_branches shape sizes prices work (Search nodes) judged = absurd judged

@@ -2,6 +2,7 @@
 use Rattle.std.specs.Prelude.{ℕ, ◌≤◌, List, length}
 use Rattle.std.specs.List.{All}
 use Rattle.wh_strategy.specs.declared.expression.Expression.{Expression}
+use Rattle.wh_strategy.specs.Prices.{Prices}
 use Rattle.wh_strategy.specs.Sizes.{Size}
 use Rattle.wh_cert.specs.Graph.{IsCycle, IsOrdered}
 use Rattle.wh_cert.specs.Search.{nodes_of}
@@ -37,11 +38,11 @@ abbrev pub IsCyclicAsDesired : List (List ℕ) → (ℕ → Size) → Type 0
 IsCyclicAsDesired shape sizes = (decided : List (ℕ × ℕ)) × (cycle : List Expression) × IsOrdered shape sizes decided × IsCycle shape decided cycle
 
 -- why a search has no plan: its budget was spent, or memory was refused
-abbrev pub IsSearchReason : List (List ℕ) → (ℕ → Size) → ℕ → ℕ → ℕ → PruneFault → Type 0
-IsSearchReason shape sizes comp inst budget (Budget opened best) = IsSpent shape sizes comp inst budget opened best
-IsSearchReason shape sizes comp inst budget Memory = Unit {0}
+abbrev pub IsSearchReason : List (List ℕ) → (ℕ → Size) → Prices → ℕ → PruneFault → Type 0
+IsSearchReason shape sizes prices budget (Budget opened best) = IsSpent shape sizes prices budget opened best
+IsSearchReason shape sizes prices budget Memory = Unit {0}
 
 -- why there is no plan: a search was needed, since the ordered graph has a cycle, and its budget was spent; or memory was refused
-abbrev pub IsPlanReason : List (List ℕ) → (ℕ → Size) → ℕ → ℕ → ℕ → PruneFault → Type 0
-IsPlanReason shape sizes comp inst budget (Budget opened best) = IsCyclicAsDesired shape sizes × IsSpent shape sizes comp inst budget opened best
-IsPlanReason shape sizes comp inst budget Memory = Unit {0}
+abbrev pub IsPlanReason : List (List ℕ) → (ℕ → Size) → Prices → ℕ → PruneFault → Type 0
+IsPlanReason shape sizes prices budget (Budget opened best) = IsCyclicAsDesired shape sizes × IsSpent shape sizes prices budget opened best
+IsPlanReason shape sizes prices budget Memory = Unit {0}

@@ -3,6 +3,7 @@
 ghost use Rattle.std.specs.Prelude.{◌≡◌, ◌+◌, ◌++◌, ◌∷◌, ◌^◌, ◌≤◌, ℕ, List, [], length, Err, IfOk, IfErr, OnOk, MatchOption};
 ghost use Rattle.wh_dag.specs.Shape.{IsShape};
 ghost use Rattle.wh_dag.specs.Siblings.{couples_of};
+ghost use Rattle.wh_strategy.specs.Prices.{prices_of};
 ghost use Rattle.wh_strategy.specs.Sizes.{Size, sizes_of};
 ghost use Rattle.wh_cert.specs.Bound.{decided_bound_of};
 ghost use Rattle.wh_cert.specs.Graph.{IsOrdered};
@@ -56,10 +57,10 @@ fn bounds_below(
     couple: Couple,
 ) -> (u128, u128)
     requires same { length sizes.now ≡ length shape.now.children }
-    requires bound { bound ≡ decided_bound_of shape.now.children (sizes_of sizes.now) costs.comp costs.inst decided.now }
+    requires bound { bound ≡ decided_bound_of shape.now.children (sizes_of sizes.now) (prices_of costs) decided.now }
     requires open { IsOpen shape.now.children decided.now couple }
-    ensures lower { result.0 ≡ decided_bound_of shape.now.children (sizes_of sizes.now) costs.comp costs.inst (decided.now ++ (couple.lower, couple.higher) ∷ []) }
-    ensures higher { result.1 ≡ decided_bound_of shape.now.children (sizes_of sizes.now) costs.comp costs.inst (decided.now ++ (couple.higher, couple.lower) ∷ []) }
+    ensures lower { result.0 ≡ decided_bound_of shape.now.children (sizes_of sizes.now) (prices_of costs) (decided.now ++ (couple.lower, couple.higher) ∷ []) }
+    ensures higher { result.1 ≡ decided_bound_of shape.now.children (sizes_of sizes.now) (prices_of costs) (decided.now ++ (couple.higher, couple.lower) ∷ []) }
 {
     // The proof needs what the lists of a shape keep to.
     let _lists = shape.child_lists();
@@ -81,8 +82,8 @@ impl<'a> Search<'a> {
     ) -> Result<Search<'a>, PruneFault>
         requires same { length sizes.now ≡ length shape.now.children }
         requires couples { couples.now ≡ couples_of shape.now.children }
-        ensures held { IfOk result (λ s. IsHeld shape.now.children (sizes_of sizes.now) costs.comp costs.inst s.best s.list) }
-        ensures lowest { IfOk result (λ s. IsWithinLowest shape.now.children (sizes_of sizes.now) costs.comp costs.inst s.best) }
+        ensures held { IfOk result (λ s. IsHeld shape.now.children (sizes_of sizes.now) (prices_of costs) s.best s.list) }
+        ensures lowest { IfOk result (λ s. IsWithinLowest shape.now.children (sizes_of sizes.now) (prices_of costs) s.best) }
         ensures shape { OnOk result (IsShape shape.now.children) }
         ensures children { IfOk result (λ s. s.draft.children ≡ shape.now.children) }
         ensures ordered { IfOk result (λ s. IsOrdered shape.now.children (sizes_of sizes.now) s.draft.ordered) }
@@ -114,15 +115,15 @@ impl<'a> Search<'a> {
         costs: Costs,
         bound: u128,
     ) -> Result<Option<Couple>, AllocError>
-        requires bound { bound ≡ decided_bound_of shape.now.children (sizes_of sizes.now) costs.comp costs.inst self.old.draft.decided }
+        requires bound { bound ≡ decided_bound_of shape.now.children (sizes_of sizes.now) (prices_of costs) self.old.draft.decided }
         requires children { self.old.draft.children ≡ shape.now.children }
         requires ordered { IsOrdered shape.now.children (sizes_of sizes.now) self.old.draft.ordered }
-        requires held { IsHeld shape.now.children (sizes_of sizes.now) costs.comp costs.inst self.old.best self.old.list }
-        ensures held { IsHeld shape.now.children (sizes_of sizes.now) costs.comp costs.inst self.new.best self.new.list }
+        requires held { IsHeld shape.now.children (sizes_of sizes.now) (prices_of costs) self.old.best self.old.list }
+        ensures held { IsHeld shape.now.children (sizes_of sizes.now) (prices_of costs) self.new.best self.new.list }
         ensures down { self.new.best ≤ self.old.best }
         ensures draft { self.new.draft ≡ self.old.draft }
         ensures nodes { IfOk result (λ _. length self.new.nodes.items ≡ length self.old.nodes.items + 1) }
-        ensures explored { IfOk result (λ found. MatchOption found (IsExplored shape.now.children (sizes_of sizes.now) costs.comp costs.inst self.new.best 1 self.old.draft.decided self.old.nodes.items self.new.nodes.items) (λ couple. IsOpen shape.now.children self.old.draft.decided couple × (self.new.nodes.items ≡ self.old.nodes.items ++ TreeNode.Branch couple ∷ []) × (length self.old.draft.decided + 1 ≤ length (couples_of shape.now.children)) × IsOnCycle shape.now.children (sizes_of sizes.now) self.old.draft.decided couple)) }
+        ensures explored { IfOk result (λ found. MatchOption found (IsExplored shape.now.children (sizes_of sizes.now) (prices_of costs) self.new.best 1 self.old.draft.decided self.old.nodes.items self.new.nodes.items) (λ couple. IsOpen shape.now.children self.old.draft.decided couple × (self.new.nodes.items ≡ self.old.nodes.items ++ TreeNode.Branch couple ∷ []) × (length self.old.draft.decided + 1 ≤ length (couples_of shape.now.children)) × IsOnCycle shape.now.children (sizes_of sizes.now) self.old.draft.decided couple)) }
     {
         // The proof needs what the lists of a shape and the decisions of a draft keep to.
         let (_lists, _decided) = (shape.child_lists(), self.draft.decided());
@@ -163,18 +164,18 @@ impl<'a> Search<'a> {
         requires same { length sizes.now ≡ length shape.now.children }
         requires children { self.old.draft.children ≡ shape.now.children }
         requires ordered { IsOrdered shape.now.children (sizes_of sizes.now) self.old.draft.ordered }
-        requires bound { bound ≡ decided_bound_of shape.now.children (sizes_of sizes.now) costs.comp costs.inst self.old.draft.decided }
+        requires bound { bound ≡ decided_bound_of shape.now.children (sizes_of sizes.now) (prices_of costs) self.old.draft.decided }
         requires left { length self.old.draft.decided + left ≡ length (couples_of shape.now.children) }
-        requires held { IsHeld shape.now.children (sizes_of sizes.now) costs.comp costs.inst self.old.best self.old.list }
+        requires held { IsHeld shape.now.children (sizes_of sizes.now) (prices_of costs) self.old.best self.old.list }
         requires budget { length self.old.nodes.items ≤ budget }
-        ensures held { IsHeld shape.now.children (sizes_of sizes.now) costs.comp costs.inst self.new.best self.new.list }
+        ensures held { IsHeld shape.now.children (sizes_of sizes.now) (prices_of costs) self.new.best self.new.list }
         ensures down { self.new.best ≤ self.old.best }
         ensures children { self.new.draft.children ≡ self.old.draft.children }
         ensures ordered { self.new.draft.ordered ≡ self.old.draft.ordered }
         ensures kept { IfOk result (λ _. self.new.draft.decided ≡ self.old.draft.decided) }
         ensures within { IfOk result (λ _. length self.new.nodes.items ≤ budget) }
         ensures nodes { IfOk result (λ _. length self.new.nodes.items + 1 ≤ length self.old.nodes.items + 2 ^ (left + 1)) }
-        ensures explored { IfOk result (λ _. IsExplored shape.now.children (sizes_of sizes.now) costs.comp costs.inst self.new.best (left + 1) self.old.draft.decided self.old.nodes.items self.new.nodes.items) }
+        ensures explored { IfOk result (λ _. IsExplored shape.now.children (sizes_of sizes.now) (prices_of costs) self.new.best (left + 1) self.old.draft.decided self.old.nodes.items self.new.nodes.items) }
         ensures err { IfErr result (IsStopped budget (length self.old.nodes.items + 2 ^ (left + 1)) self.new.best) }
 
         // A budget that is spent is told before memory is wanted.
@@ -199,15 +200,11 @@ impl<'a> Search<'a> {
             couple,
         );
         self.draft.push(couple.lower, couple.higher)?;
-        match self.explore(alloc, shape, sizes, costs, budget, lower, left - 1) {
-            Ok(()) => self.draft.pop(),
-            Err(fault) => return Err(fault),
-        }
+        self.explore(alloc, shape, sizes, costs, budget, lower, left - 1)?;
+        self.draft.pop();
         self.draft.push(couple.higher, couple.lower)?;
-        match self.explore(alloc, shape, sizes, costs, budget, higher, left - 1) {
-            Ok(()) => self.draft.pop(),
-            Err(fault) => return Err(fault),
-        }
+        self.explore(alloc, shape, sizes, costs, budget, higher, left - 1)?;
+        self.draft.pop();
         Ok(())
     }
 }

@@ -2,6 +2,7 @@
 
 ghost use Rattle.std.specs.Prelude.{◌≡◌, ◌↔◌, ◌<◌, ◌≤◌, List, length, IfOk, IfErr, OnErr};
 ghost use Rattle.wh_strategy.specs.declared.expression.Expression.{Expression};
+ghost use Rattle.wh_strategy.specs.Prices.{prices_of};
 ghost use Rattle.wh_strategy.specs.Rules.{IsCorrect, IsOneWay};
 ghost use Rattle.wh_strategy.specs.Sizes.{sizes_of};
 ghost use Rattle.wh_strategy.specs.Work.{work_of};
@@ -33,11 +34,11 @@ fn accepted_for(scope: Scope) -> Verdict
 fn certified(shape: &Shape, sizes: &Sizes, costs: Costs, planned: Planned) -> Planned
     requires same { length sizes.now ≡ length shape.now.children }
     requires shape { planned.correct.children ≡ shape.now.children }
-    requires work { planned.work ≡ work_of shape.now.children (sizes_of sizes.now) costs.comp costs.inst planned.correct.list }
-    requires certified { IsJudged shape.now.children (sizes_of sizes.now) costs.comp costs.inst planned.work planned.certificate (accepted_for planned.scope) }
+    requires work { planned.work ≡ work_of shape.now.children (sizes_of sizes.now) (prices_of costs) planned.correct.list }
+    requires certified { IsJudged shape.now.children (sizes_of sizes.now) (prices_of costs) planned.work planned.certificate (accepted_for planned.scope) }
     ensures itself { result ≡ planned }
-    ensures least_of_all { planned.scope ≡ Scope.All → (list : List Expression) → IsCorrect shape.now.children list → planned.work ≤ work_of shape.now.children (sizes_of sizes.now) costs.comp costs.inst list }
-    ensures least_one_way { (list : List Expression) → IsCorrect shape.now.children list → IsOneWay list → planned.work ≤ work_of shape.now.children (sizes_of sizes.now) costs.comp costs.inst list }
+    ensures least_of_all { planned.scope ≡ Scope.All → (list : List Expression) → IsCorrect shape.now.children list → planned.work ≤ work_of shape.now.children (sizes_of sizes.now) (prices_of costs) list }
+    ensures least_one_way { (list : List Expression) → IsCorrect shape.now.children list → IsOneWay list → planned.work ≤ work_of shape.now.children (sizes_of sizes.now) (prices_of costs) list }
 {
     let verdict = certify(shape, sizes, costs, &planned.correct, &planned.certificate);
     if verdict == accepted_for(planned.scope) {
@@ -61,17 +62,17 @@ pub fn plan(
     ensures shape { IfOk result (λ p. p.correct.children ≡ shape.now.children) }
     ensures correct { IfOk result (λ p. IsCorrect shape.now.children p.correct.list) }
     ensures one_way { IfOk result (λ p. IsOneWay p.correct.list) }
-    ensures work { IfOk result (λ p. p.work ≡ work_of shape.now.children (sizes_of sizes.now) costs.comp costs.inst p.correct.list) }
-    ensures all { IfOk result (λ p. p.scope ≡ Scope.All ↔ p.work ≡ pair_bound_of shape.now.children (sizes_of sizes.now) costs.comp costs.inst) }
-    ensures certified { IfOk result (λ p. IsJudged shape.now.children (sizes_of sizes.now) costs.comp costs.inst p.work p.certificate (accepted_for p.scope)) }
+    ensures work { IfOk result (λ p. p.work ≡ work_of shape.now.children (sizes_of sizes.now) (prices_of costs) p.correct.list) }
+    ensures all { IfOk result (λ p. p.scope ≡ Scope.All ↔ p.work ≡ pair_bound_of shape.now.children (sizes_of sizes.now) (prices_of costs)) }
+    ensures certified { IfOk result (λ p. IsJudged shape.now.children (sizes_of sizes.now) (prices_of costs) p.work p.certificate (accepted_for p.scope)) }
     ensures within { IfOk result (λ p. IsWithinBudget budget p.certificate) }
     ensures branches { IfOk result (λ p. HasBranchesOnCycles shape.now.children (sizes_of sizes.now) p.certificate) }
-    ensures least_of_all { IfOk result (λ p. p.scope ≡ Scope.All → (list : List Expression) → IsCorrect shape.now.children list → p.work ≤ work_of shape.now.children (sizes_of sizes.now) costs.comp costs.inst list) }
-    ensures least_one_way { IfOk result (λ p. (list : List Expression) → IsCorrect shape.now.children list → IsOneWay list → p.work ≤ work_of shape.now.children (sizes_of sizes.now) costs.comp costs.inst list) }
+    ensures least_of_all { IfOk result (λ p. p.scope ≡ Scope.All → (list : List Expression) → IsCorrect shape.now.children list → p.work ≤ work_of shape.now.children (sizes_of sizes.now) (prices_of costs) list) }
+    ensures least_one_way { IfOk result (λ p. (list : List Expression) → IsCorrect shape.now.children list → IsOneWay list → p.work ≤ work_of shape.now.children (sizes_of sizes.now) (prices_of costs) list) }
     ensures acyclic { IfOk result (λ p. IsAcyclicAsDesired shape.now.children (sizes_of sizes.now) → p.scope ≡ Scope.All) }
     ensures cyclic { IfOk result (λ p. p.scope ≡ Scope.OneWay → IsCyclicAsDesired shape.now.children (sizes_of sizes.now)) }
     ensures sorted { IfOk result (λ p. IsAcyclicAsDesired shape.now.children (sizes_of sizes.now) → IsSortedAsDesired shape.now.children (sizes_of sizes.now) p.correct.list) }
-    ensures err { IfErr result (IsPlanReason shape.now.children (sizes_of sizes.now) costs.comp costs.inst budget) }
+    ensures err { IfErr result (IsPlanReason shape.now.children (sizes_of sizes.now) (prices_of costs) budget) }
 
     // Without a view nothing is refused: the plan has no expression, and takes no memory.
     ensures some { OnErr result (0 < length shape.now.children) }

@@ -4,6 +4,7 @@ ghost use Rattle.std.specs.Prelude.{◌≡◌, ◌↔◌, ◌+◌, ◌≤◌, �
 ghost use Rattle.wh_dag.specs.Shape.{IsShape};
 ghost use Rattle.wh_dag.specs.Siblings.{couples_of};
 ghost use Rattle.wh_strategy.specs.declared.expression.Expression.{Expression};
+ghost use Rattle.wh_strategy.specs.Prices.{prices_of};
 ghost use Rattle.wh_strategy.specs.Rules.{IsCorrect, IsOneWay};
 ghost use Rattle.wh_strategy.specs.Sizes.{sizes_of};
 ghost use Rattle.wh_strategy.specs.Work.{work_of};
@@ -33,13 +34,13 @@ fn reason(
 ) -> Result<(Scope, Certificate), AllocError>
     requires same { length sizes.now ≡ length shape.now.children }
     requires shape { IsShape shape.now.children }
-    requires explored { IsExplored shape.now.children (sizes_of sizes.now) costs.comp costs.inst work (length (couples_of shape.now.children) + 1) [] [] nodes.items }
-    ensures all { IfOk result (λ r. r.0 ≡ Scope.All ↔ work ≡ pair_bound_of shape.now.children (sizes_of sizes.now) costs.comp costs.inst) }
-    ensures certified { IfOk result (λ r. IsJudged shape.now.children (sizes_of sizes.now) costs.comp costs.inst work r.1 (accepted_for r.0)) }
+    requires explored { IsExplored shape.now.children (sizes_of sizes.now) (prices_of costs) work (length (couples_of shape.now.children) + 1) [] [] nodes.items }
+    ensures all { IfOk result (λ r. r.0 ≡ Scope.All ↔ work ≡ pair_bound_of shape.now.children (sizes_of sizes.now) (prices_of costs)) }
+    ensures certified { IfOk result (λ r. IsJudged shape.now.children (sizes_of sizes.now) (prices_of costs) work r.1 (accepted_for r.0)) }
     ensures within { IfOk result (λ r. (budget : ℕ) → length nodes.items ≤ budget → IsWithinBudget budget r.1) }
     ensures branches { IfOk result (λ r. HasBranchesOnCycles shape.now.children (sizes_of sizes.now) r.1) }
-    ensures least_of_all { IfOk result (λ r. r.0 ≡ Scope.All → (list : List Expression) → IsCorrect shape.now.children list → work ≤ work_of shape.now.children (sizes_of sizes.now) costs.comp costs.inst list) }
-    ensures least_one_way { IfOk result (λ r. (list : List Expression) → IsCorrect shape.now.children list → IsOneWay list → work ≤ work_of shape.now.children (sizes_of sizes.now) costs.comp costs.inst list) }
+    ensures least_of_all { IfOk result (λ r. r.0 ≡ Scope.All → (list : List Expression) → IsCorrect shape.now.children list → work ≤ work_of shape.now.children (sizes_of sizes.now) (prices_of costs) list) }
+    ensures least_one_way { IfOk result (λ r. (list : List Expression) → IsCorrect shape.now.children list → IsOneWay list → work ≤ work_of shape.now.children (sizes_of sizes.now) (prices_of costs) list) }
 {
     if work == pair_bound(shape, sizes, costs) {
         let lines = pair_mins(alloc, shape, sizes)?;
@@ -63,25 +64,19 @@ pub fn prune(
     ensures shape { IfOk result (λ p. p.correct.children ≡ shape.now.children) }
     ensures correct { IfOk result (λ p. IsCorrect shape.now.children p.correct.list) }
     ensures one_way { IfOk result (λ p. IsOneWay p.correct.list) }
-    ensures work { IfOk result (λ p. p.work ≡ work_of shape.now.children (sizes_of sizes.now) costs.comp costs.inst p.correct.list) }
-    ensures all { IfOk result (λ p. p.scope ≡ Scope.All ↔ p.work ≡ pair_bound_of shape.now.children (sizes_of sizes.now) costs.comp costs.inst) }
-    ensures certified { IfOk result (λ p. IsJudged shape.now.children (sizes_of sizes.now) costs.comp costs.inst p.work p.certificate (accepted_for p.scope)) }
+    ensures work { IfOk result (λ p. p.work ≡ work_of shape.now.children (sizes_of sizes.now) (prices_of costs) p.correct.list) }
+    ensures all { IfOk result (λ p. p.scope ≡ Scope.All ↔ p.work ≡ pair_bound_of shape.now.children (sizes_of sizes.now) (prices_of costs)) }
+    ensures certified { IfOk result (λ p. IsJudged shape.now.children (sizes_of sizes.now) (prices_of costs) p.work p.certificate (accepted_for p.scope)) }
     ensures within { IfOk result (λ p. IsWithinBudget budget p.certificate) }
     ensures branches { IfOk result (λ p. HasBranchesOnCycles shape.now.children (sizes_of sizes.now) p.certificate) }
-    ensures least_of_all { IfOk result (λ p. p.scope ≡ Scope.All → (list : List Expression) → IsCorrect shape.now.children list → p.work ≤ work_of shape.now.children (sizes_of sizes.now) costs.comp costs.inst list) }
-    ensures least_one_way { IfOk result (λ p. (list : List Expression) → IsCorrect shape.now.children list → IsOneWay list → p.work ≤ work_of shape.now.children (sizes_of sizes.now) costs.comp costs.inst list) }
-    ensures err { IfErr result (IsSearchReason shape.now.children (sizes_of sizes.now) costs.comp costs.inst budget) }
+    ensures least_of_all { IfOk result (λ p. p.scope ≡ Scope.All → (list : List Expression) → IsCorrect shape.now.children list → p.work ≤ work_of shape.now.children (sizes_of sizes.now) (prices_of costs) list) }
+    ensures least_one_way { IfOk result (λ p. (list : List Expression) → IsCorrect shape.now.children list → IsOneWay list → p.work ≤ work_of shape.now.children (sizes_of sizes.now) (prices_of costs) list) }
+    ensures err { IfErr result (IsSearchReason shape.now.children (sizes_of sizes.now) (prices_of costs) budget) }
 {
     let couples = shape.couples(alloc)?;
-    let mut search = match Search::begin(alloc, shape, sizes, costs, &couples) {
-        Ok(search) => search,
-        Err(fault) => return Err(fault),
-    };
+    let mut search = Search::begin(alloc, shape, sizes, costs, &couples)?;
     let bound = decided_bound(shape, sizes, costs, &[]);
-    match search.explore(alloc, shape, sizes, costs, budget, bound, couples.len()) {
-        Ok(()) => {}
-        Err(fault) => return Err(fault),
-    }
+    search.explore(alloc, shape, sizes, costs, budget, bound, couples.len())?;
     let Search {
         best: work,
         list,

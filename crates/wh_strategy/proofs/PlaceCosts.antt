@@ -7,6 +7,7 @@ use Rattle.wh_dag.specs.Shape.{has, IsShape, children_of}
 use Rattle.wh_strategy.specs.declared.expression.Expression.{Expression}
 use Rattle.wh_strategy.specs.declared.expression.Expression.TheVariants.{Comp, Inst}
 use Rattle.wh_strategy.specs.Expression.{At}
+use Rattle.wh_strategy.specs.Prices.{Prices}
 use Rattle.wh_strategy.specs.Rules.{IsCorrect}
 use Rattle.wh_strategy.specs.Sizes.{Size}
 use Rattle.wh_strategy.specs.Sums.{parts}
@@ -40,13 +41,13 @@ pub terms_by_child : (sizes : ℕ → Size) (list : List Expression) (place : �
 terms_by_child sizes list place children ys =
     sum_by-swap (λ part u. cond (has part u) (sizes u).change (state sizes list place u)) (parts ys) children
 
-pub cost_of_comp : (shape : List (List ℕ)) (sizes : ℕ → Size) (comp inst : ℕ) (list : List Expression) (p v : ℕ) (ys : List ℕ) → At list p (Comp v ys) → cost_at shape sizes comp inst list p ≡ comp * sum_by (term sizes list p (children_of shape v)) (parts ys)
-cost_of_comp shape sizes comp inst list p v ys at =
-    ap (λ o. comp * comp_rows shape sizes list p o + inst * inst_rows sizes o) at ∙ omega arith
+pub cost_of_comp : (shape : List (List ℕ)) (sizes : ℕ → Size) (prices : Prices) (list : List Expression) (p v : ℕ) (ys : List ℕ) → At list p (Comp v ys) → cost_at shape sizes prices list p ≡ prices.comp * sum_by (term sizes list p (children_of shape v)) (parts ys)
+cost_of_comp shape sizes prices list p v ys at =
+    ap (λ o. prices.comp * comp_rows shape sizes list p o + prices.inst * inst_rows sizes o) at ∙ omega arith
 
-pub cost_of_inst : (shape : List (List ℕ)) (sizes : ℕ → Size) (comp inst : ℕ) (list : List Expression) (p v : ℕ) → At list p (Inst v) → cost_at shape sizes comp inst list p ≡ inst * (sizes v).change
-cost_of_inst shape sizes comp inst list p v at =
-    ap (λ o. comp * comp_rows shape sizes list p o + inst * inst_rows sizes o) at ∙ omega arith
+pub cost_of_inst : (shape : List (List ℕ)) (sizes : ℕ → Size) (prices : Prices) (list : List Expression) (p v : ℕ) → At list p (Inst v) → cost_at shape sizes prices list p ≡ prices.inst * (sizes v).change
+cost_of_inst shape sizes prices list p v at =
+    ap (λ o. prices.comp * comp_rows shape sizes list p o + prices.inst * inst_rows sizes o) at ∙ omega arith
 
 -- the expression that the code reads
 pub stands : (list : List Expression) (p : ℕ) (x e : Expression) → p < length list → x ≡ get_or list p x → x ≡ e → At list p e

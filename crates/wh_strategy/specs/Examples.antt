@@ -8,6 +8,7 @@ use Rattle.wh_strategy.specs.declared.rule.Rule.{Rule}
 use Rattle.wh_strategy.specs.declared.rule.Rule.TheVariants.{S1, S2, S3, S4, S5, S6}
 use Rattle.wh_strategy.specs.declared.sizes.SizeRow.{SizeRow}
 use Rattle.wh_strategy.specs.Expression.{At, is_new}
+use Rattle.wh_strategy.specs.Prices.{Prices}
 use Rattle.wh_strategy.specs.Rules.{BreaksS4, IsFirstPlace}
 use Rattle.wh_strategy.specs.Sizes.{sizes_of}
 use Rattle.wh_strategy.specs.Sums.{sum_below, parts}
@@ -20,6 +21,10 @@ v_over_a_b = [] ∷ [] ∷ (0 ∷ 1 ∷ []) ∷ []
 
 abbrev row : ℕ → ℕ → ℕ → SizeRow
 row pre post change = record { pre = pre; post = post; change = change }
+
+-- each row costs 1
+abbrev pub ones : Prices
+ones = record { comp = 1; inst = 1 }
 
 abbrev three_sizes : List SizeRow
 three_sizes = row 10 12 4 ∷ row 100 70 30 ∷ row 50 44 6 ∷ []
@@ -34,12 +39,12 @@ abbrev both_children_at_once : List Expression
 both_children_at_once = Comp 2 (0 ∷ 1 ∷ []) ∷ Inst 0 ∷ Inst 1 ∷ Inst 2 ∷ []
 
 -- 40 + 30 + 74 + 4 + 6
-pub one_way_check_costs : work_of v_over_a_b (sizes_of three_sizes) 1 1 one_way_check ≡ 154
+pub one_way_check_costs : work_of v_over_a_b (sizes_of three_sizes) ones one_way_check ≡ 154
 unfolding sum_below has parts children_of is_new sizes_of
 one_way_check_costs = refl
 
 -- 104 + 40 + 34 + 40
-pub both_children_at_once_costs : work_of v_over_a_b (sizes_of three_sizes) 1 1 both_children_at_once ≡ 218
+pub both_children_at_once_costs : work_of v_over_a_b (sizes_of three_sizes) ones both_children_at_once ≡ 218
 unfolding sum_below has parts children_of is_new sizes_of
 both_children_at_once_costs = refl
 
@@ -79,6 +84,6 @@ two_comps_before_inst_is_refused =
     none p l b = let k : b.earlier < p = b.before in omega arith
 
 -- V over six views of 10 rows of which one changes: 63 terms
-pub six_children_costs : work_of ([] ∷ [] ∷ [] ∷ [] ∷ [] ∷ [] ∷ (0 ∷ 1 ∷ 2 ∷ 3 ∷ 4 ∷ 5 ∷ []) ∷ []) (sizes_of (row 10 10 1 ∷ row 10 10 1 ∷ row 10 10 1 ∷ row 10 10 1 ∷ row 10 10 1 ∷ row 10 10 1 ∷ row 5 5 1 ∷ [])) 1 1 (Comp 6 (0 ∷ 1 ∷ 2 ∷ 3 ∷ 4 ∷ 5 ∷ []) ∷ Inst 0 ∷ Inst 1 ∷ Inst 2 ∷ Inst 3 ∷ Inst 4 ∷ Inst 5 ∷ Inst 6 ∷ []) ≡ 2059
+pub six_children_costs : work_of ([] ∷ [] ∷ [] ∷ [] ∷ [] ∷ [] ∷ (0 ∷ 1 ∷ 2 ∷ 3 ∷ 4 ∷ 5 ∷ []) ∷ []) (sizes_of (row 10 10 1 ∷ row 10 10 1 ∷ row 10 10 1 ∷ row 10 10 1 ∷ row 10 10 1 ∷ row 10 10 1 ∷ row 5 5 1 ∷ [])) ones (Comp 6 (0 ∷ 1 ∷ 2 ∷ 3 ∷ 4 ∷ 5 ∷ []) ∷ Inst 0 ∷ Inst 1 ∷ Inst 2 ∷ Inst 3 ∷ Inst 4 ∷ Inst 5 ∷ Inst 6 ∷ []) ≡ 2059
 unfolding sum_below has parts children_of is_new sizes_of
 six_children_costs = refl

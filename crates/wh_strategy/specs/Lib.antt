@@ -1,6 +1,7 @@
 pub mod Examples
 pub mod Earlier
 pub mod Expression
+pub mod Prices
 pub mod Rules
 pub mod Sizes
 pub mod Sums

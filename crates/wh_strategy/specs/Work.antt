@@ -6,6 +6,7 @@ use Rattle.wh_dag.specs.Shape.{has, children_of}
 use Rattle.wh_strategy.specs.declared.expression.Expression.{Expression}
 use Rattle.wh_strategy.specs.declared.expression.Expression.TheVariants.{Comp, Inst}
 use Rattle.wh_strategy.specs.Expression.{is_new}
+use Rattle.wh_strategy.specs.Prices.{Prices}
 use Rattle.wh_strategy.specs.Sizes.{Size}
 use Rattle.wh_strategy.specs.Sums.{sum_below, parts}
 
@@ -30,10 +31,10 @@ inst_rows sizes (Some (Comp v ys)) = 0
 inst_rows sizes (Some (Inst v)) = (sizes v).change
 
 -- what the expression at this place costs
-abbrev pub cost_at : List (List ℕ) → (ℕ → Size) → ℕ → ℕ → List Expression → ℕ → ℕ
-cost_at shape sizes comp inst list place =
-    comp * comp_rows shape sizes list place (slice_get list place) + inst * inst_rows sizes (slice_get list place)
+abbrev pub cost_at : List (List ℕ) → (ℕ → Size) → Prices → List Expression → ℕ → ℕ
+cost_at shape sizes prices list place =
+    prices.comp * comp_rows shape sizes list place (slice_get list place) + prices.inst * inst_rows sizes (slice_get list place)
 
--- the work of the list, at a Comp cost and an Inst cost
-abbrev pub work_of : List (List ℕ) → (ℕ → Size) → ℕ → ℕ → List Expression → ℕ
-work_of shape sizes comp inst list = sum_below (cost_at shape sizes comp inst list) (length list)
+-- the work of the list at these prices
+abbrev pub work_of : List (List ℕ) → (ℕ → Size) → Prices → List Expression → ℕ
+work_of shape sizes prices list = sum_below (cost_at shape sizes prices list) (length list)

@@ -4,6 +4,7 @@ ghost use Rattle.std.specs.Prelude.{◌≡◌, ◌+◌, ◌*◌, ◌^◌, ◌<�
 ghost use Rattle.std.specs.List.{sum_by, All};
 ghost use Rattle.wh_dag.specs.Shape.{has, Distinct, IsShape, children_of};
 ghost use Rattle.wh_strategy.specs.Earlier.{TellsInstalled};
+ghost use Rattle.wh_strategy.specs.Prices.{prices_of};
 ghost use Rattle.wh_strategy.specs.Rules.{IsCorrect};
 ghost use Rattle.wh_strategy.specs.Sizes.{sizes_of};
 ghost use Rattle.wh_strategy.specs.Sums.{parts};
@@ -108,7 +109,7 @@ fn place_cost(
     requires same { length sizes.now ≡ length children.now }
     requires there { place < length list.now }
     requires told { TellsInstalled installed.now.flags (take place list.now) }
-    ensures value { result ≡ cost_at children.now (sizes_of sizes.now) costs.comp costs.inst list.now place }
+    ensures value { result ≡ cost_at children.now (sizes_of sizes.now) (prices_of costs) list.now place }
     ensures small { result ≤ 2 ^ 69 }
 {
     match &list[place] {
@@ -132,7 +133,7 @@ fn place_cost(
 pub fn work(shape: &Shape, sizes: &Sizes, costs: Costs, correct: &Correct) -> u128
     requires same { correct.now.children ≡ shape.now.children }
     requires sizes { length sizes.now ≡ length shape.now.children }
-    ensures { result ≡ work_of shape.now.children (sizes_of sizes.now) costs.comp costs.inst correct.now.list }
+    ensures { result ≡ work_of shape.now.children (sizes_of sizes.now) (prices_of costs) correct.now.list }
 {
     let children = shape.child_lists();
     let list = correct.strategy().as_slice();

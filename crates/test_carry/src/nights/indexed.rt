@@ -6,7 +6,8 @@ use crate::nights::catalogs::joined;
 use std::alloc::Global;
 use std::process::Abort;
 use std::test::Fail;
-use wh_maint::{Index, Pending, Wants};
+use wh_join::Index;
+use wh_maint::{Pending, Wants};
 use wh_row::Bag;
 
 /// a holds (k, k mod 10) for k from 0 to 3999, each so often.

@@ -1,7 +1,6 @@
 -- Tables that are fit for a night: what only proofs and private contracts use.
 use Rattle.std.specs.Prelude.{◌≡◌, ℕ, ◌<◌, pos, ◌≤ℤ◌, ℤ, length}
 use Rattle.wh_row.specs.Row.{Row}
-use Rattle.wh_row.specs.Bag.{count}
 use Rattle.wh_maint.specs.Summary.{cell_of}
 
 -- a row of a summary: it has a count and all sums, stands once, and its group counts

@@ -4,6 +4,7 @@ use Rattle.std.specs.List.{All}
 use Rattle.wh_dag.specs.Siblings.{couples_of}
 use Rattle.wh_dag.specs.declared.siblings.Couple.{Couple}
 use Rattle.wh_strategy.specs.declared.expression.Expression.{Expression}
+use Rattle.wh_strategy.specs.Prices.{Prices}
 use Rattle.wh_strategy.specs.Rules.{IsCorrect, IsOneWay}
 use Rattle.wh_strategy.specs.Sizes.{Size}
 use Rattle.wh_strategy.specs.Work.{work_of}
@@ -30,18 +31,18 @@ abbrev pub DecidesLowerFirst : List (ℕ × ℕ) → Type 0
 DecidesLowerFirst decided = (u w : ℕ) → decides decided u w ≡ true → u < w
 
 -- the list is a one-way strategy of this work
-pub record IsHeld (shape : List (List ℕ)) (sizes : ℕ → Size) (comp inst work : ℕ) (list : List Expression) : Type 0 where
+pub record IsHeld (shape : List (List ℕ)) (sizes : ℕ → Size) (prices : Prices) (work : ℕ) (list : List Expression) : Type 0 where
   pub correct : IsCorrect shape list
   pub one_way : IsOneWay list
-  pub costs : work_of shape sizes comp inst list ≡ work
+  pub costs : work_of shape sizes prices list ≡ work
 
 -- After the nodes of before come those of a tree, and nothing else. It is at most so deep, and below these decisions, the last
 -- of which is the nearest, each of its nodes is good for a strategy of this work, and each of its branches is on a couple of a cycle.
-pub record IsExplored (shape : List (List ℕ)) (sizes : ℕ → Size) (comp inst work deep : ℕ) (decided : List (ℕ × ℕ)) (before after : List TreeNode) : Type 0 where
+pub record IsExplored (shape : List (List ℕ)) (sizes : ℕ → Size) (prices : Prices) (work deep : ℕ) (decided : List (ℕ × ℕ)) (before after : List TreeNode) : Type 0 where
   pub tree : CaseTree
   pub nodes : after ≡ before ++ preorder tree
   pub within : depth tree ≤ deep
-  pub good : All (IsGoodNode shape sizes comp inst work) (nodes_below (reverse decided) tree)
+  pub good : All (IsGoodNode shape sizes prices work) (nodes_below (reverse decided) tree)
   pub branches : All (BranchesOnCycle shape sizes) (nodes_below (reverse decided) tree)
 
 -- Why a search stopped: as many nodes were opened as its budget says, where the whole tree has more, namely one fewer than `all`;

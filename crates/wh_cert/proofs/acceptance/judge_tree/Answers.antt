@@ -1,4 +1,5 @@
 use Rattle.std.proofs.Common.{◌≤◌, subst}
+use Rattle.wh_strategy.specs.Prices.{prices_of}
 use Rattle.wh_strategy.specs.Sizes.{sizes_of}
 use Rattle.wh_strategy.specs.Work.{work_of}
 use Rattle.wh_cert.specs.Tree.{tree_of}
@@ -9,5 +10,5 @@ pub returns-in-None-clause-one_way : goal.returns-in-None-clause-one_way
 returns-in-None-clause-one_way c e list co ow =
     let shape = c.args.shape.now.children in
     let sizes = sizes_of c.args.sizes.now in
-    subst (λ n. n ≤ work_of shape sizes c.args.costs.comp c.args.costs.inst list) c.work-work.ensures
-    (accepted_shows shape sizes c.args.costs.comp c.args.costs.inst c.work-work.result (tree_of c.args.tree.now) list c.child_lists-lists.ensures.shape c.in-None.ensures co ow)
+    subst (λ n. n ≤ work_of shape sizes (prices_of c.args.costs) list) c.work-work.ensures
+    (accepted_shows shape sizes (prices_of c.args.costs) c.work-work.result (tree_of c.args.tree.now) list c.child_lists-lists.ensures.shape c.in-None.ensures co ow)

@@ -1,5 +1,6 @@
 use Rattle.std.proofs.Common.{◌≡◌, ◌<◌, ◌+◌, ◌*◌, ℕ, length, ap, sym, ◌∙◌, arith}
 use Rattle.wh_dag.specs.Shape.{children_of}
+use Rattle.wh_strategy.specs.Prices.{prices_of}
 use Rattle.wh_strategy.specs.Sizes.{sizes_of}
 use Rattle.wh_strategy.specs.Sums.{sum_below}
 use Rattle.wh_strategy.proofs.SumsBelow.{sum_below_none, sum_below_more}
@@ -44,4 +45,4 @@ returns c =
     let a : c.loop-view.rows ≡ sum_below f (length shape) = c.loop-view.invariant.rows ∙ ap (sum_below f) n in
     let b : c.loop-view.changes ≡ sum_below g (length shape) = c.loop-view.invariant.changes ∙ ap (sum_below g) n in
     ap (λ z. c.args.costs.comp * z + c.args.costs.inst * c.loop-view.changes) a ∙ ap (λ z. c.args.costs.comp * sum_below f (length shape) + c.args.costs.inst * z) b
-    ∙ ap (decided_bound_of shape sizes c.args.costs.comp c.args.costs.inst) c.of-decisions.ensures
+    ∙ ap (decided_bound_of shape sizes (prices_of c.args.costs)) c.of-decisions.ensures

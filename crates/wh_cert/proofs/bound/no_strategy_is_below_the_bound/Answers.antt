@@ -3,4 +3,4 @@ use Rattle.wh_cert.proofs.Least.{sizes_grow_within, pair_bound-le_work}
 use Rattle.wh_cert.proofs.bound.no_strategy_is_below_the_bound.Goals as goal
 
 pub returns : goal.returns
-returns c shape rows comp inst list sh are co = pair_bound-le_work shape (sizes_of rows) comp inst list sh (sizes_grow_within rows are) co
+returns c shape rows prices list sh are co = pair_bound-le_work shape (sizes_of rows) prices list sh (sizes_grow_within rows are) co

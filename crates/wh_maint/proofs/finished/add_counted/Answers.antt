@@ -43,7 +43,7 @@ loop-group-preserved c =
       next = search rules;
       rest = rest_next (p 0) e c.next.new.self rest;
       made = same_made c.args.sums c.args.table.now p _ (done_at 0 p c.next.new.self) c.add_group.new.change (done_next 0 p e c.next.new.self rest)
-          (c.in_default.ensures.made (done_at 0 p (e ∷ c.next.new.self)) (done_own 0 p e c.next.new.self) made);
+          (c.in_ok-add_group.ensures.made (done_at 0 p (e ∷ c.next.new.self)) (done_own 0 p e c.next.new.self) made);
     }
 
 pub returns-clause-made : goal.returns-clause-made

@@ -23,4 +23,4 @@ returns-clause-sums c =
 pub loop-number-preserved : goal.loop-number-preserved
 loop-number-preserved c =
     let next : suc c.loop-number.number ≡ c.loop-number.number + 1 = omega arith in
-    subst (λ n. AreMade c.args.sums c.args.table.now (bag_at c.args.pending.now.columns) (stands_within (suc n) (bag_at c.args.pending.now.columns)) c.add_summed.new.change) next c.in-Ok-add_summed.ensures.made
+    subst (λ n. AreMade c.args.sums c.args.table.now (bag_at c.args.pending.now.columns) (stands_within (suc n) (bag_at c.args.pending.now.columns)) c.add_summed.new.change) next c.in_ok-add_summed.ensures.made

@@ -1,5 +1,7 @@
 use Rattle.std.proofs.Common.{◌≡◌, length, ap, ◌∙◌, subst, arith, rules}
+use Rattle.std.proofs.lemmas.Result.{err_from_is_err_and}
 use Rattle.wh_dag.specs.Siblings.{couples_of}
+use Rattle.wh_strategy.specs.Prices.{prices_of}
 use Rattle.wh_strategy.specs.Rules.{IsReason}
 use Rattle.wh_strategy.specs.Sizes.{sizes_of}
 use Rattle.wh_strategy.proofs.Agreeing.{refused}
@@ -10,14 +12,15 @@ pub unreachable-requires : goal.unreachable-requires
 unreachable-requires c =
     let shape = c.args.shape.now.children in
     let r = subst (λ z. IsReason shape c.explore.new.self.list z) c.in-Err-Broken.field-0-is c.in-Err-Broken.ensures.err in
-    refused c.in-Err-Broken.field-0-0 shape c.explore.new.self.list c.in-Err-Broken.field-0-1 c.in-Ok.ensures.shape r c.explore.ensures.held.correct
+    refused c.in-Err-Broken.field-0-0 shape c.explore.new.self.list c.in-Err-Broken.field-0-1 c.in_ok-search.ensures.shape r c.explore.ensures.held.correct
 
-pub returns-in-Err-explore-clause-err : goal.returns-in-Err-explore-clause-err
-returns-in-Err-explore-clause-err c =
+pub returns-in_err-explore-clause-err : goal.returns-in_err-explore-clause-err
+returns-in_err-explore-clause-err c =
     let shape = c.args.shape.now.children in
     let sizes = sizes_of c.args.sizes.now in
-    let none = ap length c.in-Ok.ensures.nodes in
+    let none = ap length c.in_ok-search.ensures.nodes in
     let size : c.len.result ≡ length c.in_ok-couples.couples.items = search rules in
     let many : c.len.result ≡ length (couples_of shape) = size ∙ ap length c.in_ok-couples.ensures.couples in
-    why_stopped shape sizes c.args.costs.comp c.args.costs.inst c.args.budget _ c.explore.new.self.best c.in-Ok.search.best c.explore.new.self.list c.in-Err-explore.fault c.in-Err-explore.ensures.err
-    (rw (none, many) (omega arith)) c.explore.ensures.held c.explore.ensures.down c.in-Ok.ensures.lowest
+    let given = err_from_is_err_and c.from_residual-in_err-explore.result c.from_residual-in_err-explore.ensures.1 in
+    rw (given.1, given.2) (why_stopped shape sizes (prices_of c.args.costs) c.args.budget _ c.explore.new.self.best c.in_ok-search.search.best c.explore.new.self.list c.in_err-explore.field-0.0 c.in_err-explore.ensures.err
+    (rw (none, many) (omega arith)) c.explore.ensures.held c.explore.ensures.down c.in_ok-search.ensures.lowest)

@@ -3,6 +3,7 @@ use Rattle.std.specs.Prelude.{slice_get}
 use Rattle.std.specs.List.{sum_by}
 use Rattle.wh_dag.specs.Shape.{Distinct, children_of}
 use Rattle.wh_strategy.specs.declared.expression.Expression.TheVariants.{Comp, Inst}
+use Rattle.wh_strategy.specs.Prices.{prices_of}
 use Rattle.wh_strategy.specs.Sizes.{sizes_of}
 use Rattle.wh_strategy.specs.Sums.{parts}
 use Rattle.wh_strategy.specs.Work.{term}
@@ -49,10 +50,10 @@ returns-in-Comp-clause-value c =
     (c.term_rows-rows.ensures.value
     ∙ ap (λ own. sum_by (term (sizes_of c.args.sizes.now) c.args.list.now c.args.place own) (parts c.as_slice.result.now)) c.of.ensures.children
     ∙ ap (λ ys. sum_by (term (sizes_of c.args.sizes.now) c.args.list.now c.args.place (children_of c.args.children.now c.in-Comp.view)) (parts ys)) c.as_slice.ensures)
-    ∙ sym (cost_of_comp c.args.children.now (sizes_of c.args.sizes.now) c.args.costs.comp c.args.costs.inst c.args.list.now c.args.place c.in-Comp.view c.in-Comp.sources at)
+    ∙ sym (cost_of_comp c.args.children.now (sizes_of c.args.sizes.now) (prices_of c.args.costs) c.args.list.now c.args.place c.in-Comp.view c.in-Comp.sources at)
 
 pub returns-in-Inst-clause-value : goal.returns-in-Inst-clause-value
 returns-in-Inst-clause-value c =
     let at = stands c.args.list.now c.args.place c.index-list-place.result (Inst c.in-Inst.view) c.requires.there c.index-list-place.is c.in-Inst.is in
     ap (λ n. c.args.costs.inst * n) c.change_rows.ensures.value
-    ∙ sym (cost_of_inst c.args.children.now (sizes_of c.args.sizes.now) c.args.costs.comp c.args.costs.inst c.args.list.now c.args.place c.in-Inst.view at)
+    ∙ sym (cost_of_inst c.args.children.now (sizes_of c.args.sizes.now) (prices_of c.args.costs) c.args.list.now c.args.place c.in-Inst.view at)

@@ -1,5 +1,6 @@
 use Rattle.std.proofs.Common.{◌+◌, sym, ap, ◌∙◌, subst, take, arith}
 use Rattle.wh_strategy.specs.Earlier.{TellsInstalled}
+use Rattle.wh_strategy.specs.Prices.{prices_of}
 use Rattle.wh_strategy.specs.Sizes.{sizes_of}
 use Rattle.wh_strategy.specs.Sums.{sum_below}
 use Rattle.wh_strategy.specs.Work.{cost_at}
@@ -10,7 +11,7 @@ use Rattle.wh_strategy.proofs.terms.work.Goals as goal
 pub loop-place-preserved : goal.loop-place-preserved
 loop-place-preserved c = record {
   sum = ap (λ n. n + c.place_cost-total.result) c.loop-place.invariant.sum
-      ∙ ap (λ n. sum_below (cost_at c.child_lists-children.result.now (sizes_of c.args.sizes.now) c.args.costs.comp c.args.costs.inst c.as_slice-list.result.now) c.loop-place.place + n) c.place_cost-total.ensures.value
+      ∙ ap (λ n. sum_below (cost_at c.child_lists-children.result.now (sizes_of c.args.sizes.now) (prices_of c.args.costs) c.as_slice-list.result.now) c.loop-place.place + n) c.place_cost-total.ensures.value
       ∙ sym (sum_below_more _ c.loop-place.place);
   small = omega (arith, c.loop-place.invariant.small, c.place_cost-total.ensures.small);
   told = subst (λ before. TellsInstalled c.note.new.self.flags before) (take_next c.as_slice-list.result.now c.loop-place.place c.index-list-place.result c.loop-place-test.true c.index-list-place.is)

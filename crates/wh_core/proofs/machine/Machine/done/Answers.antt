@@ -3,15 +3,16 @@ use Rattle.std.specs.Prelude.{is_some, slice_get}
 use Rattle.std.proofs.lemmas.Option.{slice_get_read, slice_get_within}
 use Rattle.wh_maint.specs.declared.fault.MaintFault.{MaintFault}
 use Rattle.wh_carry.specs.declared.course.Part.{Part}
+use Rattle.wh_carry.specs.Legs.{after_done}
 use Rattle.wh_core.specs.declared.event.Event.TheVariants as event
 use Rattle.wh_core.specs.declared.reply.Cause.TheVariants as cause
 use Rattle.wh_core.specs.declared.reply.Reply.TheVariants as reply
-use Rattle.wh_core.specs.Log.{Finished, draws, ends, holding, pages}
-use Rattle.wh_core.specs.Nights.{night, published}
+use Rattle.wh_core.specs.Log.{Finished, holding}
+use Rattle.wh_core.specs.Nights.{night, published, remaining}
 use Rattle.wh_core.specs.Replies.{IsReply, more}
 use Rattle.wh_core.specs.Standing.{AreLeft, Stands}
 use Rattle.wh_core.proofs.Steps.{drop_one, ended_one, wave_over}
-use Rattle.wh_core.proofs.Moves.{all_drawn, all_passed, done_here, goes_here, held_here, here, job_done, job_refused, no_night_to_do, no_wave_to_do, slot_set, wave_done, wave_stopped, within_wave}
+use Rattle.wh_core.proofs.Moves.{all_passed, done_here, goes_here, held_here, here, job_done, job_refused, no_night_to_do, no_wave_to_do, slot_set, wave_done, wave_stopped, within_wave}
 use Rattle.wh_core.proofs.machine.Machine.done.Goals as goal
 
 pub returns-then-not-is_active : goal.returns-then-not-is_active
@@ -66,7 +67,7 @@ returns-then-self-outcomes c = λ s log h.
         sessions = h.sessions;
         workers = search rules;
         holders = slot_set m.holders.items s.workers c.args.worker None (holding log) (omega arith) h.holders;
-        night = λ o. ended_one (night s log) (draws log) (ends log) (pages log) (drop m.place m.course.parts.items) m.course.stop m.drawn m.ended (goes_here s log m h active) os c.in-Some-outcomes_at.ensures more_left;
+        night = λ o. ended_one (night s log) (remaining s log) (drop m.place m.course.parts.items) m.course.stop m.drawn m.ended (goes_here s log m h active) os c.in-Some-outcomes_at.ensures more_left;
       },
       r,
     )
@@ -108,9 +109,8 @@ returns c = λ s log h.
         sessions = h.sessions;
         workers = search rules;
         holders = slot_set m.holders.items s.workers c.args.worker None (holding log) (omega arith) h.holders;
-        night = λ o. subst (λ parts. AreLeft (night s log) (draws log) (ends log + 1) (pages log) parts m.course.stop 0 0) (drop_one m.place m.course.parts.items)
-            (wave_over (night s log) (draws log) (ends log) (pages log) (drop m.place m.course.parts.items) m.course.stop m.drawn m.ended (goes_here s log m h active) os c.in-Some-outcomes_at.ensures lasts
-            (all_drawn s log m h c.args.worker (omega arith) active os c.in-Some-outcomes_at.ensures c.in-Some.job held own lasts)
+        night = λ o. subst (λ parts. AreLeft (night s log) (after_done (remaining s log)) parts m.course.stop 0 0) (drop_one m.place m.course.parts.items)
+            (wave_over (night s log) (remaining s log) (drop m.place m.course.parts.items) m.course.stop m.drawn m.ended (goes_here s log m h active) os c.in-Some-outcomes_at.ensures lasts
             (all_passed s log m h c.args.worker (omega arith) active os c.in-Some-outcomes_at.ensures c.in-Some.job held own lasts) on);
       }),
       r,

@@ -2,11 +2,11 @@ use Rattle.std.proofs.Common.{rules, [], ◌∷◌, ◌++◌, ◌≡◌, ◌≢�
 use Rattle.std.specs.Prelude.{is_some}
 use Rattle.wh_store.specs.Operations.{operation}
 use Rattle.wh_store.specs.Windows.{Window, Shows, applied}
-use Rattle.wh_carry.specs.Legs.{At_page}
+use Rattle.wh_carry.specs.Legs.{At_page, after_page}
 use Rattle.wh_core.specs.declared.event.Event.TheVariants as event
 use Rattle.wh_core.specs.declared.reply.Reply.TheVariants as reply
-use Rattle.wh_core.specs.Log.{Paged_in, draws, ends, pages}
-use Rattle.wh_core.specs.Nights.{night, page_in_turn, published}
+use Rattle.wh_core.specs.Log.{Paged_in}
+use Rattle.wh_core.specs.Nights.{night, page_in_turn, published, remaining, remaining_in}
 use Rattle.wh_core.specs.Replies.{IsReply, more}
 use Rattle.wh_core.specs.Standing.{AreLeft, Stands}
 use Rattle.wh_core.proofs.Underway.{night-paged}
@@ -82,9 +82,9 @@ returns c = λ s log h.
         sessions = h.sessions;
         workers = h.workers;
         holders = h.holders;
-        night = λ o. subst (λ n. AreLeft n (draws log) (ends log) (pages log + 1) (drop (m.place + 1) m.course.parts.items) m.course.stop 0 0) (sym (night-paged s log))
-            (subst (λ parts. AreLeft (night s log) (draws log) (ends log) (pages log + 1) parts m.course.stop 0 0) (drop_one m.place m.course.parts.items)
-            (page_over (night s log) (draws log) (ends log) (pages log) (drop m.place m.course.parts.items) m.course.stop m.drawn m.ended (goes_here s log m h active) op first on));
+        night = λ o. subst (λ n. AreLeft n (after_page (remaining_in n log)) (drop (m.place + 1) m.course.parts.items) m.course.stop 0 0) (sym (night-paged s log))
+            (subst (λ parts. AreLeft (night s log) (after_page (remaining s log)) parts m.course.stop 0 0) (drop_one m.place m.course.parts.items)
+            (page_over (night s log) (remaining s log) (drop m.place m.course.parts.items) m.course.stop m.drawn m.ended (goes_here s log m h active) op first on));
       }),
       r,
     )

@@ -1,5 +1,6 @@
 use Rattle.std.proofs.Common.{rules, [], ◌∷◌, ◌++◌, ◌≡◌, refl, sym, ap, subst, ◌∙◌, ℕ, ◌<◌, ◌+◌, length, Bool, true, false, arith}
 use Rattle.wh_store.specs.Windows.{Window, Shows}
+use Rattle.wh_carry.specs.Legs.{legs_of, untouched}
 use Rattle.wh_core.specs.declared.event.Event.TheVariants as event
 use Rattle.wh_core.specs.declared.reply.Cause.TheVariants as cause
 use Rattle.wh_core.specs.declared.reply.Reply.TheVariants as reply
@@ -49,7 +50,7 @@ returns c = λ s log h closed left few allowed are.
         sessions = h.sessions;
         workers = c.free_all.ensures.len ∙ h.workers;
         holders = λ w lt. c.free_all.ensures.free w (let f = h.workers in omega (arith, f, lt));
-        night = λ o. subst (λ n. AreLeft n 0 0 0 c.args.course.parts.items c.args.course.stop 0 0) (sym (night-began s log))
+        night = λ o. subst (λ n. AreLeft n (untouched (legs_of n)) c.args.course.parts.items c.args.course.stop 0 0) (sym (night-began s log))
             (goes_from_first s log closed left few allowed c.args.course.parts.items c.args.course.stop are c.in_default.ensures);
       },
       r,

@@ -1,11 +1,10 @@
 use Rattle.std.proofs.Common.{rules, ◌≡◌, refl, sym, ap, subst, ◌∙◌, ℕ, ◌<◌, ◌≤◌, ◌+◌, length, drop, Bool, true, false, not, Option, Some, None, arith}
 use Rattle.std.specs.Prelude.{is_some, nat_le}
-use Rattle.wh_carry.specs.Legs.{turn_of, legs_of, In_wave}
 use Rattle.wh_core.specs.declared.event.Event.TheVariants as event
 use Rattle.wh_core.specs.declared.reply.Cause.TheVariants as cause
 use Rattle.wh_core.specs.declared.reply.Reply.TheVariants as reply
-use Rattle.wh_core.specs.Log.{Drew, draws, ends, holding, is_open, pages}
-use Rattle.wh_core.specs.Nights.{Setup, night, published, turn}
+use Rattle.wh_core.specs.Log.{Drew, holding, is_open}
+use Rattle.wh_core.specs.Nights.{Setup, night, published, remaining, turn}
 use Rattle.wh_core.specs.Replies.{IsReply, IsRuled, Says, more, take_ruling, unless}
 use Rattle.wh_core.specs.Standing.{AreLeft, Stands}
 use Rattle.wh_core.proofs.Steps.{drew, le_false, le_true, onward, refuse, wave_here, wave_turn_here}
@@ -33,7 +32,7 @@ returns-in_default c = λ s log h.
     let no = c.in_default.ensures in (
       h,
       take_here s log m h c.args.worker _ (omega arith) active (onward (is_some (holding log c.args.worker)) cause.Busy _ _ (ap is_some held ∙ none)
-          (no_wave (night s log) (draws log) (ends log) (pages log) (drop m.place m.course.parts.items) m.course.stop m.drawn m.ended (goes_here s log m h active) no)),
+          (no_wave (night s log) (remaining s log) (drop m.place m.course.parts.items) m.course.stop m.drawn m.ended (goes_here s log m h active) no)),
     )
 
 pub returns-then-self-outcomes : goal.returns-then-self-outcomes
@@ -44,7 +43,7 @@ returns-then-self-outcomes c = λ s log h.
     let none : is_some c.index.result.now ≡ false = search rules in
     let g = goes_here s log m h active in
     let os = c.in-Some.outcomes.now in
-    let t = wave_turn_here (night s log) (draws log) (ends log) (pages log) (drop m.place m.course.parts.items) m.course.stop m.drawn m.ended g os c.in-Some.ensures in (
+    let t = wave_turn_here (night s log) (remaining s log) (drop m.place m.course.parts.items) m.course.stop m.drawn m.ended g os c.in-Some.ensures in (
       h,
       take_here s log m h c.args.worker _ (omega arith) active (onward (is_some (holding log c.args.worker)) cause.Busy _ _ (ap is_some held ∙ none)
           (subst (λ t. IsRuled (take_ruling t) (reply.Refused cause.NoJob)) (sym t) (refuse (nat_le (length os) m.drawn) cause.NoJob _ (le_true (length os) m.drawn (omega arith))))),
@@ -60,7 +59,7 @@ returns c = λ s log h.
     let g = goes_here s log m h active in
     let os = c.in-Some.outcomes.now in
     let l : m.drawn < length os = omega arith in
-    let t = wave_turn_here (night s log) (draws log) (ends log) (pages log) (drop m.place m.course.parts.items) m.course.stop m.drawn m.ended g os c.in-Some.ensures in
+    let t = wave_turn_here (night s log) (remaining s log) (drop m.place m.course.parts.items) m.course.stop m.drawn m.ended g os c.in-Some.ensures in
     let r : IsReply s log (event.Take c.args.worker) (reply.Job m.drawn) =
     take_here s log m h c.args.worker _ (omega arith) active (onward (is_some (holding log c.args.worker)) cause.Busy _ _ (ap is_some held ∙ none)
     (subst (λ t. IsRuled (take_ruling t) (reply.Job m.drawn)) (sym t) (onward (nat_le (length os) m.drawn) cause.NoJob (Says (reply.Job m.drawn)) _ (le_false (length os) m.drawn l) refl))) in (
@@ -73,7 +72,7 @@ returns c = λ s log h.
         sessions = h.sessions;
         workers = search rules;
         holders = slot_set m.holders.items s.workers c.args.worker (Some m.drawn) (holding log) (omega arith) h.holders;
-        night = λ o. drew (night s log) (draws log) (ends log) (pages log) (drop m.place m.course.parts.items) m.course.stop m.drawn m.ended g os c.in-Some.ensures l;
+        night = λ o. drew (night s log) (remaining s log) (drop m.place m.course.parts.items) m.course.stop m.drawn m.ended g os c.in-Some.ensures l;
       },
       r,
     )

@@ -1,5 +1,6 @@
 use Rattle.std.proofs.Common.{◌≡◌, ◌≤◌, ◌+◌, ◌-◌, ◌++◌, ◌∷◌, [], length, refl, ap, ◌∙◌, subst, arith, rules}
 use Rattle.wh_dag.specs.Siblings.{couples_of}
+use Rattle.wh_strategy.specs.Prices.{prices_of}
 use Rattle.wh_strategy.specs.Sizes.{sizes_of}
 use Rattle.wh_prune.specs.Inner.Searching.{IsExplored}
 use Rattle.wh_prune.proofs.Deciding.{open_couple_turned, taken_back}
@@ -32,7 +33,7 @@ pub push-requires-2-clause-couple : goal.push-requires-2-clause-couple
 push-requires-2-clause-couple t c =
     let shape = c.args.shape.now.children in
     let e = rw c.in-Some.is at c.in_ok-couple.ensures.explored in
-    let children : c.pop.new.self.children ≡ shape = c.pop.ensures.children ∙ c.in-Ok.ensures.children ∙ c.in_ok-push.ensures.children ∙ ap (λ z. z.children) c.in_ok-couple.ensures.draft ∙ c.requires.children in
+    let children : c.pop.new.self.children ≡ shape = c.pop.ensures.children ∙ c.in_ok-explore.ensures.children ∙ c.in_ok-push.ensures.children ∙ ap (λ z. z.children) c.in_ok-couple.ensures.draft ∙ c.requires.children in
     rw children (open_couple_turned shape c.args.self.now.draft.decided c.in-Some.couple e.0)
 
 pub returns-clause-explored : goal.returns-clause-explored
@@ -47,10 +48,10 @@ returns-clause-explored t c =
     let n : c.args.left - 1 + 1 ≡ c.args.left = omega arith in
     let same = ap (λ z. z.decided) c.in_ok-couple.ensures.draft in
     let first = c.in_ok-push.ensures.ok ∙ ap (λ z. z ++ (couple.lower, couple.higher) ∷ []) same in
-    let back = taken_back ds c.explore.new.self.draft.decided c.pop.new.self.decided (couple.lower, couple.higher) (c.in-Ok.ensures.kept ∙ first) c.pop.ensures.decided in
+    let back = taken_back ds c.explore.new.self.draft.decided c.pop.new.self.decided (couple.lower, couple.higher) (c.in_ok-explore.ensures.kept ∙ first) c.pop.ensures.decided in
     let second = c.in_ok-push-2.ensures.ok ∙ ap (λ z. z ++ (couple.higher, couple.lower) ∷ []) back in
-    let on_left = rw first at c.in-Ok.ensures.explored in
-    let on_right = rw second at c.in-Ok-explore.ensures.explored in
-    subst (λ k. IsExplored shape sizes c.args.costs.comp c.args.costs.inst c.explore-2.new.self.best (k + 1) ds c.args.self.now.nodes.items c.explore-2.new.self.nodes.items) n
-    (fork shape sizes c.args.costs.comp c.args.costs.inst c.explore.new.self.best c.explore-2.new.self.best (c.args.left - 1 + 1) ds couple c.args.self.now.nodes.items c.open.new.self.nodes.items c.explore.new.self.nodes.items c.explore-2.new.self.nodes.items
+    let on_left = rw first at c.in_ok-explore.ensures.explored in
+    let on_right = rw second at c.in_ok-explore-2.ensures.explored in
+    subst (λ k. IsExplored shape sizes (prices_of c.args.costs) c.explore-2.new.self.best (k + 1) ds c.args.self.now.nodes.items c.explore-2.new.self.nodes.items) n
+    (fork shape sizes (prices_of c.args.costs) c.explore.new.self.best c.explore-2.new.self.best (c.args.left - 1 + 1) ds couple c.args.self.now.nodes.items c.open.new.self.nodes.items c.explore.new.self.nodes.items c.explore-2.new.self.nodes.items
     e.0 e.3 c.explore-2.ensures.down e.1 on_left on_right)

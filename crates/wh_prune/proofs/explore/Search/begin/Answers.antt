@@ -1,4 +1,5 @@
 use Rattle.std.proofs.Common.{◌≡◌, ap, ◌∙◌, subst, arith}
+use Rattle.wh_strategy.specs.Prices.{prices_of}
 use Rattle.wh_strategy.specs.Sizes.{sizes_of}
 use Rattle.wh_strategy.specs.Work.{work_of}
 use Rattle.wh_cert.specs.Bound.{decided_bound_of}
@@ -19,9 +20,9 @@ returns-in-Ok-clause-held c =
     let shape = c.args.shape.now.children in
     let sizes = sizes_of c.args.sizes.now in
     let so = rw (c.of.ensures.children, c.of.ensures.decided) at c.in-Ok.ensures.sorted in
-    held_sorted shape sizes c.args.costs.comp c.args.costs.inst c.decided_bound.result c.in_ok-lowest.lowest c.in-Ok.list c.of.ensures.shape
+    held_sorted shape sizes (prices_of c.args.costs) c.decided_bound.result c.in_ok-lowest.lowest c.in-Ok.list c.of.ensures.shape
     (decides_all shape c.in_ok-lowest.lowest c.of.ensures.shape c.in_ok-lowest.ensures.all) so
-    (c.decided_bound.ensures ∙ ap (decided_bound_of shape sizes c.args.costs.comp c.args.costs.inst) c.as_slice.ensures.couples)
+    (c.decided_bound.ensures ∙ ap (decided_bound_of shape sizes (prices_of c.args.costs)) c.as_slice.ensures.couples)
 
 pub returns-in-Ok-clause-lowest : goal.returns-in-Ok-clause-lowest
 returns-in-Ok-clause-lowest c =
@@ -29,7 +30,7 @@ returns-in-Ok-clause-lowest c =
     let sizes = sizes_of c.args.sizes.now in
     let so = rw (c.of.ensures.children, c.of.ensures.decided) at c.in-Ok.ensures.sorted in
     let da = decides_all shape c.in_ok-lowest.lowest c.of.ensures.shape c.in_ok-lowest.ensures.all in
-    let held = held_sorted shape sizes c.args.costs.comp c.args.costs.inst c.decided_bound.result c.in_ok-lowest.lowest c.in-Ok.list c.of.ensures.shape da so
-    (c.decided_bound.ensures ∙ ap (decided_bound_of shape sizes c.args.costs.comp c.args.costs.inst) c.as_slice.ensures.couples) in
-    let same : work_of shape sizes c.args.costs.comp c.args.costs.inst c.in-Ok.list ≡ c.decided_bound.result = held.costs in
+    let held = held_sorted shape sizes (prices_of c.args.costs) c.decided_bound.result c.in_ok-lowest.lowest c.in-Ok.list c.of.ensures.shape da so
+    (c.decided_bound.ensures ∙ ap (decided_bound_of shape sizes (prices_of c.args.costs)) c.as_slice.ensures.couples) in
+    let same : work_of shape sizes (prices_of c.args.costs) c.in-Ok.list ≡ c.decided_bound.result = held.costs in
     (c.in-Ok.list, held.correct, held.one_way, lowest_installs shape c.in_ok-lowest.lowest c.in-Ok.list da c.in_ok-lowest.ensures.lower so, omega arith)
