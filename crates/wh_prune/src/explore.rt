@@ -34,6 +34,15 @@ pub(crate) struct Search<'a> {
     draft: Draft<'a>,
 }
 
+/// What a search goes by: the views, their sizes and what their rows cost, and how many nodes it may open.
+#[derive(Drop)]
+pub(crate) struct Task<'a> {
+    pub(crate) shape: &'a Shape,
+    pub(crate) sizes: &'a Sizes,
+    pub(crate) costs: Costs,
+    pub(crate) budget: u64,
+}
+
 /// The decisions that install the lower number of each of the shape's couples first.
 fn lowest(alloc: Global, shape: &Shape, couples: &[Couple]) -> Result<Decided, AllocError>
     requires { couples.now ≡ couples_of shape.now.children }
@@ -49,25 +58,29 @@ fn lowest(alloc: Global, shape: &Shape, couples: &[Couple]) -> Result<Decided, A
 
 /// The bounds under these decisions and one more on this couple: the lower number first, and the higher number first.
 fn bounds_below(
-    shape: &Shape,
-    sizes: &Sizes,
-    costs: Costs,
+    task: &Task<'_>,
     decided: &[(usize, usize)],
     bound: u128,
     couple: Couple,
 ) -> (u128, u128)
-    requires same { length sizes.now ≡ length shape.now.children }
-    requires bound { bound ≡ decided_bound_of shape.now.children (sizes_of sizes.now) (prices_of costs) decided.now }
-    requires open { IsOpen shape.now.children decided.now couple }
-    ensures lower { result.0 ≡ decided_bound_of shape.now.children (sizes_of sizes.now) (prices_of costs) (decided.now ++ (couple.lower, couple.higher) ∷ []) }
-    ensures higher { result.1 ≡ decided_bound_of shape.now.children (sizes_of sizes.now) (prices_of costs) (decided.now ++ (couple.higher, couple.lower) ∷ []) }
+    requires same { length task.now.sizes.now ≡ length task.now.shape.now.children }
+    requires bound { bound ≡ decided_bound_of task.now.shape.now.children (sizes_of task.now.sizes.now) (prices_of task.now.costs) decided.now }
+    requires open { IsOpen task.now.shape.now.children decided.now couple }
+    ensures lower { result.0 ≡ decided_bound_of task.now.shape.now.children (sizes_of task.now.sizes.now) (prices_of task.now.costs) (decided.now ++ (couple.lower, couple.higher) ∷ []) }
+    ensures higher { result.1 ≡ decided_bound_of task.now.shape.now.children (sizes_of task.now.sizes.now) (prices_of task.now.costs) (decided.now ++ (couple.higher, couple.lower) ∷ []) }
 {
     // The proof needs what the lists of a shape keep to.
-    let _lists = shape.child_lists();
+    let _lists = task.shape.child_lists();
+    let Task {
+        shape,
+        sizes,
+        costs,
+        ..
+    } = task;
     let Couple { lower, higher } = couple;
     (
-        decided_bound_with(shape, sizes, costs, decided, bound, lower, higher),
-        decided_bound_with(shape, sizes, costs, decided, bound, higher, lower),
+        decided_bound_with(shape, sizes, *costs, decided, bound, lower, higher),
+        decided_bound_with(shape, sizes, *costs, decided, bound, higher, lower),
     )
 }
 
@@ -110,23 +123,21 @@ impl<'a> Search<'a> {
     fn open(
         &mut self,
         alloc: Global,
-        shape: &Shape,
-        sizes: &Sizes,
-        costs: Costs,
+        task: &Task<'_>,
         bound: u128,
     ) -> Result<Option<Couple>, AllocError>
-        requires bound { bound ≡ decided_bound_of shape.now.children (sizes_of sizes.now) (prices_of costs) self.old.draft.decided }
-        requires children { self.old.draft.children ≡ shape.now.children }
-        requires ordered { IsOrdered shape.now.children (sizes_of sizes.now) self.old.draft.ordered }
-        requires held { IsHeld shape.now.children (sizes_of sizes.now) (prices_of costs) self.old.best self.old.list }
-        ensures held { IsHeld shape.now.children (sizes_of sizes.now) (prices_of costs) self.new.best self.new.list }
+        requires bound { bound ≡ decided_bound_of task.now.shape.now.children (sizes_of task.now.sizes.now) (prices_of task.now.costs) self.old.draft.decided }
+        requires children { self.old.draft.children ≡ task.now.shape.now.children }
+        requires ordered { IsOrdered task.now.shape.now.children (sizes_of task.now.sizes.now) self.old.draft.ordered }
+        requires held { IsHeld task.now.shape.now.children (sizes_of task.now.sizes.now) (prices_of task.now.costs) self.old.best self.old.list }
+        ensures held { IsHeld task.now.shape.now.children (sizes_of task.now.sizes.now) (prices_of task.now.costs) self.new.best self.new.list }
         ensures down { self.new.best ≤ self.old.best }
         ensures draft { self.new.draft ≡ self.old.draft }
         ensures nodes { IfOk result (λ _. length self.new.nodes.items ≡ length self.old.nodes.items + 1) }
-        ensures explored { IfOk result (λ found. MatchOption found (IsExplored shape.now.children (sizes_of sizes.now) (prices_of costs) self.new.best 1 self.old.draft.decided self.old.nodes.items self.new.nodes.items) (λ couple. IsOpen shape.now.children self.old.draft.decided couple × (self.new.nodes.items ≡ self.old.nodes.items ++ TreeNode.Branch couple ∷ []) × (length self.old.draft.decided + 1 ≤ length (couples_of shape.now.children)) × IsOnCycle shape.now.children (sizes_of sizes.now) self.old.draft.decided couple)) }
+        ensures explored { IfOk result (λ found. MatchOption found (IsExplored task.now.shape.now.children (sizes_of task.now.sizes.now) (prices_of task.now.costs) self.new.best 1 self.old.draft.decided self.old.nodes.items self.new.nodes.items) (λ couple. IsOpen task.now.shape.now.children self.old.draft.decided couple × (self.new.nodes.items ≡ self.old.nodes.items ++ TreeNode.Branch couple ∷ []) × (length self.old.draft.decided + 1 ≤ length (couples_of task.now.shape.now.children)) × IsOnCycle task.now.shape.now.children (sizes_of task.now.sizes.now) self.old.draft.decided couple)) }
     {
         // The proof needs what the lists of a shape and the decisions of a draft keep to.
-        let (_lists, _decided) = (shape.child_lists(), self.draft.decided());
+        let (_lists, _decided) = (task.shape.child_lists(), self.draft.decided());
         if self.best <= bound {
             self.nodes.push(TreeNode::Bound)?;
             return Ok(None);
@@ -154,56 +165,46 @@ impl<'a> Search<'a> {
     pub(crate) fn explore(
         &mut self,
         alloc: Global,
-        shape: &Shape,
-        sizes: &Sizes,
-        costs: Costs,
-        budget: u64,
+        task: &Task<'_>,
         bound: u128,
         left: usize,
     ) -> Result<(), PruneFault>
-        requires same { length sizes.now ≡ length shape.now.children }
-        requires children { self.old.draft.children ≡ shape.now.children }
-        requires ordered { IsOrdered shape.now.children (sizes_of sizes.now) self.old.draft.ordered }
-        requires bound { bound ≡ decided_bound_of shape.now.children (sizes_of sizes.now) (prices_of costs) self.old.draft.decided }
-        requires left { length self.old.draft.decided + left ≡ length (couples_of shape.now.children) }
-        requires held { IsHeld shape.now.children (sizes_of sizes.now) (prices_of costs) self.old.best self.old.list }
-        requires budget { length self.old.nodes.items ≤ budget }
-        ensures held { IsHeld shape.now.children (sizes_of sizes.now) (prices_of costs) self.new.best self.new.list }
+        requires same { length task.now.sizes.now ≡ length task.now.shape.now.children }
+        requires children { self.old.draft.children ≡ task.now.shape.now.children }
+        requires ordered { IsOrdered task.now.shape.now.children (sizes_of task.now.sizes.now) self.old.draft.ordered }
+        requires bound { bound ≡ decided_bound_of task.now.shape.now.children (sizes_of task.now.sizes.now) (prices_of task.now.costs) self.old.draft.decided }
+        requires left { length self.old.draft.decided + left ≡ length (couples_of task.now.shape.now.children) }
+        requires held { IsHeld task.now.shape.now.children (sizes_of task.now.sizes.now) (prices_of task.now.costs) self.old.best self.old.list }
+        requires budget { length self.old.nodes.items ≤ task.now.budget }
+        ensures held { IsHeld task.now.shape.now.children (sizes_of task.now.sizes.now) (prices_of task.now.costs) self.new.best self.new.list }
         ensures down { self.new.best ≤ self.old.best }
         ensures children { self.new.draft.children ≡ self.old.draft.children }
         ensures ordered { self.new.draft.ordered ≡ self.old.draft.ordered }
         ensures kept { IfOk result (λ _. self.new.draft.decided ≡ self.old.draft.decided) }
-        ensures within { IfOk result (λ _. length self.new.nodes.items ≤ budget) }
+        ensures within { IfOk result (λ _. length self.new.nodes.items ≤ task.now.budget) }
         ensures nodes { IfOk result (λ _. length self.new.nodes.items + 1 ≤ length self.old.nodes.items + 2 ^ (left + 1)) }
-        ensures explored { IfOk result (λ _. IsExplored shape.now.children (sizes_of sizes.now) (prices_of costs) self.new.best (left + 1) self.old.draft.decided self.old.nodes.items self.new.nodes.items) }
-        ensures err { IfErr result (IsStopped budget (length self.old.nodes.items + 2 ^ (left + 1)) self.new.best) }
+        ensures explored { IfOk result (λ _. IsExplored task.now.shape.now.children (sizes_of task.now.sizes.now) (prices_of task.now.costs) self.new.best (left + 1) self.old.draft.decided self.old.nodes.items self.new.nodes.items) }
+        ensures err { IfErr result (IsStopped task.now.budget (length self.old.nodes.items + 2 ^ (left + 1)) self.new.best) }
 
         // A budget that is spent is told before memory is wanted.
-        ensures spent { budget ≤ length self.old.nodes.items → result ≡ Err (PruneFault.Budget budget self.old.best) }
+        ensures spent { task.now.budget ≤ length self.old.nodes.items → result ≡ Err (PruneFault.Budget task.now.budget self.old.best) }
     {
         let opened = self.nodes.len() as u64;
-        if budget <= opened {
+        if task.budget <= opened {
             return Err(PruneFault::Budget {
                 opened,
                 best: self.best,
             });
         }
-        let Some(couple) = self.open(alloc, shape, sizes, costs, bound)? else {
+        let Some(couple) = self.open(alloc, task, bound)? else {
             return Ok(());
         };
-        let (lower, higher) = bounds_below(
-            shape,
-            sizes,
-            costs,
-            self.draft.decided(),
-            bound,
-            couple,
-        );
+        let (lower, higher) = bounds_below(task, self.draft.decided(), bound, couple);
         self.draft.push(couple.lower, couple.higher)?;
-        self.explore(alloc, shape, sizes, costs, budget, lower, left - 1)?;
+        self.explore(alloc, task, lower, left - 1)?;
         self.draft.pop();
         self.draft.push(couple.higher, couple.lower)?;
-        self.explore(alloc, shape, sizes, costs, budget, higher, left - 1)?;
+        self.explore(alloc, task, higher, left - 1)?;
         self.draft.pop();
         Ok(())
     }

@@ -14,7 +14,7 @@ ghost use Rattle.wh_cert.specs.declared.certificate.Scope.{Scope};
 ghost use Rattle.wh_prune.specs.Plan.{HasBranchesOnCycles, IsSearchReason, IsWithinBudget, accepted_for};
 ghost use Rattle.wh_prune.specs.Inner.Searching.{IsExplored};
 
-use crate::explore::Search;
+use crate::explore::{Search, Task};
 use crate::fault::PruneFault;
 use std::alloc::{AllocError, Global};
 use wh_cert::{Certificate, Planned, Scope, Tree, TreeNode, decided_bound, pair_bound};
@@ -76,7 +76,13 @@ pub fn prune(
     let couples = shape.couples(alloc)?;
     let mut search = Search::begin(alloc, shape, sizes, costs, &couples)?;
     let bound = decided_bound(shape, sizes, costs, &[]);
-    search.explore(alloc, shape, sizes, costs, budget, bound, couples.len())?;
+    let task = Task {
+        shape,
+        sizes,
+        costs,
+        budget,
+    };
+    search.explore(alloc, &task, bound, couples.len())?;
     let Search {
         best: work,
         list,

@@ -7,6 +7,7 @@ use Rattle.wh_load.specs.ReadingNight.{Night}
 use Rattle.wh_load.specs.ReadingPlan.{Measured, measured_of}
 use Rattle.wh_maint.specs.Comp.{bag_at}
 use Rattle.wh_strategy.specs.declared.costs.Costs.{Costs}
+use Rattle.wh_strategy.specs.Prices.{Prices, prices_of}
 use Rattle.whview.specs.CertifyOutput as certify
 use Rattle.whview.specs.CheckOutput as check
 use Rattle.whview.specs.NightOutput as night
@@ -33,17 +34,17 @@ check_answered costs bytes inputs o text s read is printed ended =
     subst (λ r. MatchResult r (λ i. check.IsVerdict costs i text (status_number s)) (λ fault. check.IsFaultShown fault text (status_number s))) (sym read)
     (check_told costs inputs o text s is printed ended)
 
-plan_told : (comp inst budget : ℕ) (measured : Measured) (o : PlanOutcome) (text : List ℕ) (s : Status) → plan.IsDecided comp inst budget measured o
-    → text ≡ plan.text_of measured.shape.names o → s ≡ plan.status_of o → plan.IsPlanned comp inst budget measured text (status_number s)
-plan_told comp inst budget measured (planned.Planned p) text s is printed ended = plan.planned p.work p.scope p.correct.list p.certificate is.0 is.1 printed (ap status_number ended)
-plan_told comp inst budget measured (planned.Spent opened best) text s is printed ended = plan.spent opened best is.0 is.1 printed (ap status_number ended)
+plan_told : (prices : Prices) (budget : ℕ) (measured : Measured) (o : PlanOutcome) (text : List ℕ) (s : Status) → plan.IsDecided prices budget measured o
+    → text ≡ plan.text_of measured.shape.names o → s ≡ plan.status_of o → plan.IsPlanned prices budget measured text (status_number s)
+plan_told prices budget measured (planned.Planned p) text s is printed ended = plan.planned p.work p.scope p.correct.list p.certificate is.0 is.1 printed (ap status_number ended)
+plan_told prices budget measured (planned.Spent opened best) text s is printed ended = plan.spent opened best is.0 is.1 printed (ap status_number ended)
 
 pub plan_answered : (costs : Costs) (budget : ℕ) (bytes : List ℕ) (measured : Measured) (o : PlanOutcome) (text : List ℕ) (s : Status) → measured_of bytes ≡ Ok measured
-    → plan.IsDecided costs.comp costs.inst budget measured o → text ≡ plan.text_of measured.shape.names o → s ≡ plan.status_of o
+    → plan.IsDecided (prices_of costs) budget measured o → text ≡ plan.text_of measured.shape.names o → s ≡ plan.status_of o
     → plan.IsPlanOutput costs budget bytes text (status_number s)
 plan_answered costs budget bytes measured o text s read is printed ended =
-    subst (λ r. MatchResult r (λ m. plan.IsPlanned costs.comp costs.inst budget m text (status_number s)) (λ fault. check.IsFaultShown fault text (status_number s))) (sym read)
-    (plan_told costs.comp costs.inst budget measured o text s is printed ended)
+    subst (λ r. MatchResult r (λ m. plan.IsPlanned (prices_of costs) budget m text (status_number s)) (λ fault. check.IsFaultShown fault text (status_number s))) (sym read)
+    (plan_told (prices_of costs) budget measured o text s is printed ended)
 
 certify_told : (costs : Costs) (claim : Claim) (o : CertifyOutcome) (text : List ℕ) (s : Status) → certify.IsDecided costs claim o → text ≡ certify.text_of o → s ≡ certify.status_of o
     → certify.IsJudgement costs claim text (status_number s)

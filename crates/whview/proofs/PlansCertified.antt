@@ -34,6 +34,7 @@ use Rattle.wh_load.specs.ReadingPlan.{Measured, MeasuredTexts, measured_in, meas
 use Rattle.wh_prune.specs.Plan.{accepted_for}
 use Rattle.wh_strategy.proofs.Found.{has-head, has-tail, has_within}
 use Rattle.wh_strategy.specs.Expression.{At}
+use Rattle.wh_strategy.specs.Prices.{Prices, prices_of}
 use Rattle.wh_strategy.specs.Rules.{IsCorrect}
 use Rattle.wh_strategy.specs.Sizes.{AreSizes, Size, sizes_of}
 use Rattle.wh_strategy.specs.declared.expression.Expression.{Expression}
@@ -146,34 +147,34 @@ each_parts : (P : Placed → Type 0) (xs ys : List Placed) → Each P (xs ++ ys)
 each_parts P [] ys h = (tt, h)
 each_parts P (x ∷ xs) ys h = let parts = each_parts P xs ys h.1 in ((h.0, parts.0), parts.1)
 
-tree_within : (shape : List (List ℕ)) (sizes : ℕ → Size) (comp inst work n : ℕ) → n ≡ length shape → IsShape shape → (above : List (ℕ × ℕ)) (tree : CaseTree)
-    → Each (IsGoodNode shape sizes comp inst work) (nodes_below above tree) → All (IsNodeWithin n) (preorder tree)
-tree_within shape sizes comp inst work n e sh above Bound good = All-cons (IsNodeWithin n) node.Bound [] tt (All-nil (IsNodeWithin n))
-tree_within shape sizes comp inst work n e sh above (Cycle list) good =
+tree_within : (shape : List (List ℕ)) (sizes : ℕ → Size) (prices : Prices) (work n : ℕ) → n ≡ length shape → IsShape shape → (above : List (ℕ × ℕ)) (tree : CaseTree)
+    → Each (IsGoodNode shape sizes prices work) (nodes_below above tree) → All (IsNodeWithin n) (preorder tree)
+tree_within shape sizes prices work n e sh above Bound good = All-cons (IsNodeWithin n) node.Bound [] tt (All-nil (IsNodeWithin n))
+tree_within shape sizes prices work n e sh above (Cycle list) good =
     All-cons (IsNodeWithin n) (node.Cycle list) [] (cycle_within shape n e sh above list good.0) (All-nil (IsNodeWithin n))
-tree_within shape sizes comp inst work n e sh above (Branch couple left right) good =
+tree_within shape sizes prices work n e sh above (Branch couple left right) good =
     let free : IsOpen shape above couple = good.0 in
-    let parts = each_parts (IsGoodNode shape sizes comp inst work) (nodes_below (lower_first couple ∷ above) left) (nodes_below (higher_first couple ∷ above) right) good.1 in
+    let parts = each_parts (IsGoodNode shape sizes prices work) (nodes_below (lower_first couple ∷ above) left) (nodes_below (higher_first couple ∷ above) right) good.1 in
     All-cons (IsNodeWithin n) (node.Branch couple) (preorder left ++ preorder right) (branch_within shape n e sh couple free.couple)
     (All-append (IsNodeWithin n) (preorder left) (preorder right)
-    (tree_within shape sizes comp inst work n e sh (lower_first couple ∷ above) left parts.0)
-    (tree_within shape sizes comp inst work n e sh (higher_first couple ∷ above) right parts.1))
+    (tree_within shape sizes prices work n e sh (lower_first couple ∷ above) left parts.0)
+    (tree_within shape sizes prices work n e sh (higher_first couple ∷ above) right parts.1))
 
 -- ---- the certificate can be written
 
-writable_certificate : (names shape : List (List ℕ)) (rows : List SizeRow) (comp inst work : ℕ) → length names ≡ length shape → All (λ name. is_name name ≡ true) names
-    → IsShape shape → AreSizes rows → (own : Scope) (certificate : Certificate) → IsJudged shape (sizes_of rows) comp inst work certificate (accepted_for own)
+writable_certificate : (names shape : List (List ℕ)) (rows : List SizeRow) (prices : Prices) (work : ℕ) → length names ≡ length shape → All (λ name. is_name name ≡ true) names
+    → IsShape shape → AreSizes rows → (own : Scope) (certificate : Certificate) → IsJudged shape (sizes_of rows) prices work certificate (accepted_for own)
     → IsCertificateWritable names own certificate
-writable_certificate names shape rows comp inst work e formed sh are scope.All (Pairs lines) j =
+writable_certificate names shape rows prices work e formed sh are scope.All (Pairs lines) j =
     subst (All (IsPairWithin (length names))) (sym j.right) (pairs_within shape rows (length names) e sh are)
-writable_certificate names shape rows comp inst work e formed sh are scope.All (Search nodes) j = absurd j
-writable_certificate names shape rows comp inst work e formed sh are scope.OneWay (Pairs lines) j = absurd j
-writable_certificate names shape rows comp inst work e formed sh are scope.OneWay (Search nodes) j =
+writable_certificate names shape rows prices work e formed sh are scope.All (Search nodes) j = absurd j
+writable_certificate names shape rows prices work e formed sh are scope.OneWay (Pairs lines) j = absurd j
+writable_certificate names shape rows prices work e formed sh are scope.OneWay (Search nodes) j =
     record {
       unparted = All-weaker _ _ name-unparted names formed;
       within = subst (All (IsNodeWithin (length names))) j.0.0
-          (tree_within shape (sizes_of rows) comp inst work (length names) e sh [] (tree_of nodes)
-          (each_of_all (IsGoodNode shape (sizes_of rows) comp inst work) (nodes_below [] (tree_of nodes)) j.1));
+          (tree_within shape (sizes_of rows) prices work (length names) e sh [] (tree_of nodes)
+          (each_of_all (IsGoodNode shape (sizes_of rows) prices work) (nodes_below [] (tree_of nodes)) j.1));
       tree = tree_of nodes;
       whole = j.0;
     }
@@ -196,15 +197,15 @@ is_read bytes measured e =
       sizes = are_sizes shape.0.names texts.0.sizes sizes.0 sizes.1;
     })
 
-is_writable : (comp inst : ℕ) (measured : Measured) (work : ℕ) (own : Scope) (list : List Expression) (certificate : Certificate) → IsRead measured
-    → IsLeastPlan comp inst measured work own list certificate → work < 2 ^ 128 → IsWritable measured.shape.names own work list certificate
-is_writable comp inst measured work own list certificate read least fits =
+is_writable : (prices : Prices) (measured : Measured) (work : ℕ) (own : Scope) (list : List Expression) (certificate : Certificate) → IsRead measured
+    → IsLeastPlan prices measured work own list certificate → work < 2 ^ 128 → IsWritable measured.shape.names own work list certificate
+is_writable prices measured work own list certificate read least fits =
     record {
       plain = All-weaker _ _ name-plain measured.shape.names read.names.formed;
       distinct = read.names.distinct;
       work_fits = fits;
       list_within = list_within measured.shape.children list (length measured.shape.names) read.names.many read.shape least.correct;
-      certified = writable_certificate measured.shape.names measured.shape.children measured.sizes comp inst work read.names.many read.names.formed read.shape read.sizes own certificate least.accepted;
+      certified = writable_certificate measured.shape.names measured.shape.children measured.sizes prices work read.names.many read.names.formed read.shape read.sizes own certificate least.accepted;
     }
 
 pub printed_plan_is_read_back : PrintedPlanIsReadBack
@@ -212,19 +213,19 @@ printed_plan_is_read_back costs bytes measured work own list certificate read le
     let is = is_read bytes measured read in
     let fits : work < 2 ^ 128 =
     subst (λ w. w < 2 ^ 128) (sym least.worked)
-    (work_fits measured.shape.children measured.sizes costs.comp costs.inst list is.shape is.sizes least.correct least.one_way costs.comp_most costs.inst_most) in
-    plan_reads_back measured.shape.names own work list certificate (is_writable costs.comp costs.inst measured work own list certificate is least fits)
+    (work_fits measured.shape.children measured.sizes costs list is.shape is.sizes least.correct least.one_way) in
+    plan_reads_back measured.shape.names own work list certificate (is_writable (prices_of costs) measured work own list certificate is least fits)
 
 -- ---- and it is certified
 
 pub least_plan_is_certified : LeastPlanIsCertified
 least_plan_is_certified costs measured work scope.All list certificate least =
     judged (accepted_for scope.All) least.correct (sym least.worked)
-    (subst (λ w. IsJudged measured.shape.children (sizes_of measured.sizes) costs.comp costs.inst w certificate (accepted_for scope.All)) least.worked least.accepted)
+    (subst (λ w. IsJudged measured.shape.children (sizes_of measured.sizes) (prices_of costs) w certificate (accepted_for scope.All)) least.worked least.accepted)
     (least.least_of_all refl) refl refl
 least_plan_is_certified costs measured work scope.OneWay list certificate least =
     judged (accepted_for scope.OneWay) least.correct (sym least.worked)
-    (subst (λ w. IsJudged measured.shape.children (sizes_of measured.sizes) costs.comp costs.inst w certificate (accepted_for scope.OneWay)) least.worked least.accepted)
+    (subst (λ w. IsJudged measured.shape.children (sizes_of measured.sizes) (prices_of costs) w certificate (accepted_for scope.OneWay)) least.worked least.accepted)
     least.least_one_way refl refl
 
 -- what is read of the texts, and of that of a plan

@@ -13,6 +13,7 @@ use Rattle.wh_load.specs.ReadingClaim.{Claim, claim_in, claim_of, claim_texts_of
 use Rattle.wh_load.specs.ReadingPlan.{measured_in}
 use Rattle.wh_strategy.specs.declared.costs.Costs.{Costs}
 use Rattle.wh_strategy.specs.declared.expression.Expression.{Expression}
+use Rattle.wh_strategy.specs.Prices.{prices_of}
 use Rattle.wh_strategy.specs.Sizes.{sizes_of}
 use Rattle.wh_strategy.specs.Work.{work_of}
 use Rattle.wh_strategy.proofs.Agreeing.{refused as refused_list}
@@ -82,7 +83,7 @@ one_judgement costs claim text other status ended sh (other_work is n t s) (judg
 one_judgement costs claim text other status ended sh (judged verdict is w j l t s) (broken_claim rule' place' f' t' s') = absurd (refused_list rule' _ _ place' sh f' is)
 one_judgement costs claim text other status ended sh (judged verdict is w j l t s) (other_work is' n' t' s') = absurd (n' w)
 one_judgement costs claim text other status ended sh (judged verdict is w j l t s) (judged verdict' is' w' j' l' t' s') =
-    let same : verdict ≡ verdict' = verdicts_same _ _ _ _ _ claim.plan.certificate verdict verdict' j j' in
+    let same : verdict ≡ verdict' = verdicts_same _ _ (prices_of costs) _ claim.plan.certificate verdict verdict' j j' in
     record { texts = t ∙ ap (verdict_text claim.plan.work) same ∙ sym t'; statuses = s ∙ ap (λ v. status_number (verdict_status v)) same ∙ sym s' }
 
 -- what is read of a claim has a shape
@@ -110,59 +111,56 @@ one_certification costs bytes text other status ended = go (claim_of bytes) (cla
 
 -- ---- one command
 
--- the same work at the same numbers
-same_work_of : (costs other : Costs) (claim : Claim) (list : List Expression) → other.comp ≡ costs.comp → other.inst ≡ costs.inst
-    → work_of claim.measured.shape.children (sizes_of claim.measured.sizes) other.comp other.inst list ≡ work_of claim.measured.shape.children (sizes_of claim.measured.sizes) costs.comp costs.inst list
-same_work_of costs other claim list e f =
-    ap (λ c. work_of claim.measured.shape.children (sizes_of claim.measured.sizes) c other.inst list) e
-    ∙ ap (λ i. work_of claim.measured.shape.children (sizes_of claim.measured.sizes) costs.comp i list) f
+-- the same work at the same prices
+same_work_of : (costs other : Costs) (claim : Claim) (list : List Expression) → prices_of other ≡ prices_of costs
+    → work_of claim.measured.shape.children (sizes_of claim.measured.sizes) (prices_of other) list ≡ work_of claim.measured.shape.children (sizes_of claim.measured.sizes) (prices_of costs) list
+same_work_of costs other claim list e = ap (λ prices. work_of claim.measured.shape.children (sizes_of claim.measured.sizes) prices list) e
 
-same_work : (costs other : Costs) (claim : Claim) → other.comp ≡ costs.comp → other.inst ≡ costs.inst → work_at other claim ≡ work_at costs claim
-same_work costs other claim e f = same_work_of costs other claim claim.plan.strategy e f
+same_work : (costs other : Costs) (claim : Claim) → prices_of other ≡ prices_of costs → work_at other claim ≡ work_at costs claim
+same_work costs other claim e = same_work_of costs other claim claim.plan.strategy e
 
-judged_at : (costs other : Costs) (claim : Claim) (verdict : Verdict) → other.comp ≡ costs.comp → other.inst ≡ costs.inst
-    → IsJudged claim.measured.shape.children (sizes_of claim.measured.sizes) other.comp other.inst (work_at other claim) claim.plan.certificate verdict
-    → IsJudged claim.measured.shape.children (sizes_of claim.measured.sizes) costs.comp costs.inst (work_at costs claim) claim.plan.certificate verdict
-judged_at costs other claim verdict e f j =
-    subst (λ w. IsJudged claim.measured.shape.children (sizes_of claim.measured.sizes) costs.comp costs.inst w claim.plan.certificate verdict) (same_work costs other claim e f)
-    (subst (λ i. IsJudged claim.measured.shape.children (sizes_of claim.measured.sizes) costs.comp i (work_at other claim) claim.plan.certificate verdict) f
-    (subst (λ c. IsJudged claim.measured.shape.children (sizes_of claim.measured.sizes) c other.inst (work_at other claim) claim.plan.certificate verdict) e j))
+judged_at : (costs other : Costs) (claim : Claim) (verdict : Verdict) → prices_of other ≡ prices_of costs
+    → IsJudged claim.measured.shape.children (sizes_of claim.measured.sizes) (prices_of other) (work_at other claim) claim.plan.certificate verdict
+    → IsJudged claim.measured.shape.children (sizes_of claim.measured.sizes) (prices_of costs) (work_at costs claim) claim.plan.certificate verdict
+judged_at costs other claim verdict e j =
+    subst (λ w. IsJudged claim.measured.shape.children (sizes_of claim.measured.sizes) (prices_of costs) w claim.plan.certificate verdict) (same_work costs other claim e)
+    (subst (λ prices. IsJudged claim.measured.shape.children (sizes_of claim.measured.sizes) prices (work_at other claim) claim.plan.certificate verdict) e j)
 
-least_at : (costs other : Costs) (claim : Claim) (verdict : Verdict) → other.comp ≡ costs.comp → other.inst ≡ costs.inst → IsLeastBy other claim verdict → IsLeastBy costs claim verdict
-least_at costs other claim All e f least = λ list is. subst (λ work. claim.plan.work ≤ work) (same_work_of costs other claim list e f) (least list is)
-least_at costs other claim OneWay e f least = λ list is one_way. subst (λ work. claim.plan.work ≤ work) (same_work_of costs other claim list e f) (least list is one_way)
-least_at costs other claim (Rejected place) e f least = least
+least_at : (costs other : Costs) (claim : Claim) (verdict : Verdict) → prices_of other ≡ prices_of costs → IsLeastBy other claim verdict → IsLeastBy costs claim verdict
+least_at costs other claim All e least = λ list is. subst (λ work. claim.plan.work ≤ work) (same_work_of costs other claim list e) (least list is)
+least_at costs other claim OneWay e least = λ list is one_way. subst (λ work. claim.plan.work ≤ work) (same_work_of costs other claim list e) (least list is one_way)
+least_at costs other claim (Rejected place) e least = least
 
-judgement_at : (costs other : Costs) (claim : Claim) (text : List ℕ) (status : ℕ) → other.comp ≡ costs.comp → other.inst ≡ costs.inst
+judgement_at : (costs other : Costs) (claim : Claim) (text : List ℕ) (status : ℕ) → prices_of other ≡ prices_of costs
     → IsJudgement other claim text status → IsJudgement costs claim text status
-judgement_at costs other claim text status e f (broken_claim rule place is t s) = broken_claim rule place is t s
-judgement_at costs other claim text status e f (other_work is n t s) = other_work is (λ w. n (same_work costs other claim e f ∙ w)) t s
-judgement_at costs other claim text status e f (judged verdict is w j l t s) =
-    judged verdict is (sym (same_work costs other claim e f) ∙ w) (judged_at costs other claim verdict e f j) (least_at costs other claim verdict e f l) t s
+judgement_at costs other claim text status e (broken_claim rule place is t s) = broken_claim rule place is t s
+judgement_at costs other claim text status e (other_work is n t s) = other_work is (λ w. n (same_work costs other claim e ∙ w)) t s
+judgement_at costs other claim text status e (judged verdict is w j l t s) =
+    judged verdict is (sym (same_work costs other claim e) ∙ w) (judged_at costs other claim verdict e j) (least_at costs other claim verdict e l) t s
 
-as_certification : (costs other : Costs) (bytes text : List ℕ) (status : ℕ) → other.comp ≡ costs.comp → other.inst ≡ costs.inst
+as_certification : (costs other : Costs) (bytes text : List ℕ) (status : ℕ) → prices_of other ≡ prices_of costs
     → IsCertifyOutput other bytes text status → IsCertifyOutput costs bytes text status
-as_certification costs other bytes text status e f = go (claim_of bytes)
+as_certification costs other bytes text status e = go (claim_of bytes)
   where
     go : (r : Result Claim LoadFault) → MatchResult r (λ claim. IsJudgement other claim text status) (λ fault. IsFaultShown fault text status)
         → MatchResult r (λ claim. IsJudgement costs claim text status) (λ fault. IsFaultShown fault text status)
-    go (Ok claim) is = judgement_at costs other claim text status e f is
+    go (Ok claim) is = judgement_at costs other claim text status e is
     go (Err fault) is = is
 
--- a verdict asks of the costs their numbers alone
-as_costs : (costs other : Costs) (inputs : Inputs) (text : List ℕ) (status : ℕ) → other.comp ≡ costs.comp → other.inst ≡ costs.inst
+-- a verdict asks of the costs their prices alone
+as_costs : (costs other : Costs) (inputs : Inputs) (text : List ℕ) (status : ℕ) → prices_of other ≡ prices_of costs
     → IsVerdict other inputs text status → IsVerdict costs inputs text status
-as_costs costs other inputs text status e f (correct is t s) =
-    correct is (t ∙ ap (λ c. correct_text (work_of inputs.measured.shape.children (sizes_of inputs.measured.sizes) c other.inst inputs.list)) e ∙ ap (λ i. correct_text (work_of inputs.measured.shape.children (sizes_of inputs.measured.sizes) costs.comp i inputs.list)) f) s
-as_costs costs other inputs text status e f (broken rule place is t s) = broken rule place is t s
+as_costs costs other inputs text status e (correct is t s) =
+    correct is (t ∙ ap (λ prices. correct_text (work_of inputs.measured.shape.children (sizes_of inputs.measured.sizes) prices inputs.list)) e) s
+as_costs costs other inputs text status e (broken rule place is t s) = broken rule place is t s
 
-as_check : (costs other : Costs) (bytes text : List ℕ) (status : ℕ) → other.comp ≡ costs.comp → other.inst ≡ costs.inst
+as_check : (costs other : Costs) (bytes text : List ℕ) (status : ℕ) → prices_of other ≡ prices_of costs
     → IsCheckOutput other bytes text status → IsCheckOutput costs bytes text status
-as_check costs other bytes text status e f = go (inputs_of bytes)
+as_check costs other bytes text status e = go (inputs_of bytes)
   where
     go : (r : Result Inputs LoadFault) → MatchResult r (λ inputs. IsVerdict other inputs text status) (λ fault. IsFaultShown fault text status)
         → MatchResult r (λ inputs. IsVerdict costs inputs text status) (λ fault. IsFaultShown fault text status)
-    go (Ok inputs) is = as_costs costs other inputs text status e f is
+    go (Ok inputs) is = as_costs costs other inputs text status e is
     go (Err fault) is = is
 
 abbrev first_letter : List ℕ → ℕ
@@ -198,11 +196,11 @@ one_asked : (found : Option (Text × List Row)) (command other : Asked) → IsAs
     → (bytes text : List ℕ) (status : ℕ) → IsCommandOutput other bytes text status → IsCommandOutput command bytes text status
 one_asked None command other f g bytes text status is = absurd f
 one_asked (Some found) (asked.Check costs input) (asked.Check costs' input') f g bytes text status is =
-    as_check costs costs' bytes text status (g.1.comp_cost ∙ sym f.1.comp_cost) (g.1.inst_cost ∙ sym f.1.inst_cost) is
+    as_check costs costs' bytes text status (g.1.priced ∙ sym f.1.priced) is
 one_asked (Some found) (asked.Certify costs input) (asked.Certify costs' input') f g bytes text status is =
-    as_certification costs costs' bytes text status (g.1.comp_cost ∙ sym f.1.comp_cost) (g.1.inst_cost ∙ sym f.1.inst_cost) is
+    as_certification costs costs' bytes text status (g.1.priced ∙ sym f.1.priced) is
 one_asked (Some found) (asked.Plan costs budget input) (asked.Plan costs' budget' input') f g bytes text status is =
-    as_planning costs costs' budget.nodes budget'.nodes bytes text status (g.1.comp_cost ∙ sym f.1.comp_cost) (g.1.inst_cost ∙ sym f.1.inst_cost) (g.2 ∙ sym f.2) is
+    as_planning costs costs' budget.nodes budget'.nodes bytes text status (g.1.priced ∙ sym f.1.priced) (g.2 ∙ sym f.2) is
 one_asked (Some found) (asked.Check costs input) (asked.Plan costs' budget' input') f g bytes text status is =
     let bad : codes "check" ≡ codes "plan" = sym f.0 ∙ g.0 in cc
 one_asked (Some found) (asked.Check costs input) (asked.Certify costs' input') f g bytes text status is =

@@ -14,10 +14,12 @@ use Rattle.wh_dag.proofs.PartSums.{length-parts}
 use Rattle.wh_strategy.proofs.Found.{has-head, has-tail}
 use Rattle.wh_dag.proofs.Members.{length-le_members}
 use Rattle.wh_strategy.specs.Expression.{At, is_new}
+use Rattle.wh_strategy.specs.Prices.{prices_of}
 use Rattle.wh_strategy.specs.Rules.{IsCorrect, IsOneWay}
 use Rattle.wh_strategy.specs.Sizes.{AreSizes, Size, sizes_of}
 use Rattle.wh_strategy.specs.Sums.{parts, sum_below}
 use Rattle.wh_strategy.specs.Work.{comp_rows, cost_at, inst_rows, state, term, work_of}
+use Rattle.wh_strategy.specs.declared.costs.Costs.{Costs}
 use Rattle.wh_strategy.specs.declared.expression.Expression.{Expression}
 use Rattle.wh_strategy.specs.declared.expression.Expression.TheVariants.{Comp, Inst}
 use Rattle.wh_strategy.specs.declared.sizes.SizeRow.{SizeRow}
@@ -157,12 +159,12 @@ few_rows shape rows list place sh are one (Some (Comp v ys)) at =
     let same = ap (λ n. n * (6 * 2 ^ 40)) many in
     (omega arith, omega arith)
 
-small_cost : (shape : List (List ℕ)) (rows : List SizeRow) (comp inst : ℕ) (list : List Expression) (place : ℕ) → IsShape shape → AreSizes rows → IsOneWay list → comp ≤ 1000000 → inst ≤ 1000000
-    → cost_at shape (sizes_of rows) comp inst list place ≤ 2 * (1000000 * (6 * 2 ^ 40))
-small_cost shape rows comp inst list place sh are one c i =
+small_cost : (shape : List (List ℕ)) (rows : List SizeRow) (costs : Costs) (list : List Expression) (place : ℕ) → IsShape shape → AreSizes rows → IsOneWay list
+    → cost_at shape (sizes_of rows) (prices_of costs) list place ≤ 2 * (1000000 * (6 * 2 ^ 40))
+small_cost shape rows costs list place sh are one =
     let few = few_rows shape rows list place sh are one (slice_get list place) refl in
-    let a = mul-le comp (comp_rows shape (sizes_of rows) list place (slice_get list place)) 1000000 (6 * 2 ^ 40) c few.0 in
-    let b = mul-le inst (inst_rows (sizes_of rows) (slice_get list place)) 1000000 (6 * 2 ^ 40) i few.1 in
+    let a = mul-le costs.comp (comp_rows shape (sizes_of rows) list place (slice_get list place)) 1000000 (6 * 2 ^ 40) costs.comp_most few.0 in
+    let b = mul-le costs.inst (inst_rows (sizes_of rows) (slice_get list place)) 1000000 (6 * 2 ^ 40) costs.inst_most few.1 in
     omega arith
 
 small_sum : (f : ℕ → ℕ) (m : ℕ) → ((k : ℕ) → f k ≤ m) → (n : ℕ) → sum_below f n ≤ n * m
@@ -175,10 +177,10 @@ small_sum f m each (suc n) =
     let next : suc n * m ≡ (n + 1) * m = ap (λ k. k * m) (omega arith) in
     omega arith
 
-pub work_fits : (shape : List (List ℕ)) (rows : List SizeRow) (comp inst : ℕ) (list : List Expression) → IsShape shape → AreSizes rows → IsCorrect shape list → IsOneWay list → comp ≤ 1000000 → inst ≤ 1000000
-    → work_of shape (sizes_of rows) comp inst list < 2 ^ 128
-work_fits shape rows comp inst list sh are co one c i =
+pub work_fits : (shape : List (List ℕ)) (rows : List SizeRow) (costs : Costs) (list : List Expression) → IsShape shape → AreSizes rows → IsCorrect shape list → IsOneWay list
+    → work_of shape (sizes_of rows) (prices_of costs) list < 2 ^ 128
+work_fits shape rows costs list sh are co one =
     let most : ℕ = 2 * (1000000 * (6 * 2 ^ 40)) in
-    let sum = small_sum (cost_at shape (sizes_of rows) comp inst list) most (λ k. small_cost shape rows comp inst list k sh are one c i) (length list) in
+    let sum = small_sum (cost_at shape (sizes_of rows) (prices_of costs) list) most (λ k. small_cost shape rows costs list k sh are one) (length list) in
     let all = mul-le (length list) most 4160 most (few_expressions shape list sh co) (omega arith) in
     omega arith

@@ -7,6 +7,7 @@ use Rattle.wh_load.specs.ReadingClaim.{Claim, claim_of}
 use Rattle.wh_strategy.specs.declared.costs.Costs.{Costs}
 use Rattle.wh_strategy.specs.declared.expression.Expression.{Expression}
 use Rattle.wh_strategy.specs.declared.rule.Rule.{Rule}
+use Rattle.wh_strategy.specs.Prices.{prices_of}
 use Rattle.wh_strategy.specs.Rules.{IsCorrect, IsFirstBroken, IsOneWay}
 use Rattle.wh_strategy.specs.Sizes.{sizes_of}
 use Rattle.wh_strategy.specs.Work.{work_of}
@@ -19,19 +20,19 @@ use Rattle.whview.specs.declared.status.Status.TheVariants.{Done, Negative}
 
 -- the work that the plan's list has at these costs
 abbrev pub work_at : Costs → Claim → ℕ
-work_at costs claim = work_of claim.measured.shape.children (sizes_of claim.measured.sizes) costs.comp costs.inst claim.plan.strategy
+work_at costs claim = work_of claim.measured.shape.children (sizes_of claim.measured.sizes) (prices_of costs) claim.plan.strategy
 
 -- no correct strategy costs less than the plan's work
 abbrev pub IsLeastOfAll : Costs → Claim → Type 0
 IsLeastOfAll costs claim =
     (other : List Expression) → IsCorrect claim.measured.shape.children other
-    → claim.plan.work ≤ work_of claim.measured.shape.children (sizes_of claim.measured.sizes) costs.comp costs.inst other
+    → claim.plan.work ≤ work_of claim.measured.shape.children (sizes_of claim.measured.sizes) (prices_of costs) other
 
 -- no correct one-way strategy does
 abbrev pub IsLeastOneWay : Costs → Claim → Type 0
 IsLeastOneWay costs claim =
     (other : List Expression) → IsCorrect claim.measured.shape.children other → IsOneWay other
-    → claim.plan.work ≤ work_of claim.measured.shape.children (sizes_of claim.measured.sizes) costs.comp costs.inst other
+    → claim.plan.work ≤ work_of claim.measured.shape.children (sizes_of claim.measured.sizes) (prices_of costs) other
 
 -- what a verdict says of the work of a plan that it certifies
 abbrev pub IsLeastBy : Costs → Claim → Verdict → Type 0
@@ -58,7 +59,7 @@ pub data IsJudgement (costs : Costs) (claim : Claim) (text : List ℕ) (status :
   broken : (rule : Rule) (place : ℕ) → IsFirstBroken claim.measured.shape.children claim.plan.strategy rule place → text ≡ broken_text rule place → status ≡ 1 → IsJudgement costs claim text status
   other_work : IsCorrect claim.measured.shape.children claim.plan.strategy → work_at costs claim ≢ claim.plan.work → text ≡ line (codes "rejected work") → status ≡ 1 → IsJudgement costs claim text status
   judged : (verdict : Verdict) → IsCorrect claim.measured.shape.children claim.plan.strategy → work_at costs claim ≡ claim.plan.work
-      → IsJudged claim.measured.shape.children (sizes_of claim.measured.sizes) costs.comp costs.inst (work_at costs claim) claim.plan.certificate verdict
+      → IsJudged claim.measured.shape.children (sizes_of claim.measured.sizes) (prices_of costs) (work_at costs claim) claim.plan.certificate verdict
       → IsLeastBy costs claim verdict → text ≡ verdict_text claim.plan.work verdict → status ≡ status_number (verdict_status verdict) → IsJudgement costs claim text status
 
 -- this is decided of a claim
@@ -67,7 +68,7 @@ IsDecided costs claim (Broken rule place) = IsFirstBroken claim.measured.shape.c
 IsDecided costs claim OtherWork = IsCorrect claim.measured.shape.children claim.plan.strategy × (work_at costs claim ≢ claim.plan.work)
 IsDecided costs claim (Judged work verdict) =
     IsCorrect claim.measured.shape.children claim.plan.strategy × (work_at costs claim ≡ claim.plan.work) × (work ≡ claim.plan.work)
-    × IsJudged claim.measured.shape.children (sizes_of claim.measured.sizes) costs.comp costs.inst (work_at costs claim) claim.plan.certificate verdict
+    × IsJudged claim.measured.shape.children (sizes_of claim.measured.sizes) (prices_of costs) (work_at costs claim) claim.plan.certificate verdict
     × IsLeastBy costs claim verdict
 
 -- what is printed of what was decided

@@ -5,6 +5,7 @@ use Rattle.wh_text.specs.declared.fault.LoadFault.{LoadFault}
 use Rattle.wh_load.specs.ReadingCheck.{Inputs, inputs_of}
 use Rattle.wh_strategy.specs.declared.rule.Rule.{Rule}
 use Rattle.wh_strategy.specs.declared.costs.Costs.{Costs}
+use Rattle.wh_strategy.specs.Prices.{prices_of}
 use Rattle.wh_strategy.specs.Rules.{IsCorrect, IsFirstBroken, number_of}
 use Rattle.wh_strategy.specs.Sizes.{sizes_of}
 use Rattle.wh_strategy.specs.Work.{work_of}
@@ -27,13 +28,13 @@ broken_text rule place = line (codes "broken S" ++ decimal (number_of rule) ++ c
 
 -- what is printed of these inputs, and the status
 pub data IsVerdict (costs : Costs) (inputs : Inputs) (text : List ℕ) (status : ℕ) : Type 0 where
-  correct : IsCorrect inputs.measured.shape.children inputs.list → text ≡ correct_text (work_of inputs.measured.shape.children (sizes_of inputs.measured.sizes) costs.comp costs.inst inputs.list) → status ≡ 0 → IsVerdict costs inputs text status
+  correct : IsCorrect inputs.measured.shape.children inputs.list → text ≡ correct_text (work_of inputs.measured.shape.children (sizes_of inputs.measured.sizes) (prices_of costs) inputs.list) → status ≡ 0 → IsVerdict costs inputs text status
   broken : (rule : Rule) (place : ℕ) → IsFirstBroken inputs.measured.shape.children inputs.list rule place → text ≡ broken_text rule place → status ≡ 1 → IsVerdict costs inputs text status
 
 -- this is decided of these inputs: that the list is correct, and its work; or which rule it breaks first, and where
 abbrev pub IsDecided : Costs → Inputs → Outcome → Type 0
 IsDecided costs inputs (Correct work) =
-    IsCorrect inputs.measured.shape.children inputs.list × (work ≡ work_of inputs.measured.shape.children (sizes_of inputs.measured.sizes) costs.comp costs.inst inputs.list)
+    IsCorrect inputs.measured.shape.children inputs.list × (work ≡ work_of inputs.measured.shape.children (sizes_of inputs.measured.sizes) (prices_of costs) inputs.list)
 IsDecided costs inputs (Broken rule place) = IsFirstBroken inputs.measured.shape.children inputs.list rule place
 
 -- what is printed of what was decided

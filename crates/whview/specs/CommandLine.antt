@@ -6,6 +6,7 @@ use Rattle.std.specs.Str.Parse.{digits_value, without_leading_plus}
 use Rattle.clap.specs.Words.{App, Row, Rule, Text, first_of, new_app, new_rule, with_rule, with_subcommand}
 use Rattle.clap.specs.declared.builder.value_parser.ValueParser.{ValueParser}
 use Rattle.clap.specs.declared.builder.value_parser.ValueParser.TheVariants as parser
+use Rattle.wh_strategy.specs.Prices.{Prices, prices_of}
 use Rattle.wh_strategy.specs.declared.costs.Costs.{Costs}
 use Rattle.whview.specs.declared.command_line.Asked.{Asked}
 use Rattle.whview.specs.declared.night_options.NightOptions.{NightOptions}
@@ -81,6 +82,10 @@ number_of text = digits_value 10 (without_leading_plus text)
 abbrev pub cost_of : Text → List Row → ℕ
 cost_of name options = option_map_or number_of (first_of name options) 1
 
+-- the prices of the options
+abbrev pub prices_in : List Row → Prices
+prices_in options = record { comp = cost_of (codes "comp-cost") options; inst = cost_of (codes "inst-cost") options }
+
 -- the number of nodes that a search may open by the options: 1,000,000 where it is not given
 abbrev pub budget_of : List Row → ℕ
 budget_of options = option_map_or number_of (first_of (codes "budget") options) 1000000
@@ -97,8 +102,7 @@ pub record HasNightOptions (options : List Row) (how : NightOptions) : Type 0 wh
 
 -- a command at the costs of the options, on the file of the options
 pub record HasOptions (options : List Row) (costs : Costs) (input : Option (Bor Text)) : Type 0 where
-  pub comp_cost : costs.comp ≡ cost_of (codes "comp-cost") options
-  pub inst_cost : costs.inst ≡ cost_of (codes "inst-cost") options
+  pub priced : prices_of costs ≡ prices_in options
   pub file : option_map (λ name. name.now) input ≡ first_of (codes "input") options
 
 -- the file of the options

@@ -8,6 +8,7 @@ use Rattle.wh_load.specs.ReadingClaim.{Claim, ClaimTexts, claim_texts_of}
 use Rattle.wh_load.specs.ReadingPlan.{Measured, MeasuredTexts, measured_in, measured_of, measured_texts_of}
 use Rattle.wh_strategy.specs.declared.costs.Costs.{Costs}
 use Rattle.wh_strategy.specs.declared.expression.Expression.{Expression}
+use Rattle.wh_strategy.specs.Prices.{prices_of}
 use Rattle.wh_prune.specs.Plan.{accepted_for}
 use Rattle.whview.specs.CertifyOutput.{IsCertifyOutput, IsJudgement, verdict_text}
 use Rattle.whview.specs.PlanOutput.{IsLeastPlan}
@@ -28,14 +29,14 @@ accepted_text scope work = verdict_text work (accepted_for scope)
 abbrev pub PrintedPlanIsReadBack : Type 0
 PrintedPlanIsReadBack =
     (costs : Costs) (bytes : List ℕ) (measured : Measured) (work : ℕ) (scope : Scope) (list : List Expression) (certificate : Certificate) →
-    measured_of bytes ≡ Ok measured → IsLeastPlan costs.comp costs.inst measured work scope list certificate →
+    measured_of bytes ≡ Ok measured → IsLeastPlan (prices_of costs) measured work scope list certificate →
     plan_of measured.shape.names (plan_text measured.shape.names scope work list certificate) ≡ Ok (plan_with scope work list certificate)
 
 -- and such a plan for these views and sizes is certified at the same costs
 abbrev pub LeastPlanIsCertified : Type 0
 LeastPlanIsCertified =
     (costs : Costs) (measured : Measured) (work : ℕ) (scope : Scope) (list : List Expression) (certificate : Certificate) →
-    IsLeastPlan costs.comp costs.inst measured work scope list certificate →
+    IsLeastPlan (prices_of costs) measured work scope list certificate →
     IsJudgement costs (claim_with measured (plan_with scope work list certificate)) (accepted_text scope work) 0
 
 -- these texts, and this one of a plan
@@ -47,6 +48,6 @@ texts_with texts plan = record { measured = texts; plan = plan }
 abbrev pub PrintedPlanIsCertified : Type 0
 PrintedPlanIsCertified =
     (costs : Costs) (bytes bundle : List ℕ) (texts : MeasuredTexts) (measured : Measured) (work : ℕ) (scope : Scope) (list : List Expression) (certificate : Certificate) →
-    measured_texts_of bytes ≡ Ok texts → measured_in texts ≡ Ok measured → IsLeastPlan costs.comp costs.inst measured work scope list certificate →
+    measured_texts_of bytes ≡ Ok texts → measured_in texts ≡ Ok measured → IsLeastPlan (prices_of costs) measured work scope list certificate →
     claim_texts_of bundle ≡ Ok (texts_with texts (plan_text measured.shape.names scope work list certificate)) →
     IsCertifyOutput costs bundle (accepted_text scope work) 0

@@ -12,6 +12,7 @@ use Rattle.wh_prune.specs.Plan.{IsCyclicAsDesired, IsWithinBudget, accepted_for}
 use Rattle.wh_prune.specs.Spent.{IsSpent}
 use Rattle.wh_strategy.specs.declared.costs.Costs.{Costs}
 use Rattle.wh_strategy.specs.declared.expression.Expression.{Expression}
+use Rattle.wh_strategy.specs.Prices.{Prices, prices_of}
 use Rattle.wh_strategy.specs.Rules.{IsCorrect, IsOneWay}
 use Rattle.wh_strategy.specs.Sizes.{sizes_of}
 use Rattle.wh_strategy.specs.Work.{work_of}
@@ -21,18 +22,18 @@ use Rattle.whview.specs.declared.plan.Outcome.TheVariants.{Planned, Spent}
 use Rattle.whview.specs.declared.status.Status.{Status}
 use Rattle.whview.specs.declared.status.Status.TheVariants.{Done, Limit}
 
--- A plan of least work at costs of a Comp's row and an Inst's row: its list is correct, each Comp of it is from one view, the work
--- is that of the list, and the certificate is accepted for its scope. The scope is All exactly where the work is the pair bound,
--- and so wherever the ordered graph has no cycle, by which the list is then sorted. Under scope All no correct strategy costs
--- less, with Comps of any width; in any case no one-way strategy does.
-pub record IsLeastPlan (comp inst : ℕ) (measured : Measured) (work : ℕ) (scope : Scope) (list : List Expression) (certificate : Certificate) : Type 0 where
+-- A plan of least work at these prices: its list is correct, each Comp of it is from one view, the work is that of the list, and
+-- the certificate is accepted for its scope. The scope is All exactly where the work is the pair bound, and so wherever the ordered
+-- graph has no cycle, by which the list is then sorted. Under scope All no correct strategy costs less, with Comps of any width; in
+-- any case no one-way strategy does.
+pub record IsLeastPlan (prices : Prices) (measured : Measured) (work : ℕ) (scope : Scope) (list : List Expression) (certificate : Certificate) : Type 0 where
   pub correct : IsCorrect measured.shape.children list
   pub one_way : IsOneWay list
-  pub worked : work ≡ work_of measured.shape.children (sizes_of measured.sizes) comp inst list
-  pub all : scope ≡ All ↔ work ≡ pair_bound_of measured.shape.children (sizes_of measured.sizes) comp inst
-  pub accepted : IsJudged measured.shape.children (sizes_of measured.sizes) comp inst work certificate (accepted_for scope)
-  pub least_of_all : scope ≡ All → (other : List Expression) → IsCorrect measured.shape.children other → work ≤ work_of measured.shape.children (sizes_of measured.sizes) comp inst other
-  pub least_one_way : (other : List Expression) → IsCorrect measured.shape.children other → IsOneWay other → work ≤ work_of measured.shape.children (sizes_of measured.sizes) comp inst other
+  pub worked : work ≡ work_of measured.shape.children (sizes_of measured.sizes) prices list
+  pub all : scope ≡ All ↔ work ≡ pair_bound_of measured.shape.children (sizes_of measured.sizes) prices
+  pub accepted : IsJudged measured.shape.children (sizes_of measured.sizes) prices work certificate (accepted_for scope)
+  pub least_of_all : scope ≡ All → (other : List Expression) → IsCorrect measured.shape.children other → work ≤ work_of measured.shape.children (sizes_of measured.sizes) prices other
+  pub least_one_way : (other : List Expression) → IsCorrect measured.shape.children other → IsOneWay other → work ≤ work_of measured.shape.children (sizes_of measured.sizes) prices other
   pub acyclic : IsAcyclicAsDesired measured.shape.children (sizes_of measured.sizes) → scope ≡ All
   pub cyclic : scope ≡ OneWay → IsCyclicAsDesired measured.shape.children (sizes_of measured.sizes)
   pub sorted : IsAcyclicAsDesired measured.shape.children (sizes_of measured.sizes) → IsSortedAsDesired measured.shape.children (sizes_of measured.sizes) list
@@ -43,21 +44,21 @@ spent_text opened best = line (codes "budget opened " ++ decimal opened ++ codes
 
 -- What is printed for this, and the status: a plan of least work, whose tree, if it has one, has no more nodes than the budget; or
 -- that the search for one has spent its budget, which takes an ordered graph with a cycle.
-pub data IsPlanned (comp inst budget : ℕ) (measured : Measured) (text : List ℕ) (status : ℕ) : Type 0 where
-  planned : (work : ℕ) (scope : Scope) (list : List Expression) (certificate : Certificate) → IsLeastPlan comp inst measured work scope list certificate
-      → IsWithinBudget budget certificate → text ≡ plan_text measured.shape.names scope work list certificate → status ≡ 0 → IsPlanned comp inst budget measured text status
+pub data IsPlanned (prices : Prices) (budget : ℕ) (measured : Measured) (text : List ℕ) (status : ℕ) : Type 0 where
+  planned : (work : ℕ) (scope : Scope) (list : List Expression) (certificate : Certificate) → IsLeastPlan prices measured work scope list certificate
+      → IsWithinBudget budget certificate → text ≡ plan_text measured.shape.names scope work list certificate → status ≡ 0 → IsPlanned prices budget measured text status
   spent : (opened best : ℕ) → IsCyclicAsDesired measured.shape.children (sizes_of measured.sizes)
-      → IsSpent measured.shape.children (sizes_of measured.sizes) comp inst budget opened best
-      → text ≡ spent_text opened best → status ≡ 4 → IsPlanned comp inst budget measured text status
+      → IsSpent measured.shape.children (sizes_of measured.sizes) prices budget opened best
+      → text ≡ spent_text opened best → status ≡ 4 → IsPlanned prices budget measured text status
 
 -- this is decided: on a plan of least work, whose tree, if it has one, has no more nodes than the budget; or that the search for one
 -- has spent its budget
-abbrev pub IsDecided : ℕ → ℕ → ℕ → Measured → Outcome → Type 0
-IsDecided comp inst budget measured (Planned plan) =
-    IsLeastPlan comp inst measured plan.work plan.scope plan.correct.list plan.certificate × IsWithinBudget budget plan.certificate
-IsDecided comp inst budget measured (Spent opened best) =
+abbrev pub IsDecided : Prices → ℕ → Measured → Outcome → Type 0
+IsDecided prices budget measured (Planned plan) =
+    IsLeastPlan prices measured plan.work plan.scope plan.correct.list plan.certificate × IsWithinBudget budget plan.certificate
+IsDecided prices budget measured (Spent opened best) =
     IsCyclicAsDesired measured.shape.children (sizes_of measured.sizes)
-    × IsSpent measured.shape.children (sizes_of measured.sizes) comp inst budget opened best
+    × IsSpent measured.shape.children (sizes_of measured.sizes) prices budget opened best
 
 -- what is printed of what was decided, where the views have these names
 abbrev pub text_of : List (List ℕ) → Outcome → List ℕ
@@ -72,4 +73,4 @@ status_of (Spent opened best) = Limit
 -- what `plan` prints for a bundle's bytes, and the status
 abbrev pub IsPlanOutput : Costs → ℕ → List ℕ → List ℕ → ℕ → Type 0
 IsPlanOutput costs budget bytes text status =
-    MatchResult (measured_of bytes) (λ measured. IsPlanned costs.comp costs.inst budget measured text status) (λ fault. IsFaultShown fault text status)
+    MatchResult (measured_of bytes) (λ measured. IsPlanned (prices_of costs) budget measured text status) (λ fault. IsFaultShown fault text status)

@@ -3,9 +3,10 @@
 ghost use Rattle.std.specs.Prelude.{◌≡◌, ◌≤◌, [], true, codes, IfErr, IfOk, MatchResult};
 ghost use Rattle.clap.specs.Walk.{texts};
 ghost use Rattle.clap.specs.Words.{fault_of, found_of, rows_of, subcommand_of, subcommand_rows_of, takes};
+ghost use Rattle.wh_strategy.specs.Prices.{prices_of};
 ghost use Rattle.whview.specs.CommandFault.{FailsAs};
-ghost use Rattle.whview.specs.CommandLine.{HasNightOptions, IsAsked, budget_of, cost_of, number_in, whview_app};
-ghost use Rattle.whview.specs.Inner.CommandLine.{NamesCommand, TakesBudget, TakesCost, TakesNightOptions, TakesNumber};
+ghost use Rattle.whview.specs.CommandLine.{HasNightOptions, IsAsked, budget_of, cost_of, number_in, prices_in, whview_app};
+ghost use Rattle.whview.specs.Inner.CommandLine.{NamesCommand, TakesBudget, TakesCost, TakesCosts, TakesNightOptions, TakesNumber};
 
 mod builder;
 mod fault;
@@ -127,10 +128,8 @@ fn asked_of<'a>(matches: &ArgMatches<'a>) -> Asked<'a>
 
 /// The costs of a command that has an option for each.
 fn costs_of(options: &ArgMatches<'_>) -> Costs
-    requires comp { TakesCost (codes "comp-cost") (rows_of (found_of options.now)) }
-    requires inst { TakesCost (codes "inst-cost") (rows_of (found_of options.now)) }
-    ensures comp { result.comp ≡ cost_of (codes "comp-cost") (rows_of (found_of options.now)) }
-    ensures inst { result.inst ≡ cost_of (codes "inst-cost") (rows_of (found_of options.now)) }
+    requires { TakesCosts (rows_of (found_of options.now)) }
+    ensures { prices_of result ≡ prices_in (rows_of (found_of options.now)) }
 {
     Costs {
         comp: cost(options, "comp-cost"),

@@ -6,6 +6,7 @@ ghost use Rattle.wh_load.specs.ReadingShown.{shown_measured};
 ghost use Rattle.whview.specs.CheckOutput.{line};
 ghost use Rattle.whview.specs.PlanOutput.{IsDecided, IsPlanOutput, spent_text, status_of, text_of};
 ghost use Rattle.whview.specs.Status.{status_number};
+ghost use Rattle.wh_strategy.specs.Prices.{prices_of};
 
 use crate::answer::Answer;
 use crate::budget::Budget;
@@ -77,7 +78,7 @@ fn decide(
     budget: Budget,
     measured: &MeasuredViews,
 ) -> Result<Outcome, AllocError>
-    ensures { IfOk result (IsDecided costs.comp costs.inst budget.nodes (shown_measured measured.now)) }
+    ensures { IfOk result (IsDecided (prices_of costs) budget.nodes (shown_measured measured.now)) }
 {
     match plan(alloc, &measured.shape, &measured.sizes, costs, budget.nodes) {
         Ok(planned) => Ok(Outcome::Planned(planned)),

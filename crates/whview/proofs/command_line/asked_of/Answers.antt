@@ -32,8 +32,7 @@ returns-in-Some-check-default c =
     (ap Some (sym c.in-Some-check-default.is-check) ∙ c.in-Some-check-default.ensures.name ∙ named c.args.matches.now) c.in-Some-check-default.ensures.rows (
       refl,
       record {
-        comp_cost = c.costs_of.ensures.comp;
-        inst_cost = c.costs_of.ensures.inst;
+        priced = c.costs_of.ensures;
         file = c.get_str.ensures ∙ first_value-rows (found_of options) (codes "input");
       },
     )
@@ -47,8 +46,7 @@ returns-in-Some-plan-default c =
     (ap Some (sym c.in-Some-plan-default.is-plan) ∙ c.in-Some-plan-default.ensures.name ∙ named c.args.matches.now) c.in-Some-plan-default.ensures.rows (
       refl,
       record {
-        comp_cost = costs.ensures.comp;
-        inst_cost = costs.ensures.inst;
+        priced = costs.ensures;
         file = file.ensures ∙ first_value-rows (found_of options) (codes "input");
       },
       c.budget_of.ensures,
@@ -63,8 +61,7 @@ returns-in-Some-certify-default c =
     (ap Some (sym c.in-Some-certify-default.is-certify) ∙ c.in-Some-certify-default.ensures.name ∙ named c.args.matches.now) c.in-Some-certify-default.ensures.rows (
       refl,
       record {
-        comp_cost = costs.ensures.comp;
-        inst_cost = costs.ensures.inst;
+        priced = costs.ensures;
         file = file.ensures ∙ first_value-rows (found_of options) (codes "input");
       },
     )

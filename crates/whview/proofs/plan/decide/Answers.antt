@@ -1,5 +1,6 @@
 use Rattle.std.proofs.Common.{rules, subst}
 use Rattle.wh_prune.specs.Plan.{IsPlanReason}
+use Rattle.wh_strategy.specs.Prices.{prices_of}
 use Rattle.wh_strategy.specs.Rules.{IsCorrect}
 use Rattle.wh_strategy.specs.Sizes.{sizes_of}
 use Rattle.whview.proofs.plan.decide.Goals as goal
@@ -26,4 +27,4 @@ returns-in-Ok c =
 
 pub returns-in-Err-Budget : goal.returns-in-Err-Budget
 returns-in-Err-Budget c =
-    subst (IsPlanReason c.args.measured.now.shape.children (sizes_of c.args.measured.now.sizes) c.args.costs.comp c.args.costs.inst c.args.budget.nodes) c.in-Err-Budget.field-0-is c.in-Err-Budget.ensures.err
+    subst (IsPlanReason c.args.measured.now.shape.children (sizes_of c.args.measured.now.sizes) (prices_of c.args.costs) c.args.budget.nodes) c.in-Err-Budget.field-0-is c.in-Err-Budget.ensures.err

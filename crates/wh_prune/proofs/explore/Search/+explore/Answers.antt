@@ -7,20 +7,20 @@ use Rattle.wh_prune.proofs.Deciding.{open_couple_turned, taken_back}
 use Rattle.wh_prune.proofs.Exploring.{fork, some_power}
 use Rattle.wh_prune.proofs.explore.Search.+explore.Goals as goal
 
-pub returns-then-budget-opened-clause-err : goal.returns-then-budget-opened-clause-err
-returns-then-budget-opened-clause-err t c =
+pub returns-then-task-opened-clause-err : goal.returns-then-task-opened-clause-err
+returns-then-task-opened-clause-err t c =
     let some = some_power c.args.left in
-    let full : c.args.budget ≤ c.len-opened.result = c.if-budget-opened.true in
+    let full : c.args.task.now.budget ≤ c.len-opened.result = c.if-task-opened.true in
     let len : c.len-opened.result ≡ length c.args.self.now.nodes.items = search rules in
-    let within : length c.args.self.now.nodes.items ≤ c.args.budget = c.requires.budget in
+    let within : length c.args.self.now.nodes.items ≤ c.args.task.now.budget = c.requires.budget in
     (omega arith, refl, omega arith)
 
-pub returns-then-budget-opened-clause-spent : goal.returns-then-budget-opened-clause-spent
-returns-then-budget-opened-clause-spent t c = λ _.
-    let full : c.args.budget ≤ c.len-opened.result = c.if-budget-opened.true in
+pub returns-then-task-opened-clause-spent : goal.returns-then-task-opened-clause-spent
+returns-then-task-opened-clause-spent t c = λ _.
+    let full : c.args.task.now.budget ≤ c.len-opened.result = c.if-task-opened.true in
     let len : c.len-opened.result ≡ length c.args.self.now.nodes.items = search rules in
-    let within : length c.args.self.now.nodes.items ≤ c.args.budget = c.requires.budget in
-    let opened : c.len-opened.result ≡ c.args.budget = omega arith in
+    let within : length c.args.self.now.nodes.items ≤ c.args.task.now.budget = c.requires.budget in
+    let opened : c.len-opened.result ≡ c.args.task.now.budget = omega arith in
     cc
 
 pub returns-in_default-clause-nodes : goal.returns-in_default-clause-nodes
@@ -31,15 +31,15 @@ returns-in_default-clause-nodes t c =
 
 pub push-requires-2-clause-couple : goal.push-requires-2-clause-couple
 push-requires-2-clause-couple t c =
-    let shape = c.args.shape.now.children in
+    let shape = c.args.task.now.shape.now.children in
     let e = rw c.in-Some.is at c.in_ok-couple.ensures.explored in
     let children : c.pop.new.self.children ≡ shape = c.pop.ensures.children ∙ c.in_ok-explore.ensures.children ∙ c.in_ok-push.ensures.children ∙ ap (λ z. z.children) c.in_ok-couple.ensures.draft ∙ c.requires.children in
     rw children (open_couple_turned shape c.args.self.now.draft.decided c.in-Some.couple e.0)
 
 pub returns-clause-explored : goal.returns-clause-explored
 returns-clause-explored t c =
-    let shape = c.args.shape.now.children in
-    let sizes = sizes_of c.args.sizes.now in
+    let shape = c.args.task.now.shape.now.children in
+    let sizes = sizes_of c.args.task.now.sizes.now in
     let ds = c.args.self.now.draft.decided in
     let couple = c.in-Some.couple in
     let e = rw c.in-Some.is at c.in_ok-couple.ensures.explored in
@@ -52,6 +52,6 @@ returns-clause-explored t c =
     let second = c.in_ok-push-2.ensures.ok ∙ ap (λ z. z ++ (couple.higher, couple.lower) ∷ []) back in
     let on_left = rw first at c.in_ok-explore.ensures.explored in
     let on_right = rw second at c.in_ok-explore-2.ensures.explored in
-    subst (λ k. IsExplored shape sizes (prices_of c.args.costs) c.explore-2.new.self.best (k + 1) ds c.args.self.now.nodes.items c.explore-2.new.self.nodes.items) n
-    (fork shape sizes (prices_of c.args.costs) c.explore.new.self.best c.explore-2.new.self.best (c.args.left - 1 + 1) ds couple c.args.self.now.nodes.items c.open.new.self.nodes.items c.explore.new.self.nodes.items c.explore-2.new.self.nodes.items
+    subst (λ k. IsExplored shape sizes (prices_of c.args.task.now.costs) c.explore-2.new.self.best (k + 1) ds c.args.self.now.nodes.items c.explore-2.new.self.nodes.items) n
+    (fork shape sizes (prices_of c.args.task.now.costs) c.explore.new.self.best c.explore-2.new.self.best (c.args.left - 1 + 1) ds couple c.args.self.now.nodes.items c.open.new.self.nodes.items c.explore.new.self.nodes.items c.explore-2.new.self.nodes.items
     e.0 e.3 c.explore-2.ensures.down e.1 on_left on_right)

@@ -10,44 +10,44 @@ use Rattle.wh_prune.proofs.explore.Search.open.Goals as goal
 
 pub returns-then-self-bound-clause-explored : goal.returns-then-self-bound-clause-explored
 returns-then-self-bound-clause-explored c =
-    let shape = c.args.shape.now.children in
-    let sizes = sizes_of c.args.sizes.now in
+    let shape = c.args.task.now.shape.now.children in
+    let sizes = sizes_of c.args.task.now.sizes.now in
     let ds = c.args.self.now.draft.decided in
-    let bound : c.args.bound ≡ decided_bound_of shape sizes (prices_of c.args.costs) ds = c.requires.bound in
+    let bound : c.args.bound ≡ decided_bound_of shape sizes (prices_of c.args.task.now.costs) ds = c.requires.bound in
     let l : c.args.self.now.best ≤ c.args.bound = c.if-self-bound.true in
-    bound_leaf shape sizes (prices_of c.args.costs) c.args.self.now.best ds c.args.self.now.nodes.items c.push.new.self.items (omega arith) c.in_ok-push.ensures.items
+    bound_leaf shape sizes (prices_of c.args.task.now.costs) c.args.self.now.best ds c.args.self.now.nodes.items c.push.new.self.items (omega arith) c.in_ok-push.ensures.items
 
 pub returns-in_ok-push-in-Sorted-clause-held : goal.returns-in_ok-push-in-Sorted-clause-held
 returns-in_ok-push-in-Sorted-clause-held c =
-    let shape = c.args.shape.now.children in
-    let sizes = sizes_of c.args.sizes.now in
+    let shape = c.args.task.now.shape.now.children in
+    let sizes = sizes_of c.args.task.now.sizes.now in
     let d = c.args.self.now.draft in
-    let bound : c.args.bound ≡ decided_bound_of shape sizes (prices_of c.args.costs) d.decided = c.requires.bound in
+    let bound : c.args.bound ≡ decided_bound_of shape sizes (prices_of c.args.task.now.costs) d.decided = c.requires.bound in
     let found = rw c.requires.children at c.in_ok-list.ensures.found in
     let sorted = subst (IsFound shape d.ordered d.decided) c.in-Sorted.is found in
-    held_completed shape sizes (prices_of c.args.costs) c.args.bound d.ordered d.decided c.in-Sorted.list c.child_lists-lists.ensures.shape c.requires.ordered c.decided-decided.ensures.once
+    held_completed shape sizes (prices_of c.args.task.now.costs) c.args.bound d.ordered d.decided c.in-Sorted.list c.child_lists-lists.ensures.shape c.requires.ordered c.decided-decided.ensures.once
     (subst (λ z. DecidesCouples z d.decided) c.requires.children c.decided-decided.ensures.couples) sorted bound
 
 pub returns-in_ok-push-in-Sorted-clause-explored : goal.returns-in_ok-push-in-Sorted-clause-explored
 returns-in_ok-push-in-Sorted-clause-explored c =
-    let shape = c.args.shape.now.children in
-    let sizes = sizes_of c.args.sizes.now in
+    let shape = c.args.task.now.shape.now.children in
+    let sizes = sizes_of c.args.task.now.sizes.now in
     let ds = c.args.self.now.draft.decided in
-    let bound : c.args.bound ≡ decided_bound_of shape sizes (prices_of c.args.costs) ds = c.requires.bound in
-    bound_leaf shape sizes (prices_of c.args.costs) c.args.bound ds c.args.self.now.nodes.items c.push-in-Sorted.new.self.items (omega arith) c.in_ok-push-in-Sorted.ensures.items
+    let bound : c.args.bound ≡ decided_bound_of shape sizes (prices_of c.args.task.now.costs) ds = c.requires.bound in
+    bound_leaf shape sizes (prices_of c.args.task.now.costs) c.args.bound ds c.args.self.now.nodes.items c.push-in-Sorted.new.self.items (omega arith) c.in_ok-push-in-Sorted.ensures.items
 
 pub returns-in_ok-push-in-Cycle-clause-explored : goal.returns-in_ok-push-in-Cycle-clause-explored
 returns-in_ok-push-in-Cycle-clause-explored c =
-    let shape = c.args.shape.now.children in
-    let sizes = sizes_of c.args.sizes.now in
+    let shape = c.args.task.now.shape.now.children in
+    let sizes = sizes_of c.args.task.now.sizes.now in
     let d = c.args.self.now.draft in
     let found = rw c.requires.children at c.in_ok-list.ensures.found in
     let cycle = subst (IsFound shape d.ordered d.decided) c.in-Cycle.is found in
-    cycle_leaf shape sizes (prices_of c.args.costs) c.args.self.now.best d.decided c.in-Cycle.cycle c.args.self.now.nodes.items c.push-in-Cycle.new.self.items cycle c.in_ok-push-in-Cycle.ensures.items
+    cycle_leaf shape sizes (prices_of c.args.task.now.costs) c.args.self.now.best d.decided c.in-Cycle.cycle c.args.self.now.nodes.items c.push-in-Cycle.new.self.items cycle c.in_ok-push-in-Cycle.ensures.items
 
 pub returns-in_ok-push-in-Open-clause-explored : goal.returns-in_ok-push-in-Open-clause-explored
 returns-in_ok-push-in-Open-clause-explored c =
-    let shape = c.args.shape.now.children in
+    let shape = c.args.task.now.shape.now.children in
     let d = c.args.self.now.draft in
     let found = rw c.requires.children at c.in_ok-list.ensures.found in
     let opens : OpensCycle shape d.ordered d.decided c.in-Open.couple = subst (IsFound shape d.ordered d.decided) c.in-Open.is found in
