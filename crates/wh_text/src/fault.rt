@@ -166,7 +166,7 @@ enum End<'a> {
     Number(usize),
 }
 
-/// The same of the line of a shape's fault.
+/// What the line of a shape's fault begins with, and what it ends with.
 fn shape_line(fault: &ShapeFault) -> (&'static str, End<'_>)
     ensures { result.0.now ++ end_text result.1 ≡ shape_text fault.now }
 {
