@@ -1,2 +1,3 @@
 pub mod Dict
+pub mod FaultText
 pub mod Names

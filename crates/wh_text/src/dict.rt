@@ -60,6 +60,7 @@ impl Dict {
         Ok(place as i64)
     }
 
+    /// The place of a text, which is put behind the others where it is new.
     fn place(&mut self, alloc: Global, text: &str) -> Result<usize, AllocError>
         ensures place { IfOk result (λ place. place ≡ number_of_text self.old text.now) }
         ensures within { IfOk result (λ place. place < length self.new) }

@@ -1,9 +1,11 @@
 //! What is wrong with an input.
-ghost use Rattle.std.specs.Prelude.{◌≡◌, ◌++◌, OnOk, OnErr, decimal};
+ghost use Rattle.std.specs.Prelude.{◌≡◌, ◌++◌, OnOk, OnErr};
 ghost use Rattle.wh_text.specs.FaultText.{key_text, fault_number, fault_text, shape_text};
+ghost use Rattle.wh_text.specs.Inner.FaultText.{end_text};
 
 pub use crate::word::Word;
 use std::alloc::{AllocError, AllocFailed, Global};
+use std::fmt::{self, Display, Formatter};
 use thiserror::Error;
 use wh_dag::ShapeFault;
 
@@ -56,52 +58,36 @@ impl Key {
 #[derive(Debug, Drop, Error)]
 pub enum LoadFault {
     /// The catalogue is not TOML or not UTF-8.
-    #[error("the catalogue is not TOML")]
     Toml,
     /// A key is missing or has another form than it should.
-    #[error("a key of the catalogue is missing or has another form")]
     Key(Key),
     /// An unknown or repeated column, as written.
-    #[error("an unknown or repeated column")]
     Column(Word),
     /// A kind does not fit, in this view.
-    #[error("a kind does not fit")]
     Kind(Word),
     /// A record has another length than the header, or a cell that is not UTF-8.
-    #[error("record {0} has another length, or a cell that is not UTF-8")]
     Csv(usize),
     /// A number is malformed or out of range, or a count is not allowed, in this record.
-    #[error("a number of record {0} is malformed, out of range or not allowed")]
     Number(usize),
     /// The header differs or is missing.
-    #[error("the header differs or is missing")]
     Header,
     /// The sizes of this view are missing, double or out of range, or the name is no view's.
-    #[error("the sizes of a view are missing, double or out of range")]
     Sizes(Word),
     /// A line of a strategy.
-    #[error("line {0} of a strategy is no expression")]
     Strategy(usize),
     /// A line of a plan.
-    #[error("line {0} of a plan has another form")]
     Plan(usize),
     /// A line of a schedule.
-    #[error("line {0} of a schedule has another form")]
     Schedule(usize),
     /// A read failed.
-    #[error("a read failed")]
     Read,
     /// Memory was refused.
-    #[error("memory was refused")]
     Memory,
     /// A part is missing, repeated, unknown or misplaced: the first word of its heading.
-    #[error("a part is missing, repeated, unknown or misplaced")]
     Part(Word),
     /// The input is longer than the limit.
-    #[error("the input is too long")]
     TooLong,
     /// The catalogue's views make no shape.
-    #[error("the catalogue's views make no shape")]
     Shape(ShapeFault),
 }
 
@@ -128,80 +114,84 @@ impl LoadFault {
         }
     }
 
+    /// What the line that the program prints for the fault begins with, and what it ends with.
+    fn line(&self) -> (&'static str, End<'_>)
+        ensures { result.0.now ++ end_text result.1 ≡ fault_text self.now }
+    {
+        match self {
+            LoadFault::Toml => ("fault toml", End::Word(b"")),
+            LoadFault::Key(key) => ("fault key ", End::Word(key.text().as_bytes())),
+            LoadFault::Column(column) => ("fault column ", End::Word(column.as_slice())),
+            LoadFault::Kind(view) => ("fault kind ", End::Word(view.as_slice())),
+            LoadFault::Csv(record) => ("fault csv ", End::Number(*record)),
+            LoadFault::Number(record) => ("fault number ", End::Number(*record)),
+            LoadFault::Header => ("fault header", End::Word(b"")),
+            LoadFault::Sizes(view) => ("fault sizes ", End::Word(view.as_slice())),
+            LoadFault::Strategy(line) => ("fault strategy ", End::Number(*line)),
+            LoadFault::Plan(line) => ("fault plan ", End::Number(*line)),
+            LoadFault::Schedule(line) => ("fault schedule ", End::Number(*line)),
+            LoadFault::Read => ("fault read", End::Word(b"")),
+            LoadFault::Memory => ("memory", End::Word(b"")),
+            LoadFault::Part(heading) => ("fault part ", End::Word(heading.as_slice())),
+            LoadFault::TooLong => ("fault toolong", End::Word(b"")),
+            LoadFault::Shape(fault) => shape_line(fault),
+        }
+    }
+
     /// Appends the line that the program prints for the fault, without the LF, which the caller adds. A word stands as it
     /// was written, so the line need not be UTF-8. Where memory fails, nothing is appended.
     pub fn append_text(&self, alloc: Global, out: &mut Vec<u8>) -> Result<(), AllocError>
         ensures ok { OnOk result (out.new.items ≡ out.old.items ++ fault_text self.now) }
         ensures kept { OnErr result (out.new.items ≡ out.old.items) }
     {
-        match self {
-            LoadFault::Toml => append(out, b"fault toml", b""),
-            LoadFault::Key(key) => append(out, b"fault key ", key.text().as_bytes()),
-            LoadFault::Column(column) => append(out, b"fault column ", column.as_slice()),
-            LoadFault::Kind(view) => append(out, b"fault kind ", view.as_slice()),
-            LoadFault::Csv(record) => append_number(alloc, out, b"fault csv ", *record),
-            LoadFault::Number(record) => append_number(alloc, out, b"fault number ", *record),
-            LoadFault::Header => append(out, b"fault header", b""),
-            LoadFault::Sizes(view) => append(out, b"fault sizes ", view.as_slice()),
-            LoadFault::Strategy(line) => append_number(alloc, out, b"fault strategy ", *line),
-            LoadFault::Plan(line) => append_number(alloc, out, b"fault plan ", *line),
-            LoadFault::Schedule(line) => append_number(alloc, out, b"fault schedule ", *line),
-            LoadFault::Read => append(out, b"fault read", b""),
-            LoadFault::Memory => append(out, b"memory", b""),
-            LoadFault::Part(heading) => append(out, b"fault part ", heading.as_slice()),
-            LoadFault::TooLong => append(out, b"fault toolong", b""),
-            LoadFault::Shape(fault) => append_shape(out, fault),
+        let (front, end) = self.line();
+        let mut line = front.as_bytes().to_vec(alloc)?;
+        match end {
+            End::Word(word) => line.extend_from_slice(word)?,
+            End::Number(number) => {
+                let digits = format!(in alloc; "{number}")?;
+                line.extend_from_slice(digits.as_bytes())?;
+            }
+        }
+        out.extend_from_slice(&line)
+    }
+}
+
+/// What the line of a fault ends with.
+#[derive(Clone, Copy)]
+enum End<'a> {
+    /// A word, or nothing.
+    Word(&'a [u8]),
+    /// A number.
+    Number(usize),
+}
+
+/// What the line of a shape's fault begins with, and what it ends with.
+fn shape_line(fault: &ShapeFault) -> (&'static str, End<'_>)
+    ensures { result.0.now ++ end_text result.1 ≡ shape_text fault.now }
+{
+    let (front, name) = match fault {
+        ShapeFault::Duplicate { name, .. } => ("fault shape duplicate ", name),
+        ShapeFault::Unknown { child, .. } => ("fault shape unknown ", child),
+        ShapeFault::Forward { child, .. } => ("fault shape forward ", child),
+        ShapeFault::Repeated { child, .. } => ("fault shape repeated ", child),
+        ShapeFault::TooMany { name, .. } => ("fault shape toomany ", name),
+        ShapeFault::EmptyOver { name, .. } => ("fault shape empty ", name),
+        ShapeFault::Memory => return ("memory", End::Word(b"")),
+    };
+    (front, End::Word(name.as_str().as_bytes()))
+}
+
+/// The fault's line, with a word's bytes escaped where they are no plain ASCII.
+impl Display for LoadFault {
+    fn fmt<W: fmt::Write>(&self, f: &mut Formatter<W>) -> fmt::Result {
+        let (front, end) = self.line();
+        f.write_str(front)?;
+        match end {
+            End::Word(word) => word.escape_ascii().fmt(f),
+            End::Number(number) => number.fmt(f),
         }
     }
-}
-
-fn append(out: &mut Vec<u8>, front: &[u8], word: &[u8]) -> Result<(), AllocError>
-    ensures ok { OnOk result (out.new.items ≡ out.old.items ++ (front.now ++ word.now)) }
-    ensures kept { OnErr result (out.new.items ≡ out.old.items) }
-{
-    let before = out.len();
-    out.extend_from_slice(front)?;
-    let outcome = out.extend_from_slice(word);
-    if outcome.is_err() {
-        out.truncate(before);
-    }
-    outcome
-}
-
-fn append_number(
-    alloc: Global,
-    out: &mut Vec<u8>,
-    front: &[u8],
-    number: usize,
-) -> Result<(), AllocError>
-    ensures ok { OnOk result (out.new.items ≡ out.old.items ++ (front.now ++ decimal number)) }
-    ensures kept { OnErr result (out.new.items ≡ out.old.items) }
-{
-    let digits = format!(in alloc; "{number}")?;
-    append(out, front, digits.as_bytes())
-}
-
-// What the line of a shape's fault begins with, and the name that it ends with.
-fn shape_words(fault: &ShapeFault) -> (&[u8], &[u8])
-    ensures { result.0.now ++ result.1.now ≡ shape_text fault.now }
-{
-    match fault {
-        ShapeFault::Duplicate { name, .. } => (b"fault shape duplicate ", name.as_str().as_bytes()),
-        ShapeFault::Unknown { child, .. } => (b"fault shape unknown ", child.as_str().as_bytes()),
-        ShapeFault::Forward { child, .. } => (b"fault shape forward ", child.as_str().as_bytes()),
-        ShapeFault::Repeated { child, .. } => (b"fault shape repeated ", child.as_str().as_bytes()),
-        ShapeFault::TooMany { name, .. } => (b"fault shape toomany ", name.as_str().as_bytes()),
-        ShapeFault::EmptyOver { name, .. } => (b"fault shape empty ", name.as_str().as_bytes()),
-        ShapeFault::Memory => (b"memory", b""),
-    }
-}
-
-fn append_shape(out: &mut Vec<u8>, fault: &ShapeFault) -> Result<(), AllocError>
-    ensures ok { OnOk result (out.new.items ≡ out.old.items ++ shape_text fault.now) }
-    ensures kept { OnErr result (out.new.items ≡ out.old.items) }
-{
-    let (front, name) = shape_words(fault);
-    append(out, front, name)
 }
 
 impl From<AllocError> for LoadFault {

@@ -4,7 +4,7 @@ ghost use Rattle.wh_text.specs.Line.{whole_lines, without_lf, is_blank};
 
 use memchr::memchr;
 
-// The length of the first line, with its LF.
+/// The length of the first line, with its LF.
 fn line_len(text: &[u8]) -> usize
     requires { 0 < length text.now }
     ensures some { 0 < result }

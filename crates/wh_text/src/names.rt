@@ -74,8 +74,8 @@ impl Names {
     }
 }
 
-// Gives the name the number of this view, unless it has that of an earlier one: the type of a shape does not say that no
-// two views have one name.
+/// Gives the name the number of this view, unless it has that of an earlier one: the type of a shape does not say that no
+/// two views have one name.
 fn note(numbers: &mut IndexMap<String, usize>, name: String, view: usize) -> Result<(), AllocError>
     ensures { OnOk result ((word : List ℕ) → get_by_text numbers.new word
         ≡ option_or (get_by_text numbers.old word) (if bytes_eq (string_bytes name) word then Some view else None)) }

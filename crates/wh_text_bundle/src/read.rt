@@ -6,10 +6,10 @@ ghost use Rattle.wh_text_bundle.specs.Reading.{number_of_read_fault};
 use std::alloc::{AllocError, Global};
 use wh_stream::Source;
 
-// How many bytes one read asks for.
+/// How many bytes one read asks for.
 const CHUNK: usize = 1 << 17;
 
-// Below this capacity the buffer doubles, and from there on it grows by an eighth.
+/// Below this capacity the buffer doubles, and from there on it grows by an eighth.
 const LARGE: usize = 1 << 20;
 
 /// Why the bytes of a reader were not read.
@@ -36,7 +36,7 @@ impl ReadFault {
     }
 }
 
-// Adds bytes to the buffer. A large one grows by an eighth, as doubling would take twice the input's memory.
+/// Adds bytes to the buffer. A large one grows by an eighth, as doubling would take twice the input's memory.
 fn append(all: &mut Vec<u8>, bytes: &[u8]) -> Result<(), AllocError>
     ensures { all.new.items ≡ (if is_ok result then all.old.items ++ bytes.now else all.old.items) }
 {
@@ -52,7 +52,7 @@ fn append(all: &mut Vec<u8>, bytes: &[u8]) -> Result<(), AllocError>
     all.extend_from_slice(bytes)
 }
 
-// Reads to the end, a chunk at a time, and stops at the first read that fails.
+/// Reads to the end, a chunk at a time, and stops at the first read that fails.
 fn read_by_chunks<R: Source>(
     reader: &mut R,
     chunk: &mut [u8],

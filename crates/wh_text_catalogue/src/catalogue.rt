@@ -14,7 +14,7 @@ use toml::{Table, Value};
 use wh_dag::{Shape, ShapeFault};
 use wh_text::{Key, LoadFault};
 
-// The views by name, and what each is over, as they are written.
+/// The views by name, and what each is over, as they are written.
 #[derive(Drop)]
 struct Written {
     names: Vec<String>,
@@ -52,7 +52,7 @@ pub(crate) fn array_of(value: &Value) -> Option<&Vec<Value>>
     value.as_array()
 }
 
-// Whether each of the values is a table.
+/// Whether each of the values is a table.
 fn are_tables(values: &[Value]) -> bool
     ensures { result ≡ list_all (λ value. is_table (view value)) values.now }
 {
@@ -75,7 +75,7 @@ pub(crate) fn view_name(value: &Value) -> Option<&str>
     if is_name(name) { Some(name) } else { None }
 }
 
-// A copy of the name of a view, else Key(Name).
+/// A copy of the name of a view, else Key(Name).
 fn named(alloc: Global, value: &Value) -> Result<String, LoadFault>
     ensures ok { IfOk result (λ name. named (view value.now) ≡ Ok (string_bytes name)) }
     ensures err { IfErr result (λ f. (f ≡ LoadFault.Memory) ⊎ (named (view value.now) ≡ Err f)) }
@@ -86,7 +86,7 @@ fn named(alloc: Global, value: &Value) -> Result<String, LoadFault>
     }
 }
 
-// The texts that the values are, none where one is no text.
+/// The texts that the values are, none where one is no text.
 fn texts(alloc: Global, values: &[Value]) -> Result<Option<Vec<String>>, AllocError>
     ensures { IfOk result (λ found. written_list found ≡ texts_of (map view values.now)) }
 {
@@ -100,7 +100,7 @@ fn texts(alloc: Global, values: &[Value]) -> Result<Option<Vec<String>>, AllocEr
     Ok(Some(found))
 }
 
-// The texts of an array, else Key(Over).
+/// The texts of an array, else Key(Over).
 fn over_in(alloc: Global, value: &Value) -> Result<Vec<String>, LoadFault>
     ensures ok { IfOk result (λ over. over_in (view value.now) ≡ Ok (texts over.items)) }
     ensures err { IfErr result (λ f. (f ≡ LoadFault.Memory) ⊎ (over_in (view value.now) ≡ Err f)) }
@@ -114,7 +114,7 @@ fn over_in(alloc: Global, value: &Value) -> Result<Vec<String>, LoadFault>
     }
 }
 
-// The names of the views that a view is over, none of a base view.
+/// The names of the views that a view is over, none of a base view.
 fn view_over(alloc: Global, value: &Value) -> Result<Option<Vec<String>>, LoadFault>
     ensures ok { IfOk result (λ over. view_over (view value.now) ≡ Ok (written_list over)) }
     ensures err { IfErr result (λ f. (f ≡ LoadFault.Memory) ⊎ (view_over (view value.now) ≡ Err f)) }
@@ -125,7 +125,7 @@ fn view_over(alloc: Global, value: &Value) -> Result<Option<Vec<String>>, LoadFa
     }
 }
 
-// The views by name, and what each is over, or the first fault among them.
+/// The views by name, and what each is over, or the first fault among them.
 fn written_views(alloc: Global, views: &[Value]) -> Result<Written, LoadFault>
     ensures ok { IfOk result (λ w. written_views (map view views.now) ≡ Ok (seen w.names.items w.over.items)) }
     ensures err { IfErr result (λ f. (f ≡ LoadFault.Memory) ⊎ (written_views (map view views.now) ≡ Err f)) }
@@ -141,7 +141,7 @@ fn written_views(alloc: Global, views: &[Value]) -> Result<Written, LoadFault>
     Ok(Written { names, over })
 }
 
-// The shape that the written views make, or its first fault.
+/// The shape that the written views make, or its first fault.
 fn shape_written(alloc: Global, views: Written) -> Result<Shape, LoadFault>
     ensures ok { IfOk result (λ shape. shape_written (seen views.names.items views.over.items) ≡ Ok shape) }
     ensures err { IfErr result (λ f. (f ≡ LoadFault.Memory) ⊎ (shape_written (seen views.names.items views.over.items) ≡ Err f)) }

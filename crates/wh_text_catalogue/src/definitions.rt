@@ -32,6 +32,7 @@ use views::{Written, WrittenView};
 use wh_dag::Shape;
 use wh_text::{Dict, Key, LoadFault};
 
+/// The views that these tables are, in order, or the first fault; texts get numbers view by view.
 fn views_after(
     alloc: Global,
     shape: &Shape,
@@ -51,7 +52,7 @@ fn views_after(
     Ok(views)
 }
 
-// What the text gives; where it has a fault, some of its texts may have got numbers.
+/// What the text gives; where it has a fault, some of its texts may have got numbers.
 fn read_views(
     alloc: Global,
     text: &[u8],

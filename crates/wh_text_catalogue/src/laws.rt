@@ -1,4 +1,4 @@
-// Laws of the definitions: which fault of a catalogue is told.
+//! Laws of the definitions: which fault of a catalogue is told.
 ghost use Rattle.wh_text_catalogue.specs.CatalogueFaults.{ShapesEndByFirst};
 ghost use Rattle.wh_text_catalogue.specs.ViewFaults.{DefinitionsEndByFirst};
 

@@ -7,7 +7,7 @@ use std::alloc::{AllocError, Global};
 use wh_strategy::{Expression, Sources};
 use wh_text::Names;
 
-// The numbers of the views of these names, or `None` where one is no view's.
+/// The numbers of the views of these names, or `None` where one is no view's.
 fn views_of(alloc: Global, names: &Names, words: &[&[u8]]) -> Result<Option<Vec<usize>>, AllocError>
     ensures { IfOk result (λ views. option_map (λ v. v.items) views ≡ views_of names.now (map (λ word. word.now) words.now)) }
 {
@@ -21,7 +21,7 @@ fn views_of(alloc: Global, names: &Names, words: &[&[u8]]) -> Result<Option<Vec<
     Ok(Some(views))
 }
 
-// Whether the words have the form `comp V from U ..`, with one U or more.
+/// Whether the words have the form `comp V from U ..`, with one U or more.
 fn is_comp(words: &[&[u8]]) -> bool
     ensures value { result ≡ is_comp (map (λ word. word.now) words.now) }
     ensures long { IsTrue result → 3 < length words.now }
@@ -32,7 +32,7 @@ fn is_comp(words: &[&[u8]]) -> bool
     }
 }
 
-// Whether the words have the form `inst V`.
+/// Whether the words have the form `inst V`.
 fn is_inst(words: &[&[u8]]) -> bool
     ensures value { result ≡ is_inst (map (λ word. word.now) words.now) }
     ensures long { IsTrue result → 1 < length words.now }
@@ -43,6 +43,7 @@ fn is_inst(words: &[&[u8]]) -> bool
     }
 }
 
+/// The Comp that these words are, or `None`.
 fn comp_of(alloc: Global, names: &Names, words: &[&[u8]]) -> Result<Option<Expression>, AllocError>
     ensures { IfOk result (λ comp. comp ≡ comp_of names.now (map (λ word. word.now) words.now)) }
 {
@@ -58,6 +59,7 @@ fn comp_of(alloc: Global, names: &Names, words: &[&[u8]]) -> Result<Option<Expre
     Ok(Some(Expression::Comp(target, Sources::new(sources))))
 }
 
+/// The Inst that these words are, or `None`.
 fn inst_of(names: &Names, words: &[&[u8]]) -> Option<Expression>
     ensures { result ≡ inst_of names.now (map (λ word. word.now) words.now) }
 {
@@ -92,6 +94,7 @@ pub(crate) fn append_name(out: &mut Vec<u8>, names: &Names, view: usize) -> Resu
     out.extend_from_slice(names.name(view).as_bytes())
 }
 
+/// Appends a space and the name of each of these views.
 fn append_sources(out: &mut Vec<u8>, names: &Names, sources: &[usize]) -> Result<(), AllocError>
     ensures { OnOk result (out.new.items ≡ out.old.items ++ flat_map (λ view. 32 ∷ name_of names.now view) sources.now) }
 {

@@ -36,7 +36,7 @@ pub(crate) trait Grammar {
         ensures { result ≡ (grammar self.now).fault number };
 }
 
-// What lines that said this say with the line of this number below them.
+/// What lines that said this say with the line of this number below them.
 fn with_line<G: Grammar>(
     alloc: Global,
     grammar: &G,

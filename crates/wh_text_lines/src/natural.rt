@@ -4,6 +4,7 @@ ghost use Rattle.wh_text_lines.specs.Natural.{natural, number_within};
 
 use std::str;
 
+/// Whether the word begins with a plus.
 fn has_plus(word: &[u8]) -> bool
     ensures { result ≡ (slice_index word.now 0 == 43) }
 {

@@ -36,6 +36,7 @@ pub struct Plan {
     pub certificate: Certificate,
 }
 
+/// The work that the second of these lines says.
 fn work_in(lines: &[PlanLine]) -> u128
     ensures { result ≡ work_in lines.now }
 {
@@ -45,7 +46,7 @@ fn work_in(lines: &[PlanLine]) -> u128
     }
 }
 
-// The certificate of this scope, of pairs or of the nodes of a tree.
+/// The certificate of this scope, of pairs or of the nodes of a tree.
 fn certificate_of(scope: Scope, pairs: Vec<PairMin>, nodes: Vec<TreeNode>) -> Certificate
     requires { IsTrue (has_its_tree scope nodes.items) }
     ensures { result ≡ certificate_of scope pairs.items nodes.items }
@@ -59,6 +60,7 @@ fn certificate_of(scope: Scope, pairs: Vec<PairMin>, nodes: Vec<TreeNode>) -> Ce
     }
 }
 
+/// The plan that these lines say.
 fn plan_from(alloc: Global, lines: Vec<PlanLine>) -> Result<Plan, AllocError>
     requires { IsTrue (may_end lines.items) }
     ensures { IfOk result (λ plan. plan ≡ plan_from lines.items) }
@@ -102,6 +104,7 @@ pub fn read_plan(alloc: Global, names: &Names, text: &[u8]) -> Result<Plan, Load
     Ok(plan)
 }
 
+/// Appends the line of a pair, without its LF.
 fn append_pair(
     alloc: Global,
     out: &mut Vec<u8>,
@@ -121,6 +124,7 @@ fn append_pair(
     out.extend_from_slice(end.as_bytes())
 }
 
+/// Appends the lines of these pairs.
 fn append_pairs(
     alloc: Global,
     out: &mut Vec<u8>,
@@ -136,6 +140,7 @@ fn append_pairs(
     Ok(())
 }
 
+/// Appends the lines of a certificate.
 fn append_certificate(
     alloc: Global,
     out: &mut Vec<u8>,
@@ -150,6 +155,7 @@ fn append_certificate(
     }
 }
 
+/// The name of a scope.
 fn scope_text(scope: Scope) -> &'static str
     ensures { result.now ≡ scope_text scope }
 {

@@ -72,6 +72,7 @@ impl Schedule {
     }
 }
 
+/// How many desks the first of these lines says.
 fn desks_in(lines: &[ScheduleLine]) -> usize
     ensures { result ≡ desks_in lines.now }
 {
@@ -81,6 +82,7 @@ fn desks_in(lines: &[ScheduleLine]) -> usize
     }
 }
 
+/// How many workers the second of these lines says.
 fn workers_in(lines: &[ScheduleLine]) -> usize
     ensures { result ≡ workers_in lines.now }
 {
@@ -90,6 +92,7 @@ fn workers_in(lines: &[ScheduleLine]) -> usize
     }
 }
 
+/// How many keys of a page the third of these lines says.
 fn keys_in(lines: &[ScheduleLine]) -> usize
     ensures { result ≡ keys_in lines.now }
 {
@@ -99,6 +102,7 @@ fn keys_in(lines: &[ScheduleLine]) -> usize
     }
 }
 
+/// The schedule that these lines say.
 fn schedule_from(alloc: Global, lines: Vec<ScheduleLine>) -> Result<Schedule, AllocError>
     requires { IsSized (desks_in lines.items) (workers_in lines.items) (keys_in lines.items) }
     ensures { IfOk result (λ schedule. schedule ≡ schedule_from lines.items) }

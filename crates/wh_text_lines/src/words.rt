@@ -15,6 +15,7 @@ pub(crate) fn first_line(text: &[u8]) -> (&[u8], &[u8])
     (line::without_lf(whole), below)
 }
 
+/// Whether the piece between two blanks is a word: whether it has a byte.
 fn is_word(piece: &[u8]) -> bool
     ensures { result ≡ is_word piece.now }
 {

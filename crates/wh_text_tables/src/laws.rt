@@ -1,4 +1,4 @@
-// Laws of the definitions: which fault of a part is told.
+//! Laws of the definitions: which fault of a part is told.
 ghost use Rattle.wh_text_tables.specs.SizesFaults.{SizesEndByFirst};
 ghost use Rattle.wh_text_tables.specs.TableFaults.{TablesEndByFirst};
 

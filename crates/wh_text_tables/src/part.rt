@@ -51,7 +51,7 @@ pub(crate) trait PartReader {
         ensures kept { OnErr result (seen state.new ≡ seen state.old) };
 }
 
-// What the first record tells, the header.
+/// What the first record tells, the header.
 fn read_kind<R: PartReader>(
     reader: &R,
     records: &mut Records<'_>,
@@ -71,7 +71,7 @@ fn read_kind<R: PartReader>(
     }
 }
 
-// Takes the records below the header, up to the first that has a fault.
+/// Takes the records below the header, up to the first that has a fault.
 fn read_rows<R: PartReader>(
     reader: &R,
     kind: R::Kind,

@@ -104,7 +104,8 @@ impl<'a> Records<'a> {
     }
 }
 
-// A slice gives no error of its own, so what is no fault of the record is want of memory.
+/// The fault of a record that could not be read: a slice gives no error of its own, so what is no fault of the record is
+/// want of memory.
 fn read_fault(error: csv::Error, number: usize) -> LoadFault
     ensures { result ≡ read_fault number (error_kind error) }
 {
@@ -136,7 +137,7 @@ pub(crate) fn are_cells(cells: &StringRecord, words: &[&str]) -> bool
     true
 }
 
-// The number that digits alone write; none for any other text, and where it is large, though that may be a number too.
+/// The number that digits alone write; none for any other text, and where it is large, though that may be a number too.
 fn plain_number(text: &[u8]) -> Option<i64>
     ensures { IfSome result (λ number. whole_number text.now ≡ Some number) }
 {

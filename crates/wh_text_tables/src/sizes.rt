@@ -19,7 +19,7 @@ use wh_text::{LoadFault, Word};
 
 const HEADER: [&str; 4] = ["view", "pre", "post", "change"];
 
-// The numbers of a row, as they are written.
+/// The numbers of a row, as they are written.
 #[derive(Clone, Copy)]
 struct Counts {
     pre: i64,
@@ -27,6 +27,7 @@ struct Counts {
     change: i64,
 }
 
+/// The numbers that a row writes, where each is one.
 #[tactic(auto, using(wh_text::proofs::WholeNumbers::whole_numbers), unfolding(crate::specs::RowSizes::counts_of))]
 fn written_counts(row: &StringRecord) -> Option<Counts>
     ensures { result ≡ counts_of (fields_of row.now) }
@@ -37,6 +38,7 @@ fn written_counts(row: &StringRecord) -> Option<Counts>
     Some(Counts { pre, post, change })
 }
 
+/// The sizes of these numbers, where they are within their limits.
 #[tactic(auto, unfolding(crate::specs::RowSizes::size_of))]
 fn size_within(counts: Counts) -> Option<SizeRow>
     ensures { result ≡ size_of counts }
@@ -49,6 +51,7 @@ fn size_within(counts: Counts) -> Option<SizeRow>
     if size.is_within() { Some(size) } else { None }
 }
 
+/// The fault of the sizes of this name, or Memory.
 fn sizes_fault(alloc: Global, name: &str) -> LoadFault
     ensures { (result ≡ LoadFault.Memory) ⊎ (result ≡ LoadFault.Sizes name.now) }
 {
@@ -58,7 +61,7 @@ fn sizes_fault(alloc: Global, name: &str) -> LoadFault
     }
 }
 
-// The sizes that a row writes: its numbers are judged before their ranges.
+/// The sizes that a row writes: its numbers are judged before their ranges.
 fn written_size(alloc: Global, number: usize, row: &StringRecord) -> Result<SizeRow, LoadFault>
     ensures ok { IfOk result (λ size. size_written number (fields_of row.now) ≡ Ok size) }
     ensures err { IfErr result (λ f. (f ≡ LoadFault.Memory) ⊎ (size_written number (fields_of row.now) ≡ Err f)) }
@@ -72,6 +75,7 @@ fn written_size(alloc: Global, number: usize, row: &StringRecord) -> Result<Size
     Ok(size)
 }
 
+/// The view of this name.
 fn view_named(shape: &Shape, name: &str) -> Option<usize>
     ensures value { result ≡ number_of shape.now.names name.now }
     ensures within { IfSome result (λ view. view < length shape.now.children) }
@@ -84,7 +88,7 @@ fn view_named(shape: &Shape, name: &str) -> Option<usize>
     None
 }
 
-// The view of this name, which must not have been given sizes.
+/// The view of this name, which must not have been given sizes.
 fn fresh_view(
     alloc: Global,
     shape: &Shape,
@@ -105,7 +109,7 @@ fn fresh_view(
     Ok(view)
 }
 
-// Gives the view of this row the sizes that it writes.
+/// Gives the view of this row the sizes that it writes.
 fn place_row(
     alloc: Global,
     shape: &Shape,
@@ -124,7 +128,7 @@ fn place_row(
     Ok(())
 }
 
-// What reads the sizes of the shape's views.
+/// What reads the sizes of the shape's views.
 #[derive(Drop)]
 struct SizesReader<'a> {
     alloc: Global,
@@ -163,6 +167,7 @@ impl<'a> PartReader for SizesReader<'a> {
     }
 }
 
+/// No sizes of so many views.
 fn no_sizes(alloc: Global, views: usize) -> Result<Vec<Option<SizeRow>>, AllocError>
     ensures { IfOk result (λ given. given.items ≡ replicate views None) }
 {
@@ -173,7 +178,7 @@ fn no_sizes(alloc: Global, views: usize) -> Result<Vec<Option<SizeRow>>, AllocEr
     Ok(given)
 }
 
-// The sizes of all views, of which each must have been given its own.
+/// The sizes of all views, of which each must have been given its own.
 fn covered(
     alloc: Global,
     shape: &Shape,
@@ -190,9 +195,7 @@ fn covered(
         let Some(size) = size else {
             return Err(sizes_fault(alloc, shape.name(view)));
         };
-        if rows.push(*size).is_err() {
-            return Err(LoadFault::Memory);
-        }
+        rows.push(*size)?;
     }
     Ok(rows)
 }
@@ -206,9 +209,7 @@ pub fn read_sizes(alloc: Global, shape: &Shape, text: &[u8]) -> Result<Sizes, Lo
     ensures len { IfOk result (λ sizes. length sizes ≡ length shape.now.children) }
     ensures fault { IfErr result (λ f. (f ≡ LoadFault.Memory) ⊎ (sizes_of_text shape.now.names text.now ≡ Err f)) }
 {
-    let Ok(mut given) = no_sizes(alloc, shape.len()) else {
-        return Err(LoadFault::Memory);
-    };
+    let mut given = no_sizes(alloc, shape.len())?;
     read_part(alloc, &SizesReader { alloc, shape }, text, &mut given)?;
     let rows = covered(alloc, shape, &given)?;
     match Sizes::new(rows) {

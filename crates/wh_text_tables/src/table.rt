@@ -24,7 +24,7 @@ use wh_row::{Bag, Records, RecordsFault};
 use wh_text::{Column, Dict, LoadFault};
 pub use write::write_table;
 
-// The bag that the entries add up to, or the first fault: a sum that leaves i64 comes before a fault that ended the reading.
+/// The bag that the entries add up to, or the first fault: a sum that leaves i64 comes before a fault that ended the reading.
 fn sum_up(alloc: Global, counted: &Records, read: Result<(), LoadFault>) -> Result<Bag, LoadFault>
     requires { length counted.now + 1 < 2 ^ 64 }
     ensures ok { IfOk result (λ bag. bag ≡ bag_of counted.now) }
@@ -32,16 +32,16 @@ fn sum_up(alloc: Global, counted: &Records, read: Result<(), LoadFault>) -> Resu
     ensures err { IfErr result (λ f. (f ≡ LoadFault.Memory) ⊎ EndsSum counted.now (result_err read) f) }
 {
     match Bag::from_records(alloc, counted) {
-        Ok(bag) => match read {
-            Ok(()) => Ok(bag),
-            Err(fault) => Err(fault),
-        },
+        Ok(bag) => {
+            read?;
+            Ok(bag)
+        }
         Err(RecordsFault::Memory) => Err(LoadFault::Memory),
         Err(RecordsFault::Large(place)) => Err(LoadFault::Number(place + 2)),
     }
 }
 
-// What the text gives; where it has a fault, some of its texts may have got numbers.
+/// What the text gives; where it has a fault, some of its texts may have got numbers.
 fn read_counted(
     alloc: Global,
     content: Content,
@@ -63,7 +63,7 @@ fn read_counted(
     sum_up(alloc, &rows.counted, read)
 }
 
-// The same, but a fault leaves the dictionary as it was.
+/// The same, but a fault leaves the dictionary as it was.
 fn read_table_part(
     alloc: Global,
     content: Content,

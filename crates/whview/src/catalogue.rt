@@ -16,6 +16,7 @@ use wh_dag::{Catalog, Definition, Output, Shape};
 use wh_formula::{Combiner, Expr, Filter, Pred, RowTest, RowValue};
 use wh_load::{WrittenDefinition, WrittenOutput, WrittenView};
 
+/// An expression with what is made of it.
 fn combiner<G: RowValue + Drop, V: Fn(Expr) -> G>(
     alloc: Global,
     expr: &Expr,
@@ -33,6 +34,7 @@ fn combiner<G: RowValue + Drop, V: Fn(Expr) -> G>(
     Ok(Combiner::new(kept, width, value(called)))
 }
 
+/// These expressions, each with what is made of it.
 fn combiners<G: RowValue + Drop, V: Fn(Expr) -> G>(
     alloc: Global,
     exprs: &[Expr],
@@ -52,6 +54,7 @@ fn combiners<G: RowValue + Drop, V: Fn(Expr) -> G>(
     Ok(combiners)
 }
 
+/// What the columns of a view are made of, each expression with what is made of it.
 fn output<G: RowValue + Drop, V: Fn(Expr) -> G>(
     alloc: Global,
     written: &WrittenOutput,
@@ -77,6 +80,7 @@ fn output<G: RowValue + Drop, V: Fn(Expr) -> G>(
     }
 }
 
+/// A predicate with what is made of it.
 fn filter<F: RowTest + Drop, T: Fn(Pred) -> F>(
     alloc: Global,
     pred: &Pred,
@@ -94,6 +98,7 @@ fn filter<F: RowTest + Drop, T: Fn(Pred) -> F>(
     Ok(Filter::new(kept, width, test(called)))
 }
 
+/// A view's definition, each formula with what is made of it.
 fn definition<F: RowTest + Drop, G: RowValue + Drop, T: Fn(Pred) -> F, V: Fn(Expr) -> G>(
     alloc: Global,
     written: &WrittenDefinition,
@@ -138,6 +143,7 @@ fn append_definition<F: RowTest + Drop, G: RowValue + Drop, T: Fn(Pred) -> F, V:
     }
 }
 
+/// The definitions of the derived views, in order.
 fn definitions<F: RowTest + Drop, G: RowValue + Drop, T: Fn(Pred) -> F, V: Fn(Expr) -> G>(
     alloc: Global,
     views: &[WrittenView],
@@ -158,6 +164,7 @@ fn definitions<F: RowTest + Drop, G: RowValue + Drop, T: Fn(Pred) -> F, V: Fn(Ex
     Ok(definitions)
 }
 
+/// How many columns each base view has, in order.
 fn base_widths(alloc: Global, views: &[WrittenView]) -> Result<Vec<usize>, AllocError>
     ensures { IfOk result (λ widths. widths.items ≡ given_widths (map (λ view. (shown_view view).definition) views.now)
         (map (λ view. length (shown_view view).columns) views.now)) }

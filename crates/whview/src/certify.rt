@@ -74,6 +74,7 @@ fn verdict_text(alloc: Global, work: u128, verdict: &Verdict) -> Result<Vec<u8>,
     Ok(text.into_bytes())
 }
 
+/// What is decided of a plan that was read.
 fn decide(alloc: Global, costs: Costs, claim: CertifyInput) -> Result<Outcome, AllocError>
     ensures { IfOk result (IsDecided costs (shown_claim claim)) }
 {

@@ -58,6 +58,7 @@ fn correct_text(alloc: Global, work: u128) -> Result<Vec<u8>, AllocError>
     Ok(text.into_bytes())
 }
 
+/// What is decided of a strategy that was read.
 fn decide(alloc: Global, costs: Costs, input: CheckInput) -> Result<Outcome, AllocError>
     ensures { IfOk result (IsDecided costs (shown_check input)) }
 {

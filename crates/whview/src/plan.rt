@@ -72,6 +72,7 @@ fn spent_text(alloc: Global, opened: u64, best: u128) -> Result<Vec<u8>, AllocEr
     Ok(text.into_bytes())
 }
 
+/// What is decided for views that were read.
 fn decide(
     alloc: Global,
     costs: Costs,

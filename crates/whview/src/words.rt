@@ -33,12 +33,14 @@ pub fn first_line(input: &[u8]) -> (&[u8], &[u8])
     }
 }
 
+/// Where the first LF stands.
 fn first_lf(input: &[u8]) -> Option<usize>
     ensures { result ≡ position is_lf input.now }
 {
     input.iter().position(|b| *b == LF)
 }
 
+/// The line without the CR at its end.
 fn without_cr(line: &[u8]) -> &[u8]
     ensures { result.now ≡ strip_carriage_return line.now }
 {
@@ -55,6 +57,7 @@ pub fn refuses_input(words: &[&str]) -> bool
     words.iter().any(|word| is_input_option(word))
 }
 
+/// Whether the word is the option `--input`, with or without its file.
 fn is_input_option(word: &str) -> bool
     ensures { result ≡ names_input word.now }
 {

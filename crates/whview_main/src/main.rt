@@ -19,6 +19,7 @@ fn handed_words<E: Env + AllocGlobal>(rt: &E) -> io::Result<Vec<String>> {
     Ok(words)
 }
 
+/// Hands the words, standard input and standard output to `run`, and ends with what it answers.
 fn main(rt: HostRuntime) -> ExitCode {
     let mut input = Counted::new(rt.stdin());
     let mut out = Counted::new(rt.stdout());

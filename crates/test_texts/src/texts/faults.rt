@@ -38,3 +38,19 @@ fn each_fault_prints_its_line(rt: HostRuntime) -> Result<(), AllocError> {
     assert_eq!(&rt; lines(rt.alloc())?.as_str(), LINES);
     Ok(())
 }
+
+#[test]
+fn a_fault_displays_its_line(rt: HostRuntime) -> Result<(), AllocError> {
+    let alloc = rt.alloc();
+    let of_a_line = LoadFault::Schedule(3);
+    assert_eq!(&rt;
+        format!(in alloc; "{of_a_line}")?.as_str(),
+        "fault schedule 3"
+    );
+    let of_a_word = LoadFault::Part(Word::new(alloc, b"d\xffta")?);
+    assert_eq!(&rt;
+        format!(in alloc; "{of_a_word}")?.as_str(),
+        "fault part d\\xffta"
+    );
+    Ok(())
+}

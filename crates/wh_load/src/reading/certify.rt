@@ -16,6 +16,7 @@ use wh_text::{LoadFault, Names};
 use wh_text_bundle::{Bundle, Heading, Nights};
 use wh_text_lines::{Plan, read_plan};
 
+/// The texts of the parts that are read, or the first that is missing.
 fn claim_texts_in<'a>(alloc: Global, bundle: &Bundle<'a>) -> Result<ClaimTexts<'a>, LoadFault>
     ensures ok { IfOk result (λ t. claim_texts_in bundle.now ≡ Ok (shown_claim_texts t)) }
     ensures err { IfErr result (λ f. (f ≡ LoadFault.Memory) ⊎ (claim_texts_in bundle.now ≡ Err f)) }
@@ -27,6 +28,7 @@ fn claim_texts_in<'a>(alloc: Global, bundle: &Bundle<'a>) -> Result<ClaimTexts<'
     }
 }
 
+/// The texts of the parts that are read of these bytes.
 fn read_texts<'a>(alloc: Global, bytes: &'a [u8]) -> Result<ClaimTexts<'a>, LoadFault>
     ensures ok { IfOk result (λ t. claim_texts_of bytes.now ≡ Ok (shown_claim_texts t)) }
     ensures err { IfErr result (λ f. (f ≡ LoadFault.Memory) ⊎ (claim_texts_of bytes.now ≡ Err f)) }
@@ -35,6 +37,7 @@ fn read_texts<'a>(alloc: Global, bytes: &'a [u8]) -> Result<ClaimTexts<'a>, Load
     claim_texts_in(alloc, &bundle)
 }
 
+/// The plan over the views of this shape.
 fn planned(alloc: Global, shape: &Shape, text: &[u8]) -> Result<Plan, LoadFault>
     ensures ok { IfOk result (λ plan. plan_of shape.now.names text.now ≡ Ok plan) }
     ensures err { IfErr result (λ f. (f ≡ LoadFault.Memory) ⊎ (plan_of shape.now.names text.now ≡ Err f)) }
@@ -43,6 +46,7 @@ fn planned(alloc: Global, shape: &Shape, text: &[u8]) -> Result<Plan, LoadFault>
     read_plan(alloc, &names, text)
 }
 
+/// What these texts say, or their first fault.
 fn claim_in(alloc: Global, texts: &ClaimTexts<'_>) -> Result<CertifyInput, LoadFault>
     ensures ok { IfOk result (λ c. claim_in (shown_claim_texts texts.now) ≡ Ok (shown_claim c)) }
     ensures err { IfErr result (λ f. (f ≡ LoadFault.Memory) ⊎ (claim_in (shown_claim_texts texts.now) ≡ Err f)) }

@@ -19,6 +19,7 @@ use wh_text_catalogue::read_shape;
 use wh_text_lines::read_strategy;
 use wh_text_tables::read_sizes;
 
+/// The texts of the parts that are read, or the first that is missing.
 fn check_texts_in<'a>(alloc: Global, bundle: &Bundle<'a>) -> Result<CheckTexts<'a>, LoadFault>
     ensures ok { IfOk result (λ t. check_texts_in bundle.now ≡ Ok (shown_check_texts t)) }
     ensures err { IfErr result (λ f. (f ≡ LoadFault.Memory) ⊎ (check_texts_in bundle.now ≡ Err f)) }
@@ -30,6 +31,7 @@ fn check_texts_in<'a>(alloc: Global, bundle: &Bundle<'a>) -> Result<CheckTexts<'
     }
 }
 
+/// The texts of the parts that are read of these bytes.
 fn read_texts<'a>(alloc: Global, bytes: &'a [u8]) -> Result<CheckTexts<'a>, LoadFault>
     ensures ok { IfOk result (λ t. check_texts_of bytes.now ≡ Ok (shown_check_texts t)) }
     ensures err { IfErr result (λ f. (f ≡ LoadFault.Memory) ⊎ (check_texts_of bytes.now ≡ Err f)) }
@@ -38,6 +40,7 @@ fn read_texts<'a>(alloc: Global, bytes: &'a [u8]) -> Result<CheckTexts<'a>, Load
     check_texts_in(alloc, &bundle)
 }
 
+/// The strategy over the views of this shape.
 fn listed(alloc: Global, shape: &Shape, text: &[u8]) -> Result<Strategy, LoadFault>
     ensures ok { IfOk result (λ strategy. strategy_of shape.now.names text.now ≡ Ok strategy) }
     ensures err { IfErr result (λ f. (f ≡ LoadFault.Memory) ⊎ (strategy_of shape.now.names text.now ≡ Err f)) }
@@ -46,6 +49,7 @@ fn listed(alloc: Global, shape: &Shape, text: &[u8]) -> Result<Strategy, LoadFau
     read_strategy(alloc, &names, text)
 }
 
+/// What these texts say, or their first fault.
 fn inputs_in(alloc: Global, texts: &CheckTexts<'_>) -> Result<CheckInput, LoadFault>
     ensures ok { IfOk result (λ i. inputs_in (shown_check_texts texts.now) ≡ Ok (shown_check i)) }
     ensures err { IfErr result (λ f. (f ≡ LoadFault.Memory) ⊎ (inputs_in (shown_check_texts texts.now) ≡ Err f)) }

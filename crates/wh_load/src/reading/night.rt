@@ -80,6 +80,7 @@ fn night_over(
     })
 }
 
+/// What the parts of a bundle say of its first night, or the first fault.
 fn night_in(alloc: Global, bundle: &Bundle<'_>) -> Result<NightInput, LoadFault>
     ensures ok { IfOk result (λ n. night_in bundle.now ≡ Ok (shown_night n)) }
     ensures fit { IfOk result IsReadNight }

@@ -14,6 +14,7 @@ use wh_text_bundle::{Bundle, Heading, Nights};
 use wh_text_catalogue::read_shape;
 use wh_text_tables::read_sizes;
 
+/// The texts of the views and their sizes, or the first that is missing.
 pub(super) fn measured_texts_in<'a>(
     alloc: Global,
     bundle: &Bundle<'a>,
@@ -28,6 +29,7 @@ pub(super) fn measured_texts_in<'a>(
     }
 }
 
+/// What these texts say, or their first fault.
 pub(super) fn measured_in(
     alloc: Global,
     texts: &MeasuredTexts<'_>,
@@ -40,6 +42,7 @@ pub(super) fn measured_in(
     Ok(MeasuredViews { shape, sizes })
 }
 
+/// The texts of the parts that are read of these bytes.
 fn read_texts<'a>(alloc: Global, bytes: &'a [u8]) -> Result<MeasuredTexts<'a>, LoadFault>
     ensures ok { IfOk result (λ t. measured_texts_of bytes.now ≡ Ok (shown_measured_texts t)) }
     ensures err { IfErr result (λ f. (f ≡ LoadFault.Memory) ⊎ (measured_texts_of bytes.now ≡ Err f)) }

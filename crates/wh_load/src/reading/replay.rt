@@ -136,6 +136,7 @@ fn replay_over(
     })
 }
 
+/// What the parts of a bundle say of its nights, or the first fault.
 fn replay_in(alloc: Global, bundle: &Bundle<'_>) -> Result<ReplayInput, LoadFault>
     ensures ok { IfOk result (λ r. replay_in bundle.now ≡ Ok (shown_replay r)) }
     ensures fit { IfOk result IsReadReplay }

@@ -26,6 +26,7 @@ pub fn without_end(line: &[u8]) -> &[u8]
     }
 }
 
+/// Whether the line has blanks alone before its end.
 fn is_blank_line(line: &[u8]) -> bool
     ensures { result ≡ is_blank_line line.now }
 {
@@ -62,7 +63,7 @@ pub fn opens_part(line: &[u8]) -> bool
     line.starts_with(b"@") && !is_escaped(line)
 }
 
-// Whether a line begins at the place.
+/// Whether a line begins at the place.
 fn begins_line(text: &[u8], place: usize) -> bool
     requires { place ≤ length text.now }
     ensures { result ≡ (place == 0 || slice_index text.now (place - 1) == 10) }

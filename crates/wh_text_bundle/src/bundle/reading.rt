@@ -18,7 +18,7 @@ use super::spelling::{fault_word, heading_text};
 use std::alloc::{AllocError, Global};
 use wh_text::Word;
 
-// Whether the part is a night that is not read so.
+/// Whether the part is a night that is not read so.
 fn is_bad_night(nights: Nights, heading: &Heading, body: &[u8]) -> bool
     ensures { result ≡ is_bad_night nights heading.now body.now }
 {
@@ -29,7 +29,7 @@ fn is_bad_night(nights: Nights, heading: &Heading, body: &[u8]) -> bool
     }
 }
 
-// The heading of a part that is not at fault below those seen, which is then seen too.
+/// The heading of a part that is not at fault below those seen, which is then seen too.
 fn sound_heading<'a>(
     seen: &mut Seen<'a>,
     raw: &LentPart<'a>,
@@ -55,7 +55,7 @@ fn sound_heading<'a>(
     Ok(Some(heading))
 }
 
-// The fault of a heading.
+/// The fault of a heading.
 fn fault_at(alloc: Global, opening: &[u8]) -> PartFault
     ensures { Names result (Some (fault_word (heading_text opening.now))) }
 {

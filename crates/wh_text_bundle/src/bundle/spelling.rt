@@ -9,7 +9,7 @@ use super::heading::Heading;
 use super::line::without_end;
 use wh_text::line::is_blank;
 
-// The heading, where the text is its word.
+/// The heading, where the text is its word.
 fn if_word<'a>(heading: Heading<'a>, text: &[u8]) -> Option<Heading<'a>>
     ensures { result ≡ (if bytes_eq text.now (word_of heading.entry) then Some heading.entry else None) }
 {
@@ -45,6 +45,7 @@ pub fn name_after<'a>(word: &[u8], text: &'a [u8]) -> Option<&'a [u8]>
     }
 }
 
+/// The text without the blanks at its end.
 fn without_blank_end(text: &[u8]) -> &[u8]
     ensures { result.now ≡ without_blank_end text.now }
 {
@@ -68,6 +69,7 @@ pub fn heading_text(opening: &[u8]) -> &[u8]
     without_blank_end(text)
 }
 
+/// How many blanks the text begins with.
 fn blanks_len(text: &[u8]) -> usize
     ensures within { result ≤ length text.now }
     ensures value { result ≡ prefix_len is_blank text.now }
@@ -80,6 +82,7 @@ fn blanks_len(text: &[u8]) -> usize
     text.len()
 }
 
+/// How many bytes stand before the first blank.
 fn word_len(text: &[u8]) -> usize
     ensures within { result ≤ length text.now }
     ensures value { result ≡ position_or_len is_blank text.now }
@@ -92,6 +95,7 @@ fn word_len(text: &[u8]) -> usize
     text.len()
 }
 
+/// The first word of the text, which may be empty.
 fn first_word(text: &[u8]) -> &[u8]
     ensures { result.now ≡ first_word text.now }
 {

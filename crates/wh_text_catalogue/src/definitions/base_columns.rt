@@ -1,4 +1,4 @@
-// The columns of a base view.
+//! The columns of a base view.
 ghost use Rattle.std.specs.Prelude.{◌≡◌, ◌⊎◌, [], map, option_map, Ok, Err, IfOk, IfErr};
 ghost use Rattle.toml.specs.View.{view};
 ghost use Rattle.wh_text_catalogue.specs.BaseColumns.{base_columns, column_in, columns_in, columns_written, is_few, kind_named, kinded_column};
@@ -11,6 +11,7 @@ use toml::Value;
 use wh_dag::MAX_COLUMNS;
 use wh_text::{Column, Key, Kind, LoadFault};
 
+/// The kind that the word means, if it means one.
 fn kind_named(word: &str) -> Option<Kind>
     ensures { result ≡ kind_named word.now }
 {
@@ -23,6 +24,7 @@ fn kind_named(word: &str) -> Option<Kind>
     None
 }
 
+/// The column of this name and of the kind that the word means; none where one of them has another form.
 fn kinded_column(alloc: Global, name: &str, word: &str) -> Result<Option<Column>, AllocError>
     ensures { IfOk result (λ column. column ≡ kinded_column name.now word.now) }
 {
@@ -36,6 +38,7 @@ fn kinded_column(alloc: Global, name: &str, word: &str) -> Result<Option<Column>
     Ok(Some(Column::new(name, kind)))
 }
 
+/// The column that a text says, `NAME` or `NAME:KIND`; none where it has another form.
 fn column_in(alloc: Global, text: &str) -> Result<Option<Column>, AllocError>
     ensures { IfOk result (λ column. column ≡ column_in text.now) }
 {
@@ -49,6 +52,7 @@ fn column_in(alloc: Global, text: &str) -> Result<Option<Column>, AllocError>
     }
 }
 
+/// The columns that these values say; none where one of them says none.
 fn columns_in(alloc: Global, values: &[Value]) -> Result<Option<Vec<Column>>, AllocError>
     ensures { IfOk result (λ found. option_map (λ columns. columns.items) found ≡ columns_in [] (map view values.now)) }
 {
@@ -72,6 +76,7 @@ pub(crate) fn is_few(count: usize) -> bool
     1 <= count && count <= MAX_COLUMNS
 }
 
+/// The columns of an array, else Key(Columns).
 fn columns_written(alloc: Global, value: &Value) -> Result<Vec<Column>, LoadFault>
     ensures ok { IfOk result (λ columns. columns_written (view value.now) ≡ Ok columns.items) }
     ensures err { IfErr result (λ f. (f ≡ LoadFault.Memory) ⊎ (columns_written (view value.now) ≡ Err f)) }

@@ -1,4 +1,4 @@
-// Names of columns, of which none stands twice.
+//! Names of columns, of which none stands twice.
 ghost use Rattle.std.specs.Prelude.{◌≡◌, ◌⊎◌, [], map, Ok, Err, IfErr, IsOk, OnOk};
 ghost use Rattle.wh_text_catalogue.specs.ColumnNames.{fresh_columns, fresh_name};
 

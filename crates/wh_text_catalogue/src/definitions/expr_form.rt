@@ -1,4 +1,4 @@
-// The form of an expression, level by level.
+//! The form of an expression, level by level.
 ghost use Rattle.std.specs.Prelude.{◌≡◌, ◌==◌, map, option_map};
 ghost use Rattle.toml.specs.View.{table_view, view};
 ghost use Rattle.wh_text_catalogue.specs.ExprForm.{expr_form, is_expr, literal_of, member_count, operation_of, sign_of};
@@ -32,6 +32,7 @@ pub(crate) enum ExprForm<'a> {
     Operation(Sign, &'a Value, &'a Value),
 }
 
+/// The operation of this sign.
 fn sign_of(text: &str) -> Option<Sign>
     ensures { result ≡ sign_of text.now }
 {
@@ -47,6 +48,7 @@ fn sign_of(text: &str) -> Option<Sign>
     None
 }
 
+/// An operation on two parts, where these are its sign and them.
 fn operation_of(parts: &[Value]) -> Option<ExprForm<'_>>
     ensures { option_map seen result ≡ operation_of (map view parts.now) }
 {
@@ -59,12 +61,14 @@ fn operation_of(parts: &[Value]) -> Option<ExprForm<'_>>
     }
 }
 
+/// Whether the table has one key.
 fn has_one_key(members: &Table) -> bool
     ensures { result ≡ (member_count (table_view members.now) == 1) }
 {
     members.len() == 1
 }
 
+/// The text of a table `{text = ..}`.
 fn literal_of(members: &Table) -> Option<ExprForm<'_>>
     ensures { option_map seen result ≡ literal_of (table_view members.now) }
 {

@@ -1,4 +1,4 @@
-// The predicate that the rows of a derived view meet.
+//! The predicate that the rows of a derived view meet.
 ghost use Rattle.std.specs.Prelude.{◌≡◌, ◌⊎◌, Ok, Err, IfOk, IfErr};
 ghost use Rattle.toml.specs.View.{view};
 ghost use Rattle.wh_text.specs.Inner.Dict.{Grows};
@@ -12,6 +12,7 @@ use toml::Value;
 use wh_formula::Pred;
 use wh_text::{Dict, Key, LoadFault};
 
+/// The predicate that stands at the key, or its first fault.
 fn filter_written(
     alloc: Global,
     header: &Header,

@@ -1,4 +1,4 @@
-// Whole formulas: their form, then their columns, then their kinds.
+//! Whole formulas: their form, then their columns, then their kinds.
 ghost use Rattle.std.specs.Prelude.{◌≡◌, ◌⊎◌, Ok, Err, IfOk, IfErr};
 ghost use Rattle.std.specs.Option.{option_copied};
 ghost use Rattle.toml.specs.View.{view};

@@ -1,4 +1,4 @@
-// The first reference of a formula that names no column.
+//! The first reference of a formula that names no column.
 ghost use Rattle.std.specs.Prelude.{◌≡◌, map};
 ghost use Rattle.std.specs.Option.{option_copied};
 ghost use Rattle.toml.specs.View.{view};
@@ -70,6 +70,7 @@ pub(crate) fn unknown_in_pred<'a>(
     }
 }
 
+/// The first reference of these predicates that names no column.
 #[cycle(pred_columns)]
 fn unknown_in_preds<'a>(header: &Header, values: &'a [Value], levels: usize) -> Option<&'a str>
     ensures { option_copied result ≡ first_unknown (unknown_in_pred header.now.columns levels) (map view values.now) }

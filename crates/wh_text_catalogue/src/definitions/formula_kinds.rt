@@ -1,4 +1,4 @@
-// Formulas whose kinds fit, with their texts numbered.
+//! Formulas whose kinds fit, with their texts numbered.
 ghost use Rattle.std.specs.Prelude.{◌≡◌, ◌⊎◌, ◌<◌, ◌≤◌, [], All, ◌+◌, map, Ok, Err, IfOk, IfErr};
 ghost use Rattle.toml.specs.View.{view};
 ghost use Rattle.wh_formula.specs.Expr as expr_tree;
@@ -33,6 +33,7 @@ pub(crate) fn is_int(kind: Kind) -> bool
     }
 }
 
+/// The operation on these two.
 fn operation(alloc: Global, sign: Sign, left: Expr, right: Expr) -> Result<Expr, AllocError>
     requires left { expr_tree.depth left < MAX_DEPTH }
     requires right { expr_tree.depth right < MAX_DEPTH }
@@ -45,6 +46,7 @@ fn operation(alloc: Global, sign: Sign, left: Expr, right: Expr) -> Result<Expr,
     }
 }
 
+/// The operation on two expressions of whole numbers, else Kind.
 fn combined(
     alloc: Global,
     header: &Header,
@@ -65,6 +67,7 @@ fn combined(
     Ok(expr)
 }
 
+/// A text as an expression: its number.
 fn literal(alloc: Global, texts: &mut Dict, text: &str) -> Result<TypedExpr, LoadFault>
     ensures ok { IfOk result (λ typed. typed_literal texts.old text.now ≡ Ok (typed, texts.new)) }
     ensures within { IfOk result (λ typed. expr_tree.depth typed.expr ≡ 1) }
@@ -78,6 +81,7 @@ fn literal(alloc: Global, texts: &mut Dict, text: &str) -> Result<TypedExpr, Loa
     })
 }
 
+/// The column that a reference names, else Kind.
 fn column(alloc: Global, header: &Header, reference: &str) -> Result<TypedExpr, LoadFault>
     ensures ok { IfOk result (λ typed. typed_column header.now reference.now ≡ Ok typed) }
     ensures within { IfOk result (λ typed. expr_tree.depth typed.expr ≡ 1) }
@@ -124,6 +128,7 @@ pub(crate) fn typed_expr(
     }
 }
 
+/// An operation on two parts of at most so many levels.
 #[cycle(expr_kinds)]
 fn typed_operation(
     alloc: Global,
@@ -149,6 +154,7 @@ fn typed_operation(
     })
 }
 
+/// Whether texts may be compared so.
 fn compares_texts(comparison: Comparison) -> bool
     ensures { result ≡ compares_texts comparison }
 {
@@ -158,6 +164,7 @@ fn compares_texts(comparison: Comparison) -> bool
     }
 }
 
+/// Whether values of these kinds may be compared so.
 fn fits_kinds(comparison: Comparison, left: Kind, right: Kind) -> bool
     ensures { result ≡ fits_kinds comparison left right }
 {
@@ -168,6 +175,7 @@ fn fits_kinds(comparison: Comparison, left: Kind, right: Kind) -> bool
     }
 }
 
+/// The comparison of two expressions, where their kinds fit, else Kind.
 fn compared(
     alloc: Global,
     header: &Header,
@@ -187,6 +195,7 @@ fn compared(
     Ok(Pred::compare(comparison, left.expr, right.expr))
 }
 
+/// A comparison of two parts of at most so many levels.
 fn typed_comparison(
     alloc: Global,
     header: &Header,
@@ -238,6 +247,7 @@ pub(crate) fn typed_pred(
     }
 }
 
+/// All of these predicates of at most so many levels.
 #[cycle(pred_kinds)]
 fn typed_all(
     alloc: Global,
@@ -256,6 +266,7 @@ fn typed_all(
     Ok(Pred::all(parts))
 }
 
+/// Any of these predicates of at most so many levels.
 #[cycle(pred_kinds)]
 fn typed_any(
     alloc: Global,
@@ -274,6 +285,7 @@ fn typed_any(
     Ok(Pred::any(parts))
 }
 
+/// The contrary of a predicate of at most so many levels.
 #[cycle(pred_kinds)]
 fn typed_not(
     alloc: Global,
@@ -293,6 +305,7 @@ fn typed_not(
     Ok(contrary)
 }
 
+/// Predicates of at most so many levels, in order.
 #[cycle(pred_kinds)]
 fn typed_parts(
     alloc: Global,

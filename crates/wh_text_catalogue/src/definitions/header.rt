@@ -1,4 +1,4 @@
-// The combined row of a derived view.
+//! The combined row of a derived view.
 ghost use Rattle.std.specs.Prelude.{◌≡◌, ◌⊎◌, ◌<◌, length, string_bytes, IfSome};
 ghost use Rattle.wh_text_catalogue.specs.Header.{cell_of, place_of};
 
@@ -31,6 +31,7 @@ impl Model for Header {
     ghost view = { λ h. record { view = string_bytes h.view; columns = h.columns.items } };
 }
 
+/// Where the first column of this reference stands.
 fn place_of(columns: &[Column], reference: &str) -> Option<usize>
     ensures value { result ≡ place_of columns.now reference.now }
     ensures within { IfSome result (λ place. place < length columns.now) }
@@ -38,6 +39,7 @@ fn place_of(columns: &[Column], reference: &str) -> Option<usize>
     columns.iter().position(|column| column.name() == reference)
 }
 
+/// The cell of the first column of this reference.
 fn cell_of(columns: &[Column], reference: &str) -> Option<Cell>
     ensures { result ≡ cell_of columns.now reference.now }
 {

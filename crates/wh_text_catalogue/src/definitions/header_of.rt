@@ -1,4 +1,4 @@
-// The combined row of a view, of the columns of its children.
+//! The combined row of a view, of the columns of its children.
 ghost use Rattle.std.specs.Prelude.{◌≡◌, ◌++◌, ◌∷◌, ◌<◌, map, flat_map, length, string_bytes, IfOk, OnOk};
 ghost use Rattle.wh_dag.specs.Shape.{children_of};
 ghost use Rattle.wh_text_catalogue.specs.Definitions.{child_columns, columns_of, header_of, qualified, shown_view};
@@ -9,6 +9,7 @@ use std::alloc::{AllocError, Global};
 use wh_dag::Shape;
 use wh_text::Column;
 
+/// The column under the reference that names it, `CHILD.COLUMN`.
 fn qualified(alloc: Global, child: &str, column: &Column) -> Result<Column, AllocError>
     ensures { IfOk result (λ own. own ≡ qualified child.now column.now) }
 {
@@ -18,6 +19,7 @@ fn qualified(alloc: Global, child: &str, column: &Column) -> Result<Column, Allo
     Ok(Column::new(name, column.kind()))
 }
 
+/// Appends a child's columns, each under the reference that names it.
 fn append_qualified(
     alloc: Global,
     columns: &mut Vec<Column>,
@@ -33,6 +35,7 @@ fn append_qualified(
     Ok(())
 }
 
+/// The columns of the view of this number; none where there is no such view.
 fn columns_of(views: &[WrittenView], view: usize) -> &[Column]
     ensures { result.now ≡ columns_of (map shown_view views.now) view }
 {
@@ -42,6 +45,7 @@ fn columns_of(views: &[WrittenView], view: usize) -> &[Column]
     }
 }
 
+/// The columns of these children side by side.
 fn combined_columns(
     alloc: Global,
     shape: &Shape,

@@ -1,4 +1,4 @@
-// The pairs of columns that are equal in a joined row.
+//! The pairs of columns that are equal in a joined row.
 ghost use Rattle.std.specs.Prelude.{◌≡◌, ◌⊎◌, [], codes, map, option_map, Ok, Err, IfOk, IfErr};
 ghost use Rattle.std.specs.Option.{option_copied};
 ghost use Rattle.toml.specs.Data.{get};
@@ -24,6 +24,7 @@ pub(crate) struct Link<'a> {
     pub right: &'a str,
 }
 
+/// The two references that these values are, if they are.
 fn link_of(values: &[Value]) -> Option<Link<'_>>
     ensures { option_map seen_link result ≡ link_of (map view values.now) }
 {
@@ -37,6 +38,7 @@ fn link_of(values: &[Value]) -> Option<Link<'_>>
     }
 }
 
+/// The links that these values are; none where one of them is none.
 fn links_in(alloc: Global, values: &[Value]) -> Result<Option<Vec<Link<'_>>>, AllocError>
     ensures { IfOk result (λ found. option_map (λ links. map seen_link links.items) found ≡ links_in [] (map view values.now)) }
 {
@@ -53,6 +55,7 @@ fn links_in(alloc: Global, values: &[Value]) -> Result<Option<Vec<Link<'_>>>, Al
     Ok(Some(links))
 }
 
+/// The links at the key, none where it is missing, else Key(Join).
 fn links_written(alloc: Global, table: &Value) -> Result<Vec<Link<'_>>, LoadFault>
     ensures ok { IfOk result (λ links. links_written (get (codes "join") (view table.now)) ≡ Ok (map seen_link links.items)) }
     ensures err { IfErr result (λ f. (f ≡ LoadFault.Memory) ⊎ (links_written (get (codes "join") (view table.now)) ≡ Err f)) }
@@ -69,6 +72,7 @@ fn links_written(alloc: Global, table: &Value) -> Result<Vec<Link<'_>>, LoadFaul
     }
 }
 
+/// The first of two references that names no column.
 fn unknown_in_link<'a>(header: &Header, left: &'a str, right: &'a str) -> Option<&'a str>
     ensures { option_copied result ≡ unknown_in_link header.now.columns left.now right.now }
 {
@@ -78,6 +82,7 @@ fn unknown_in_link<'a>(header: &Header, left: &'a str, right: &'a str) -> Option
     }
 }
 
+/// The first reference of these links that names no column.
 fn unknown_in_links<'a>(header: &Header, links: &[Link<'a>]) -> Option<&'a str>
     ensures { option_copied result ≡ unknown_in_links header.now.columns (map seen_link links.now) }
 {
@@ -89,6 +94,7 @@ fn unknown_in_links<'a>(header: &Header, links: &[Link<'a>]) -> Option<&'a str>
     None
 }
 
+/// Whether the kinds are the same.
 fn same_kind(left: Kind, right: Kind) -> bool
     ensures { result ≡ same_kind left right }
 {
@@ -99,6 +105,7 @@ fn same_kind(left: Kind, right: Kind) -> bool
     }
 }
 
+/// The cell that a reference names, else Kind.
 fn linked_cell(alloc: Global, header: &Header, reference: &str) -> Result<Cell, LoadFault>
     ensures ok { IfOk result (λ cell. linked_cell header.now reference.now ≡ Ok cell) }
     ensures err { IfErr result (λ f. (f ≡ LoadFault.Memory) ⊎ (linked_cell header.now reference.now ≡ Err f)) }
@@ -109,6 +116,7 @@ fn linked_cell(alloc: Global, header: &Header, reference: &str) -> Result<Cell, 
     }
 }
 
+/// The places that two references name, where their kinds are the same, else Kind.
 fn joined_link(
     alloc: Global,
     header: &Header,
@@ -126,6 +134,7 @@ fn joined_link(
     Ok((left.place, right.place))
 }
 
+/// The places that these links name, or the first fault.
 fn joined(
     alloc: Global,
     header: &Header,

@@ -1,4 +1,4 @@
-// The columns of a derived view.
+//! The columns of a derived view.
 ghost use Rattle.std.specs.Prelude.{◌≡◌, ◌⊎◌, [], codes, map, Ok, Err, IfOk, IfErr};
 ghost use Rattle.toml.specs.Data.{get};
 ghost use Rattle.toml.specs.View.{view};
@@ -44,6 +44,7 @@ pub(crate) struct Outcome {
     pub output: WrittenOutput,
 }
 
+/// The columns that `keep` says, or the first fault.
 fn kept(
     alloc: Global,
     header: &Header,
@@ -75,6 +76,7 @@ fn kept(
     })
 }
 
+/// The pairs of `group`, else Key(Group).
 fn group_written(alloc: Global, value: &Value) -> Result<Vec<Pair<'_>>, LoadFault>
     ensures ok { IfOk result (λ pairs. group_written (view value.now) ≡ Ok (map seen_pair pairs.items)) }
     ensures err { IfErr result (λ f. (f ≡ LoadFault.Memory) ⊎ (group_written (view value.now) ≡ Err f)) }
@@ -86,6 +88,7 @@ fn group_written(alloc: Global, value: &Value) -> Result<Vec<Pair<'_>>, LoadFaul
     Ok(pairs)
 }
 
+/// The name that `count` says, else Key(Count).
 fn count_written(table: &Value) -> Result<&str, LoadFault>
     ensures ok { IfOk result (λ name. count_written (view table.now) ≡ Ok name.now) }
     ensures err { IfErr result (λ f. count_written (view table.now) ≡ Err f) }
@@ -102,6 +105,7 @@ fn count_written(table: &Value) -> Result<&str, LoadFault>
     Ok(name)
 }
 
+/// The pairs of `sum`, else Key(Sum).
 fn sums_in(alloc: Global, value: &Value) -> Result<Vec<Pair<'_>>, LoadFault>
     ensures ok { IfOk result (λ pairs. sums_in (view value.now) ≡ Ok (map seen_pair pairs.items)) }
     ensures err { IfErr result (λ f. (f ≡ LoadFault.Memory) ⊎ (sums_in (view value.now) ≡ Err f)) }
@@ -113,6 +117,7 @@ fn sums_in(alloc: Global, value: &Value) -> Result<Vec<Pair<'_>>, LoadFault>
     Ok(pairs)
 }
 
+/// The pairs of `sum`, none where the key is missing.
 fn sums_at(alloc: Global, table: &Value) -> Result<Vec<Pair<'_>>, LoadFault>
     ensures ok { IfOk result (λ pairs. sums_at (get (codes "sum") (view table.now)) ≡ Ok (map seen_pair pairs.items)) }
     ensures err { IfErr result (λ f. (f ≡ LoadFault.Memory) ⊎ (sums_at (get (codes "sum") (view table.now)) ≡ Err f)) }
@@ -123,7 +128,7 @@ fn sums_at(alloc: Global, table: &Value) -> Result<Vec<Pair<'_>>, LoadFault>
     }
 }
 
-// The places of a summary's groups, whose columns and names are noted.
+/// The places of a summary's groups, whose columns and names are noted.
 fn groups_of<'a>(
     alloc: Global,
     header: &Header,
@@ -142,7 +147,7 @@ fn groups_of<'a>(
     grouped(alloc, header, columns, &pairs)
 }
 
-// The expressions of a summary's sums, whose columns and names are noted.
+/// The expressions of a summary's sums, whose columns and names are noted.
 fn sums_of<'a>(
     alloc: Global,
     header: &Header,
@@ -162,6 +167,7 @@ fn sums_of<'a>(
     typed_pairs(alloc, header, texts, KindRule::Numbers, columns, &pairs)
 }
 
+/// The column that counts the rows of a group.
 fn counted(alloc: Global, name: &str) -> Result<Column, LoadFault>
     ensures ok { IfOk result (λ column. column ≡ count_column name.now) }
     ensures err { IfErr result (λ f. f ≡ LoadFault.Memory) }
@@ -170,6 +176,7 @@ fn counted(alloc: Global, name: &str) -> Result<Column, LoadFault>
     Ok(Column::new(name, Kind::Int))
 }
 
+/// The columns of a summary with this `group`, or the first fault.
 fn summed(
     alloc: Global,
     header: &Header,
@@ -198,6 +205,7 @@ fn summed(
     })
 }
 
+/// The columns that `keep` says, where there is no `group` beside it, else Key(Group).
 fn kept_alone(
     alloc: Global,
     header: &Header,
@@ -216,6 +224,7 @@ fn kept_alone(
     }
 }
 
+/// The columns of a summary, where there is a `group`, else Key(Keep).
 fn summed_at(
     alloc: Global,
     header: &Header,

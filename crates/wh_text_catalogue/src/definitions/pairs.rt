@@ -1,4 +1,4 @@
-// Arrays of pairs of a name and a formula.
+//! Arrays of pairs of a name and a formula.
 ghost use Rattle.std.specs.Prelude.{◌≡◌, ◌⊎◌, [], map, option_map, None, Some, Ok, Err, IfOk, IfErr, OnOk};
 ghost use Rattle.std.specs.Option.{option_copied};
 ghost use Rattle.toml.specs.View.{view};
@@ -26,6 +26,7 @@ pub(crate) struct Pair<'a> {
     pub value: &'a Value,
 }
 
+/// The name and the formula that these values are, if they are.
 fn pair_of(values: &[Value]) -> Option<Pair<'_>>
     ensures { option_map seen_pair result ≡ pair_of (map view values.now) }
 {
@@ -42,6 +43,7 @@ fn pair_of(values: &[Value]) -> Option<Pair<'_>>
     }
 }
 
+/// The pairs that these values are; none where one of them is none.
 fn pairs_in(alloc: Global, values: &[Value]) -> Result<Option<Vec<Pair<'_>>>, AllocError>
     ensures { IfOk result (λ found. option_map (λ pairs. map seen_pair pairs.items) found ≡ pairs_in [] (map view values.now)) }
 {
@@ -108,6 +110,7 @@ pub(crate) fn are_references(pairs: &[Pair<'_>]) -> bool
     true
 }
 
+/// Whether each reference of a formula names a column, else the fault of the first that does not.
 fn known_formula(alloc: Global, header: &Header, value: &Value) -> Result<(), LoadFault>
     ensures ok { OnOk result (unknown_column header.now.columns (view value.now) ≡ None) }
     ensures err { IfErr result (λ f. (f ≡ LoadFault.Memory) ⊎ (unknown_fault header.now.columns (view value.now) ≡ Some f)) }

@@ -1,4 +1,4 @@
-// The form of a predicate, level by level.
+//! The form of a predicate, level by level.
 ghost use Rattle.std.specs.Prelude.{◌≡◌, map, option_map};
 ghost use Rattle.std.specs.List.{list_all};
 ghost use Rattle.toml.specs.View.{view};
@@ -24,6 +24,7 @@ pub(crate) enum PredForm<'a> {
     Not(&'a Value),
 }
 
+/// The comparison of this sign.
 fn comparison_of(text: &str) -> Option<Comparison>
     ensures { result ≡ comparison_of text.now }
 {
@@ -48,6 +49,7 @@ fn comparison_of(text: &str) -> Option<Comparison>
     None
 }
 
+/// A comparison, where the text is its sign and these are its two sides.
 fn compare_of<'a>(text: &str, parts: &'a [Value]) -> Option<PredForm<'a>>
     ensures { option_map seen result ≡ compare_of text.now (map view parts.now) }
 {
@@ -60,6 +62,7 @@ fn compare_of<'a>(text: &str, parts: &'a [Value]) -> Option<PredForm<'a>>
     }
 }
 
+/// The contrary of a predicate, where there is one part.
 fn not_of(parts: &[Value]) -> Option<PredForm<'_>>
     ensures { option_map seen result ≡ not_of (map view parts.now) }
 {
@@ -69,6 +72,7 @@ fn not_of(parts: &[Value]) -> Option<PredForm<'_>>
     }
 }
 
+/// What begins with this word and has these parts.
 fn headed<'a>(word: &str, parts: &'a [Value]) -> Option<PredForm<'a>>
     ensures { option_map seen result ≡ headed word.now (map view parts.now) }
 {
@@ -84,6 +88,7 @@ fn headed<'a>(word: &str, parts: &'a [Value]) -> Option<PredForm<'a>>
     compare_of(word, parts)
 }
 
+/// What an array of these values is: a word, and the parts after it.
 fn compound_of(parts: &[Value]) -> Option<PredForm<'_>>
     ensures { option_map seen result ≡ compound_of (map view parts.now) }
 {
@@ -123,6 +128,7 @@ pub(crate) fn is_pred(value: &Value, levels: usize) -> bool
     }
 }
 
+/// Whether the values are predicates of at most so many levels.
 #[cycle(pred_levels)]
 fn are_preds(values: &[Value], levels: usize) -> bool
     ensures { result ≡ list_all (is_pred levels) (map view values.now) }

@@ -1,4 +1,4 @@
-// References to columns.
+//! References to columns.
 ghost use Rattle.std.specs.Prelude.{◌≡◌};
 ghost use Rattle.wh_text_catalogue.specs.Reference.{is_reference};
 

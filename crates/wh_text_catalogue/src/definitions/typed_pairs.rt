@@ -1,4 +1,4 @@
-// The columns that pairs of a name and a formula make.
+//! The columns that pairs of a name and a formula make.
 ghost use Rattle.std.specs.Prelude.{◌≡◌, ◌⊎◌, [], map, Ok, Err, IfOk, IfErr};
 ghost use Rattle.toml.specs.View.{view};
 ghost use Rattle.wh_text.specs.Inner.Dict.{Grows};
@@ -23,6 +23,7 @@ pub(crate) enum KindRule {
     Numbers,
 }
 
+/// Whether the key takes the kind.
 fn takes_kind(rule: KindRule, kind: Kind) -> bool
     ensures { result ≡ takes_kind rule kind }
 {
@@ -32,6 +33,7 @@ fn takes_kind(rule: KindRule, kind: Kind) -> bool
     }
 }
 
+/// An expression of a kind that the key takes, else Kind.
 fn typed_cell(
     alloc: Global,
     header: &Header,
@@ -75,6 +77,7 @@ pub(crate) fn typed_pairs(
     Ok(exprs)
 }
 
+/// The cell that a reference names, else Kind.
 fn group_cell(alloc: Global, header: &Header, value: &Value) -> Result<Cell, LoadFault>
     ensures ok { IfOk result (λ cell. group_cell header.now (view value.now) ≡ Ok cell) }
     ensures err { IfErr result (λ f. (f ≡ LoadFault.Memory) ⊎ (group_cell header.now (view value.now) ≡ Err f)) }

@@ -1,4 +1,4 @@
-// One view of a catalogue.
+//! One view of a catalogue.
 ghost use Rattle.std.specs.Prelude.{◌≡◌, ◌⊎◌, ◌<◌, length, map, Ok, Err, IfOk, IfErr};
 ghost use Rattle.toml.specs.View.{view};
 ghost use Rattle.wh_text.specs.Inner.Dict.{Grows};
@@ -17,6 +17,7 @@ use toml::Value;
 use wh_dag::Shape;
 use wh_text::{Dict, LoadFault};
 
+/// A derived view over this combined row, or its first fault.
 fn derived_view(
     alloc: Global,
     header: &Header,
@@ -42,6 +43,7 @@ fn derived_view(
     })
 }
 
+/// A base view, or its first fault.
 fn base_view(alloc: Global, table: &Value) -> Result<WrittenView, LoadFault>
     ensures ok { IfOk result (λ own. (texts : Texts) → base_view (view table.now) texts ≡ Ok (shown_view own, texts)) }
     ensures err { IfErr result (λ f. (f ≡ LoadFault.Memory) ⊎ ((texts : Texts) → base_view (view table.now) texts ≡ Err f)) }

@@ -1,4 +1,4 @@
-// The views of a catalogue as they are written.
+//! The views of a catalogue as they are written.
 use super::output::WrittenOutput;
 use wh_formula::Pred;
 use wh_text::Column;

@@ -1,4 +1,4 @@
-// Laws of what the formulas of a catalogue mean.
+//! Laws of what the formulas of a catalogue mean.
 ghost use Rattle.wh_text_catalogue.specs.WrittenCatalogue.{BasesReadBack, CataloguesReadBack, ReadBasesAreWritten, ReadCataloguesAreWritten};
 ghost use Rattle.wh_text_catalogue.specs.WrittenHeader.{ColumnsStandInRows, ReadShapesAreNamed, RowsAreReferences};
 ghost use Rattle.wh_text_catalogue.specs.WrittenLaws.{ExprsReadBack, PredsReadBack, ReadExprsAreWritten, ReadPredsAreWritten};

@@ -26,7 +26,7 @@ pub(crate) enum PlanLine {
     Searched(TreeNode),
 }
 
-// The scope of this name.
+/// The scope of this name.
 fn scope_named(word: &[u8]) -> Option<Scope>
     ensures { result ≡ scope_named word.now }
 {
@@ -39,7 +39,7 @@ fn scope_named(word: &[u8]) -> Option<Scope>
     }
 }
 
-// Whether the words have the form `scope S`.
+/// Whether the words have the form `scope S`.
 fn is_scope(words: &[&[u8]]) -> bool
     ensures { result ≡ is_scope (map (λ word. word.now) words.now) }
 {
@@ -49,7 +49,7 @@ fn is_scope(words: &[&[u8]]) -> bool
     }
 }
 
-// Whether the words have the form `work N`.
+/// Whether the words have the form `work N`.
 fn is_work(words: &[&[u8]]) -> bool
     ensures { result ≡ is_work (map (λ word. word.now) words.now) }
 {
@@ -59,7 +59,7 @@ fn is_work(words: &[&[u8]]) -> bool
     }
 }
 
-// Whether the words have the form `pair V U W N`.
+/// Whether the words have the form `pair V U W N`.
 fn is_pair(words: &[&[u8]]) -> bool
     ensures { result ≡ is_pair (map (λ word. word.now) words.now) }
 {
@@ -69,30 +69,27 @@ fn is_pair(words: &[&[u8]]) -> bool
     }
 }
 
+/// What the words say of the scope, if they do.
 fn scoped_by(words: &[&[u8]]) -> Option<PlanLine>
     ensures { result ≡ scoped_by (map (λ word. word.now) words.now) }
 {
     if !is_scope(words) {
         return None;
     }
-    match scope_named(word_at(words, 1)) {
-        Some(scope) => Some(PlanLine::Scoped(scope)),
-        None => None,
-    }
+    Some(PlanLine::Scoped(scope_named(word_at(words, 1))?))
 }
 
+/// What the words say of the work, if they do.
 fn worked_by(words: &[&[u8]]) -> Option<PlanLine>
     ensures { result ≡ worked_by (map (λ word. word.now) words.now) }
 {
     if !is_work(words) {
         return None;
     }
-    match natural(word_at(words, 1)) {
-        Some(work) => Some(PlanLine::Worked(work)),
-        None => None,
-    }
+    Some(PlanLine::Worked(natural(word_at(words, 1))?))
 }
 
+/// The pair of these parts, where each is one.
 fn pair_from(
     parent: Option<usize>,
     first: Option<usize>,
@@ -112,6 +109,7 @@ fn pair_from(
     }
 }
 
+/// The pair that these words name, after the first of them.
 fn pair_in(names: &Names, words: &[&[u8]]) -> Option<PairMin>
     ensures { result ≡ pair_in names.now (map (λ word. word.now) words.now) }
 {
@@ -123,18 +121,17 @@ fn pair_in(names: &Names, words: &[&[u8]]) -> Option<PairMin>
     )
 }
 
+/// The pair that the words say, if they do.
 fn paired_by(names: &Names, words: &[&[u8]]) -> Option<PlanLine>
     ensures { result ≡ paired_by names.now (map (λ word. word.now) words.now) }
 {
     if !is_pair(words) {
         return None;
     }
-    match pair_in(names, words) {
-        Some(pair) => Some(PlanLine::Paired(pair)),
-        None => None,
-    }
+    Some(PlanLine::Paired(pair_in(names, words)?))
 }
 
+/// The expression that the words say, if they do.
 fn listed_by(alloc: Global, names: &Names, words: &[&[u8]]) -> Result<Option<PlanLine>, AllocError>
     ensures { IfOk result (λ line. line ≡ listed_by names.now (map (λ word. word.now) words.now)) }
 {
@@ -144,6 +141,7 @@ fn listed_by(alloc: Global, names: &Names, words: &[&[u8]]) -> Result<Option<Pla
     }
 }
 
+/// The node that a line of these words says, if it does.
 fn searched_by(
     alloc: Global,
     names: &Names,

@@ -1,7 +1,7 @@
 //! The lines of a plan's tree, each by itself.
 ghost use Rattle.std.specs.Prelude.{◌≡◌, ◌<◌, ◌++◌, ◌∷◌, length, map, option_map, IfOk, IsTrue};
 ghost use Rattle.std.specs.List.{slice_split};
-ghost use Rattle.wh_text_lines.specs.NodeLine.{bounded_by, branched_by, couple_from, couple_in, cycle_from, cycle_in, cycled_by, expressions_of, is_bound, is_branch, is_cycle, is_parting, node_of};
+ghost use Rattle.wh_text_lines.specs.NodeLine.{bounded_by, branched_by, couple_in, cycle_from, cycle_in, cycled_by, expressions_of, is_bound, is_branch, is_cycle, is_parting, node_of};
 ghost use Rattle.wh_text_lines.specs.Words.{words_of};
 
 use crate::expression::expression_of;
@@ -12,7 +12,7 @@ use wh_dag::Couple;
 use wh_strategy::{Expression, Strategy};
 use wh_text::Names;
 
-// Whether the words have the form `bound`.
+/// Whether the words have the form `bound`.
 fn is_bound(words: &[&[u8]]) -> bool
     ensures { result ≡ is_bound (map (λ word. word.now) words.now) }
 {
@@ -22,7 +22,7 @@ fn is_bound(words: &[&[u8]]) -> bool
     }
 }
 
-// Whether the words have the form `branch U W`.
+/// Whether the words have the form `branch U W`.
 fn is_branch(words: &[&[u8]]) -> bool
     ensures { result ≡ is_branch (map (λ word. word.now) words.now) }
 {
@@ -32,7 +32,7 @@ fn is_branch(words: &[&[u8]]) -> bool
     }
 }
 
-// Whether the words begin with `cycle`.
+/// Whether the words begin with `cycle`.
 fn is_cycle(words: &[&[u8]]) -> bool
     ensures { result ≡ is_cycle (map (λ word. word.now) words.now) }
 {
@@ -42,24 +42,17 @@ fn is_cycle(words: &[&[u8]]) -> bool
     }
 }
 
-fn couple_from(lower: Option<usize>, higher: Option<usize>) -> Option<Couple>
-    ensures { result ≡ couple_from lower higher }
-{
-    match (lower, higher) {
-        (Some(lower), Some(higher)) => Some(Couple { lower, higher }),
-        _ => None,
-    }
-}
-
+/// The couple that these words name, after the first of them.
 fn couple_in(names: &Names, words: &[&[u8]]) -> Option<Couple>
     ensures { result ≡ couple_in names.now (map (λ word. word.now) words.now) }
 {
-    couple_from(
-        names.number(word_at(words, 1)),
-        names.number(word_at(words, 2)),
-    )
+    Some(Couple {
+        lower: names.number(word_at(words, 1))?,
+        higher: names.number(word_at(words, 2))?,
+    })
 }
 
+/// The node that the words `bound` are.
 fn bounded_by(words: &[&[u8]]) -> Option<TreeNode>
     ensures { result ≡ bounded_by (map (λ word. word.now) words.now) }
 {
@@ -70,32 +63,31 @@ fn bounded_by(words: &[&[u8]]) -> Option<TreeNode>
     }
 }
 
+/// The node that the words `branch U W` are.
 fn branched_by(names: &Names, words: &[&[u8]]) -> Option<TreeNode>
     ensures { result ≡ branched_by names.now (map (λ word. word.now) words.now) }
 {
     if !is_branch(words) {
         return None;
     }
-    match couple_in(names, words) {
-        Some(couple) => Some(TreeNode::Branch(couple)),
-        None => None,
-    }
+    Some(TreeNode::Branch(couple_in(names, words)?))
 }
 
+/// Whether the byte parts the expressions of a cycle.
 fn is_parting(byte: u8) -> bool
     ensures { result ≡ is_parting byte }
 {
     byte == b';'
 }
 
-// The parts of a line between its semicolons.
+/// The parts of a line between its semicolons.
 fn parts_of(alloc: Global, line: &[u8]) -> Result<Vec<&[u8]>, AllocError>
     ensures { IfOk result (λ parts. map (λ part. part.now) parts.items ≡ slice_split is_parting line.now) }
 {
     line.split(|byte| is_parting(*byte)).collect(alloc)
 }
 
-// The expressions after those in the list, one in each part, or `None` where a part is none.
+/// The expressions after those in the list, one in each part, or `None` where a part is none.
 fn with_parts(
     alloc: Global,
     names: &Names,
@@ -116,7 +108,7 @@ fn with_parts(
     Ok(Some(list))
 }
 
-// The expressions in these words, and in each of the parts.
+/// The expressions in these words, and in each of the parts.
 fn expressions_in(
     alloc: Global,
     names: &Names,
@@ -134,7 +126,7 @@ fn expressions_in(
     with_parts(alloc, names, list, parts)
 }
 
-// The expressions in these parts, the first of which has the word `cycle` before its own.
+/// The expressions in these parts, the first of which has the word `cycle` before its own.
 fn cycle_from(
     alloc: Global,
     names: &Names,
@@ -150,7 +142,7 @@ fn cycle_from(
     expressions_in(alloc, names, &words[1..], parts)
 }
 
-// The expressions in the parts of a line `cycle E; E; ..`.
+/// The expressions in the parts of a line `cycle E; E; ..`.
 fn cycle_in(
     alloc: Global,
     names: &Names,
@@ -164,6 +156,7 @@ fn cycle_in(
     }
 }
 
+/// The node that a line `cycle E; E; ..` is.
 fn cycled_by(alloc: Global, names: &Names, line: &[u8]) -> Result<Option<TreeNode>, AllocError>
     ensures { IfOk result (λ node. node ≡ cycled_by names.now line.now) }
 {

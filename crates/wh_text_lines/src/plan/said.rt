@@ -37,6 +37,7 @@ impl Model for Said {
 }
 
 impl Said {
+    /// What no line has said.
     fn new(alloc: Global) -> Said
         ensures { result ≡ [] }
     {
@@ -102,13 +103,14 @@ impl Said {
     }
 }
 
-// Whether a line is of the certificate, this one or one before it.
+/// Whether a line is of the certificate, this one or one before it.
 fn certifying_with(before: bool, line: &PlanLine) -> bool
     ensures { result ≡ (before || is_certifying line.now) }
 {
     before || is_certifying(line)
 }
 
+/// Whether the line is of the certificate.
 fn is_certifying(line: &PlanLine) -> bool
     ensures { result ≡ is_certifying line.now }
 {
@@ -118,7 +120,7 @@ fn is_certifying(line: &PlanLine) -> bool
     }
 }
 
-// The places that the node leaves which a line says, if it does.
+/// The places that the node leaves which a line says, if it does.
 fn places_with(places: Places, line: &PlanLine) -> Result<Option<Places>, AllocError>
     ensures { IfOk result (λ after. after ≡ after_nodes (nodes_in line.now) places) }
 {
@@ -128,6 +130,7 @@ fn places_with(places: Places, line: &PlanLine) -> Result<Option<Places>, AllocE
     }
 }
 
+/// Whether the certificate of this scope is of pairs.
 fn has_pairs(scope: Scope) -> bool
     ensures { result ≡ has_pairs scope }
 {

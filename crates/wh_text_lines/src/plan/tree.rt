@@ -10,6 +10,7 @@ use wh_dag::Couple;
 use wh_strategy::Expression;
 use wh_text::Names;
 
+/// Appends a semicolon, a space and the text of each of these expressions.
 fn append_parted(out: &mut Vec<u8>, names: &Names, list: &[Expression]) -> Result<(), AllocError>
     ensures { OnOk result (out.new.items ≡ out.old.items ++ parted_text names.now list.now) }
 {
@@ -20,6 +21,7 @@ fn append_parted(out: &mut Vec<u8>, names: &Names, list: &[Expression]) -> Resul
     Ok(())
 }
 
+/// Appends the line of a cycle, without its LF.
 fn append_cycle(out: &mut Vec<u8>, names: &Names, list: &[Expression]) -> Result<(), AllocError>
     ensures { OnOk result (out.new.items ≡ out.old.items ++ cycle_text names.now list.now) }
 {
@@ -31,6 +33,7 @@ fn append_cycle(out: &mut Vec<u8>, names: &Names, list: &[Expression]) -> Result
     append_parted(out, names, rest)
 }
 
+/// Appends the line of a branch, without its LF.
 fn append_branch(out: &mut Vec<u8>, names: &Names, couple: Couple) -> Result<(), AllocError>
     ensures { OnOk result (out.new.items ≡ out.old.items ++ join_with_byte 32 (branch_words names.now couple)) }
 {
@@ -40,6 +43,7 @@ fn append_branch(out: &mut Vec<u8>, names: &Names, couple: Couple) -> Result<(),
     append_name(out, names, couple.higher)
 }
 
+/// Appends the line of a node, without its LF.
 fn append_node(out: &mut Vec<u8>, names: &Names, node: &TreeNode) -> Result<(), AllocError>
     ensures { OnOk result (out.new.items ≡ out.old.items ++ node_text names.now node.now) }
 {

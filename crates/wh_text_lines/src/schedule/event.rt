@@ -50,6 +50,7 @@ pub enum ScheduledEvent {
     },
 }
 
+/// The event that this word says by itself.
 fn lone_event(word: &[u8]) -> Option<ScheduledEvent>
     ensures { result ≡ lone_event word.now }
 {
@@ -66,7 +67,7 @@ fn lone_event(word: &[u8]) -> Option<ScheduledEvent>
     }
 }
 
-// The event of this word and this number.
+/// The event of this word and this number.
 fn numbered_event(word: &[u8], number: usize) -> Option<ScheduledEvent>
     ensures { result ≡ numbered_event word.now number }
 {
@@ -83,7 +84,7 @@ fn numbered_event(word: &[u8], number: usize) -> Option<ScheduledEvent>
     }
 }
 
-// The event `read D VIEW LIMIT`, of these words below the first.
+/// The event `read D VIEW LIMIT`, of these words below the first.
 fn read_event(names: &Names, desk: &[u8], view: &[u8], limit: &[u8]) -> Option<ScheduledEvent>
     ensures { result ≡ read_event names.now desk.now view.now limit.now }
 {

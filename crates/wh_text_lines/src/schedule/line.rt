@@ -19,7 +19,7 @@ pub(crate) enum ScheduleLine {
     Event(ScheduledEvent),
 }
 
-// The number of a line of the head, which is this word and a number from 1 to this one.
+/// The number of a line of the head, which is this word and a number from 1 to this one.
 fn head_number(word: &[u8], most: usize, words: &[&[u8]]) -> Option<usize>
     ensures { result ≡ head_number word.now most (map (λ word. word.now) words.now) }
 {

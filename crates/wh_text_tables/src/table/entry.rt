@@ -1,4 +1,4 @@
-// One record of a table or of changes: its count, and the cells of its row.
+//! One record of a table or of changes: its count, and the cells of its row.
 ghost use Rattle.std.specs.Prelude.{◌≡◌, ◌⊎◌, ◌+◌, ◌≤◌, drop, length, List, ℕ, ℤ, IfOk, IfErr, OnOk, OnErr, Some, None};
 ghost use Rattle.csv.specs.Records.{fields_of};
 ghost use Rattle.wh_text.specs.Dict.{with_texts};
@@ -12,7 +12,7 @@ use csv::StringRecord;
 use std::alloc::Global;
 use wh_text::{Column, Dict, Kind, LoadFault};
 
-// How often the record counts, where its count is allowed.
+/// How often the record counts, where its count is allowed.
 fn count_of(counting: Counting, cells: &StringRecord) -> Option<i64>
     ensures { result ≡ count_of counting (fields_of cells.now) }
 {
@@ -29,7 +29,7 @@ fn count_of(counting: Counting, cells: &StringRecord) -> Option<i64>
     }
 }
 
-// The number that a cell stands for: a text gets its number.
+/// The number that a cell stands for: a text gets its number.
 #[tactic(auto, unfolding(wh_text::specs::Dict::with_texts))]
 fn number_of(
     alloc: Global,
@@ -48,14 +48,11 @@ fn number_of(
             Some(value) => Ok(value),
             None => Err(LoadFault::Number(number)),
         },
-        Kind::Text => match dict.number(alloc, text) {
-            Ok(place) => Ok(place),
-            Err(_) => Err(LoadFault::Memory),
-        },
+        Kind::Text => Ok(dict.number(alloc, text)?),
     }
 }
 
-// Puts the row that the cells write into `row`; its texts get their numbers.
+/// Puts the row that the cells write into `row`; its texts get their numbers.
 fn read_row(
     alloc: Global,
     columns: &[Column],
@@ -76,9 +73,7 @@ fn read_row(
     for (place, column) in columns.iter().enumerate() {
         let text = cell(cells, from + place);
         let value = number_of(alloc, column.kind(), text, number, dict)?;
-        let Ok(()) = row.push(value) else {
-            return Err(LoadFault::Memory);
-        };
+        row.push(value)?;
     }
     Ok(())
 }
@@ -102,8 +97,6 @@ pub(crate) fn read_entry(
     let Some(count) = count_of(counting, cells) else {
         return Err(LoadFault::Number(number));
     };
-    match read_row(alloc, columns, counting.cells(), number, cells, dict, row) {
-        Ok(()) => Ok(count),
-        Err(fault) => Err(fault),
-    }
+    read_row(alloc, columns, counting.cells(), number, cells, dict, row)?;
+    Ok(count)
 }

@@ -1,4 +1,4 @@
-// The header of a table or of changes.
+//! The header of a table or of changes.
 ghost use Rattle.std.specs.Prelude.{◌≡◌, ◌≤◌, drop, length};
 ghost use Rattle.std.specs.Cmp.Lexicographic.{pointwise};
 ghost use Rattle.std.specs.Str.{bytes_eq};
@@ -40,7 +40,7 @@ impl Counting {
     }
 }
 
-// Whether these are the columns' names.
+/// Whether these are the columns' names.
 fn are_names(cells: &StringRecord, from: usize, columns: &[Column]) -> bool
     requires { from ≤ length (fields_of cells.now) }
     ensures { result ≡ pointwise bytes_eq (drop from (fields_of cells.now)) (names_of columns.now) }
@@ -56,7 +56,7 @@ fn are_names(cells: &StringRecord, from: usize, columns: &[Column]) -> bool
     true
 }
 
-// Whether this is `#` and the columns' names.
+/// Whether this is `#` and the columns' names.
 fn is_counted_header(cells: &StringRecord, columns: &[Column]) -> bool
     ensures { result ≡ pointwise bytes_eq (fields_of cells.now) (counted_header (names_of columns.now)) }
 {

@@ -1,4 +1,4 @@
-// The records of a table or of changes, taken one by one.
+//! The records of a table or of changes, taken one by one.
 ghost use Rattle.std.specs.Prelude.{◌≡◌, ◌⊎◌, ◌+◌, IfErr, OnOk, OnErr, Ok, Err, length};
 ghost use Rattle.csv.specs.Records.{fields_of};
 ghost use Rattle.wh_text.specs.Columns.{kinds_of, names_of};
@@ -66,7 +66,7 @@ impl<'a> PartReader for RowsReader<'a> {
     }
 }
 
-// Adds the entry of this record; where it has a fault, some of its texts may have got numbers.
+/// Adds the entry of this record; where it has a fault, some of its texts may have got numbers.
 fn add_entry(
     alloc: Global,
     columns: &[Column],
@@ -91,8 +91,6 @@ fn add_entry(
         &mut rows.dict,
         &mut rows.row,
     )?;
-    let Ok(()) = rows.counted.push(&rows.row, count) else {
-        return Err(LoadFault::Memory);
-    };
+    rows.counted.push(&rows.row, count)?;
     Ok(())
 }

@@ -1,4 +1,4 @@
-// Writing tables.
+//! Writing tables.
 ghost use Rattle.std.specs.Prelude.{◌≡◌, ◌+◌, ◌++◌, ◌∷◌, ℕ, List, [], drop, OnOk, OnErr};
 ghost use Rattle.std.specs.Fmt.{signed_decimal};
 ghost use Rattle.std.specs.List.{list_any};
@@ -12,6 +12,7 @@ use std::alloc::AllocError;
 use wh_row::Bag;
 use wh_text::{Column, Dict, Kind};
 
+/// Whether the text has to stand in quotes.
 fn needs_quotes(text: &[u8]) -> bool
     ensures { result ≡ list_any (needs_byte default_writer) text.now }
 {
@@ -23,7 +24,7 @@ fn needs_quotes(text: &[u8]) -> bool
     false
 }
 
-// Appends a byte of a field in quotes, where a quote is written twice.
+/// Appends a byte of a field in quotes, where a quote is written twice.
 fn append_byte(out: &mut Vec<u8>, byte: u8) -> Result<(), AllocError>
     ensures { OnOk result ((rest : List ℕ) → out.new.items ++ escaped default_writer rest ≡ out.old.items ++ escaped default_writer (byte ∷ rest)) }
 {
@@ -35,6 +36,7 @@ fn append_byte(out: &mut Vec<u8>, byte: u8) -> Result<(), AllocError>
     Ok(())
 }
 
+/// Appends a text as a field in quotes.
 fn append_quoted(out: &mut Vec<u8>, text: &[u8]) -> Result<(), AllocError>
     ensures { OnOk result (out.new.items ≡ out.old.items ++ quoted default_writer text.now) }
 {
@@ -46,7 +48,7 @@ fn append_quoted(out: &mut Vec<u8>, text: &[u8]) -> Result<(), AllocError>
     Ok(())
 }
 
-// Appends a text as a field, in quotes where it needs them.
+/// Appends a text as a field, in quotes where it needs them.
 fn append_text(out: &mut Vec<u8>, text: &[u8]) -> Result<(), AllocError>
     ensures { OnOk result (out.new.items ≡ out.old.items ++ field_text default_writer text.now) }
 {
@@ -57,7 +59,7 @@ fn append_text(out: &mut Vec<u8>, text: &[u8]) -> Result<(), AllocError>
     }
 }
 
-// Appends a number as a field, which never needs quotes.
+/// Appends a number as a field, which never needs quotes.
 fn append_number(out: &mut Vec<u8>, number: i64) -> Result<(), AllocError>
     ensures { OnOk result (out.new.items ≡ out.old.items ++ field_text default_writer (signed_decimal number)) }
 {
@@ -66,6 +68,7 @@ fn append_number(out: &mut Vec<u8>, number: i64) -> Result<(), AllocError>
     Ok(())
 }
 
+/// Appends a cell of this kind as a field.
 fn append_cell(out: &mut Vec<u8>, kind: Kind, number: i64, dict: &Dict) -> Result<(), AllocError>
     ensures { OnOk result (out.new.items ≡ out.old.items ++ field_text default_writer (cell_text dict.now kind number)) }
 {
@@ -75,6 +78,7 @@ fn append_cell(out: &mut Vec<u8>, kind: Kind, number: i64, dict: &Dict) -> Resul
     }
 }
 
+/// Appends the header: `#` and the columns' names.
 fn write_header(out: &mut Vec<u8>, columns: &[Column]) -> Result<(), AllocError>
     ensures { OnOk result (out.new.items ≡ out.old.items ++ row_text default_writer (counted_header (names_of columns.now))) }
 {
@@ -87,7 +91,7 @@ fn write_header(out: &mut Vec<u8>, columns: &[Column]) -> Result<(), AllocError>
     Ok(())
 }
 
-// Appends a comma and the row's cell at this place, of this kind; the comma alone where the row has no cell there.
+/// Appends a comma and the row's cell at this place, of this kind; the comma alone where the row has no cell there.
 fn append_next(
     out: &mut Vec<u8>,
     kind: Kind,
@@ -106,6 +110,7 @@ fn append_next(
     Ok(())
 }
 
+/// Appends a row and its count as a record.
 fn write_row(
     out: &mut Vec<u8>,
     columns: &[Column],
@@ -123,7 +128,7 @@ fn write_row(
     Ok(())
 }
 
-// Appends the table line by line.
+/// Appends the table line by line.
 fn append_table(
     out: &mut Vec<u8>,
     columns: &[Column],

@@ -183,6 +183,7 @@ fn input_command<'a>(
     Ok(with_input)
 }
 
+/// The option for a cost.
 fn cost_option<'a>(alloc: Global, name: &'a str, help: &'a str) -> Arg<'a>
     ensures rule { rule_of result ≡ cost_rule name.entry.now }
     ensures local { result.global ≡ false }
@@ -194,6 +195,7 @@ fn cost_option<'a>(alloc: Global, name: &'a str, help: &'a str) -> Arg<'a>
         .value_parser(ValueParser::Signed(1, 1_000_000))
 }
 
+/// The option for a number from `low` to `high`.
 fn number_option<'a>(alloc: Global, name: &'a str, low: u64, high: u64, help: &'a str) -> Arg<'a>
     ensures rule { rule_of result ≡ number_rule name.entry.now low high }
     ensures local { result.global ≡ false }
@@ -205,6 +207,7 @@ fn number_option<'a>(alloc: Global, name: &'a str, low: u64, high: u64, help: &'
         .value_parser(ValueParser::Unsigned(low, high))
 }
 
+/// The option for the budget of a search.
 fn budget_option<'a>(alloc: Global) -> Arg<'a>
     ensures rule { rule_of result ≡ budget_rule }
     ensures local { result.global ≡ false }
@@ -218,6 +221,7 @@ fn budget_option<'a>(alloc: Global) -> Arg<'a>
         .value_parser(ValueParser::Signed(1, 9_223_372_036_854_775_807))
 }
 
+/// The option for the file of the input.
 fn input_option<'a>(alloc: Global) -> Arg<'a>
     ensures rule { rule_of result ≡ input_rule }
     ensures local { result.global ≡ false }

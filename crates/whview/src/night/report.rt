@@ -43,6 +43,7 @@ fn append_step(
     append_line(alloc, out, b": ", rows)
 }
 
+/// Appends the expressions and their rows, a line each.
 fn append_steps(
     alloc: Global,
     out: &mut Vec<u8>,
@@ -68,6 +69,7 @@ fn work_of(steps: &[(Expression, u128)]) -> u128
     work
 }
 
+/// Appends the steps, their work and the version.
 fn append_report(
     alloc: Global,
     out: &mut Vec<u8>,
@@ -101,6 +103,7 @@ fn append_view(
     write_table(out, &view.columns, table, texts)
 }
 
+/// Appends the new tables.
 fn append_views(
     out: &mut Vec<u8>,
     shape: &Shape,
@@ -131,6 +134,7 @@ fn append_reader(
     out.extend_from_slice(text.as_bytes())
 }
 
+/// Appends the lines of the readers.
 fn append_readers(alloc: Global, out: &mut Vec<u8>, rows: &[usize]) -> Result<(), AllocError>
     ensures { OnOk result (out.new.items ≡ out.old.items ++ readers_text 0 rows.now) }
 {

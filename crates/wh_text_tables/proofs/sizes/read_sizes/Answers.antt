@@ -12,6 +12,6 @@ unreachable-requires c =
     let rows : c.in_ok-rows.rows.items ≡ filter_map (λ size. size) c.read_part.new.state.items =
     c.in_ok-rows.ensures.ok ∙ ap (λ given. filter_map (λ size. size) given) c.deref.ensures.value in
     let given : part_of (sizes_scheme names) (replicate (length names) None) c.args.text.now ≡ Ok c.read_part.new.state.items =
-    rw (c.in-Ok.ensures, c.len.ensures.len, ← c.len.ensures.named) at c.in_ok-read_part.ensures.ok in
+    rw (c.in_ok-given.ensures, c.len.ensures.len, ← c.len.ensures.named) at c.in_ok-read_part.ensures.ok in
     let sizes : AreSizes c.in_ok-rows.rows.items = subst AreSizes (sym rows) (given-sizes names c.args.text.now c.read_part.new.state.items given) in
     c.in-Err.ensures.err.outside (sizes c.in-Err.field-0.0 c.in-Err.ensures.err.row c.in-Err.ensures.err.there)

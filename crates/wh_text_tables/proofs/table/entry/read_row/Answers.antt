@@ -22,8 +22,8 @@ returns-in_err-value-clause-err c =
     let bad = rw (c.kind.ensures, c.cell-text.ensures) at c.in_err-value.ensures.err in
     rw (p.1, p.2) (row-refused (kinds_of columns) (kinds_of (drop (place + 1) columns)) column.kind (drop c.args.from cells) (drop (c.args.from + (place + 1)) cells) (cell cells (c.args.from + place)) c.args.dict.now c.loop-place.dict c.loop-place.row.items c.args.number c.in_err-value.field-0.0 read bad)
 
-pub returns-in_default-clause-begins : goal.returns-in_default-clause-begins
-returns-in_default-clause-begins c =
+pub returns-in_err-push-clause-begins : goal.returns-in_err-push-clause-begins
+returns-in_err-push-clause-begins c =
     begins-trans c.args.dict.now c.loop-place.dict c.number_of.new.dict c.loop-place.invariant.begins (rw c.in_ok-value.ensures.texts (begins-texts c.loop-place.dict _))
 
 pub loop-place-preserved : goal.loop-place-preserved
@@ -37,7 +37,7 @@ loop-place-preserved c =
     let number = rw (c.kind.ensures, c.cell-text.ensures) at c.in_ok-value.ensures.ok in
     let grown = rw (c.kind.ensures, c.cell-text.ensures) at c.in_ok-value.ensures.texts in
     let fits : FitsSigned w64 c.in_ok-value.value = search rules in
-    let pushed : c.push.new.self.items ≡ c.loop-place.row.items ++ c.in_ok-value.value ∷ [] = c.in-Ok.ensures.items ∙ ap (λ v. c.loop-place.row.items ++ v ∷ []) (to_z-of_z fits) in
+    let pushed : c.push.new.self.items ≡ c.loop-place.row.items ++ c.in_ok-value.value ∷ [] = c.in_ok-push.ensures.items ∙ ap (λ v. c.loop-place.row.items ++ v ∷ []) (to_z-of_z fits) in
     rw pushed (IsReadTo-next (kinds_of columns) (kinds_of (drop (place + 1) columns)) column.kind (drop c.args.from cells) (drop (c.args.from + (place + 1)) cells) (cell cells (c.args.from + place)) c.args.dict.now c.loop-place.dict c.number_of.new.dict c.loop-place.row.items c.in_ok-value.value read number grown)
 
 pub returns-clause-ok : goal.returns-clause-ok
