@@ -43,9 +43,9 @@ pub(crate) fn served<W: Watch + Sync, R: Threads + Wait + Sync>(
     {
         return Ok(None);
     }
-    if !are_fit_for(alloc, &catalog, &tables, &changes, &correct)? {
+    let Ok(true) = are_fit_for(alloc, &catalog, &tables, &changes, &correct) else {
         return Ok(None);
-    }
+    };
     let options = Options {
         workers: 1,
         page_keys: 256,

@@ -48,10 +48,10 @@ contents_are_fit_for_nights = λ catalog list tables changes is ok base_tables a
     let old_fit : (v : ℕ) → IsFitTable (g.views v).kind (tables v) = contents_are_fit g tables isg base_tables are_old in
     record {
       now = old_fit;
-      later = λ allowed. before_or_end g changes list tables (λ ts. (v : ℕ) → IsFitTable (g.views v).kind (ts v)) (λ p l v.
+      later = λ allowed place values. before_or_end g changes list tables (λ ts. (v : ℕ) → IsFitTable (g.views v).kind (ts v)) (λ p l v.
           let st : Stands catalog.views.children g.views list tables new p (before g changes list tables p) =
           stands_at catalog.views.children g.views list tables new changes isg ok are_old whole.values (values_are_tables g tables isg base_tables are_old) (λ b e. sym (whole.bases b e)) p l in
           let new_fit : (v : ℕ) → IsFitTable (g.views v).kind (new v) =
           contents_are_fit g new isg (λ b e. subst IsTable (sym (whole.bases b e)) (changed_table (tables b) (changes b) (allowed.none_absent b e))) whole.values in
-          subst (IsFitTable (g.views v).kind) (sym (st.tables v)) (either_fits (g.views v).kind (is_new list p v) (new v) (tables v) (new_fit v) (old_fit v)));
+          subst (IsFitTable (g.views v).kind) (sym (st.tables v)) (either_fits (g.views v).kind (is_new list p v) (new v) (tables v) (new_fit v) (old_fit v))) place;
     }

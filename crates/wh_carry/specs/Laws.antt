@@ -57,7 +57,7 @@ ContentsAreFitForNights =
     (catalog : CatalogOf) (list : List Expression) (tables changes : ℕ → Bag)
     → IsCatalog catalog → IsCorrect catalog.views.children list
     → AreBaseTables (graph_of catalog) tables → AreValues (graph_of catalog) tables
-    → AreFitFor (graph_of catalog) changes list tables
+    → AreFitFor catalog changes list tables
 
 -- what a Comp reads and an Inst adds, in the state where it stands, is its part of the work at the true sizes
 pub record StepsAreWork (catalog : CatalogOf) (list : List Expression) (tables changes : ℕ → Bag) : Type 0 where

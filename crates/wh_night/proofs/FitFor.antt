@@ -20,10 +20,12 @@ use Rattle.wh_maint.specs.View.{Kind, ViewGraph}
 use Rattle.wh_maint.specs.declared.fault.MaintFault.TheVariants.{Memory}
 use Rattle.wh_carry.specs.Carry.{State, at_first, before, carried, change_in, step, tables_after}
 use Rattle.wh_carry.specs.Fit.{AreChangesAllowed, AreFit, AreFitFor, AreFitTables}
-use Rattle.wh_carry.specs.Refused.{AreAllowedBelow, BaseIsLarge, ChangeHasNoValue, ChangeIsLarge, CompIsLarge, CompMeetsNoValue, IsBaseFault, IsListFault, IsNightFault, PendingIsLarge, RowIsLacking, TableIsLarge}
+use Rattle.wh_carry.specs.Refused.{AreAllowedBelow, ArePassedBelow, BaseIsLarge, ChangeHasNoValue, ChangeIsLarge, CompIsLarge, CompMeetsNoValue, IsBaseFault, IsListFault, IsNightFault, PendingIsLarge, RowIsLacking, TableIsLarge}
 use Rattle.wh_carry.specs.declared.report.CarryFault.{CarryFault}
 use Rattle.wh_carry.proofs.Agreeing.{a_base, count-empty, past}
 use Rattle.wh_carry.proofs.FitNights.{before_or_end}
+use Rattle.wh_carry.proofs.NewValues.{passed_have_values}
+use Rattle.wh_carry.proofs.Prefixes.{take_whole}
 use Rattle.wh_carry.proofs.StepRows.{table_at}
 
 -- ---- base changes that are allowed
@@ -65,6 +67,15 @@ none_refused catalog tables changes allowed (CompMeetsNoValue v ys) asked = absu
 none_refused catalog tables changes allowed (PendingIsLarge v ys) asked = absurd asked
 none_refused catalog tables changes allowed (TableIsLarge v) asked = absurd asked
 
+-- a night that is passed leaves tables fit that are fit for it
+pub fit_behind : (catalog : CatalogOf) (list : List Expression) (tables changes : List Bag) → AreBags catalog tables → AreBags catalog changes
+    → AreAllowedBelow catalog (bag_at tables) (bag_at changes) (length catalog.views.children) → ArePassedBelow catalog list (bag_at tables) (bag_at changes) (length list)
+    → AreFitFor catalog (bag_at changes) list (bag_at tables) → AreFit (graph_of catalog) (tables_after (graph_of catalog) (bag_at changes) list (bag_at tables))
+fit_behind catalog list tables changes are given allowed passed fit =
+    let g : ViewGraph = graph_of catalog in
+    subst (λ l. AreFit g (carried g (bag_at changes) l (at_first (bag_at tables))).tables) (take_whole list)
+    (fit.later (allowed_for catalog tables changes are given allowed) (length list) (λ q e l at. passed_have_values catalog (bag_at changes) (before g (bag_at changes) list (bag_at tables) q) e (passed q e l at)))
+
 -- ---- tables that are fit before a night and after it
 
 -- there is no table behind the last view, and no Inst of one
@@ -105,22 +116,22 @@ module _ (catalog : CatalogOf) (list : List Expression) (tables : List Bag) (cha
   fit_now : AreFit g (bag_at tables)
   fit_now v = ⊎_elim (λ l. old v l) (λ l. behind_fit v l (bag_at tables v) refl) (cases_lt v (length catalog.views.children))
 
-  pub fit_through : ((v : ℕ) → v < length catalog.views.children → IsFitTable (kind_in catalog v) (tables_after g changes list (bag_at tables) v)) → AreFitFor g changes list (bag_at tables)
+  pub fit_through : ((v : ℕ) → v < length catalog.views.children → IsFitTable (kind_in catalog v) (tables_after g changes list (bag_at tables) v)) → AreFitFor catalog changes list (bag_at tables)
   fit_through new = record {
     now = fit_now;
-    later = λ allowed. before_or_end g changes list (bag_at tables) (AreFit g) (λ p within v. ⊎_elim
+    later = λ allowed place values. before_or_end g changes list (bag_at tables) (AreFit g) (λ p within v. ⊎_elim
         (λ l. subst (IsFitTable (kind_in catalog v)) (sym (table_at catalog.views.children g.views list (bag_at tables) changes ok p v within l))
         (either_fit (kind_in catalog v) (is_new list p v) (tables_after g changes list (bag_at tables) v) (bag_at tables v) (new v l) (old v l)))
         (λ l. behind_fit v l ((before g changes list (bag_at tables) p).tables v)
         (untouched g changes (length catalog.views.children) (take p list) (at_first (bag_at tables)) v (λ q w at. ok.views q w (at_front list p q (Inst w) at)) l))
-        (cases_lt v (length catalog.views.children)));
+        (cases_lt v (length catalog.views.children))) place;
   }
 
   -- a night that is refused before it has started has a base change that is not allowed
-  pub fit_where_refused : (f : CarryFault) → f.started ≡ false → f.fault ≢ Memory → IsNightFault catalog list (bag_at tables) changes f → AreFitFor g changes list (bag_at tables)
+  pub fit_where_refused : (f : CarryFault) → f.started ≡ false → f.fault ≢ Memory → IsNightFault catalog list (bag_at tables) changes f → AreFitFor catalog changes list (bag_at tables)
   fit_where_refused f not_started other why = record {
     now = fit_now;
-    later = λ allowed. absurd (⊎_elim
+    later = λ allowed place values. absurd (⊎_elim
         (λ m. other m.0)
         (λ (b : IsBaseFault catalog (bag_at tables) changes f.fault). b.first.stands (none_refused catalog (bag_at tables) changes allowed b.reason b.first.asked))
         (subst (λ b. cond b

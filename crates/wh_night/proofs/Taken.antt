@@ -26,10 +26,13 @@ use Rattle.wh_store.specs.declared.publish_fault.PublishFault.TheVariants as pub
 use Rattle.wh_carry.specs.Carry.{State, change_in}
 use Rattle.wh_carry.specs.Kept.{Kept, finished}
 use Rattle.wh_carry.specs.NightList.{pages_of}
+use Rattle.wh_carry.specs.Refused.{HaveValuesBelow}
 use Rattle.wh_carry.specs.declared.stages.Stage.{Stage}
 use Rattle.wh_carry.specs.declared.stages.Stage.TheVariants as stage
 use Rattle.wh_carry.proofs.Agreeing.{inst_done}
+use Rattle.wh_carry.proofs.NewValues.{passed_have_values}
 use Rattle.wh_carry.proofs.NightLists.{night_lists_write_tables}
+use Rattle.wh_carry.proofs.Nights.{passed_next}
 use Rattle.wh_carry.proofs.Prefixes.{before_next}
 use Rattle.wh_carry.specs.Night.{Night, state_at}
 use Rattle.wh_carry.specs.Standing.{place_behind}
@@ -139,5 +142,8 @@ module _ (catalog : CatalogOf) (keys : ℕ) (t : Given) (stages : List Stage) (f
         let inside = s.correct.views p v there in
         let long = d.2 in (
           record { free = ap (λ (x : Ledger). x.held) at.out; draft = d.0; open_night = d.1; has = omega (arith, inside, long) },
-          subst IsTable (sym (made_there v there)) (is_table (kind_in catalog v) ((state_at n (suc p)).tables v) (fit.fit (suc p) v)),
+          λ passed.
+              let more = passed_next catalog t.list t.tables t.changes s.catalogue s.correct p (Inst v) k there s.agrees s.told at.come.passed passed in
+              let values : HaveValuesBelow catalog t.list t.tables t.changes (suc p) = λ q e l r. passed_have_values catalog t.changes (state_at n q) e (more q e (omega (arith, l)) r) in
+              subst IsTable (sym (made_there v there)) (is_table (kind_in catalog v) ((state_at n (suc p)).tables v) (fit.fit (suc p) values v)),
         )

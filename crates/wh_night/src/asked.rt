@@ -1,17 +1,18 @@
 //! What is asked of the jobs of a wave, and of the tables of a night.
 
-ghost use Rattle.std.specs.Prelude.{◌≡◌, ◌↔◌, ◌<◌, length, IfOk, IsTrue};
+ghost use Rattle.std.specs.Prelude.{◌≡◌, ◌⊎◌, ◌↔◌, ◌<◌, false, length, IfOk, IfErr, IsTrue};
 ghost use Rattle.wh_maint.specs.Asked.{AreBags};
 ghost use Rattle.wh_maint.specs.Comp.{bag_at};
-ghost use Rattle.wh_maint.specs.Definition.{graph_of};
-ghost use Rattle.wh_carry.specs.Fit.{AreFitFor};
+ghost use Rattle.wh_maint.specs.declared.fault.MaintFault.TheVariants.{Memory};
+ghost use Rattle.wh_carry.specs.Fit.{AreFitFor, AreFitTables};
 ghost use Rattle.wh_carry.specs.Kept.{kept, AreKnown, HaveParts};
+ghost use Rattle.wh_carry.specs.Refused.{IsListFault};
 ghost use Rattle.wh_carry.specs.declared.stages.Stage.TheVariants as stage;
 ghost use Rattle.wh_carry.specs.Standing.{IsStageIn};
 ghost use Rattle.wh_night.specs.Inner.RefusedWaves.{IsReady};
 ghost use Rattle.wh_night.specs.Underway.{SourcesAreKnown};
 
-use std::alloc::{AllocError, Global};
+use std::alloc::Global;
 use wh_carry::{Job, NightState, are_fit, carry};
 use wh_dag::Catalog;
 use wh_formula::{RowTest, RowValue};
@@ -67,32 +68,56 @@ pub fn can_run_wave<F: RowTest, G: RowValue>(
     }
 }
 
-/// Whether these tables are fit for this night: each is fit, and, where no base change is refused, the strategy leaves them so. The
-/// night is carried out on copies to see it, so where an expression of it is refused the answer is false. There is a table and a
-/// change for each view, and the strategy was judged over this catalogue's shape. The contents of a base are fit for every night.
+/// Whether each of these tables is fit; Memory where there is none to test it.
+fn are_all_fit<F: RowTest, G: RowValue>(
+    alloc: Global,
+    catalog: &Catalog<F, G>,
+    tables: &[Bag],
+) -> Result<bool, MaintFault>
+    requires { AreBags catalog.now tables.now }
+    ensures fit { IfOk result (λ fit. IsTrue fit ↔ AreFitTables catalog.now tables.now) }
+    ensures memory { IfErr result (λ fault. fault ≡ Memory) }
+{
+    match are_fit(alloc, catalog, tables) {
+        Ok(fit) => Ok(fit),
+        Err(_) => Err(MaintFault::Memory),
+    }
+}
+
+/// Whether these tables are fit for this night: each is fit, and, unless a base change is refused, the strategy leaves them so. The
+/// night is carried out on copies to see it; where an expression of it is refused, that is answered instead, and a night would be
+/// refused for it. There is a table and a change for each view, and the strategy was judged over this catalogue's shape. The contents
+/// of a base are fit for every night.
 pub fn are_fit_for<F: RowTest, G: RowValue>(
     alloc: Global,
     catalog: &Catalog<F, G>,
     tables: &[Bag],
     changes: &[Bag],
     correct: &Correct,
-) -> Result<bool, AllocError>
+) -> Result<bool, MaintFault>
     requires judged { correct.now.children ≡ catalog.now.views.children }
     requires tables { AreBags catalog.now tables.now }
     requires changes { AreBags catalog.now changes.now }
-    ensures { IfOk result (λ fit. IsTrue fit → AreFitFor (graph_of catalog.now) (bag_at changes.now) correct.now.list (bag_at tables.now)) }
+    ensures fit { IfOk result (λ fit. IsTrue fit → AreFitFor catalog.now (bag_at changes.now) correct.now.list (bag_at tables.now)) }
+    ensures unfit { IfOk result (λ fit. fit ≡ false → ¬ (AreFitFor catalog.now (bag_at changes.now) correct.now.list (bag_at tables.now))) }
+    ensures refused { IfErr result (λ fault. (fault ≡ Memory) ⊎ IsListFault catalog.now correct.now.list (bag_at tables.now) (bag_at changes.now) fault) }
 {
-    if !are_fit(alloc, catalog, tables)? {
+    if !are_all_fit(alloc, catalog, tables)? {
         return Ok(false);
     }
     // Makes known that the catalogue and the list keep the rules.
     let _ = catalog.shape();
     let _ = correct.strategy();
     match carry(alloc, catalog, tables, changes, correct) {
-        Ok(carried) => are_fit(alloc, catalog, &carried.tables),
-        Err(refused) => match refused.fault {
-            MaintFault::Memory => Err(AllocError),
-            _ => Ok(!refused.started),
-        },
+        Ok(carried) => are_all_fit(alloc, catalog, &carried.tables),
+        Err(refused) => {
+            if refused.started {
+                return Err(refused.fault);
+            }
+            match refused.fault {
+                MaintFault::Memory => return Err(MaintFault::Memory),
+                _ => return Ok(true),
+            }
+        }
     }
 }

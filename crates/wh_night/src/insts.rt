@@ -182,7 +182,7 @@ pub(crate) fn inst<P: Publish, F: RowTest, G: RowValue, R: Wait>(
     requires parts { HaveParts catalog.now state.old }
     requires fit { CanFinish catalog.now (kept state.old) }
     requires view { view < length catalog.now.views.children }
-    requires table { IsTable (sum_of ((kept state.old).tables view) ((finished catalog.now (λ u. view == u) (kept state.old)).changes view)) }
+    requires table { IsPassedIn catalog.now (kept state.old) (Inst view) → IsTable (sum_of ((kept state.old).tables view) ((finished catalog.now (λ u. view == u) (kept state.old)).changes view)) }
     requires some { 1 ≤ keys }
     requires few { keys ≤ 256 }
     ensures home { P.home writer.new ≡ P.home writer.old }

@@ -310,7 +310,7 @@ pub fn night<P: Publish, F: RowTest, G: RowValue, T: Gate + Sync, R: Threads + W
     requires judged { correct.now.children ≡ catalog.now.views.children }
     requires tables { AreBags catalog.now (newest_in (P.kept writer.old)) }
     requires changes { AreBags catalog.now changes.now }
-    requires fit { AreFitFor (graph_of catalog.now) (bag_at changes.now) correct.now.list (bag_at (newest_in (P.kept writer.old))) }
+    requires fit { AreFitFor catalog.now (bag_at changes.now) correct.now.list (bag_at (newest_in (P.kept writer.old))) }
     requires one { 1 ≤ options.workers }
     requires sixteen { options.workers ≤ 16 }
     requires least { 1 ≤ options.page_keys }

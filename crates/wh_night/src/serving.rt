@@ -289,7 +289,7 @@ pub fn serve_night<F: RowTest, G: RowValue, W: Watch + Sync, R: Threads + Wait +
     requires judged { correct.now.children ≡ catalog.now.views.children }
     requires tables { AreBags catalog.now tables.items }
     requires changes { AreBags catalog.now changes.now }
-    requires fit { AreFitFor (graph_of catalog.now) (bag_at changes.now) correct.now.list (bag_at tables.items) }
+    requires fit { AreFitFor catalog.now (bag_at changes.now) correct.now.list (bag_at tables.items) }
     requires some { 1 ≤ options.workers }
     requires few { options.workers ≤ 16 }
     requires least { 1 ≤ options.page_keys }

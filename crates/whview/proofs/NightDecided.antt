@@ -57,12 +57,12 @@ base_tables cat is tables are b e =
     (cases_lt b (length cat.views.children))
 
 pub opened_fit : (cat : CatalogOf) → IsCatalog cat → (base old : List Bag) → AreReadTables cat base → ((v : ℕ) → bag_at old v ≡ contents (graph_of cat) (bag_at base) v)
-    → (list : List Expression) → IsCorrect cat.views.children list → (changes : ℕ → Bag) → AreFitFor (graph_of cat) changes list (bag_at old)
+    → (list : List Expression) → IsCorrect cat.views.children list → (changes : ℕ → Bag) → AreFitFor cat changes list (bag_at old)
 opened_fit cat is base old are opened list ok changes =
     let g = graph_of cat in
     let whole : IsFromScratch g (bag_at base) = contents_are_values g (bag_at base) (catalogs_are_graphs cat is) in
     let counts : AreBaseTables g (contents g (bag_at base)) = λ b e. subst IsTable (sym (whole.bases b e)) (base_tables cat is base are b e) in
-    subst (AreFitFor g changes list) (λ i v. sym (opened v) i) (contents_are_fit_for_nights cat list (contents g (bag_at base)) changes is ok counts whole.values)
+    subst (AreFitFor cat changes list) (λ i v. sym (opened v) i) (contents_are_fit_for_nights cat list (contents g (bag_at base)) changes is ok counts whole.values)
 
 module _ (cat : CatalogOf) (is : IsCatalog cat) (base old : List Bag) (opened : (v : ℕ) → bag_at old v ≡ contents (graph_of cat) (bag_at base) v) where
   abbrev pub g : ViewGraph

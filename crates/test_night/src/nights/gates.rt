@@ -3,7 +3,6 @@
 ghost use Rattle.std.specs.Prelude.{◌≡◌};
 ghost use Rattle.wh_maint.specs.Asked.{AreBags};
 ghost use Rattle.wh_maint.specs.Comp.{bag_at};
-ghost use Rattle.wh_maint.specs.Definition.{graph_of};
 ghost use Rattle.wh_carry.specs.Fit.{AreFitFor};
 ghost use Rattle.wh_night.specs.Tonight.{newest_in};
 
@@ -197,7 +196,7 @@ fn read_beside<R: Threads + Wait + Sync>(
     requires judged { correct.now.children ≡ catalog.now.views.children }
     requires tables { AreBags catalog.now (newest_in writer.old.ledger) }
     requires changes { AreBags catalog.now changes.now }
-    requires fit { AreFitFor (graph_of catalog.now) (bag_at changes.now) correct.now.list (bag_at (newest_in writer.old.ledger)) }
+    requires fit { AreFitFor catalog.now (bag_at changes.now) correct.now.list (bag_at (newest_in writer.old.ledger)) }
 {
     thread::join(
         rt,
@@ -206,7 +205,7 @@ fn read_beside<R: Threads + Wait + Sync>(
             requires judged { correct.now.children ≡ catalog.now.views.children }
             requires tables { AreBags catalog.now (newest_in writer.now.ledger) }
             requires changes { AreBags catalog.now changes.now }
-            requires fit { AreFitFor (graph_of catalog.now) (bag_at changes.now) correct.now.list (bag_at (newest_in writer.now.ledger)) }
+            requires fit { AreFitFor catalog.now (bag_at changes.now) correct.now.list (bag_at (newest_in writer.now.ledger)) }
         {
             night(
                 rt,

@@ -96,9 +96,12 @@ fn carry_out<R: Threads + Wait + Sync>(
     let is_asked = correct.is_of(catalog.shape())
         && are_bags(catalog, changes)
         && are_bags(catalog, writer.tables());
-    if !is_asked || !are_fit_for(alloc, catalog, writer.tables(), changes, correct)? {
+    if !is_asked {
         return Err(Fail::from("what a night asks for"));
     }
+    let Ok(true) = are_fit_for(alloc, catalog, writer.tables(), changes, correct) else {
+        return Err(Fail::from("tables that are fit for the night"));
+    };
     Ok(night(
         rt,
         alloc,

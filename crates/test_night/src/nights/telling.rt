@@ -62,7 +62,7 @@ fn read_before_and_after<R: Threads + Wait + Sync>(
     requires judged { correct.now.children ≡ catalog.now.views.children }
     requires tables { AreBags catalog.now (newest_in writer.old.ledger) }
     requires changes { AreBags catalog.now changes.now }
-    requires fit { AreFitFor (graph_of catalog.now) (bag_at changes.now) correct.now.list (bag_at (newest_in writer.old.ledger)) }
+    requires fit { AreFitFor catalog.now (bag_at changes.now) correct.now.list (bag_at (newest_in writer.old.ledger)) }
     ensures before { IfSome result (λ pages. pages.0 ≡ page_of (table_in (newest_in writer.old.ledger) view) None 256) }
     ensures after { IfSome result (λ pages. pages.1 ≡ page_of (table_in (newest_in writer.new.ledger) view) None 256) }
     ensures contents { IfSome result (λ pages. AreContents (graph_of catalog.now) (bag_at (newest_in writer.old.ledger))

@@ -37,10 +37,12 @@ pub(crate) fn tested_night<P: Publish, F: RowTest, G: RowValue, R: Threads + Wai
     if !correct.is_of(catalog.shape())
         || !are_bags(catalog, changes)
         || !are_bags(catalog, &tables)
-        || !are_fit_for(alloc, catalog, &tables, changes, correct)?
     {
         return Ok(None);
     }
+    let Ok(true) = are_fit_for(alloc, catalog, &tables, changes, correct) else {
+        return Ok(None);
+    };
     Ok(Some(night(
         rt, alloc, writer, catalog, changes, correct, options, &NoGate,
     )))

@@ -4,7 +4,6 @@ ghost use Rattle.std.specs.Prelude.{◌≡◌, [], IfOk, IfSome};
 ghost use Rattle.std.specs.List.{All};
 ghost use Rattle.wh_maint.specs.Asked.{AreBags};
 ghost use Rattle.wh_maint.specs.Comp.{bag_at};
-ghost use Rattle.wh_maint.specs.Definition.{graph_of};
 ghost use Rattle.wh_carry.specs.Fit.{AreFitFor};
 ghost use Rattle.wh_store.specs.Windows.{Shows, current};
 ghost use Rattle.wh_night.specs.Tonight.{newest_in};
@@ -48,11 +47,14 @@ pub(crate) fn store_of(
     ensures new { IfOk result (λ made. IfSome made (λ store. Shows store (current store) [])) }
     ensures limit { IfOk result (λ made. IfSome made (λ store. store.limit ≡ 2)) }
     ensures bags { IfOk result (λ made. IfSome made (λ store. AreBags catalog.now (current store))) }
-    ensures fit { IfOk result (λ made. IfSome made (λ store. AreFitFor (graph_of catalog.now) (bag_at changes.now) correct.now.list (bag_at (current store)))) }
+    ensures fit { IfOk result (λ made. IfSome made (λ store. AreFitFor catalog.now (bag_at changes.now) correct.now.list (bag_at (current store)))) }
 {
-    if !are_bags(catalog, &tables) || !are_fit_for(alloc, catalog, &tables, changes, correct)? {
+    if !are_bags(catalog, &tables) {
         return Ok(None);
     }
+    let Ok(true) = are_fit_for(alloc, catalog, &tables, changes, correct) else {
+        return Ok(None);
+    };
     Ok(Some(Store::new(alloc, tables)?))
 }
 
@@ -68,7 +70,7 @@ pub(crate) fn warehouse_of<R: Wait>(
     requires judged { correct.now.children ≡ catalog.now.views.children }
     requires changes { AreBags catalog.now changes.now }
     ensures bags { IfOk result (λ made. IfSome made (λ w. AreBags catalog.now (newest_in w.0.ledger))) }
-    ensures fit { IfOk result (λ made. IfSome made (λ w. AreFitFor (graph_of catalog.now) (bag_at changes.now) correct.now.list (bag_at (newest_in w.0.ledger)))) }
+    ensures fit { IfOk result (λ made. IfSome made (λ w. AreFitFor catalog.now (bag_at changes.now) correct.now.list (bag_at (newest_in w.0.ledger)))) }
     ensures same { IfOk result (λ made. IfSome made (λ w. All (λ d. d.book ≡ w.0.book) w.1.items)) }
 {
     match store_of(alloc, catalog, tables, changes, correct)? {

@@ -125,12 +125,12 @@ fn goes_out<R: Threads + Wait + Sync + Abort>(
     };
     let tables = empty(alloc)?;
     let changes = empty(alloc)?;
-    if !are_bags(catalog, &tables)
-        || !are_bags(catalog, &changes)
-        || !are_fit_for(alloc, catalog, &tables, &changes, &correct)?
-    {
+    if !are_bags(catalog, &tables) || !are_bags(catalog, &changes) {
         return Ok(false);
     }
+    let Ok(true) = are_fit_for(alloc, catalog, &tables, &changes, &correct) else {
+        return Ok(false);
+    };
     let store = Store::new(alloc, tables)?;
     let Ok((mut writer, _desks)) = open_warehouse(rt, alloc, store, 1) else {
         return Ok(false);

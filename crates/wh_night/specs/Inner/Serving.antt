@@ -45,7 +45,7 @@ pub record CanRun (catalog : CatalogOf) (correct : Judged) (l : Ledger) (changes
   pub free : publish_refusal l Opens ≡ None
   pub wide : AreBags catalog (newest_in l)
   pub wide_changes : AreBags catalog changes
-  pub fit : AreFitFor (graph_of catalog) (bag_at changes) correct.list (bag_at (newest_in l))
+  pub fit : AreFitFor catalog (bag_at changes) correct.list (bag_at (newest_in l))
   pub some : 1 ≤ options.workers
   pub few : options.workers ≤ 16
   pub least : 1 ≤ options.page_keys

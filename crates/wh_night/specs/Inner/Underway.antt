@@ -20,7 +20,7 @@ use Rattle.wh_carry.specs.NightLaws.{HaveTables}
 use Rattle.wh_carry.specs.Waves.{stages_of}
 use Rattle.wh_carry.specs.Kept.{Kept, finished}
 use Rattle.wh_carry.specs.NightList.{new_counts, pages_of}
-use Rattle.wh_carry.specs.Refused.{ArePassedBelow}
+use Rattle.wh_carry.specs.Refused.{ArePassedBelow, HaveValuesBelow}
 use Rattle.wh_carry.specs.Inner.Refused.{IsPassedIn, IsStepFaultIn}
 use Rattle.wh_carry.specs.Inner.Steps.{AreFirstSteps}
 use Rattle.wh_carry.specs.Night.{Night, state_at}
@@ -108,21 +108,21 @@ pub data IsInstStopped (catalog : CatalogOf) (keys view : ℕ) (k : Kept) (fault
   is_refused : m ≡ l → IsStepFaultIn catalog k (Inst view) fault → IsInstStopped catalog keys view k fault l m
   is_cut : fault ≡ Memory → IsPassedIn catalog k (Inst view) → IsPartly l (puts_in catalog keys view k) m → IsInstStopped catalog keys view k fault l m
 
--- what an Inst puts may be published: its pages are taken, and the new table counts no row below zero
+-- what an Inst puts may be published: its pages are taken, and where it is passed the new table counts no row below zero
 abbrev pub CanPublish : CatalogOf → Stage → Kept → Ledger → Type 0
 CanPublish catalog (stage.Wave jobs) k l = Unit {0}
-CanPublish catalog (stage.Inst v) k l = TakesPages l v × IsTable (sum_of (k.tables v) ((finished catalog (λ u. v == u) k).changes v))
+CanPublish catalog (stage.Inst v) k l = TakesPages l v × (IsPassedIn catalog k (Inst v) → IsTable (sum_of (k.tables v) ((finished catalog (λ u. v == u) k).changes v)))
 
 -- the night has come to this place, and what it publishes up to there has gone out
 pub record IsAt (n : Night) (l : Ledger) (place : ℕ) (k : Kept) (steps : List (Expression × ℕ)) (m : Ledger) : Type 0 where
   pub come : HasCome n place k steps
   pub out : m ≡ goes_out l (out_below n place) None
 
--- these are the stages of a night over fit tables, which stay so, and of what is published the newest contents are these tables
+-- these are the stages of a night over fit tables, which stay so as far as expressions have values, and of what is published the newest contents are these tables
 pub record AreFitStages (catalog : CatalogOf) (keys : ℕ) (t : Given) (stages : List Stage) : Type 0 where
   pub are : stages ≡ stages_of t.list
   pub tables : HaveTables (newest_in t.before) (length catalog.views.children) t.tables
-  pub fit : (place : ℕ) → AreFit (graph_of catalog) (state_at (night_given catalog keys t) place).tables
+  pub fit : (place : ℕ) → HaveValuesBelow catalog t.list t.tables t.changes place → AreFit (graph_of catalog) (state_at (night_given catalog keys t) place).tables
 
 -- the night of these stages can begin from what is kept
 pub record CanStart (catalog : CatalogOf) (keys : ℕ) (stages : List Stage) (k : Kept) (l : Ledger) : Type 0 where

@@ -52,4 +52,4 @@ publish_change-requires-clause-good g c =
     let k : Kept = kept c.args.state.now in
     let over : Kept = finished c.args.catalog.now (λ u. eqb v u) k in
     subst (All (λ page. is_page page ≡ true)) (sym (same_pages v c.args.keys k (kept c.install.new.state) over c.table.result.now c.change.result.now c.in_default.ensures.done c.table.ensures c.change.ensures))
-    ((new_counts_make_tables c.args.keys (over.tables v) (over.changes v) c.requires.some).good c.requires.few c.requires.table)
+    ((new_counts_make_tables c.args.keys (over.tables v) (over.changes v) c.requires.some).good c.requires.few (c.requires.table c.in_default.ensures.passed))

@@ -98,7 +98,7 @@ run-answer-requires-clause-begins g c κs within =
       fit = record {
         are = are;
         tables = record { each = c.requires.tables.each; are = λ v l. refl };
-        fit = λ place. c.requires.fit.later (allowed_for cat newest c.args.changes.now c.requires.tables c.requires.changes allowed) place;
+        fit = c.requires.fit.later (allowed_for cat newest c.args.changes.now c.requires.tables c.requires.changes allowed);
       };
       before = refl;
       come = come;
