@@ -1,5 +1,5 @@
+pub mod ReadingCertify
 pub mod ReadingCheck
-pub mod ReadingClaim
 pub mod ReadingNight
 pub mod ReadingParts
 pub mod ReadingPlan

@@ -1,8 +1,8 @@
 -- What was read, as it lies in memory.
 use Rattle.std.specs.Prelude.{map}
 use Rattle.wh_text_catalogue.specs.Definitions.{shown_view}
+use Rattle.wh_load.specs.ReadingCertify as certify
 use Rattle.wh_load.specs.ReadingCheck as check
-use Rattle.wh_load.specs.ReadingClaim as claim
 use Rattle.wh_load.specs.ReadingNight as night
 use Rattle.wh_load.specs.ReadingPlan as plan
 use Rattle.wh_load.specs.ReadingReplay as replay
@@ -25,7 +25,7 @@ abbrev pub shown_check : CheckInput → check.Inputs
 shown_check i = record { measured = shown_measured i.measured; list = i.strategy }
 
 -- what is certified
-abbrev pub shown_claim : CertifyInput → claim.Claim
+abbrev pub shown_claim : CertifyInput → certify.Claim
 shown_claim c = record { measured = shown_measured c.measured; plan = c.plan }
 
 -- what nights begin from

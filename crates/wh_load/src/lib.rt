@@ -9,14 +9,14 @@
 
 mod reading;
 
-pub use reading::certify::read_certification;
-pub use reading::check::read_check;
+pub use reading::certify::read_for_certify;
+pub use reading::check::read_for_check;
 pub use reading::inputs::{
     CertifyInput, CheckInput, GivenNight, MeasuredViews, NightInput, Opening, ReplayInput,
 };
-pub use reading::night::read_night;
-pub use reading::plan::read_planning;
-pub use reading::replay::read_replay;
+pub use reading::night::read_for_night;
+pub use reading::plan::read_for_plan;
+pub use reading::replay::read_for_replay;
 pub use wh_text::{Column, Dict, Key, Kind, LoadFault, Names, Word};
 pub use wh_text_bundle::{
     Bundle, Heading, Nights, Part, PartFault, Piece, ReadFault, Scope, parts, read_all,

@@ -2,7 +2,7 @@
 use Rattle.std.proofs.Common.{◌≡◌, ◌∙◌, ◌++◌, ℕ, List, Ok, ap, subst, sym}
 use Rattle.std.specs.Prelude.{MatchResult}
 use Rattle.wh_load.specs.ReadingCheck.{Inputs, inputs_of}
-use Rattle.wh_load.specs.ReadingClaim.{Claim, claim_of}
+use Rattle.wh_load.specs.ReadingCertify.{Claim, claim_of}
 use Rattle.wh_load.specs.ReadingNight.{Night}
 use Rattle.wh_load.specs.ReadingPlan.{Measured, measured_of}
 use Rattle.wh_maint.specs.Comp.{bag_at}

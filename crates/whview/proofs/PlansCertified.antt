@@ -29,7 +29,7 @@ use Rattle.wh_text_lines.specs.PlanText.{plan_of, plan_text}
 use Rattle.wh_text_lines.specs.declared.plan.Plan.{Plan}
 use Rattle.wh_text_lines.specs.PlanReadsBack.{IsCertificateWritable, IsNodeWithin, IsPairWithin, IsWritable}
 use Rattle.wh_text_lines.specs.ReadsBack.{IsWithin}
-use Rattle.wh_load.specs.ReadingClaim.{claim_in, claim_of}
+use Rattle.wh_load.specs.ReadingCertify.{claim_in, claim_of}
 use Rattle.wh_load.specs.ReadingPlan.{Measured, MeasuredTexts, measured_in, measured_of, measured_texts_of}
 use Rattle.wh_prune.specs.Plan.{accepted_for}
 use Rattle.wh_strategy.proofs.Found.{has-head, has-tail, has_within}

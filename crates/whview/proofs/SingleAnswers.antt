@@ -9,7 +9,7 @@ use Rattle.wh_text_catalogue.specs.Catalogue.{shape_of}
 use Rattle.wh_text_tables.specs.SizesText.{sizes_of_text}
 use Rattle.wh_text_lines.specs.StrategyText.{strategy_of}
 use Rattle.wh_load.specs.ReadingCheck.{Inputs, check_texts_of, inputs_in, inputs_of}
-use Rattle.wh_load.specs.ReadingClaim.{Claim, claim_in, claim_of, claim_texts_of}
+use Rattle.wh_load.specs.ReadingCertify.{Claim, claim_in, claim_of, claim_texts_of}
 use Rattle.wh_load.specs.ReadingPlan.{measured_in}
 use Rattle.wh_strategy.specs.declared.costs.Costs.{Costs}
 use Rattle.wh_strategy.specs.declared.expression.Expression.{Expression}

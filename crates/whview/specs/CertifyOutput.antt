@@ -3,7 +3,7 @@ use Rattle.std.specs.Prelude.{◌≡◌, ◌≢◌, ◌≤◌, ◌++◌, ℕ, Li
 use Rattle.wh_cert.specs.Certificate.{IsJudged}
 use Rattle.wh_cert.specs.declared.certificate.Verdict.{Verdict}
 use Rattle.wh_cert.specs.declared.certificate.Verdict.TheVariants.{All, OneWay, Rejected}
-use Rattle.wh_load.specs.ReadingClaim.{Claim, claim_of}
+use Rattle.wh_load.specs.ReadingCertify.{Claim, claim_of}
 use Rattle.wh_strategy.specs.declared.costs.Costs.{Costs}
 use Rattle.wh_strategy.specs.declared.expression.Expression.{Expression}
 use Rattle.wh_strategy.specs.declared.rule.Rule.{Rule}

@@ -4,7 +4,7 @@ use Rattle.wh_cert.specs.declared.certificate.Certificate.{Certificate}
 use Rattle.wh_cert.specs.declared.certificate.Scope.{Scope}
 use Rattle.wh_text_lines.specs.PlanText.{plan_of, plan_text}
 use Rattle.wh_text_lines.specs.declared.plan.Plan.{Plan}
-use Rattle.wh_load.specs.ReadingClaim.{Claim, ClaimTexts, claim_texts_of}
+use Rattle.wh_load.specs.ReadingCertify.{Claim, ClaimTexts, claim_texts_of}
 use Rattle.wh_load.specs.ReadingPlan.{Measured, MeasuredTexts, measured_in, measured_of, measured_texts_of}
 use Rattle.wh_strategy.specs.declared.costs.Costs.{Costs}
 use Rattle.wh_strategy.specs.declared.expression.Expression.{Expression}

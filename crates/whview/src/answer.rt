@@ -23,10 +23,14 @@ pub struct Answer {
 }
 
 impl Answer {
-    /// The answer for a fault of the input.
+    /// The answer for a fault of the input. Want of memory has none.
     pub fn fault(alloc: Global, fault: &LoadFault) -> Result<Answer, AllocError>
-        ensures { IfOk result (λ a. IsFaultShown fault.now a.text.items (status_number a.status)) }
+        ensures shown { IfOk result (λ a. IsFaultShown fault.now a.text.items (status_number a.status)) }
+        ensures told { OnOk result (fault.now ≢ LoadFault.Memory) }
     {
+        if let LoadFault::Memory = fault {
+            return Err(AllocError);
+        }
         let mut text = Vec::new(alloc);
         fault.append_text(alloc, &mut text)?;
         text.push(b'\n')?;

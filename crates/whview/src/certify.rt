@@ -10,7 +10,7 @@ use crate::answer::{Answer, broken_text};
 use crate::status::Status;
 use std::alloc::{AllocError, Global};
 use wh_cert::{Verdict, certify};
-use wh_load::{CertifyInput, LoadFault, MeasuredViews, Plan, read_certification};
+use wh_load::{CertifyInput, MeasuredViews, Plan, read_for_certify};
 use wh_strategy::{CheckFault, Costs, Rule, check, work};
 
 /// What is decided of a plan.
@@ -105,9 +105,8 @@ fn decide(alloc: Global, costs: Costs, claim: CertifyInput) -> Result<Outcome, A
 pub fn answer(alloc: Global, costs: Costs, bytes: &[u8]) -> Result<Answer, AllocError>
     ensures { IfOk result (λ a. IsCertifyOutput costs bytes.now a.text.items (status_number a.status)) }
 {
-    let claim = match read_certification(alloc, bytes) {
+    let claim = match read_for_certify(alloc, bytes) {
         Ok(claim) => claim,
-        Err(LoadFault::Memory) => return Err(AllocError),
         Err(fault) => return Answer::fault(alloc, &fault),
     };
     let outcome = decide(alloc, costs, claim)?;

@@ -8,7 +8,7 @@ ghost use Rattle.whview.specs.Status.{status_number};
 use crate::answer::{Answer, broken_text};
 use crate::status::Status;
 use std::alloc::{AllocError, Global};
-use wh_load::{CheckInput, LoadFault, MeasuredViews, read_check};
+use wh_load::{CheckInput, MeasuredViews, read_for_check};
 use wh_strategy::{CheckFault, Costs, Rule, check, work};
 
 /// What is decided of a strategy.
@@ -77,9 +77,8 @@ fn decide(alloc: Global, costs: Costs, input: CheckInput) -> Result<Outcome, All
 pub fn answer(alloc: Global, costs: Costs, bytes: &[u8]) -> Result<Answer, AllocError>
     ensures { IfOk result (λ a. IsCheckOutput costs bytes.now a.text.items (status_number a.status)) }
 {
-    let input = match read_check(alloc, bytes) {
+    let input = match read_for_check(alloc, bytes) {
         Ok(input) => input,
-        Err(LoadFault::Memory) => return Err(AllocError),
         Err(fault) => return Answer::fault(alloc, &fault),
     };
     let outcome = decide(alloc, costs, input)?;

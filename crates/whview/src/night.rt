@@ -26,7 +26,7 @@ use std::thread::Threads;
 use wh_carry::CarryFault;
 use wh_dag::{Catalog, Shape};
 use wh_formula::{Expr, Native, Pred, RowTest, RowValue};
-use wh_load::{Dict, GivenNight, LoadFault, NightInput, Opening, WrittenView, read_night};
+use wh_load::{Dict, GivenNight, NightInput, Opening, WrittenView, read_for_night};
 use wh_maint::{MaintFault, opening_contents};
 use wh_night::{NoWatch, Options, Readers, Served, serve_night};
 use wh_strategy::{CheckFault, Rule, check};
@@ -234,9 +234,8 @@ pub fn answer<R: Threads + Wait + Sync>(
 ) -> Result<Answer, AllocError>
     ensures { IfOk result (λ a. IsNightOutput how.readers bytes.now a.text.items (status_number a.status)) }
 {
-    match read_night(alloc, bytes) {
+    match read_for_night(alloc, bytes) {
         Ok(input) => answer_of(rt, alloc, how, input),
-        Err(LoadFault::Memory) => Err(AllocError),
         Err(fault) => Answer::fault(alloc, &fault),
     }
 }

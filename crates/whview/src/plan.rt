@@ -14,7 +14,7 @@ use crate::status::Status;
 use std::alloc::{AllocError, Global};
 use wh_cert::Planned;
 use wh_dag::Shape;
-use wh_load::{LoadFault, MeasuredViews, Names, read_planning, write_plan};
+use wh_load::{MeasuredViews, Names, read_for_plan, write_plan};
 use wh_prune::{PruneFault, plan};
 use wh_strategy::Costs;
 
@@ -97,9 +97,8 @@ pub fn answer(
 ) -> Result<Answer, AllocError>
     ensures { IfOk result (λ a. IsPlanOutput costs budget.nodes bytes.now a.text.items (status_number a.status)) }
 {
-    let measured = match read_planning(alloc, bytes) {
+    let measured = match read_for_plan(alloc, bytes) {
         Ok(measured) => measured,
-        Err(LoadFault::Memory) => return Err(AllocError),
         Err(fault) => return Answer::fault(alloc, &fault),
     };
     let outcome = decide(alloc, costs, budget, &measured)?;

@@ -27,7 +27,7 @@ use std::alloc::{AllocError, Global};
 use wh_core::{Cause, Core, Event, Reply};
 use wh_dag::{Catalog, Shape};
 use wh_formula::{Expr, Native, Pred, RowTest, RowValue};
-use wh_load::{GivenNight, LoadFault, Opening, ReplayInput, Schedule, ScheduledEvent, read_replay};
+use wh_load::{GivenNight, Opening, ReplayInput, Schedule, ScheduledEvent, read_for_replay};
 use wh_maint::opening_contents;
 use wh_row::Bag;
 use wh_strategy::{CheckFault, Correct, check};
@@ -46,10 +46,7 @@ fn judged(
     let mut judged = Vec::new(alloc);
     for night in nights {
         let GivenNight { changes, strategy } = night;
-        let correct = match check(alloc, shape, strategy) {
-            Ok(correct) => correct,
-            Err(fault) => return Err(fault),
-        };
+        let correct = check(alloc, shape, strategy)?;
         let Ok(()) = judged.push((changes, correct)) else {
             return Err(CheckFault::Memory);
         };
@@ -229,9 +226,8 @@ fn answer_of(alloc: Global, input: ReplayInput) -> Result<Answer, AllocError>
 pub fn answer(alloc: Global, bytes: &[u8]) -> Result<Answer, AllocError>
     ensures { IfOk result (λ a. IsReplayOutput bytes.now a.text.items (status_number a.status)) }
 {
-    match read_replay(alloc, bytes) {
+    match read_for_replay(alloc, bytes) {
         Ok(input) => answer_of(alloc, input),
-        Err(LoadFault::Memory) => Err(AllocError),
         Err(fault) => Answer::fault(alloc, &fault),
     }
 }

@@ -8,7 +8,7 @@ use crate::texts::schedules::schedule_lines;
 use given::{FAULTS, NIGHTS, NO_NIGHT};
 use std::alloc::{AllocError, Global};
 use wh_load::{
-    Dict, GivenNight, Names, ReplayInput, WrittenView, read_replay, write_strategy, write_table,
+    Dict, GivenNight, Names, ReplayInput, WrittenView, read_for_replay, write_strategy, write_table,
 };
 use wh_row::Bag;
 
@@ -56,7 +56,7 @@ fn input_text(alloc: Global, input: &ReplayInput) -> Result<String, AllocError> 
 
 /// The texts that cells stand for, the tables, the changes and the strategy of each night, and the schedule; or the fault.
 pub(crate) fn outcome(alloc: Global, text: &[u8]) -> Result<String, AllocError> {
-    match read_replay(alloc, text) {
+    match read_for_replay(alloc, text) {
         Ok(input) => input_text(alloc, &input),
         Err(fault) => fault_line(alloc, &fault),
     }

@@ -2,7 +2,7 @@
 
 ghost use Rattle.std.specs.Prelude.{◌≡◌, ◌⊎◌, Ok, Err, IfOk, IfErr};
 ghost use Rattle.wh_text_lines.specs.PlanText.{plan_of};
-ghost use Rattle.wh_load.specs.ReadingClaim.{claim_in, claim_of, claim_texts_in, claim_texts_of};
+ghost use Rattle.wh_load.specs.ReadingCertify.{claim_in, claim_of, claim_texts_in, claim_texts_of};
 ghost use Rattle.wh_load.specs.ReadingShown.{shown_claim};
 ghost use Rattle.wh_load.specs.Inner.ReadingShown.{shown_claim_texts};
 
@@ -22,10 +22,8 @@ fn claim_texts_in<'a>(alloc: Global, bundle: &Bundle<'a>) -> Result<ClaimTexts<'
     ensures err { IfErr result (λ f. (f ≡ LoadFault.Memory) ⊎ (claim_texts_in bundle.now ≡ Err f)) }
 {
     let measured = measured_texts_in(alloc, bundle)?;
-    match text_of(alloc, bundle, &Heading::Plan, 0) {
-        Ok(plan) => Ok(ClaimTexts { measured, plan }),
-        Err(fault) => Err(fault),
-    }
+    let plan = text_of(alloc, bundle, &Heading::Plan, 0)?;
+    Ok(ClaimTexts { measured, plan })
 }
 
 /// The texts of the parts that are read of these bytes.
@@ -59,7 +57,7 @@ fn claim_in(alloc: Global, texts: &ClaimTexts<'_>) -> Result<CertifyInput, LoadF
 /// Reads what a bundle has to be certified: its views, their sizes and its plan. Nights are not looked at. The fault is the
 /// first one: of the headings, from the top; the catalogue, the sizes or the plan that are missing; of the catalogue's
 /// text; of the sizes'; of the plan's. Memory may come at any point.
-pub fn read_certification(alloc: Global, bytes: &[u8]) -> Result<CertifyInput, LoadFault>
+pub fn read_for_certify(alloc: Global, bytes: &[u8]) -> Result<CertifyInput, LoadFault>
     ensures ok { IfOk result (λ c. claim_of bytes.now ≡ Ok (shown_claim c)) }
     ensures err { IfErr result (λ f. (f ≡ LoadFault.Memory) ⊎ (claim_of bytes.now ≡ Err f)) }
 {

@@ -25,10 +25,8 @@ fn check_texts_in<'a>(alloc: Global, bundle: &Bundle<'a>) -> Result<CheckTexts<'
     ensures err { IfErr result (λ f. (f ≡ LoadFault.Memory) ⊎ (check_texts_in bundle.now ≡ Err f)) }
 {
     let measured = measured_texts_in(alloc, bundle)?;
-    match text_of(alloc, bundle, &Heading::Strategy, 0) {
-        Ok(strategy) => Ok(CheckTexts { measured, strategy }),
-        Err(fault) => Err(fault),
-    }
+    let strategy = text_of(alloc, bundle, &Heading::Strategy, 0)?;
+    Ok(CheckTexts { measured, strategy })
 }
 
 /// The texts of the parts that are read of these bytes.
@@ -64,7 +62,7 @@ fn inputs_in(alloc: Global, texts: &CheckTexts<'_>) -> Result<CheckInput, LoadFa
 /// Reads what a bundle of one night has to be checked: its views, their sizes and its strategy. The fault is the first
 /// one: of the headings, from the top, a further night among them; the catalogue, the sizes or the strategy that are
 /// missing; of the catalogue's text; of the strategy's; of the sizes'. Memory may come at any point.
-pub fn read_check(alloc: Global, bytes: &[u8]) -> Result<CheckInput, LoadFault>
+pub fn read_for_check(alloc: Global, bytes: &[u8]) -> Result<CheckInput, LoadFault>
     ensures ok { IfOk result (λ i. inputs_of bytes.now ≡ Ok (shown_check i)) }
     ensures err { IfErr result (λ f. (f ≡ LoadFault.Memory) ⊎ (inputs_of bytes.now ≡ Err f)) }
 {

@@ -101,7 +101,7 @@ fn night_in(alloc: Global, bundle: &Bundle<'_>) -> Result<NightInput, LoadFault>
 /// of the tables, view by view; of the changes; of the strategy's text. Memory may come at any point.
 ///
 /// What is read makes a catalogue over the shape, and there are a table and changes of each view, of its columns.
-pub fn read_night(alloc: Global, bytes: &[u8]) -> Result<NightInput, LoadFault>
+pub fn read_for_night(alloc: Global, bytes: &[u8]) -> Result<NightInput, LoadFault>
     ensures ok { IfOk result (λ n. night_read bytes.now ≡ Ok (shown_night n)) }
     ensures fit { IfOk result IsReadNight }
     ensures err { IfErr result (λ f. (f ≡ LoadFault.Memory) ⊎ (night_read bytes.now ≡ Err f)) }

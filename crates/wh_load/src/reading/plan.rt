@@ -23,10 +23,8 @@ pub(super) fn measured_texts_in<'a>(
     ensures err { IfErr result (λ f. (f ≡ LoadFault.Memory) ⊎ (measured_texts_in bundle.now ≡ Err f)) }
 {
     let catalogue = text_of(alloc, bundle, &Heading::Catalogue, 0)?;
-    match text_of(alloc, bundle, &Heading::Sizes, 0) {
-        Ok(sizes) => Ok(MeasuredTexts { catalogue, sizes }),
-        Err(fault) => Err(fault),
-    }
+    let sizes = text_of(alloc, bundle, &Heading::Sizes, 0)?;
+    Ok(MeasuredTexts { catalogue, sizes })
 }
 
 /// What these texts say, or their first fault.
@@ -54,7 +52,7 @@ fn read_texts<'a>(alloc: Global, bytes: &'a [u8]) -> Result<MeasuredTexts<'a>, L
 /// Reads what a bundle has to be planned for: its views and their sizes. Nights are not looked at. The fault is the first
 /// one: of the headings, from the top; the catalogue or the sizes that are missing; of the catalogue's text; of the sizes'.
 /// Memory may come at any point.
-pub fn read_planning(alloc: Global, bytes: &[u8]) -> Result<MeasuredViews, LoadFault>
+pub fn read_for_plan(alloc: Global, bytes: &[u8]) -> Result<MeasuredViews, LoadFault>
     ensures ok { IfOk result (λ m. measured_of bytes.now ≡ Ok (shown_measured m)) }
     ensures err { IfErr result (λ f. (f ≡ LoadFault.Memory) ⊎ (measured_of bytes.now ≡ Err f)) }
 {

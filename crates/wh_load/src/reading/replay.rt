@@ -159,7 +159,7 @@ fn replay_in(alloc: Global, bundle: &Bundle<'_>) -> Result<ReplayInput, LoadFaul
 /// strategy's text; of the schedule's text. Memory may come at any point.
 ///
 /// What is read makes a catalogue over the shape, and there are a table and, in each night, changes of each view, of its columns.
-pub fn read_replay(alloc: Global, bytes: &[u8]) -> Result<ReplayInput, LoadFault>
+pub fn read_for_replay(alloc: Global, bytes: &[u8]) -> Result<ReplayInput, LoadFault>
     ensures ok { IfOk result (λ r. replay_of bytes.now ≡ Ok (shown_replay r)) }
     ensures fit { IfOk result IsReadReplay }
     ensures err { IfErr result (λ f. (f ≡ LoadFault.Memory) ⊎ (replay_of bytes.now ≡ Err f)) }
