@@ -207,6 +207,8 @@ are_nights have s log setup legal =
             nights = of_open have s log r opened;
             closed = λ t. absurd (false≢true (sym t ∙ opened));
             open_night = λ t. (beginning have (night s log) (start_of s log) (published s log) (remaining s log) (pages log) (holding log) _ _ a, (let n = a.paged in omega (arith, n)));
+            none_open = λ t. absurd (false≢true (sym t ∙ opened));
+            one_open = λ t. let b = (in_order s log deeds).within opened in let l = last_is s log deeds opened in (b, omega (arith, b, l));
             given = within s log deeds;
           }
       | false ↦ λ shut. record {
@@ -216,6 +218,8 @@ are_nights have s log setup legal =
         nights = of_closed have s log r shut;
         closed = λ t. refl;
         open_night = λ t. absurd (false≢true (sym shut ∙ t));
+        none_open = λ t. (in_order s log deeds).outside shut;
+        one_open = λ t. absurd (false≢true (sym shut ∙ t));
         given = within s log deeds;
       }
     ] refl

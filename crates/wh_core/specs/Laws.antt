@@ -22,7 +22,7 @@ use Rattle.wh_store.specs.Pages.{Shown}
 use Rattle.wh_store.specs.Versions.{is_well_formed, number, table_of, version, versions_of}
 use Rattle.wh_carry.specs.Night.{Night, IsFaultAt, IsPassedAt, AreAllowed}
 use Rattle.wh_carry.specs.Legs.{Turn, In_wave, At_page, Over}
-use Rattle.wh_core.specs.Log.{Deed, Log, Began, Drew, Finished, Paged_in, Committed, Gave_up, Sat_down, Turned, Left, SessionOf, holding, is_open, logged, nights_begun, nights_ended, pages, session}
+use Rattle.wh_core.specs.Log.{Deed, Log, Began, Drew, Finished, Paged_in, Committed, Gave_up, Sat_down, Turned, Left, SessionOf, holding, is_open, last_begun, logged, nights_begun, nights_ended, pages, session}
 use Rattle.wh_core.specs.Nights.{GivenNight, Setup, next_night, night, night_from, published, turn, versions}
 use Rattle.wh_core.specs.declared.event.Event.{Event}
 use Rattle.wh_core.specs.declared.event.Event.TheVariants.{Begin, Done, PageIn}
@@ -64,7 +64,7 @@ pub data AreNights (s : Setup) : ℕ → List Operation → Type 0 where
   one_more : (n : ℕ) (ops last : List Operation) → AreNights s n ops → IsEnded (night_from s (versions_of s.opening ops).newest n) last → AreNights s (n + 1) (ops ++ last)
 
 -- the published list of a log: as many nights as have ended, and of an open night a beginning of its list, its Begin and the pages put;
--- no more nights have begun than were given
+-- each night that began has ended or is open, the open one is the next in order, and no more have begun than were given
 pub record IsMadeOfNights (s : Setup) (log : Log) : Type 0 where
   pub ended : List Operation
   pub begun : List Operation
@@ -72,6 +72,8 @@ pub record IsMadeOfNights (s : Setup) (log : Log) : Type 0 where
   pub nights : AreNights s (nights_ended log) ended
   pub closed : is_open log ≡ false → begun ≡ []
   pub open_night : is_open log ≡ true → IsBeginning s.catalog (night s log).list (night s log).tables (night s log).changes s.keys begun × (length begun ≡ pages log + 1)
+  pub none_open : is_open log ≡ false → nights_begun log ≡ nights_ended log
+  pub one_open : is_open log ≡ true → (nights_begun log ≡ nights_ended log + 1) × (last_begun log ≡ nights_ended log)
   pub given : nights_begun log ≤ length s.nights
 
 -- so it is in every legal run

@@ -138,8 +138,8 @@ IsLarge f = (v : ℕ) × (f ≡ fault.Large v)
 abbrev pub IsCarried : Night → List ℕ → Reply → Reply → Type 0
 IsCarried n places said r = (ArePassedAt n places × (r ≡ said)) ⊎ ((f : MaintFault) × IsFirstFaultOf n places f × (r ≡ reply.Refused (cause_of f)))
 
--- The reply is as it is ruled. A Begin is refused for memory where the base changes are allowed, or where one of them is too large: to find
--- that out may take memory
+-- The reply is as it is ruled. A Begin is refused for memory where the base changes are allowed; where one of them is too large, since to
+-- find that out may take memory; and in place of the row that one of them lacks, since to answer it takes memory
 abbrev pub IsRuled : Ruling → Reply → Type 0
 IsRuled (Says said) r = r ≡ said
 IsRuled (Takes said) r = (r ≡ said) ⊎ IsMemory r

@@ -25,8 +25,8 @@ use Rattle.wh_headline.specs.Alike.{AreSeenAlike, IsAnsweredAlike, row_read}
 -- ---- what running nights publish
 
 -- the warehouse of this setup
-abbrev pub warehouse_of : Setup → Warehouse
-warehouse_of s = record { limit = s.versions; opening = s.opening }
+abbrev pub set_up_warehouse : Setup → Warehouse
+set_up_warehouse s = record { limit = s.versions; opening = s.opening }
 
 -- the night of this number, by pages of at most so many rows, from the contents that are the newest once these operations are published
 abbrev pub night_after : Setup → List Operation → ℕ → ℕ → Night
@@ -65,7 +65,7 @@ pub data AreRunningNights (s : Setup) : ℕ → Bool → List Operation → Type
 -- behind this ledger, in which all nights have ended, the night of this number can begin: it is the given one, a page has rows, and a Begin is
 -- not refused; where it is, `night` says so and leaves all as it was
 pub record ComesNext (s : Setup) (n keys : ℕ) (given : GivenNight) (l : Ledger) : Type 0 where
-  pub of : l.of ≡ warehouse_of s
+  pub of : l.of ≡ set_up_warehouse s
   pub ended : AreEndedNights s n l.list
   pub is : slice_get s.nights n ≡ Some given
   pub free : publish_refusal l Opens ≡ None
@@ -144,7 +144,7 @@ pub record WasGiven (before after : Sitting) (mark : Bookmark) : Type 0 where
 -- a desk of this warehouse that sees this list as it is answered; a session that it had before was opened at a version that was current
 -- in what it saw then. Its reader stands at this bookmark, which a page of the session has left, or where a view begins
 pub record IsDeskBeside (s : Setup) (ops : List Operation) (mark : Option Bookmark) (before after : Sitting) : Type 0 where
-  pub of : after.of ≡ warehouse_of s
+  pub of : after.of ≡ set_up_warehouse s
   pub list : after.list ≡ ops
   pub opened : (v : ℕ) → before.session ≡ Some v → (first : Sitting) × (last : Sitting) × OpensAt first last v × Grows last after
   pub stands : (at : Bookmark) → mark ≡ Some at → WasGiven before after at

@@ -6,7 +6,7 @@ ghost use Rattle.wh_maint.specs.Comp.{bag_at};
 ghost use Rattle.wh_maint.specs.declared.fault.MaintFault.TheVariants.{Memory};
 ghost use Rattle.wh_carry.specs.Fit.{AreFitFor, AreFitTables};
 ghost use Rattle.wh_carry.specs.Kept.{kept, AreKnown, HaveParts};
-ghost use Rattle.wh_carry.specs.Refused.{IsListFault};
+ghost use Rattle.wh_carry.specs.Refused.{AreAllowedBelow, IsListFault};
 ghost use Rattle.wh_carry.specs.declared.stages.Stage.TheVariants as stage;
 ghost use Rattle.wh_carry.specs.Standing.{IsStageIn};
 ghost use Rattle.wh_night.specs.Inner.RefusedWaves.{IsReady};
@@ -85,9 +85,9 @@ fn are_all_fit<F: RowTest, G: RowValue>(
 }
 
 /// Whether these tables are fit for this night: each is fit, and, unless a base change is refused, the strategy leaves them so. The
-/// night is carried out on copies to see it; where an expression of it is refused, that is answered instead, and a night would be
-/// refused for it. There is a table and a change for each view, and the strategy was judged over this catalogue's shape. The contents
-/// of a base are fit for every night.
+/// night is carried out on copies to see it; where an expression of it is refused, that is answered instead: a night would be refused
+/// too, perhaps for another expression of the same wave. There is a table and a change for each view, and the strategy was judged over
+/// this catalogue's shape. The contents of a base are fit for every night.
 pub fn are_fit_for<F: RowTest, G: RowValue>(
     alloc: Global,
     catalog: &Catalog<F, G>,
@@ -100,7 +100,9 @@ pub fn are_fit_for<F: RowTest, G: RowValue>(
     requires changes { AreBags catalog.now changes.now }
     ensures fit { IfOk result (λ fit. IsTrue fit → AreFitFor catalog.now (bag_at changes.now) correct.now.list (bag_at tables.now)) }
     ensures unfit { IfOk result (λ fit. fit ≡ false → ¬ (AreFitFor catalog.now (bag_at changes.now) correct.now.list (bag_at tables.now))) }
-    ensures refused { IfErr result (λ fault. (fault ≡ Memory) ⊎ IsListFault catalog.now correct.now.list (bag_at tables.now) (bag_at changes.now) fault) }
+    ensures refused { IfErr result (λ fault. (fault ≡ Memory)
+        ⊎ (AreAllowedBelow catalog.now (bag_at tables.now) (bag_at changes.now) (length catalog.now.views.children)
+        × IsListFault catalog.now correct.now.list (bag_at tables.now) (bag_at changes.now) fault)) }
 {
     if !are_all_fit(alloc, catalog, tables)? {
         return Ok(false);

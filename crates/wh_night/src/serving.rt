@@ -273,8 +273,8 @@ fn serve_some<F: RowTest, G: RowValue, W: Watch + Sync, R: Threads + Wait + Sync
 /// not read. The strategy was judged over this catalogue's shape (`is_of` tests it).
 ///
 /// Each reader opens its session before the night begins, and reads each view once, in pages of 256 rows. The watch is told before
-/// a reader's first page and after its last, and of each job as a [`wh_night::Gate`] is; readers for which no thread can be started
-/// read after the night. The night goes wave by wave and is refused as [`wh_night::night`] refuses it; want of memory is also told
+/// a reader's first page and after its last, and of each job as a [`crate::Gate`] is; readers for which no thread can be started
+/// read after the night. The night goes wave by wave and is refused as [`crate::night`] refuses it; want of memory is also told
 /// where a reader was not answered. Where there are no readers the tables are changed where they lie, and none is copied.
 pub fn serve_night<F: RowTest, G: RowValue, W: Watch + Sync, R: Threads + Wait + Sync>(
     rt: &R,
