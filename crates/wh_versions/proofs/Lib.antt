@@ -4,3 +4,4 @@ pub mod TouchLaws
 pub mod TableLaws
 pub mod RowLaws
 pub mod OpeningLaws
+pub mod ShownLaws

@@ -8,7 +8,7 @@ use Rattle.wh_pieces.specs.Row.{Row}
 use Rattle.wh_pieces.specs.Pieces.{found}
 use Rattle.wh_row.specs.Weigh.{Counted}
 use Rattle.wh_row.specs.Row.{is_row}
-use Rattle.wh_versions.specs.Rows.{Pairs, read, with_pair, without_pair, is_unread}
+use Rattle.wh_versions.specs.Rows.{Pairs, read, with_pair, without_pair, is_unread, ArePairs}
 use Rattle.wh_versions.specs.Tables.{pairs_in, is_given, added, written, given_up, begun, MayBeAdded}
 use Rattle.wh_versions.specs.Inner.Tables.{Touched, is_in, set_at, for_touched, HasNumber, IsRead, IsListed, AreKept, AreAdded, AreSafe}
 use Rattle.wh_versions.proofs.ReadLaws.{falling_below, put_pairs, put_number, back_pairs, back_number, back_none, number_below, read_step}
@@ -405,3 +405,10 @@ puts n m i rows mid new sets before after given k e at more add w =
       kept = put_kept n m rows new sets (set sets i after) k (length_other sets i after) (more_in n m i rows sets before after k e at more) given exact (λ q g. ap (is_in q) (last_in n m i rows sets after k e) ∙ add.touched q g);
       exact = exact;
     }
+
+pub in_form : (n m : ℕ) (rows : List (Row × Pairs)) (sets : List Touched) → AreKept n m rows sets → (q : Row) → ArePairs n m (pairs_in (found q rows))
+in_form n m rows sets k q = pairs_of_row (found q rows) refl
+  where
+    pairs_of_row : (o : Option Pairs) → found q rows ≡ o → ArePairs n m (pairs_in o)
+    pairs_of_row None e = record { falling = tt; few = omega arith }
+    pairs_of_row (Some ps) e = (k.listed q ps e).pairs

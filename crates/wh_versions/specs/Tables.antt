@@ -5,7 +5,7 @@ use Rattle.wh_pieces.specs.Row.{Row, is_row}
 use Rattle.wh_pieces.specs.Pieces.{found}
 use Rattle.wh_row.specs.Bag.{Bag, empty, set_count}
 use Rattle.wh_row.specs.Weigh.{Counted}
-use Rattle.wh_versions.specs.Rows.{Pairs, read, with_pair, without_pair, is_unread}
+use Rattle.wh_versions.specs.Rows.{Pairs, read, with_pair, without_pair, is_unread, ArePairs}
 
 -- rows in rising order, each with its pairs, and the number of the last night that was begun: it writes the version of this number
 pub record Slots : Type 0 where
@@ -67,3 +67,12 @@ begun n m (Some ps) = cond (is_unread (n - 1) m ps) None (Some ps)
 -- the rows of a table as version 0 alone: each with its count
 abbrev pub opening : Counted → List (Row × Pairs)
 opening es = map (λ e. (e.0, (0, e.1) ∷ [])) es
+
+-- the table in which these rows have these counts, one after another, and all other rows those that they had; a row whose count is 0 has left
+abbrev pub with_counts : Bag → Counted → Bag
+with_counts table [] = table
+with_counts table (e ∷ es) = with_counts (set_count table e.0 e.1) es
+
+-- each row's pairs are kept in form
+abbrev pub AreInForm : ℕ → Slots → Type 0
+AreInForm n t = (row : Row) → ArePairs n t.night (pairs_in (slots t row))

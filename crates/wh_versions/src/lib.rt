@@ -6,6 +6,9 @@ mod row;
 mod table;
 mod writing;
 
-pub use laws::{dropped_law, given_up_law, puts_law};
+pub use laws::{
+    begun_shown_law, dropped_law, given_up_law, given_up_shown_law, puts_law, puts_shown_law,
+    tables_count_law,
+};
 pub use row::VersionRow;
 pub use table::VersionTable;

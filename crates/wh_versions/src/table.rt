@@ -3,7 +3,7 @@
 ghost use Rattle.std.specs.Prelude.{◌≡◌, ◌<◌, ◌≤◌, ◌+◌, ◌^◌, List, ℤ, OnOk, OnErr, IfOk};
 ghost use Rattle.wh_row.specs.Bag.{IsTable, written as written_out};
 ghost use Rattle.wh_row.specs.Stored.{plain};
-ghost use Rattle.wh_versions.specs.Tables.{HaveCounts, MayBeAdded, begun, count_at, given_up, opening, slots, written};
+ghost use Rattle.wh_versions.specs.Tables.{AreInForm, HaveCounts, MayBeAdded, begun, count_at, given_up, opening, slots, written};
 
 use crate::row::VersionRow;
 use crate::writing::{add_rows, count_of, drop_unread, first_rows, take_back, write_rows};
@@ -55,6 +55,13 @@ impl<const N: usize> VersionTable<N> {
             rows,
             touched,
         })
+    }
+
+    /// Each row's pairs are kept in form. For proofs: it does nothing.
+    pub fn are_in_form(&self)
+        ensures { AreInForm N self.now }
+    {
+        let _ = &self.rows;
     }
 
     /// What a row counts in a version.
