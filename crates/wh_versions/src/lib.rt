@@ -12,3 +12,6 @@ pub use laws::{
 };
 pub use row::VersionRow;
 pub use table::VersionTable;
+
+#[cfg(test)]
+mod tests;
