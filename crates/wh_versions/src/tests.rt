@@ -66,3 +66,26 @@ fn a_night_that_is_given_up_leaves_what_there_was(rt: HostRuntime) -> Result<(),
     assert_pairs(&rt, &table, &[1], &[(0, 2)]);
     Ok(())
 }
+
+#[test]
+fn three_versions_are_read(rt: HostRuntime) -> Result<(), Fail> {
+    let alloc = rt.alloc();
+    let mut bag = Bag::new(alloc);
+    assert!(rt; bag.add(&[1], 1).is_ok());
+    assert!(rt; bag.is_table());
+    let mut table: VersionTable<3> = VersionTable::new(alloc, &bag)?;
+    table.begin();
+    table.put(&[(row_of(alloc, 1)?, 0), (row_of(alloc, 2)?, 1)])?;
+    table.begin();
+    assert_eq!(rt; table.count(0, &[1]), 1);
+    table.put(&[(row_of(alloc, 2)?, 0), (row_of(alloc, 3)?, 1)])?;
+    table.begin();
+    assert!(rt; table.slots(&[1]).is_none());
+    assert_eq!(rt; table.count(1, &[2]), 1);
+    table.put(&[(row_of(alloc, 3)?, 0), (row_of(alloc, 4)?, 1)])?;
+    table.give_up();
+    assert_eq!(rt; table.count(1, &[2]), 1);
+    assert_eq!(rt; table.count(3, &[3]), 1);
+    assert_eq!(rt; table.count(3, &[4]), 0);
+    Ok(())
+}
