@@ -132,9 +132,6 @@ module _ (n x : ℕ) (ns : List ℕ) (y : ℤ) (cs : List ℤ) (s : AreStored (s
   rest_counts : counts_of n (pairs_of ns cs) ≡ cs
   rest_counts = let e : y ∷ counts_of n (pairs_of ns cs) ≡ y ∷ cs = ap (counts_of (suc n)) (sym (first_pair x ns y cs h)) ∙ s.counts in cc
 
-  pub put_in_place : (m : ℕ) (c : ℤ) → pos 0 ≤ℤ c → HavePairs (suc n) ((m, c) ∷ pairs_of ns cs) (m ∷ ns) (c ∷ cs)
-  put_in_place m c least_c = have_pairs (suc n) (m ∷ ns) (c ∷ cs) ((m, c) ∷ pairs_of ns cs) (least_c, are_counts ns cs) (omega (arith, few ns cs, l)) (ap (λ xs. m ∷ xs) rest_numbers) (ap (λ xs. c ∷ xs) rest_counts)
-
   numbers_back : (n : ℕ) (ps : Pairs) → length ps ≤ n → numbers_of (suc n) ps ≡ numbers_of n ps ++ 0 ∷ []
   numbers_back zero [] a = refl
   numbers_back zero (p ∷ ps) a = absurd (omega arith)
@@ -240,20 +237,6 @@ and_second false b h = cc
 
 same_number : (a b : ℕ) → (a == b) ≡ true → a ≡ b
 same_number a b h = grind (arith, nat_tests)
-
--- the first count replaced
-pub replaced : (n : ℕ) (ns : List ℕ) (cs : List ℤ) (m : ℕ) (c : ℤ) → AreStored n ns cs → pos 0 ≤ℤ c → BeginsWith m ns cs true → HavePairs n (with_pair n m c (pairs_of ns cs)) ns (set cs 0 c)
-replaced n [] cs m c s h b = cc
-replaced n (x ∷ ns) [] m c s h b = cc
-replaced zero (x ∷ ns) (y ∷ cs) m c s h b = absurd (let l : length (x ∷ ns) ≡ zero = places zero (x ∷ ns) (y ∷ cs) s in omega arith)
-replaced (suc n) (x ∷ ns) (y ∷ cs) m c s h b =
-    let low = least y (and_first (int_le (pos 0) y) (x == m) b) in
-    let is = and_second (int_le (pos 0) y) (x == m) b in
-    let l : length (x ∷ ns) ≡ suc n = places (suc n) (x ∷ ns) (y ∷ cs) s in
-    have_same (suc n) _ _ _ _ _ _ (put_in_place n x ns y cs s low (omega arith) m c h)
-    (ap (with_pair (suc n) m c) (first_pair x ns y cs low) ∙ ap (λ t. cond t ((m, c) ∷ pairs_of ns cs) (take (suc n) ((m, c) ∷ (x, y) ∷ pairs_of ns cs))) is)
-    (ap (λ z. z ∷ ns) (same_number x m is))
-    refl
 
 -- the first pair taken away
 pub removed : (n : ℕ) (ns ms : List ℕ) (cs ds : List ℤ) (m : ℕ) → AreStored n ns cs → BeginsWith m ns cs true → ms ≡ copy_within ns 1 n 0 → ds ≡ copy_within cs 1 n 0

@@ -6,7 +6,9 @@ ghost use Rattle.wh_row.specs.Stored.{plain};
 ghost use Rattle.wh_versions.specs.Tables.{AreInForm, HaveCounts, MayBeAdded, begun, count_at, given_up, opening, slots, written};
 
 use crate::row::VersionRow;
-use crate::writing::{add_rows, count_of, drop_unread, first_rows, take_back, write_rows};
+use crate::writing::{
+    add_rows, copy_sets, count_of, drop_unread, first_rows, take_back, write_rows,
+};
 use std::alloc::{AllocError, Global};
 use std::marker::Model;
 use wh_pieces::Pieces;
@@ -117,5 +119,19 @@ impl<const N: usize> VersionTable<N> {
         self.touched.rotate_left(1);
         self.touched[last] = Pieces::new(self.alloc);
         self.night = night;
+    }
+
+    /// The same rows again, made by `alloc`.
+    pub fn copy(&self, alloc: Global) -> Result<Self, AllocError>
+        ensures { IfOk result (λ copy. copy ≡ self.now) }
+    {
+        let rows = self.rows.copy(alloc)?;
+        let touched = copy_sets(alloc, self.touched.as_slice())?;
+        Ok(VersionTable {
+            alloc,
+            night: self.night,
+            rows,
+            touched,
+        })
     }
 }

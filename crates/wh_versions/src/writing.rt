@@ -162,3 +162,14 @@ pub(crate) fn drop_unread<const N: usize>(
         drop_row(rows, version, row);
     }
 }
+
+/// The same sets again.
+pub(crate) fn copy_sets(alloc: Global, sets: &[Pieces<()>]) -> Result<Vec<Pieces<()>>, AllocError>
+    ensures { IfOk result (λ copy. copy.items ≡ sets.now) }
+{
+    let mut copy = Vec::new(alloc);
+    for set in sets {
+        copy.push(set.copy(alloc)?)?;
+    }
+    Ok(copy)
+}
