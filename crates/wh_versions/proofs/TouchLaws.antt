@@ -12,7 +12,7 @@ use Rattle.wh_row.specs.Stored.{plain}
 use Rattle.wh_row.specs.Weigh.{Counted}
 use Rattle.wh_versions.specs.Rows.{Pairs, with_pair}
 use Rattle.wh_versions.specs.Tables.{pairs_in, is_given, added, MayBeAdded, written}
-use Rattle.wh_versions.specs.Inner.Tables.{Touched, is_in, for_touched}
+use Rattle.wh_versions.specs.Inner.Tables.{Touched, is_in, for_touched, IsNew}
 
 -- ---- one row
 
@@ -151,6 +151,31 @@ module _ (given left : Counted) (e : Row × ℤ) (old now new : List (Row × Pai
     safe = safe_more;
     more = λ q h. m q (is.more q h);
   }
+
+not_before : (given : Counted) (q : Row) (old now : Option Pairs) → MayBeAdded given q old now → is_given q given ≡ true → now ≡ None → old ≡ None
+not_before given q old now (inl h) one none = sym h ∙ none
+not_before given q None now (inr h) one none = refl
+not_before given q (Some ps) now (inr h) one none =
+    let bad : Some ps ≡ None = sym (ap (λ b. added b (Some ps)) one) ∙ sym h ∙ none in
+    cc
+
+not_in : (a b : Bool) → (a ≡ true → b ≡ true) → b ≡ false → a ≡ false
+not_in true b h none = sym (h refl) ∙ none
+not_in false b h none = refl
+
+-- a row that is new while these are added was new before
+pub new_row : (given left : Counted) (e : Row × ℤ) (old now : List (Row × Pairs)) (before after : Touched) → IsAdding given (e ∷ left) old now before after
+    → (found e.0 now ≡ None) ⊎ (is_in e.0 after ≡ false) → IsNew given old before
+new_row given left e old now before after is lacks =
+    let one = is.part e.0 (or_left (is_row e.0 e.0) (is_given e.0 left) (itself e.0)) in
+    record {
+      row = e.0;
+      is_one = one;
+      lacks = ⊎_elim
+          (λ none. inl (not_before given e.0 (found e.0 old) (found e.0 now) (is.may e.0) one none))
+          (λ none. inr (not_in (is_in e.0 before) (is_in e.0 after) (is.more e.0) none))
+          lacks;
+    }
 
 -- ---- rows that are written
 
