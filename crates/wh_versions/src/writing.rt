@@ -57,10 +57,13 @@ fn add_row<const N: usize>(
     ensures more { (q : List ℤ) → is_in q touched.old ≡ true → is_in q touched.new ≡ true }
 {
     let _ = touched.insert(row, ())?;
-    if rows.get(row).is_some() {
-        return Ok(());
-    }
-    let _ = rows.insert(row, VersionRow::none())?;
+    let _ = rows.insert_or(
+        row,
+        VersionRow::none(),
+        &move |old: VersionRow<N>| -> VersionRow<N>
+            ensures { result ≡ old.entry }
+        { old },
+    )?;
     Ok(())
 }
 
@@ -92,10 +95,14 @@ fn write_row<const N: usize>(
     requires count { pos 0 ≤ℤ count }
     ensures { (q : List ℤ) → found q rows.new ≡ cond (is_row q row.now) (Some (with_pair N version count (pairs_in (found q rows.old)))) (found q rows.old) }
 {
-    let Some(old) = rows.get(row) else {
-        unreachable!()
-    };
-    let Ok(_) = rows.insert(row, old.with(version, count)) else {
+    let Ok(_) = rows.insert_or(
+        row,
+        VersionRow::none(),
+        &move |old: VersionRow<N>| -> VersionRow<N>
+            requires { pos 0 ≤ℤ count }
+            ensures { result ≡ with_pair N version count old.entry }
+        { old.with(version, count) },
+    ) else {
         unreachable!()
     };
 }
