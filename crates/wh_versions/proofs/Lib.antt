@@ -5,3 +5,6 @@ pub mod TableLaws
 pub mod RowLaws
 pub mod OpeningLaws
 pub mod ShownLaws
+pub mod PageLaws
+pub mod WrittenLaws
+pub mod TableOfLaws

@@ -12,7 +12,7 @@ use Rattle.wh_versions.specs.Tables.{pairs_in, shown, written, given_up, begun, 
 use Rattle.wh_versions.proofs.ReadLaws.{read_put, read_put_new, put_pairs, read_back, read_older}
 use Rattle.wh_versions.proofs.TableLaws.{unread_reads}
 
-count_shown : (s : ℕ) (rows : List (Row × Pairs)) (q : Row) → count (shown s rows) q ≡ read s (pairs_in (found q rows))
+pub count_shown : (s : ℕ) (rows : List (Row × Pairs)) (q : Row) → count (shown s rows) q ≡ read s (pairs_in (found q rows))
 count_shown s [] q = ap number (fin.get-empty row_cmp q)
 count_shown s (e ∷ es) q = count-set_count (shown s es) e.0 (read s e.1) q ∙ elim (is_row q e.0) as (λ t. cond t (read s e.1) (count (shown s es) q) ≡ read s (pairs_in (cond t (Some e.1) (found q es)))) [
   | true ↦ refl

@@ -1,7 +1,7 @@
 -- What holds of a view's rows once a night writes, is given up or begins.
 use Rattle.std.proofs.lemmas.Int.{ints}
 use Rattle.std.proofs.Common.{◌≡◌, ◌≢◌, refl, sym, ap, subst, ◌∙◌, ℕ, zero, suc, ◌+◌, ◌-◌, ◌<◌, ◌≤◌, ℤ, pos, List, [], ◌∷◌, ◌++◌, length, take, drop, set, Bool, true, false, cond, Option, Some, None, ◌⊎◌, inl, inr, ⊎_elim, arith}
-use Rattle.std.specs.Prelude.{slice_index_or, is_some, nat_le, ◌&&◌}
+use Rattle.std.specs.Prelude.{slice_index_or, is_some, nat_le, ◌&&◌, ◌==◌}
 use Rattle.std.specs.Ordering.{int_eq}
 use Rattle.std.proofs.lemmas.Bool.Decides.{nat_tests}
 use Rattle.wh_pieces.specs.Row.{Row}
@@ -9,8 +9,8 @@ use Rattle.wh_pieces.specs.Pieces.{found}
 use Rattle.wh_row.specs.Weigh.{Counted}
 use Rattle.wh_row.specs.Row.{is_row}
 use Rattle.wh_versions.specs.Rows.{Pairs, read, with_pair, without_pair, is_unread, ArePairs}
-use Rattle.wh_versions.specs.Tables.{pairs_in, is_given, added, written, given_up, begun, MayBeAdded}
-use Rattle.wh_versions.specs.Inner.Tables.{Touched, is_in, set_at, for_touched, HasNumber, IsRead, IsListed, AreKept, AreAdded, AreSafe}
+use Rattle.wh_versions.specs.Tables.{pairs_in, is_given, added, written, given_up, begun, MayBeAdded, begins_with, IsNewToNight}
+use Rattle.wh_versions.specs.Inner.Tables.{Touched, is_in, set_at, for_touched, HasNumber, IsRead, IsListed, AreKept, AreAdded, AreSafe, IsNew}
 use Rattle.wh_versions.proofs.ReadLaws.{falling_below, put_pairs, put_number, back_pairs, back_number, back_none, number_below, read_step}
 use Rattle.wh_versions.proofs.TouchLaws.{written_added, written_other}
 
@@ -62,10 +62,10 @@ length_other (y ∷ ys) (suc last) x = ap suc (length_other ys last x)
 
 -- ---- what is unread
 
-same_int : (a b : ℤ) → int_eq a b ≡ true → a ≡ b
+pub same_int : (a b : ℤ) → int_eq a b ≡ true → a ≡ b
 same_int a b h = grind (arith, ints)
 
-other_int : (a b : ℤ) → int_eq a b ≡ false → a ≢ b
+pub other_int : (a b : ℤ) → int_eq a b ≡ false → a ≢ b
 other_int a b h e = grind (arith, ints)
 
 first_of : (a b : Bool) → (a && b) ≡ true → a ≡ true
@@ -313,7 +313,7 @@ and_false : (a : Bool) → (a && false) ≡ false
 and_false true = refl
 and_false false = refl
 
-no_int : (a b : ℤ) → a ≢ b → int_eq a b ≡ false
+pub no_int : (a b : ℤ) → a ≢ b → int_eq a b ≡ false
 no_int a b h = grind (arith, ints)
 
 is_int : (a b : ℤ) → a ≡ b → int_eq a b ≡ true
@@ -392,6 +392,28 @@ pub puts_safely : (n m i : ℕ) (rows new : List (Row × Pairs)) (sets : List To
 puts_safely n m i rows new sets before after given k e at more safe =
     safe_kept n m rows new sets (set sets i after) k (length_other sets i after) (more_in n m i rows sets before after k e at more) given safe.rows
     (λ q. ⊎_elim (λ h. inl h) (λ h. inr (ap (is_in q) (last_in n m i rows sets after k e) ∙ h)) (safe.touched q))
+
+-- the night that was begun last touched each row of whose pairs the newest is its own
+not_begun : (n m : ℕ) (rows : List (Row × Pairs)) (sets : List Touched) → AreKept n m rows sets → 0 < m → (q : Row) (o : Option Pairs) → found q rows ≡ o → is_in q (set_at sets (n - 2)) ≡ false → begins_with m (pairs_in o) ≡ false
+not_begun n m rows sets k some q None e h = refl
+not_begun n m rows sets k some q (Some []) e h = refl
+not_begun n m rows sets k some q (Some (p ∷ ps)) e h = elim (p.0 == m) as (λ t. (p.0 == m) ≡ t → t ≡ false) [
+  | true ↦ λ t.
+      let own : p.0 ≡ m = grind (arith, nat_tests) in
+      sym ((k.listed q (p ∷ ps) e).writers m (n - 2) some refl (inl own)) ∙ h
+  | false ↦ λ t. refl
+] refl
+
+pub new_to_night : (n m i : ℕ) (rows : List (Row × Pairs)) (sets : List Touched) (before : Touched) (given : Counted) → AreKept n m rows sets → 0 < m → i ≡ length sets - 1 → before ≡ slice_index_or sets i before
+    → IsNew given rows before → IsNewToNight given (record { night = m; rows = rows })
+new_to_night n m i rows sets before given k some e at new = record {
+  row = new.row;
+  is_one = new.is_one;
+  lacks = ⊎_elim
+      (λ none. ap (λ o. begins_with m (pairs_in o)) none)
+      (λ none. not_begun n m rows sets k some new.row (found new.row rows) refl (sym (ap (is_in new.row) (last_of n m i rows sets before k e at)) ∙ none))
+      new.lacks;
+}
 
 pub record Puts (n m : ℕ) (given : Counted) (rows new : List (Row × Pairs)) (later : List Touched) : Type 0 where
   pub kept : AreKept n m new later

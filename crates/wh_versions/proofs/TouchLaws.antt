@@ -12,7 +12,7 @@ use Rattle.wh_row.specs.Stored.{plain}
 use Rattle.wh_row.specs.Weigh.{Counted}
 use Rattle.wh_versions.specs.Rows.{Pairs, with_pair}
 use Rattle.wh_versions.specs.Tables.{pairs_in, is_given, added, MayBeAdded, written}
-use Rattle.wh_versions.specs.Inner.Tables.{Touched, is_in, for_touched}
+use Rattle.wh_versions.specs.Inner.Tables.{Touched, is_in, for_touched, IsNew}
 
 -- ---- one row
 
@@ -38,20 +38,22 @@ module _ (f : Option Pairs → Option Pairs) (row : Row) (old : List (Row × Pai
     | false ↦ λ t. refl
   ] refl
 
--- a row that is there is added by nothing
-pub there_already : (row : Row) (old : List (Row × Pairs)) → is_some (found row old) ≡ true → (q : Row) → found q old ≡ added (is_row q row) (found q old)
-there_already row old at q = elim (is_row q row) as (λ t. is_row q row ≡ t → found q old ≡ cond t (Some (pairs_in (found q old))) (found q old)) [
-  | true ↦ λ t. whole (found q old) (ap (λ r. is_some (found r old)) (same_row q row t) ∙ at)
-  | false ↦ λ t. refl
-] refl
-  where
-    whole : (o : Option Pairs) → is_some o ≡ true → o ≡ Some (pairs_in o)
-    whole None h = cc
-    whole (Some ps) h = refl
+-- what one search makes of the pairs of a row that is there
+abbrev MadeOf : (Pairs → Pairs) → Row → List (Row × Pairs) → List (Row × Pairs) → Type 0
+MadeOf made row old new = (ps : Pairs) → found row old ≡ Some ps → (v : Pairs) × (v ≡ made ps) × (new ≡ with_entry old row v)
 
-pub none_there : (o : Option Pairs) → is_some o ≡ false → o ≡ None
-none_there None h = refl
-none_there (Some ps) h = cc
+pub made_there : (made : Pairs → Pairs) (row : Row) (old new : List (Row × Pairs)) → found row old ≢ None → MadeOf made row old new → (q : Row) → found q new ≡ cond (is_row q row) (Some (made (pairs_in (found q old)))) (found q old)
+made_there made row old new some there = elim (found row old) as (λ o. found row old ≡ o → (q : Row) → found q new ≡ cond (is_row q row) (Some (made (pairs_in (found q old)))) (found q old)) [
+  | None ↦ λ e. absurd (some e)
+  | Some ps ↦ λ e. let t = there ps e in changed (λ o. Some (made (pairs_in o))) row old (Some ps) e new t.0 (ap Some (sym t.1)) t.2
+] refl
+
+-- a row is added, unless it is there
+pub added_once : (row : Row) (old new : List (Row × Pairs)) (none : Pairs) → none ≡ [] → (found row old ≡ None → new ≡ with_entry old row none) → MadeOf (λ ps. ps) row old new → (q : Row) → found q new ≡ added (is_row q row) (found q old)
+added_once row old new none is new_one there = elim (found row old) as (λ o. found row old ≡ o → (q : Row) → found q new ≡ added (is_row q row) (found q old)) [
+  | None ↦ λ e. changed (λ o. Some (pairs_in o)) row old None e new none (ap Some (sym is)) (new_one e)
+  | Some ps ↦ λ e. let t = there ps e in changed (λ o. Some (pairs_in o)) row old (Some ps) e new t.0 (ap Some (sym t.1)) t.2
+] refl
 
 pub in_with : (set : Touched) (row : Row) (u : Unit {0}) → is_in row (with_entry set row u) ≡ true
 in_with set row u = ap is_some (found-with set row u row) ∙ ap (λ t. is_some (cond t (Some u) (found row set))) (itself row)
@@ -151,6 +153,31 @@ module _ (given left : Counted) (e : Row × ℤ) (old now new : List (Row × Pai
     safe = safe_more;
     more = λ q h. m q (is.more q h);
   }
+
+not_before : (given : Counted) (q : Row) (old now : Option Pairs) → MayBeAdded given q old now → is_given q given ≡ true → now ≡ None → old ≡ None
+not_before given q old now (inl h) one none = sym h ∙ none
+not_before given q None now (inr h) one none = refl
+not_before given q (Some ps) now (inr h) one none =
+    let bad : Some ps ≡ None = sym (ap (λ b. added b (Some ps)) one) ∙ sym h ∙ none in
+    cc
+
+not_in : (a b : Bool) → (a ≡ true → b ≡ true) → b ≡ false → a ≡ false
+not_in true b h none = sym (h refl) ∙ none
+not_in false b h none = refl
+
+-- a row that is new while these are added was new before
+pub new_row : (given left : Counted) (e : Row × ℤ) (old now : List (Row × Pairs)) (before after : Touched) → IsAdding given (e ∷ left) old now before after
+    → (found e.0 now ≡ None) ⊎ (is_in e.0 after ≡ false) → IsNew given old before
+new_row given left e old now before after is lacks =
+    let one = is.part e.0 (or_left (is_row e.0 e.0) (is_given e.0 left) (itself e.0)) in
+    record {
+      row = e.0;
+      is_one = one;
+      lacks = ⊎_elim
+          (λ none. inl (not_before given e.0 (found e.0 old) (found e.0 now) (is.may e.0) one none))
+          (λ none. inr (not_in (is_in e.0 before) (is_in e.0 after) (is.more e.0) none))
+          lacks;
+    }
 
 -- ---- rows that are written
 

@@ -1,9 +1,11 @@
 -- What holds of all views' rows, whatever a night does to them. Numbers of pairs fall, and there are at most n.
 use Rattle.std.specs.Prelude.{◌≡◌, ℕ, suc, ◌+◌, ◌-◌, ◌<◌, ◌≤◌, ℤ, pos, IsTrue}
-use Rattle.wh_row.specs.Bag.{count}
+use Rattle.wh_pieces.specs.Place.{AreRisingRows}
+use Rattle.wh_row.specs.Bag.{count, written as written_out}
 use Rattle.wh_row.specs.Row.{Row}
 use Rattle.wh_row.specs.Weigh.{Counted}
 use Rattle.wh_versions.specs.Tables.{Slots, AreInForm, slots, count_at, table_at, written, given_up, begun, with_counts}
+use Rattle.wh_versions.specs.Pages.{shown_at}
 use Rattle.wh_versions.specs.Rows.{Pairs, ArePairs, read, with_pair, without_pair, is_unread}
 
 -- a count that night m writes changes what no session reads of the n - 1 versions before it, sessions of version m read it, and what is kept stays in form
@@ -31,6 +33,10 @@ DroppedAreUnread = (n m s : ℕ) (ps : Pairs) → IsTrue (is_unread (n - 1) m ps
 -- each version shows the bag of what its sessions read
 abbrev pub TablesCount : Type 0
 TablesCount = (t : Slots) (s : ℕ) (row : Row) → count (table_at t s) row ≡ count_at t s row
+
+-- where rows rise, a version's table written out has the rows that it shows
+abbrev pub TablesAreWritten : Type 0
+TablesAreWritten = (t : Slots) (s : ℕ) → AreRisingRows t.rows → written_out (table_at t s) ≡ shown_at t s
 
 -- once counts are written in night m, version m shows them, and each of the n - 1 versions before it what it showed
 pub record PutsAreShown (n : ℕ) (given : Counted) (old after : Slots) : Type 0 where

@@ -1,5 +1,5 @@
 -- The rows of a view, each with what it counts in the last versions.
-use Rattle.std.specs.Prelude.{◌≡◌, ◌⊎◌, ℕ, ◌-◌, ℤ, pos, ◌≤ℤ◌, Bool, false, ◌||◌, cond, List, [], ◌∷◌, Option, Some, None, option_map, map}
+use Rattle.std.specs.Prelude.{◌≡◌, ◌⊎◌, ℕ, ◌-◌, ◌==◌, ℤ, pos, ◌≤ℤ◌, Bool, true, false, ◌||◌, cond, List, [], ◌∷◌, Option, Some, None, option_map, map}
 use Rattle.std.specs.List.{AllByRecursion}
 use Rattle.wh_pieces.specs.Row.{Row, is_row}
 use Rattle.wh_pieces.specs.Pieces.{found}
@@ -45,6 +45,17 @@ added b o = cond b (Some (pairs_in o)) o
 -- it has what it had, or is one of these rows and added
 abbrev pub MayBeAdded : Counted → Row → Option Pairs → Option Pairs → Type 0
 MayBeAdded given row old new = (new ≡ old) ⊎ (new ≡ added (is_given row given) old)
+
+-- the newest pair is that of version m
+abbrev pub begins_with : ℕ → Pairs → Bool
+begins_with m [] = false
+begins_with m (p ∷ ps) = p.0 == m
+
+-- one of these rows has no pair of the night that was begun last
+pub record IsNewToNight (given : Counted) (t : Slots) : Type 0 where
+  pub row : Row
+  pub is_one : is_given row given ≡ true
+  pub lacks : begins_with t.night (pairs_in (slots t row)) ≡ false
 
 -- no count is below zero
 abbrev pub HaveCounts : Counted → Type 0

@@ -1,6 +1,6 @@
 //! What holds of all rows, for proofs: these functions do nothing.
 
-ghost use Rattle.wh_versions.specs.Laws.{DroppedAreUnread, EachBeginKeeps, EachGivesUp, EachPutIsRead, EachPutIsShown, EachReadsBack, TablesCount};
+ghost use Rattle.wh_versions.specs.Laws.{DroppedAreUnread, EachBeginKeeps, EachGivesUp, EachPutIsRead, EachPutIsShown, EachReadsBack, TablesAreWritten, TablesCount};
 
 /// A count that a night writes is read in its version, and in no other that can be read.
 pub fn puts_law()
@@ -20,6 +20,11 @@ pub fn dropped_law()
 /// A version's table has what its sessions read of each row.
 pub fn tables_count_law()
     ensures { TablesCount }
+{}
+
+/// A version's table written out has the rows that the version shows.
+pub fn tables_written_law()
+    ensures { TablesAreWritten }
 {}
 
 /// Counts that are written are shown by the version of their night, and by no other that can be read.

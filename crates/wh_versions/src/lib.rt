@@ -3,12 +3,13 @@
 
 mod laws;
 mod row;
+mod shown;
 mod table;
 mod writing;
 
 pub use laws::{
     begun_shown_law, dropped_law, given_up_law, given_up_shown_law, puts_law, puts_shown_law,
-    tables_count_law,
+    tables_count_law, tables_written_law,
 };
 pub use row::VersionRow;
 pub use table::VersionTable;

@@ -1,18 +1,21 @@
 //! The rows of a view, each with what it counts in the last versions.
 
-ghost use Rattle.std.specs.Prelude.{◌≡◌, ◌<◌, ◌≤◌, ◌+◌, ◌^◌, List, ℤ, OnOk, OnErr, IfOk};
-ghost use Rattle.wh_row.specs.Bag.{IsTable, written as written_out};
+ghost use Rattle.std.specs.Prelude.{◌≡◌, ◌≢◌, ◌<◌, ◌≤◌, ◌+◌, ◌^◌, List, ℤ, [], take, length, nat_le, option_map, OnOk, OnErr, IfOk};
+ghost use Rattle.wh_pieces.specs.Place.{AreRisingRows};
+ghost use Rattle.wh_row.specs.Bag.{IsTable, empty, written as written_out};
 ghost use Rattle.wh_row.specs.Stored.{plain};
-ghost use Rattle.wh_versions.specs.Tables.{AreInForm, HaveCounts, MayBeAdded, begun, count_at, given_up, opening, slots, written};
+ghost use Rattle.wh_versions.specs.Pages.{rows_after, shown_at};
+ghost use Rattle.wh_versions.specs.Tables.{AreInForm, HaveCounts, IsNewToNight, MayBeAdded, begun, count_at, given_up, opening, slots, table_at, written};
 
 use crate::row::VersionRow;
+use crate::shown::{first_shown, table_of};
 use crate::writing::{
     add_rows, copy_sets, count_of, drop_unread, first_rows, take_back, write_rows,
 };
 use std::alloc::{AllocError, Global};
 use std::marker::Model;
 use wh_pieces::Pieces;
-use wh_row::{Bag, Row};
+use wh_row::{Bag, Records, Row};
 
 /// The rows of a view, each with what it counts in the last N versions.
 #[derive(Drop)]
@@ -59,11 +62,13 @@ impl<const N: usize> VersionTable<N> {
         })
     }
 
-    /// Each row's pairs are kept in form. For proofs: it does nothing.
+    /// Each row's pairs are kept in form, and the rows rise. For proofs: it does nothing.
     pub fn are_in_form(&self)
-        ensures { AreInForm N self.now }
+        ensures pairs { AreInForm N self.now }
+        ensures rising { AreRisingRows self.now.rows }
     {
-        let _ = &self.rows;
+        // Told by the map: its rows rise.
+        let _ = self.rows.len();
     }
 
     /// What a row counts in a version.
@@ -80,14 +85,48 @@ impl<const N: usize> VersionTable<N> {
         self.rows.get(row)
     }
 
-    /// Writes counts of rows in the night that was begun last. A row that is not there is added first, with no pairs: only this takes
-    /// memory, and where it is refused some of the rows may have been added.
+    /// The first rows that a version shows after a row, or from the first on, at most so many, each with its count, and whether it shows
+    /// none after these. No row before them is looked at.
+    pub fn page(
+        &self,
+        alloc: Global,
+        version: u64,
+        after: Option<&[i64]>,
+        limit: usize,
+    ) -> Result<(Records, bool), AllocError>
+        ensures rows { IfOk result (λ page. page.0 ≡ take limit (rows_after (option_map (λ row. row.now) after.entry) (shown_at self.now version))) }
+        ensures last { IfOk result (λ page. page.1 ≡ nat_le (length (rows_after (option_map (λ row. row.now) after.entry) (shown_at self.now version))) limit) }
+
+        // Memory only where there is a row to take.
+        ensures memory { OnErr result (take limit (rows_after (option_map (λ row. row.now) after.entry) (shown_at self.now version)) ≢ []) }
+    {
+        match after {
+            Some(row) => first_shown(alloc, self.rows.entries_after(row), version, limit),
+            None => first_shown(alloc, self.rows.entries(), version, limit),
+        }
+    }
+
+    /// The table that a version shows.
+    pub fn table(&self, alloc: Global, version: u64) -> Result<Bag, AllocError>
+        ensures ok { IfOk result (λ table. table ≡ table_at self.now version) }
+
+        // Memory only where a row is shown.
+        ensures memory { OnErr result (table_at self.now version ≢ empty) }
+    {
+        table_of(alloc, &self.rows, version)
+    }
+
+    /// Writes counts of rows in the night that was begun last. First the rows are touched, and those that are not there added, with no
+    /// pairs: only this takes memory, and where it is refused some of the rows may have been added.
     pub fn put(&mut self, rows: &[(Row, i64)]) -> Result<(), AllocError>
         requires begun { 0 < self.old.night }
         requires counts { HaveCounts (plain rows.now) }
         ensures night { self.new.night ≡ self.old.night }
         ensures ok { OnOk result ((row : List ℤ) → slots self.new row ≡ written N self.old.night (plain rows.now) row (slots self.old row)) }
         ensures err { OnErr result ((row : List ℤ) → MayBeAdded (plain rows.now) row (slots self.old row) (slots self.new row)) }
+
+        // Memory only where one of the rows has no pair of this night.
+        ensures memory { OnErr result (IsNewToNight (plain rows.now) self.old) }
     {
         let last = self.touched.len() - 1;
         add_rows(&mut self.rows, &mut self.touched[last], rows)?;
@@ -121,7 +160,7 @@ impl<const N: usize> VersionTable<N> {
         self.night = night;
     }
 
-    /// The same rows again, made by `alloc`.
+    /// The same rows again, made by `alloc`. It always takes memory: for the sets of rows that the last nights touched.
     pub fn copy(&self, alloc: Global) -> Result<Self, AllocError>
         ensures { IfOk result (λ copy. copy ≡ self.now) }
     {

@@ -67,6 +67,25 @@ fn a_night_that_is_given_up_leaves_what_there_was(rt: HostRuntime) -> Result<(),
     Ok(())
 }
 
+/// Asserts that the page of one row after a row, or from the first on, has this row of one cell, counted once, and whether none follows.
+fn assert_page(
+    rt: &impl Abort,
+    alloc: Global,
+    table: &VersionTable<3>,
+    version: u64,
+    after: Option<&[i64]>,
+    cell: i64,
+    last: bool,
+) -> Result<(), Fail> {
+    let (rows, none_follows) = table.page(alloc, version, after, 1)?;
+    assert_eq!(rt; rows.len(), 1);
+    let (row, count) = rows.get(0);
+    assert_eq!(rt; row, [cell].as_slice());
+    assert_eq!(rt; count, 1);
+    assert_eq!(rt; none_follows, last);
+    Ok(())
+}
+
 #[test]
 fn three_versions_are_read(rt: HostRuntime) -> Result<(), Fail> {
     let alloc = rt.alloc();
@@ -75,7 +94,11 @@ fn three_versions_are_read(rt: HostRuntime) -> Result<(), Fail> {
     assert!(rt; bag.is_table());
     let mut table: VersionTable<3> = VersionTable::new(alloc, &bag)?;
     table.begin();
-    table.put(&[(row_of(alloc, 1)?, 0), (row_of(alloc, 2)?, 1)])?;
+    table.put(&[
+        (row_of(alloc, 1)?, 0),
+        (row_of(alloc, 2)?, 1),
+        (row_of(alloc, 5)?, 1),
+    ])?;
     table.begin();
     assert_eq!(rt; table.count(0, &[1]), 1);
     table.put(&[(row_of(alloc, 2)?, 0), (row_of(alloc, 3)?, 1)])?;
@@ -83,6 +106,12 @@ fn three_versions_are_read(rt: HostRuntime) -> Result<(), Fail> {
     assert!(rt; table.slots(&[1]).is_none());
     assert_eq!(rt; table.count(1, &[2]), 1);
     table.put(&[(row_of(alloc, 3)?, 0), (row_of(alloc, 4)?, 1)])?;
+    assert_page(&rt, alloc, &table, 1, None, 2, false)?;
+    assert_page(&rt, alloc, &table, 1, Some(&[2]), 5, true)?;
+    assert_page(&rt, alloc, &table, 2, None, 3, false)?;
+    assert_page(&rt, alloc, &table, 3, None, 4, false)?;
+    assert_page(&rt, alloc, &table, 3, Some(&[4]), 5, true)?;
+    assert_eq!(rt; table.table(alloc, 3)?.len(), 2);
     table.give_up();
     assert_eq!(rt; table.count(1, &[2]), 1);
     assert_eq!(rt; table.count(3, &[3]), 1);

@@ -1,13 +1,13 @@
 //! What a night does to the rows of a view.
 
-ghost use Rattle.std.specs.Prelude.{◌≡◌, ◌≢◌, ◌≤ℤ◌, List, ℤ, pos, true, cond, ◌<◌, IfOk, OnOk, OnErr, Some, None};
+ghost use Rattle.std.specs.Prelude.{◌≡◌, ◌≢◌, ◌⊎◌, ◌≤ℤ◌, List, ℤ, pos, true, false, cond, ◌<◌, IfOk, OnOk, OnErr, Some, None};
 ghost use Rattle.wh_pieces.specs.Pieces.{found};
 ghost use Rattle.wh_pieces.specs.Row.{is_row};
 ghost use Rattle.wh_row.specs.Stored.{plain};
 ghost use Rattle.wh_versions.specs.Rows.{read, with_pair};
 ghost use Rattle.wh_versions.specs.Tables.{HaveCounts, added, begun, given_up, is_given, opening, pairs_in, written};
 ghost use Rattle.wh_row.specs.Bag.{IsTable, written as written_out};
-ghost use Rattle.wh_versions.specs.Inner.Tables.{AreAdded, AreSafe, for_touched, is_in};
+ghost use Rattle.wh_versions.specs.Inner.Tables.{AreAdded, AreSafe, IsNew, for_touched, is_in};
 
 use crate::row::VersionRow;
 use std::alloc::{AllocError, Global};
@@ -53,13 +53,17 @@ fn add_row<const N: usize>(
     ensures ok { OnOk result ((q : List ℤ) → found q rows.new ≡ added (is_row q row.now) (found q rows.old)) }
     ensures here { OnOk result (is_in row.now touched.new ≡ true) }
     ensures err { OnErr result (rows.new ≡ rows.old) }
+    ensures memory { OnErr result ((found row.now rows.old ≡ None) ⊎ (is_in row.now touched.old ≡ false)) }
     ensures more { (q : List ℤ) → is_in q touched.old ≡ true → is_in q touched.new ≡ true }
 {
     let _ = touched.insert(row, ())?;
-    if rows.get(row).is_some() {
-        return Ok(());
-    }
-    let _ = rows.insert(row, VersionRow::none())?;
+    let _ = rows.insert_or(
+        row,
+        VersionRow::none(),
+        &move |old: VersionRow<N>| -> VersionRow<N>
+            ensures { result ≡ old.entry }
+        { old },
+    )?;
     Ok(())
 }
 
@@ -71,6 +75,7 @@ pub(crate) fn add_rows<const N: usize>(
 ) -> Result<(), AllocError>
     ensures ok { OnOk result (AreAdded (plain given.now) rows.old rows.new touched.new) }
     ensures err { OnErr result (AreSafe (plain given.now) rows.old rows.new touched.new) }
+    ensures memory { OnErr result (IsNew (plain given.now) rows.old touched.old) }
     ensures more { (q : List ℤ) → is_in q touched.old ≡ true → is_in q touched.new ≡ true }
 {
     for (row, _) in given {
@@ -90,10 +95,14 @@ fn write_row<const N: usize>(
     requires count { pos 0 ≤ℤ count }
     ensures { (q : List ℤ) → found q rows.new ≡ cond (is_row q row.now) (Some (with_pair N version count (pairs_in (found q rows.old)))) (found q rows.old) }
 {
-    let Some(old) = rows.get(row) else {
-        unreachable!()
-    };
-    let Ok(_) = rows.insert(row, old.with(version, count)) else {
+    let Ok(_) = rows.insert_or(
+        row,
+        VersionRow::none(),
+        &move |old: VersionRow<N>| -> VersionRow<N>
+            requires { pos 0 ≤ℤ count }
+            ensures { result ≡ with_pair N version count old.entry }
+        { old.with(version, count) },
+    ) else {
         unreachable!()
     };
 }

@@ -1,5 +1,5 @@
 -- What only proofs and private contracts use. What holds of a view's rows and of the rows that the last nights touched.
-use Rattle.std.specs.Prelude.{◌≡◌, ◌≢◌, ◌⊎◌, ℕ, ◌+◌, ◌-◌, ◌<◌, ◌≤◌, pos, Bool, true, List, [], ◌∷◌, length, slice_index_or, Option, Some, None, is_some, refl}
+use Rattle.std.specs.Prelude.{◌≡◌, ◌≢◌, ◌⊎◌, ℕ, ◌+◌, ◌-◌, ◌<◌, ◌≤◌, pos, Bool, true, false, List, [], ◌∷◌, length, slice_index_or, Option, Some, None, is_some, refl}
 use Rattle.std.specs.Coded.{Coded, code_by, coded×, coded_ℕ, coded_ℤ, coded_list}
 use Rattle.wh_pieces.specs.Row.{Row}
 use Rattle.wh_pieces.specs.Pieces.{found}
@@ -57,6 +57,12 @@ pub record AreAdded (given : Counted) (old new : List (Row × Pairs)) (set : Tou
 pub record AreSafe (given : Counted) (old new : List (Row × Pairs)) (set : Touched) : Type 0 where
   pub rows : (row : Row) → MayBeAdded given row (found row old) (found row new)
   pub touched : (row : Row) → (found row new ≡ found row old) ⊎ (is_in row set ≡ true)
+
+-- one of these rows is not there, or not touched
+pub record IsNew (given : Counted) (rows : List (Row × Pairs)) (set : Touched) : Type 0 where
+  pub row : Row
+  pub is_one : is_given row given ≡ true
+  pub lacks : (found row rows ≡ None) ⊎ (is_in row set ≡ false)
 
 abbrev pub coded_slots : Coded Slots
 coded_slots = code_by (ℕ × List (Row × Pairs)) (coded× coded_ℕ (coded_list (coded× (coded_list coded_ℤ) coded_pairs))) (λ t. (t.night, t.rows)) (λ p. record { night = p.0; rows = p.1 }) (λ _. refl)
