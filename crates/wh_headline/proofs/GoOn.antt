@@ -19,7 +19,8 @@ use Rattle.wh_night.specs.declared.left.Left.{Left}
 use Rattle.wh_night.specs.declared.left.Left.TheVariants.{Untouched, GivenUp, StillOpen}
 use Rattle.wh_core.proofs.Underway.{versions_from-append}
 use Rattle.wh_core.specs.Nights.{GivenNight, Setup}
-use Rattle.wh_headline.specs.RunningNights.{AreEndedNights, GoesOnAs, AreRunningNights, CanBegin, ComesNext, GoOn, HasEnded, NightsGoOn, all_ended, night_after, one_more, one_open}
+use Rattle.wh_headline.specs.RunningNights.{AreEndedNights, GoesOnAs, AreRunningNights, CanBegin, ComesNext, GoOn, HasEnded, NightsGoOn, night_after, one_more}
+use Rattle.wh_headline.proofs.Beginnings.{begun_behind, headed}
 use Rattle.wh_headline.proofs.SeenAlike.{beginning_alike, same_alike}
 
 -- a Begin that is not refused makes a version whose number is not 2^64
@@ -42,13 +43,6 @@ either false active h = h
 not_empty : (ops : List Operation) (op : Operation) → ops ++ op ∷ [] ≢ []
 not_empty [] op e = cc
 not_empty (o ∷ ops) op e = cc
-
--- a beginning of a night begins with its Begin
-headed : (n : Night) (op : Operation) (ops : List Operation) → Begin_it n (op ∷ ops) → op ≡ Opens
-headed n op ops b = sym (first _ (ops ++ b.rest) b.begins)
-  where
-    first : (a c : List Operation) → Opens ∷ a ≡ op ∷ c → Opens ≡ op
-    first a c e = cc
 
 module _ (s : Setup) (n keys : ℕ) (given : GivenNight) (l m : Ledger) (next : ComesNext s n keys given l) where
   abbrev night : Night
@@ -83,11 +77,7 @@ module _ (s : Setup) (n keys : ℕ) (given : GivenNight) (l m : Ledger) (next : 
       (one_more n keys l.list ops next.ended (can allowed) (subst (λ k. HasEnded k ops) same_night has))
 
   open_so : (ops : List Operation) → AreAllowed night → Begin_it night ops → AreRunningNights s n false (l.list ++ ops) ⊎ AreRunningNights s (n + 1) true (l.list ++ ops)
-  open_so [] allowed begins = inl (subst (AreRunningNights s n false) (sym (append-nil l.list)) (all_ended n l.list next.ended))
-  open_so (op ∷ ops) allowed begins =
-      let head : op ≡ Opens = headed night op ops begins in
-      let these : Begin_it (night_after s l.list n keys) (Opens ∷ ops) = subst (λ k. Begin_it k (Opens ∷ ops)) same_night (subst (λ o. Begin_it night (o ∷ ops)) head begins) in
-      inr (subst (λ o. AreRunningNights s (n + 1) true (l.list ++ o ∷ ops)) (sym head) (one_open n keys l.list ops next.ended (can allowed) these))
+  open_so ops allowed begins = begun_behind s n keys l.list ops next.ended (can allowed) (subst (λ k. Begin_it k ops) same_night begins)
 
   left : (cause : NightCause) (how : Left) → Leaves night cause l how m → GoesOnAs s n l how m
   left cause Untouched same = same

@@ -6,4 +6,5 @@ mod Rows
 mod Served
 mod SeenAlike
 mod Logs
+mod Beginnings
 mod GoOn

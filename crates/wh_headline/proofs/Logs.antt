@@ -20,8 +20,9 @@ use Rattle.wh_core.specs.Replies.{goes_on, nothing}
 use Rattle.wh_core.proofs.NightLogs.{IsOneMore, cut_night, night_ops, open_night, whole_night}
 use Rattle.wh_core.proofs.Underway.{versions_from-append}
 use Rattle.wh_headline.specs.Alike.{AreAlike, AreSeenAlike, row_read}
-use Rattle.wh_headline.specs.RunningNights.{AreEndedNights, AreRunningNights, AreSeats, CanBegin, DesksBesideNightsAnswerAsTheMachine, HasEnded, HaveSeats, IsDeskBeside, IsLogOf, IsSeat, RunningNightsHaveALog, WasLeft, all_ended, night_after, none as no_nights, one_more as one_night_more, one_open}
+use Rattle.wh_headline.specs.RunningNights.{AreEndedNights, AreRunningNights, AreSeats, CanBegin, DesksBesideNightsAnswerAsTheMachine, DesksThatLagAnswerAsTheMachine, HasEnded, HaveSeats, IsDeskBeside, IsLogOf, IsSeat, RunningNightsHaveALog, WasLeft, all_ended, night_after, none as no_nights, one_more as one_night_more, one_open}
 use Rattle.wh_headline.proofs.Answered.{answered}
+use Rattle.wh_headline.proofs.Beginnings.{beginnings}
 use Rattle.wh_headline.proofs.PageSizes.{any_pages}
 use Rattle.wh_headline.proofs.SeenAlike.{alike_then, beginning_alike, cut_alike, cut_number, number_alike, same_alike, whole_alike, whole_number, whole_ops}
 use Rattle.wh_headline.proofs.Served.{SitsNow, all_served}
@@ -306,3 +307,10 @@ desks_beside stay seen_stay s nights active ops marks before after setup some ar
             answered = answered s r.0 d (before d) (after d) alike;
           }),
     )
+
+-- a desk that lags, as if all desks were as it is
+pub desks_that_lag : VersionsStay → SeenVersionsStay → DesksThatLagAnswerAsTheMachine
+desks_that_lag stay seen_stay s nights active ops d mark before after setup some are l begins is =
+    let seen = beginnings s nights active ops after.list are begins in
+    let r = desks_beside stay seen_stay s seen.0 seen.1 after.list (λ k. mark) (λ k. before) (λ k. after) setup some seen.3 (λ k below. is) in
+    (seen.0, seen.1, r.0, seen.2, r.1, r.2 d l)

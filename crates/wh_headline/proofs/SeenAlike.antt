@@ -111,7 +111,7 @@ cut_number v = let one : suc (number v) ≡ number v + 1 = omega arith in one
 
 -- ---- a whole night
 
-whole_list : (n : Night) (ops : List Operation) → ArePassedBelow n.catalog n.list n.tables n.changes (length n.list) → IsNightList n.catalog n.list n.tables n.changes n.keys ops
+pub whole_list : (n : Night) (ops : List Operation) → ArePassedBelow n.catalog n.list n.tables n.changes (length n.list) → IsNightList n.catalog n.list n.tables n.changes n.keys ops
     → ops ≡ night_below (graph_of n.catalog) n.changes n.keys n.list n.tables (length n.list) ++ Commits ∷ []
 whole_list n _ passed (whole values) = refl
 whole_list n _ passed (ends_before place e at values none) = absurd (none (passed_have_values n.catalog n.changes _ e (passed place e (place_within n.list place e at) at)))

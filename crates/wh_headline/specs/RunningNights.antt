@@ -1,5 +1,6 @@
 -- Logs of the machine over events for the lists that running nights publish.
 use Rattle.std.specs.Prelude.{◌≡◌, ◌≢◌, ◌⊎◌, ℕ, ◌+◌, ◌^◌, ◌<◌, ◌≤◌, Bool, true, false, List, [], ◌∷◌, ◌++◌, Option, None, Some, length, slice_get}
+use mathlib.Core.List.{IsPrefix}
 use Rattle.wh_row.specs.Row.{Row}
 use Rattle.wh_maint.specs.Comp.{bag_at}
 use Rattle.wh_carry.specs.NightList.{IsCutNight}
@@ -59,6 +60,13 @@ pub data AreRunningNights (s : Setup) : ℕ → Bool → List Operation → Type
   all_ended : (n : ℕ) (ops : List Operation) → AreEndedNights s n ops → AreRunningNights s n false ops
   one_open : (n keys : ℕ) (ops puts : List Operation) → AreEndedNights s n ops → CanBegin s ops n keys → Begin_it (night_after s ops n keys) (Opens ∷ puts)
       → AreRunningNights s (n + 1) true (ops ++ Opens ∷ puts)
+
+-- a beginning of what running nights publish is what running nights publish, wherever it ends: no more of them have begun in it, and the
+-- last of these has ended or is open
+abbrev pub BeginningsAreRunningNights : Type 0
+BeginningsAreRunningNights =
+    (s : Setup) (nights : ℕ) (active : Bool) (ops seen : List Operation) → AreRunningNights s nights active ops → IsPrefix seen ops
+    → (n : ℕ) × (seen_open : Bool) × (n ≤ nights) × AreRunningNights s n seen_open seen
 
 -- ---- a night that runs
 
@@ -161,3 +169,11 @@ DesksBesideNightsAnswerAsTheMachine =
     (s : Setup) (nights : ℕ) (active : Bool) (ops : List Operation) (marks : ℕ → Option Bookmark) (before after : ℕ → Sitting) → IsSetup s → 1 ≤ s.workers
     → AreRunningNights s nights active ops → ((d : ℕ) → d < s.desks → IsDeskBeside s ops (marks d) (before d) (after d))
     → (log : Log) × IsLogOf s nights active ops log × ((d : ℕ) → d < s.desks → IsAnsweredFrom s log d (marks d) (before d) (after d))
+
+-- so it is of each desk that sees a beginning of the list, which may be another for each: there is a log of what it sees by which it is
+-- answered
+abbrev pub DesksThatLagAnswerAsTheMachine : Type 0
+DesksThatLagAnswerAsTheMachine =
+    (s : Setup) (nights : ℕ) (active : Bool) (ops : List Operation) (d : ℕ) (mark : Option Bookmark) (before after : Sitting) → IsSetup s → 1 ≤ s.workers
+    → AreRunningNights s nights active ops → d < s.desks → IsPrefix after.list ops → IsDeskBeside s after.list mark before after
+    → (n : ℕ) × (seen_open : Bool) × (log : Log) × (n ≤ nights) × IsLogOf s n seen_open after.list log × IsAnsweredFrom s log d mark before after

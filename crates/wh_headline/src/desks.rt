@@ -1,7 +1,7 @@
 //! What a running desk answers, for proofs: these functions do nothing.
 
 ghost use Rattle.wh_headline.specs.Alike.{DesksAnswerAsTheMachine};
-ghost use Rattle.wh_headline.specs.RunningNights.{DesksBesideNightsAnswerAsTheMachine, NightsGoOn, RunningNightsHaveALog};
+ghost use Rattle.wh_headline.specs.RunningNights.{BeginningsAreRunningNights, DesksBesideNightsAnswerAsTheMachine, DesksThatLagAnswerAsTheMachine, NightsGoOn, RunningNightsHaveALog};
 ghost use Rattle.wh_headline.specs.Told.{ToldPagesAreOfContents};
 
 use wh_desk::seen_versions_stay_law;
@@ -24,6 +24,13 @@ pub fn running_nights_have_a_log()
     versions_stay_law();
 }
 
+/// A beginning of what running nights publish, wherever it ends, is again what running nights publish: no more nights have
+/// begun in it, and the last has ended or is open. So the laws on such lists speak of what a desk sees that entered while a
+/// night ran, or that lags.
+pub fn beginnings_are_running_nights()
+    ensures { BeginningsAreRunningNights }
+{}
+
 /// What a night publishes behind nights that have ended is such a list again, whether it is done or refused. One that was
 /// left open stays so while want of memory puts its end off, and has ended once it is given up.
 pub fn nights_go_on()
@@ -36,6 +43,15 @@ pub fn nights_go_on()
 /// is assumed.
 pub fn desks_beside_nights_answer_as_the_machine()
     ensures { DesksBesideNightsAnswerAsTheMachine }
+{
+    versions_stay_law();
+    seen_versions_stay_law();
+}
+
+/// Each desk that sees a beginning of what running nights have published is answered as a desk of a legal run is, whose versions
+/// readers see as those of this beginning. Desks may see a different one each.
+pub fn desks_that_lag_answer_as_the_machine()
+    ensures { DesksThatLagAnswerAsTheMachine }
 {
     versions_stay_law();
     seen_versions_stay_law();

@@ -7,7 +7,8 @@ mod events;
 mod laws;
 
 pub use desks::{
-    desks_answer_as_the_machine, desks_beside_nights_answer_as_the_machine, nights_go_on,
+    beginnings_are_running_nights, desks_answer_as_the_machine,
+    desks_beside_nights_answer_as_the_machine, desks_that_lag_answer_as_the_machine, nights_go_on,
     running_nights_have_a_log, told_pages_are_of_contents,
 };
 pub use events::carry_out;

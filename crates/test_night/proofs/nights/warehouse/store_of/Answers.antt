@@ -8,4 +8,4 @@ pub new-requires : goal.new-requires
 new-requires c =
     let bags : c.are_bags.result ≡ true = search rules in
     fit_tables c.args.catalog.now c.args.tables.items (subst (AreBags c.args.catalog.now) c.deref.ensures.value (c.are_bags.ensures.0 bags))
-    (subst (AreFitTables c.args.catalog.now) c.deref-else-not-are_bags.ensures.value (λ v l. (c.in-Ok-true.ensures.fit c.in-Ok-true.field-0-test).now v))
+    (subst (AreFitTables c.args.catalog.now) c.deref-2.ensures.value (λ v l. (c.in-Ok-true.ensures.fit c.in-Ok-true.field-0-test).now v))

@@ -1,0 +1,5 @@
+pub mod Rows
+pub mod Tables
+pub mod Pages
+pub mod Laws
+pub mod Inner

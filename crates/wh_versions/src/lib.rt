@@ -1,0 +1,18 @@
+//! Rows of one view, each of which keeps its counts in the last versions.
+#![tactic(auto)]
+
+mod laws;
+mod row;
+mod shown;
+mod table;
+mod writing;
+
+pub use laws::{
+    begun_shown_law, dropped_law, given_up_law, given_up_shown_law, puts_law, puts_shown_law,
+    tables_count_law, tables_written_law,
+};
+pub use row::VersionRow;
+pub use table::VersionTable;
+
+#[cfg(test)]
+mod tests;

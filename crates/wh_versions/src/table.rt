@@ -1,0 +1,176 @@
+//! The rows of a view, each with what it counts in the last versions.
+
+ghost use Rattle.std.specs.Prelude.{◌≡◌, ◌≢◌, ◌<◌, ◌≤◌, ◌+◌, ◌^◌, List, ℤ, [], take, length, nat_le, option_map, OnOk, OnErr, IfOk};
+ghost use Rattle.wh_pieces.specs.Place.{AreRisingRows};
+ghost use Rattle.wh_row.specs.Bag.{IsTable, empty, written as written_out};
+ghost use Rattle.wh_row.specs.Stored.{plain};
+ghost use Rattle.wh_versions.specs.Pages.{rows_after, shown_at};
+ghost use Rattle.wh_versions.specs.Tables.{AreInForm, HaveCounts, IsNewToNight, MayBeAdded, begun, count_at, given_up, opening, slots, table_at, written};
+
+use crate::row::VersionRow;
+use crate::shown::{first_shown, table_of};
+use crate::writing::{
+    add_rows, copy_sets, count_of, drop_unread, first_rows, take_back, write_rows,
+};
+use std::alloc::{AllocError, Global};
+use std::marker::Model;
+use wh_pieces::Pieces;
+use wh_row::{Bag, Records, Row};
+
+/// The rows of a view, each with what it counts in the last N versions.
+#[derive(Drop)]
+pub struct VersionTable<const N: usize> {
+    alloc: Global,
+    night: u64,
+    rows: Pieces<VersionRow<N>>,
+    /// The rows that the last N - 1 nights touched, those of the last night last.
+    touched: Vec<Pieces<()>>,
+}
+
+impl<const N: usize> Model for VersionTable<N> {
+    ghost use Rattle.wh_versions.specs.Tables.{Slots};
+    ghost use Rattle.wh_versions.specs.Inner.Tables.{AreKept, coded_slots};
+
+    ghost Value = { Slots };
+
+    ghost coded = { coded_slots };
+
+    ghost view = { λ t. record { night = t.night; rows = t.rows } };
+
+    ghost invariant = { λ t. AreKept N t.night t.rows t.touched.items };
+}
+
+impl<const N: usize> VersionTable<N> {
+    /// The rows of a table, as version 0 alone.
+    pub fn new(alloc: Global, table: &Bag) -> Result<Self, AllocError>
+        requires versions { 2 ≤ N }
+        requires few { N ≤ 4 }
+        requires table { IsTable table.now }
+        ensures night { IfOk result (λ t. t.night ≡ 0) }
+        ensures rows { IfOk result (λ t. t.rows ≡ opening (written_out table.now)) }
+    {
+        let rows = first_rows(alloc, table)?;
+        let mut touched = Vec::new(alloc);
+        for _ in 1..N {
+            touched.push(Pieces::new(alloc))?;
+        }
+        Ok(VersionTable {
+            alloc,
+            night: 0,
+            rows,
+            touched,
+        })
+    }
+
+    /// Each row's pairs are kept in form, and the rows rise. For proofs: it does nothing.
+    pub fn are_in_form(&self)
+        ensures pairs { AreInForm N self.now }
+        ensures rising { AreRisingRows self.now.rows }
+    {
+        // Told by the map: its rows rise.
+        let _ = self.rows.len();
+    }
+
+    /// What a row counts in a version.
+    pub fn count(&self, version: u64, row: &[i64]) -> i64
+        ensures { result ≡ count_at self.now version row.now }
+    {
+        count_of(&self.rows, version, row)
+    }
+
+    /// The pairs of a row, where it is there.
+    pub fn slots(&self, row: &[i64]) -> Option<VersionRow<N>>
+        ensures { result ≡ slots self.now row.now }
+    {
+        self.rows.get(row)
+    }
+
+    /// The first rows that a version shows after a row, or from the first on, at most so many, each with its count, and whether it shows
+    /// none after these. No row before them is looked at.
+    pub fn page(
+        &self,
+        alloc: Global,
+        version: u64,
+        after: Option<&[i64]>,
+        limit: usize,
+    ) -> Result<(Records, bool), AllocError>
+        ensures rows { IfOk result (λ page. page.0 ≡ take limit (rows_after (option_map (λ row. row.now) after.entry) (shown_at self.now version))) }
+        ensures last { IfOk result (λ page. page.1 ≡ nat_le (length (rows_after (option_map (λ row. row.now) after.entry) (shown_at self.now version))) limit) }
+
+        // Memory only where there is a row to take.
+        ensures memory { OnErr result (take limit (rows_after (option_map (λ row. row.now) after.entry) (shown_at self.now version)) ≢ []) }
+    {
+        match after {
+            Some(row) => first_shown(alloc, self.rows.entries_after(row), version, limit),
+            None => first_shown(alloc, self.rows.entries(), version, limit),
+        }
+    }
+
+    /// The table that a version shows.
+    pub fn table(&self, alloc: Global, version: u64) -> Result<Bag, AllocError>
+        ensures ok { IfOk result (λ table. table ≡ table_at self.now version) }
+
+        // Memory only where a row is shown.
+        ensures memory { OnErr result (table_at self.now version ≢ empty) }
+    {
+        table_of(alloc, &self.rows, version)
+    }
+
+    /// Writes counts of rows in the night that was begun last. First the rows are touched, and those that are not there added, with no
+    /// pairs: only this takes memory, and where it is refused some of the rows may have been added.
+    pub fn put(&mut self, rows: &[(Row, i64)]) -> Result<(), AllocError>
+        requires begun { 0 < self.old.night }
+        requires counts { HaveCounts (plain rows.now) }
+        ensures night { self.new.night ≡ self.old.night }
+        ensures ok { OnOk result ((row : List ℤ) → slots self.new row ≡ written N self.old.night (plain rows.now) row (slots self.old row)) }
+        ensures err { OnErr result ((row : List ℤ) → MayBeAdded (plain rows.now) row (slots self.old row) (slots self.new row)) }
+
+        // Memory only where one of the rows has no pair of this night.
+        ensures memory { OnErr result (IsNewToNight (plain rows.now) self.old) }
+    {
+        let last = self.touched.len() - 1;
+        add_rows(&mut self.rows, &mut self.touched[last], rows)?;
+        write_rows(&mut self.rows, self.night, rows);
+        Ok(())
+    }
+
+    /// Takes away what the night that was begun last wrote. It takes no memory, and looks at no row that the night did not touch.
+    pub fn give_up(&mut self)
+        requires begun { 0 < self.old.night }
+        ensures night { self.new.night ≡ self.old.night }
+        ensures rows { (row : List ℤ) → slots self.new row ≡ given_up self.old.night (slots self.old row) }
+    {
+        let last = self.touched.len() - 1;
+        take_back(&mut self.rows, &self.touched[last], self.night);
+    }
+
+    /// Begins the next night, and drops the rows that no session which can be read after it can read. Rows that neither the night before
+    /// nor the first of the last N - 1 touched are not looked at.
+    pub fn begin(&mut self)
+        requires { self.old.night + 1 < 2 ^ 64 }
+        ensures night { self.new.night ≡ self.old.night + 1 }
+        ensures rows { (row : List ℤ) → slots self.new row ≡ begun N (self.old.night + 1) (slots self.old row) }
+    {
+        let last = self.touched.len() - 1;
+        let night = self.night + 1;
+        drop_unread(&mut self.rows, &self.touched[last], night);
+        drop_unread(&mut self.rows, &self.touched[0], night);
+        self.touched.rotate_left(1);
+        self.touched[last] = Pieces::new(self.alloc);
+        self.night = night;
+    }
+
+    /// The same rows again, made by `alloc`. It always takes memory: for the sets of rows that the last nights touched.
+    pub fn copy(&self, alloc: Global) -> Result<Self, AllocError>
+        ensures { IfOk result (λ copy. copy ≡ self.now) }
+    {
+        let rows = self.rows.copy(alloc)?;
+        let touched = copy_sets(alloc, self.touched.as_slice())?;
+        Ok(VersionTable {
+            alloc,
+            night: self.night,
+            rows,
+            touched,
+        })
+    }
+}
