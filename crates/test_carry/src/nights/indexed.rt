@@ -2,10 +2,13 @@
 ghost use Rattle.std.specs.Prelude.{◌≡◌};
 
 use crate::nights::calls::{change_of, comp_of, contents_of, note, rows_of, value_of};
-use crate::nights::catalogs::joined;
 use std::alloc::Global;
 use std::process::Abort;
 use std::test::Fail;
+use test_given::catalogs::{Cell, Every, first_and_fourth, joined};
+use test_given::shapes::shaped;
+use wh_dag::{Catalog, Definition, Output};
+use wh_formula::{Filter, Pred};
 use wh_join::Index;
 use wh_maint::{Pending, Wants};
 use wh_row::Bag;
@@ -67,13 +70,18 @@ fn all_rows_of_a_leave(rt: HostRuntime) -> Result<(), Fail> {
     Ok(())
 }
 
-/// Grants what so many Comps from b want, of which each adds a row to b.
-fn granted(rt: &impl Abort, alloc: Global, tables: &mut [Bag], times: usize) -> Result<(), Fail> {
+/// Grants what so many Comps from b miss, of which each adds a row to b, with what was missed before.
+fn granted(
+    rt: &impl Abort,
+    alloc: Global,
+    wants: &mut Wants,
+    tables: &mut [Bag],
+    times: usize,
+) -> Result<(), Fail> {
     let catalog = joined(alloc)?;
     let changes = one_of_b(alloc)?;
-    let mut wants = Wants::new(alloc);
     for _ in 0..times {
-        note(rt, alloc, &mut wants, &catalog, 2, &[1], tables, &changes)?;
+        note(rt, alloc, wants, &catalog, 2, &[1], tables, &changes)?;
     }
     wants.grant(alloc, tables, 1)?;
     Ok(())
@@ -106,11 +114,11 @@ fn a_table_is_laid_out_where_many_comps_want_it(rt: HostRuntime) -> Result<(), F
     let catalog = joined(alloc)?;
     let changes = one_of_b(alloc)?;
     let mut tables = tables(alloc, of_a(alloc, 1)?, of_b(alloc)?)?;
-    granted(&rt, alloc, &mut tables, 2)?;
+    granted(&rt, alloc, &mut Wants::new(alloc), &mut tables, 2)?;
     assert!(&rt; !is_laid_out(&tables));
     let added = comp_of(&rt, alloc, &catalog, 2, &[1], &tables, &changes);
     assert!(&rt; are_of_three(&added.ok().expect(&rt, "a comp")));
-    granted(&rt, alloc, &mut tables, 20)?;
+    granted(&rt, alloc, &mut Wants::new(alloc), &mut tables, 20)?;
     assert!(&rt; is_laid_out(&tables));
     let added = comp_of(&rt, alloc, &catalog, 2, &[1], &tables, &changes);
     assert!(&rt; are_of_three(&added.ok().expect(&rt, "a comp")));
@@ -123,22 +131,71 @@ fn a_table_is_laid_out_where_few_comps_want_it_again_and_again(
 ) -> Result<(), Fail> {
     let alloc = rt.alloc();
     let mut tables = tables(alloc, of_a(alloc, 1)?, of_b(alloc)?)?;
+    let mut wants = Wants::new(alloc);
     for _ in 0..6 {
-        granted(&rt, alloc, &mut tables, 2)?;
+        granted(&rt, alloc, &mut wants, &mut tables, 2)?;
         assert!(&rt; !is_laid_out(&tables));
     }
-    granted(&rt, alloc, &mut tables, 2)?;
+    granted(&rt, alloc, &mut wants, &mut tables, 2)?;
     assert!(&rt; is_laid_out(&tables));
     Ok(())
 }
 
 #[test]
-fn a_table_is_laid_out_as_a_view_over_it_is_opened(rt: HostRuntime) -> Result<(), Fail> {
+fn what_was_missed_counts_from_0_once_a_table_is_laid_out(rt: HostRuntime) -> Result<(), Fail> {
     let alloc = rt.alloc();
-    let catalog = joined(alloc)?;
-    let mut a = of_a(alloc, 1)?;
-    assert_eq!(&rt; a.miss(50_000), 50_000);
-    let opened = contents_of(&rt, alloc, &catalog, tables(alloc, a, of_b(alloc)?)?);
+    let mut first = tables(alloc, of_a(alloc, 1)?, of_b(alloc)?)?;
+    let mut wants = Wants::new(alloc);
+    granted(&rt, alloc, &mut wants, &mut first, 14)?;
+    assert!(&rt; is_laid_out(&first));
+    let mut again = tables(alloc, of_a(alloc, 2)?, of_b(alloc)?)?;
+    granted(&rt, alloc, &mut wants, &mut again, 2)?;
+    assert!(&rt; !is_laid_out(&again));
+    Ok(())
+}
+
+/// As [`joined`], with seven views that are alike.
+fn joined_often(alloc: Global) -> Result<Catalog<Every, Cell>, Fail> {
+    let shape = shaped(
+        alloc,
+        &[
+            ("a", "-"),
+            ("b", "-"),
+            ("t", "a b"),
+            ("u", "a b"),
+            ("v", "a b"),
+            ("w", "a b"),
+            ("x", "a b"),
+            ("y", "a b"),
+            ("z", "a b"),
+        ],
+    )?;
+    let mut definitions = Vec::new(alloc);
+    for _view in 2..shape.len() {
+        let out = Output::Keep(first_and_fourth(alloc)?);
+        let join = vec![in alloc; (1, 2)]?;
+        let filter = Filter::new(Pred::always(), 4, Every);
+        if !Definition::fits(&join, &filter, &out) {
+            return Err(Fail::new("a definition that does not fit"));
+        }
+        definitions.push(Definition::new(join, filter, out))?;
+    }
+    let widths = vec![in alloc; 2, 2]?;
+    if !Catalog::fits(&shape, &widths, &definitions) {
+        return Err(Fail::new("definitions that do not fit the shape"));
+    }
+    Ok(Catalog::new(alloc, shape, widths, definitions)?)
+}
+
+#[test]
+fn a_table_is_laid_out_as_many_views_over_it_are_opened(rt: HostRuntime) -> Result<(), Fail> {
+    let alloc = rt.alloc();
+    let catalog = joined_often(alloc)?;
+    let mut base = tables(alloc, of_a(alloc, 1)?, of_b(alloc)?)?;
+    for _view in base.len()..catalog.shape().len() {
+        base.push(Bag::new(alloc))?;
+    }
+    let opened = contents_of(&rt, alloc, &catalog, base);
     let opened = opened.ok().expect(&rt, "contents");
     assert!(&rt; is_laid_out(&opened));
     let value = opened.last().expect(&rt, "a view");
