@@ -81,16 +81,6 @@ pub seen_count : (es : Counted) (b : Bag) (row : Row) → from_counts es ≡ b �
 seen_count es b row seen = sym (count-from_counts es row) ∙ ap (λ x. count x row) seen
 
 -- a number is put in as the machine keeps it
-pub put_bag : (w : Width) (es fs : Counted) (b : Bag) (row : Row) (v : ℤ) → from_counts es ≡ b → FitsSigned w v → fs ≡ with_entry es row (to_z w (of_z w v)) → from_counts fs ≡ set_count b row v
-put_bag w es fs b row v seen fits is =
-    ap from_counts (is ∙ ap (with_entry es row) (to_z-of_z fits))
-    ∙ from_counts-with es row v
-    ∙ (λ i. set_count (seen i) row v)
-
-pub put_counts : (w : Width) (es fs : Counted) (row : Row) (v : ℤ) → AreCountsIn w es → (v ≢ pos 0) → FitsSigned w v → fs ≡ with_entry es row (to_z w (of_z w v)) → AreCountsIn w fs
-put_counts w es fs row v counts some fits is =
-    subst (λ (x : Counted). AreCountsIn w x) (sym (is ∙ ap (with_entry es row) (to_z-of_z fits))) (counts-with w es row v counts (some, fits))
-
 -- ---- a map in order, written out
 
 put_first : (k : Row) (n : NonZero) (es : List (Row × NonZero)) → T (below_all row_cmp k es) → put row_cmp k n es ≡ (k, n) ∷ es
@@ -247,12 +237,8 @@ has_found a b mine others is_mine is_others stored has q none = counted_found w6
     zero_count (pos (suc n)) h = absurd (h (λ e. cc))
     zero_count (negsuc n) h = absurd (h (λ e. cc))
 
--- ---- a number put at a row that counts
+-- ---- what a refused call tells
 
 pub told_err : {A E : Type 0} (r : Result A E) (P : Type 0) → P → OnErr r P
 told_err (Ok x) P p = tt
 told_err (Err x) P p = p
-
--- memory is refused only for a row that is new, so it is put there
-pub put_there : {A E : Type 0} (r : Result A E) (es fs : Counted) (row : Row) (v : ℤ) (b : Bag) → from_counts es ≡ b → (count b row ≢ pos 0) → OnOk r (fs ≡ with_entry es row v) → OnErr r (found row es ≡ None) → fs ≡ with_entry es row v
-put_there r es fs row v b is counts ok memory = either_way r _ _ _ ok memory (λ e. e) (λ none. absurd (counts (ap (λ x. count x row) (sym is) ∙ count-from_counts es row ∙ ap (λ o. unwrap_or o (pos 0)) none)))

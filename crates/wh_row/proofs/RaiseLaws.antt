@@ -62,12 +62,6 @@ module _ (w : Width) (es fs : Counted) (b : Bag) (row : Row) (more : ℤ) (allow
 -- ---- where the sum is 0, leaves the width, or is neither
 
 module _ (w : Width) (b s : Bag) (row : Row) (more n : ℤ) (raised : IsRaised w (count b row) more n) (is : s ≡ set_count b row n) where
-  pub still_counts : count b row +ℤ more ≡ pos 0 → (more ≢ pos 0) → count s row ≢ pos 0
-  still_counts zero some e =
-      let now : count s row ≡ n = ap (λ x. count x row) is ∙ count-set_count b row n row ∙ (λ i. cond (itself row i) n (count b row)) in
-      let none : count b row ≡ pos 0 = sym (raised.zero zero) ∙ sym now ∙ e in
-      some (sym (ap (λ z. z +ℤ more) none ∙ +ℤ_idl more) ∙ zero)
-
   pub gone : (t : Bag) → count b row +ℤ more ≡ pos 0 → t ≡ set_count s row (pos 0) → t ≡ plus b row more
   gone t zero again = again ∙ (λ i. set_count (is i) row (pos 0)) ∙ set_twice b row n (pos 0) ∙ ap (set_count b row) (sym zero)
 

@@ -22,6 +22,7 @@ impl<'a> Model for SumRows<'a> {
 }
 
 impl<'a> SumRows<'a> {
+    /// The rows of these entries.
     pub(crate) fn new(entries: Entries<'a, i128>) -> Self
         ensures { result ≡ entries.entry }
     {
