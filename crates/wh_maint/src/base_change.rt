@@ -20,10 +20,8 @@ pub fn changed(alloc: Global, view: usize, table: &Bag, delta: &Bag) -> Result<(
     ensures refused { IfErr result (IsChangeFault view table.now delta.now) }
 {
     if let Some(row) = first_absent(table, delta) {
-        return Err(match Row::from_slice(alloc, row) {
-            Ok(row) => MaintFault::Absent(view, NamedRow::new(row)),
-            Err(_) => MaintFault::Memory,
-        });
+        let row = Row::from_slice(alloc, row)?;
+        return Err(MaintFault::Absent(view, NamedRow::new(row)));
     }
     if !table.sums_fit(delta) {
         return Err(MaintFault::Large(view));

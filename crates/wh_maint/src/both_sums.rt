@@ -40,12 +40,8 @@ pub(crate) fn add_columns(
     if !fit(first, other) {
         return Err(BagFault::Large);
     }
-    let Ok(new) = new_rows(alloc, first, other) else {
-        return Err(BagFault::Memory);
-    };
-    let Ok(()) = add_new(first, &new) else {
-        return Err(BagFault::Memory);
-    };
+    let new = new_rows(alloc, first, other)?;
+    add_new(first, &new)?;
     if let Err(fault) = add_columns(alloc, counts, rest, more, others) {
         take_back(first, &new);
         return Err(fault);

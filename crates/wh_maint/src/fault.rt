@@ -75,6 +75,16 @@ impl MaintFault {
     }
 }
 
+impl From<AllocError> for MaintFault {
+    ghost use Rattle.wh_maint.specs.declared.fault.MaintFault.TheVariants.{Memory};
+
+    ghost from_gives = { λ _ fault. fault ≡ Memory };
+
+    fn from(_error: AllocError) -> MaintFault {
+        MaintFault::Memory
+    }
+}
+
 /// Why combined rows were not added up.
 #[derive(Clone, Copy)]
 pub(crate) enum RowFault {

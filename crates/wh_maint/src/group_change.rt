@@ -270,13 +270,8 @@ fn new_cell(
         (λ cell. cell ≡ cell_after sums pending.now.columns old.entry group.now column) }
 {
     let before = i128::from(old_cell(sums, old, column));
-    let Some(sum) = added(pending, column, group).checked_add(before) else {
-        return None;
-    };
-    match i64::try_from(sum) {
-        Ok(cell) => Some(cell),
-        Err(_) => None,
-    }
+    let sum = added(pending, column, group).checked_add(before)?;
+    i64::try_from(sum).ok()
 }
 
 /// The cell of the group's old row, 0 where it has none.

@@ -24,18 +24,18 @@ returns-then-not-fit-clause-large t c = λ _ all.
     not_true (subst IsTrue c.if-not-fit.true
     (c.fit.ensures.1 (fit_here c.args.counts.now c.args.more.now first c.in-Some.other.now rest c.in-Some.others.now c.args.sums.now c.args.others.now c.in-Some-split_first_mut.ensures.cases.0 c.in-Some.ensures.cases.0 all)))
 
-pub returns-in_default-new_rows-clause-memory : goal.returns-in_default-new_rows-clause-memory
-returns-in_default-new_rows-clause-memory t c = λ _ nothing.
+pub returns-in_err-new-clause-memory : goal.returns-in_err-new-clause-memory
+returns-in_err-new-clause-memory t c = λ _ nothing.
     let first = c.in-Some-split_first_mut.first.now in
     let rest = c.in-Some-split_first_mut.rest.now in
-    c.in_default-new_rows.ensures.memory
+    c.in_err-new.ensures.memory
     (nothing_here c.args.counts.now c.args.more.now first c.in-Some.other.now rest c.in-Some.others.now c.args.sums.now c.args.others.now c.in-Some-split_first_mut.ensures.cases.0 c.in-Some.ensures.cases.0 nothing)
 
-pub returns-in_default-add_new-clause-memory : goal.returns-in_default-add_new-clause-memory
-returns-in_default-add_new-clause-memory t c = λ _ nothing.
+pub returns-in_err-add_new-clause-memory : goal.returns-in_err-add_new-clause-memory
+returns-in_err-add_new-clause-memory t c = λ _ nothing.
     let first = c.in-Some-split_first_mut.first.now in
     let rest = c.in-Some-split_first_mut.rest.now in
-    brings_some first c.in-Some.other.now c.in-Ok.new c.in-Ok.ensures.new c.in_default-add_new.ensures.memory
+    brings_some first c.in-Some.other.now c.in_ok-new.new c.in_ok-new.ensures.new c.in_err-add_new.ensures.memory
     (nothing_here c.args.counts.now c.args.more.now first c.in-Some.other.now rest c.in-Some.others.now c.args.sums.now c.args.others.now c.in-Some-split_first_mut.ensures.cases.0 c.in-Some.ensures.cases.0 nothing)
 
 pub returns-in-Err-clause-large : goal.returns-in-Err-clause-large
@@ -56,8 +56,8 @@ pub returns-in-Err-clause-sums_err : goal.returns-in-Err-clause-sums_err
 returns-in-Err-clause-sums_err t c =
     let first = c.in-Some-split_first_mut.first.now in
     let back : c.take_back.new.sums ≡ first =
-    taken_back first c.in-Ok.new c.add_new.new.sums c.take_back.new.sums (apart first c.in-Some.other.now c.in-Ok.new c.in-Ok.ensures.new)
-    (others_same first c.in-Ok.new c.add_new.new.sums c.in-Ok-add_new.ensures.ok) c.take_back.ensures.gone c.take_back.ensures.kept in
+    taken_back first c.in_ok-new.new c.add_new.new.sums c.take_back.new.sums (apart first c.in-Some.other.now c.in_ok-new.new c.in_ok-new.ensures.new)
+    (others_same first c.in_ok-new.new c.add_new.new.sums c.in_ok-add_new.ensures.ok) c.take_back.ensures.gone c.take_back.ensures.kept in
     (λ i. back i ∷ c.in-Err.ensures.sums_err i) ∙ sym c.in-Some-split_first_mut.ensures.cases.0
 
 pub returns-clause-sums : goal.returns-clause-sums
@@ -65,5 +65,5 @@ returns-clause-sums t c =
     let first = c.in-Some-split_first_mut.first.now in
     let rest = c.in-Some-split_first_mut.rest.now in
     column_more first c.in-Some.other.now c.add_others.new.sums rest c.in-Some.others.now c.args.sums.now c.args.others.now c.add_columns.new.sums c.in-Some-split_first_mut.ensures.cases.0 c.in-Some.ensures.cases.0
-    (column_added first c.in-Some.other.now c.in-Ok.new c.add_new.new.sums c.add_others.new.sums c.in-Ok-add_new.ensures.ok c.add_others.ensures)
+    (column_added first c.in-Some.other.now c.in_ok-new.new c.add_new.new.sums c.add_others.new.sums c.in_ok-add_new.ensures.ok c.add_others.ensures)
     c.in_default-add_columns.ensures.sums
