@@ -4,5 +4,6 @@ pub mod FaultText
 pub mod FirstFault
 pub mod Line
 pub mod NameForm
+pub mod ValueOrFault
 pub mod WholeNumber
 pub mod Inner

@@ -204,6 +204,23 @@ impl From<AllocError> for LoadFault {
     }
 }
 
+impl From<ShapeFault> for LoadFault {
+    ghost use Rattle.std.specs.Prelude.{◌≢◌, ◌⊎◌};
+    ghost use Rattle.wh_dag.specs.declared.fault.ShapeFault.TheVariants as shape_fault;
+    ghost use Rattle.wh_text.specs.declared.fault.LoadFault.TheVariants as load_fault;
+
+    // Refused memory is one fault wherever it was refused.
+    ghost from_gives = { λ own f. ((own ≡ shape_fault.Memory) × (f ≡ load_fault.Memory))
+        ⊎ ((own ≢ shape_fault.Memory) × (f ≡ load_fault.Shape own)) };
+
+    fn from(own: ShapeFault) -> LoadFault {
+        match own {
+            ShapeFault::Memory => LoadFault::Memory,
+            own => LoadFault::Shape(own),
+        }
+    }
+}
+
 impl<T: Drop> From<AllocFailed<T>> for LoadFault {
     ghost use Rattle.wh_text.specs.declared.fault.LoadFault.TheVariants.{Memory};
 

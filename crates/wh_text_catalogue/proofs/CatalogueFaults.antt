@@ -15,7 +15,8 @@ use Rattle.wh_text.specs.declared.fault.Key.TheVariants as key
 use Rattle.wh_text.specs.declared.fault.LoadFault.{LoadFault}
 use Rattle.wh_text.specs.declared.fault.LoadFault.TheVariants as fault
 use Rattle.wh_text.proofs.FirstFaults.{IsFirstIn, first_in, first_of, first_of-append, is-first-in, none-in}
-use Rattle.wh_text_catalogue.specs.Catalogue.{◌>>=◌, WrittenViews, document_of, judged, over_in, shape_written, view_name, view_over, views_of, written_views}
+use Rattle.wh_text.specs.ValueOrFault.{◌>>=◌}
+use Rattle.wh_text_catalogue.specs.Catalogue.{WrittenViews, document_of, judged, over_in, shape_written, view_name, view_over, views_of, written_views}
 use Rattle.wh_text_catalogue.specs.CatalogueFaults.{CatalogueWrong, ShapeWrong, ShapesEndByFirst, child_judged, children_judged, in_keys, in_shape, in_views, is_not_above, is_toml, is_wrong_over, keys_judged, no_toml, no_views, over_judged, tables_in, texts_in, view_judged, view_names, view_overs}
 
 same_value : {A : Type 0} (first second : A) → ◌≡◌ {A = Result A LoadFault} (Ok first) (Ok second) → first ≡ second

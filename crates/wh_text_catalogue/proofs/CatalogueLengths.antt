@@ -7,7 +7,8 @@ use Rattle.wh_dag.specs.Shape.{Views}
 use Rattle.wh_dag.specs.Written.{children_written}
 use Rattle.wh_dag.specs.declared.fault.ShapeFault.{ShapeFault}
 use Rattle.wh_text_catalogue.proofs.CatalogueNames.{gone_on}
-use Rattle.wh_text_catalogue.specs.Catalogue.{WrittenViews, ◌>>=◌, document_of, views_of, named, view_over, written_views, judged, shape_of, shape_written}
+use Rattle.wh_text.specs.ValueOrFault.{◌>>=◌}
+use Rattle.wh_text_catalogue.specs.Catalogue.{WrittenViews, document_of, views_of, named, view_over, written_views, judged, shape_of, shape_written}
 
 written_views-length : (values : List Data) (views : WrittenViews) → written_views values ≡ Ok views → length views.over ≡ length values
 written_views-length [] views same = let none : record { names = []; over = [] } ≡ views = cc in rw (← none) refl

@@ -10,7 +10,8 @@ use Rattle.wh_dag.specs.Written.{children_written}
 use Rattle.wh_dag.specs.declared.fault.ShapeFault.{ShapeFault}
 use Rattle.wh_text.specs.NameForm.{is_name}
 use Rattle.wh_text.specs.declared.fault.LoadFault.{LoadFault}
-use Rattle.wh_text_catalogue.specs.Catalogue.{WrittenViews, ◌>>=◌, document_of, views_of, name_in, view_name, named, view_over, written_views, judged, shape_of}
+use Rattle.wh_text.specs.ValueOrFault.{◌>>=◌}
+use Rattle.wh_text_catalogue.specs.Catalogue.{WrittenViews, document_of, views_of, name_in, view_name, named, view_over, written_views, judged, shape_of}
 
 -- a chain that ends well went on from a value
 pub gone_on : {A B : Type 0} (first : Result A LoadFault) (next : A → Result B LoadFault) (last : B) → (first >>= next) ≡ Ok last → (value : A) × (first ≡ Ok value) × (next value ≡ Ok last)

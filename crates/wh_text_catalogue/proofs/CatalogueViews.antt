@@ -2,7 +2,8 @@
 use Rattle.std.proofs.Common.{◌≡◌, ℕ, List, [], ◌∷◌, ◌++◌, Option, Result, Ok, Err, refl, append_assoc}
 use Rattle.toml.specs.Data.{Data}
 use Rattle.wh_text.specs.declared.fault.LoadFault.{LoadFault}
-use Rattle.wh_text_catalogue.specs.Catalogue.{WrittenViews, ◌>>=◌, named, view_over, written_views}
+use Rattle.wh_text.specs.ValueOrFault.{◌>>=◌}
+use Rattle.wh_text_catalogue.specs.Catalogue.{WrittenViews, named, view_over, written_views}
 
 -- the views of what is left, after those found
 abbrev pub after_views : WrittenViews → Result WrittenViews LoadFault → Result WrittenViews LoadFault

@@ -19,7 +19,8 @@ use Rattle.wh_text.specs.Columns.{NamedKind}
 use Rattle.wh_text.specs.declared.fault.Key.TheVariants as key
 use Rattle.wh_text.specs.declared.fault.LoadFault.{LoadFault}
 use Rattle.wh_text.specs.declared.fault.LoadFault.TheVariants as fault
-use Rattle.wh_text_catalogue.specs.Catalogue.{WrittenViews, ◌>>=◌, document_of, judged, named, over_in, shape_of, shape_written, view_over, views_of, written_views}
+use Rattle.wh_text.specs.ValueOrFault.{◌>>=◌}
+use Rattle.wh_text_catalogue.specs.Catalogue.{WrittenViews, document_of, judged, named, over_in, shape_of, shape_written, view_over, views_of, written_views}
 use Rattle.wh_text_catalogue.specs.ColumnNames.{unless_unknown}
 use Rattle.wh_text_catalogue.specs.Definitions.{ViewOf, base_view, child_columns, columns_of, definitions_of, derived_view, header_of, next_view, qualified, view_at, views_after}
 use Rattle.wh_text_catalogue.specs.BaseColumns.{base_columns}

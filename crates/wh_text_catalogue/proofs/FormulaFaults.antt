@@ -20,7 +20,7 @@ use Rattle.wh_text.specs.declared.columns.Kind.TheVariants.{Int}
 use Rattle.wh_text.specs.declared.fault.LoadFault.{LoadFault}
 use Rattle.wh_text.specs.declared.fault.LoadFault.TheVariants as fault
 use Rattle.wh_text.proofs.FirstFaults.{first_of}
-use Rattle.wh_text_catalogue.specs.Catalogue.{◌>>=◌}
+use Rattle.wh_text.specs.ValueOrFault.{◌>>=◌}
 use Rattle.wh_text_catalogue.specs.ColumnNames.{checked}
 use Rattle.wh_text_catalogue.specs.ExprForm.{WrittenExpr, expr_form, is_expr, parts_pass}
 use Rattle.wh_text_catalogue.specs.ExprForm as level

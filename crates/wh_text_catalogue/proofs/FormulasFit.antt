@@ -16,7 +16,7 @@ use Rattle.wh_text.specs.Columns.{NamedKind}
 use Rattle.wh_text.specs.Dict.{number_of_text, with_text}
 use Rattle.wh_text.specs.declared.columns.Kind.TheVariants.{Int, Text}
 use Rattle.wh_text.specs.declared.fault.LoadFault.{LoadFault}
-use Rattle.wh_text_catalogue.specs.Catalogue.{◌>>=◌}
+use Rattle.wh_text.specs.ValueOrFault.{◌>>=◌}
 use Rattle.wh_text_catalogue.specs.ColumnNames.{checked, unless_unknown}
 use Rattle.wh_text_catalogue.specs.ExprForm.{WrittenExpr, expr_form}
 use Rattle.wh_text_catalogue.specs.ExprForm as form

@@ -20,7 +20,7 @@ use Rattle.wh_text_catalogue.specs.ColumnNames.{Seen, checked, fresh_name}
 use Rattle.wh_text_catalogue.specs.FormulaKinds.{Texts, unfit}
 use Rattle.wh_text_catalogue.specs.Formula.{whole_expr}
 use Rattle.wh_text_catalogue.specs.Header.{HeaderOf, cell_of}
-use Rattle.wh_text_catalogue.specs.Output.{ColumnsOf, Groups, count_column, count_written, group_written, groups_of, kept, output_at, output_of, summed, sums_at, sums_of}
+use Rattle.wh_text_catalogue.specs.Output.{ColumnsOf, Groups, count_column, count_written, group_written, groups_of, joined_columns, output_at, output_of, summary_columns, sum_pairs_at, sum_columns}
 use Rattle.wh_text_catalogue.specs.Pairs.{GroupColumns, TypedColumns, WrittenPair, are_exprs, are_references, group_cell, group_columns, grouped, known_pairs, pairs_written, reference_in, takes_kind, typed_cell, typed_columns, typed_pairs, with_cell, with_expr}
 use Rattle.wh_text_catalogue.specs.declared.definitions.header.Cell.{Cell}
 use Rattle.wh_text_catalogue.specs.declared.definitions.typed_pairs.KindRule.{KindRule}
@@ -112,7 +112,7 @@ length-names columns = length-map columns (λ (column : NamedKind). column.name)
 length-pairs : (pairs : List WrittenPair) → length (pair_names pairs) ≡ length pairs
 length-pairs pairs = length-map pairs (λ (pair : WrittenPair). pair.name)
 
-kept-output : (header : HeaderOf) (value : Data) (texts : Texts) (own : ColumnsOf) (after : Texts) → kept header value texts ≡ Ok (own, after) → IsOutput header own
+kept-output : (header : HeaderOf) (value : Data) (texts : Texts) (own : ColumnsOf) (after : Texts) → joined_columns header value texts ≡ Ok (own, after) → IsOutput header own
 kept-output header value texts own after e =
     let pairs = gone_on (pairs_written key.Keep value) _ (own, after) e in
     let formed = gone_on (checked (is_few (length pairs.0) && are_exprs pairs.0) (fault.Key key.Keep) pairs.0) _ (own, after) pairs.2 in
@@ -136,7 +136,7 @@ kept-output header value texts own after e =
     and-first true b h = refl
     and-first false b h = h
 
-sums-names : (view : Option Data) (pairs : List WrittenPair) → sums_at view ≡ Ok pairs → list_all has_pair_name pairs ≡ true
+sums-names : (view : Option Data) (pairs : List WrittenPair) → sum_pairs_at view ≡ Ok pairs → list_all has_pair_name pairs ≡ true
 unfolding has_pair_name
 sums-names None pairs e = let same : [] ≡ pairs = cc in rw (← same) refl
 sums-names (Some value) pairs e =
@@ -188,9 +188,9 @@ record AreSums (header : HeaderOf) (before : List NamedKind) (typed : TypedColum
   pub within : All (λ e. IsTrue (fits (length header.columns) e)) typed.exprs
 
 are-sums : (header : HeaderOf) (seen : Seen) (before : List NamedKind) (view : Data) (texts : Texts) (typed : TypedColumns) (after : Texts) → AreApart seen → names_of before ≡ seen
-    → sums_of header seen before view texts ≡ Ok (typed, after) → AreSums header before typed
+    → sum_columns header seen before view texts ≡ Ok (typed, after) → AreSums header before typed
 are-sums header seen before view texts typed after own same e =
-    let pairs = gone_on (sums_at (get (codes "sum") view)) _ (typed, after) e in
+    let pairs = gone_on (sum_pairs_at (get (codes "sum") view)) _ (typed, after) e in
     let names = gone_on (known_pairs header.columns seen pairs.0) _ (typed, after) pairs.2 in
     let are = are-typed header Numbers (typed_columns before []) pairs.0 texts typed after refl names.2 in
     let apart = known-apart header.columns seen pairs.0 names.0 own (sums-names (get (codes "sum") view) pairs.0 pairs.1) names.1 in
@@ -205,7 +205,7 @@ are-sums header seen before view texts typed after own same e =
 
 -- a summary of these groups and sums
 summary : (header : HeaderOf) (groups : Groups) (name : List ℕ) (names : Seen) (view : Data) (texts : Texts) (sums : TypedColumns) (after : Texts) (columns : List NamedKind)
-    → AreGroups header groups → is_name name ≡ true → fresh_name groups.names name ≡ Ok names → sums_of header names (groups.found.columns ++ count_column name ∷ []) view texts ≡ Ok (sums, after)
+    → AreGroups header groups → is_name name ≡ true → fresh_name groups.names name ≡ Ok names → sum_columns header names (groups.found.columns ++ count_column name ∷ []) view texts ≡ Ok (sums, after)
     → nat_le (length sums.columns) 64 ≡ true → sums.columns ≡ columns → IsOutput header (record { columns = columns; output = Sums groups.found.places sums.exprs })
 summary header groups name names view texts sums after columns are formed fresh read few same =
     let counted = apart-next groups.names name names are.apart formed fresh in
@@ -221,12 +221,12 @@ summary header groups name names view texts sums after columns are formed fresh 
       within = (are.within, more.within);
     })
 
-summed-output : (header : HeaderOf) (view value : Data) (texts : Texts) (own : ColumnsOf) (after : Texts) → summed header view value texts ≡ Ok (own, after) → IsOutput header own
+summed-output : (header : HeaderOf) (view value : Data) (texts : Texts) (own : ColumnsOf) (after : Texts) → summary_columns header view value texts ≡ Ok (own, after) → IsOutput header own
 summed-output header view value texts own after e =
     let groups = gone_on (groups_of header value) _ (own, after) e in
     let count = gone_on (count_written view) _ (own, after) groups.2 in
     let names = gone_on (fresh_name groups.0.names count.0) _ (own, after) count.2 in
-    let sums = gone_on (sums_of header names.0 (groups.0.found.columns ++ count_column count.0 ∷ []) view texts) _ (own, after) names.2 in
+    let sums = gone_on (sum_columns header names.0 (groups.0.found.columns ++ count_column count.0 ∷ []) view texts) _ (own, after) names.2 in
     let columns = gone_on (checked (nat_le (length sums.0.0.columns) 64) (fault.Key key.Group) sums.0.0.columns) _ (own, after) sums.2 in
     let test = checked-ok (nat_le (length sums.0.0.columns) 64) (fault.Key key.Group) sums.0.0.columns columns.0 columns.1 in
     along own (first-of {A = ColumnsOf} {B = Texts} (record { columns = columns.0; output = Sums groups.0.found.places sums.0.0.exprs }, sums.0.1) own after _ refl columns.2)
@@ -242,4 +242,4 @@ output-within header view texts own after = at (get (codes "keep") view) (get (c
     at None None e = cc e
     at None (Some group) e = summed-output header view group texts own after e
     at (Some keep) None e = kept-output header keep texts own after e
-    at (Some keep) (Some group) e = let columns = gone_on (kept header keep texts) _ (own, after) e in cc
+    at (Some keep) (Some group) e = let columns = gone_on (joined_columns header keep texts) _ (own, after) e in cc

@@ -9,7 +9,8 @@ use Rattle.wh_dag.proofs.Made.{shape_of as made_shape}
 use Rattle.wh_text.specs.declared.fault.Key.TheVariants as key
 use Rattle.wh_text.specs.declared.fault.LoadFault.{LoadFault}
 use Rattle.wh_text.specs.declared.fault.LoadFault.TheVariants as fault
-use Rattle.wh_text_catalogue.specs.Catalogue.{WrittenViews, ◌>>=◌, document_of, judged, named, shape_of, view_over, views_of, written_views}
+use Rattle.wh_text.specs.ValueOrFault.{◌>>=◌}
+use Rattle.wh_text_catalogue.specs.Catalogue.{WrittenViews, document_of, judged, named, shape_of, view_over, views_of, written_views}
 use Rattle.std.specs.Prelude.{ok_or}
 
 -- a value that comes of a step is that of the next step

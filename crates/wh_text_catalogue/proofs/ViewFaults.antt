@@ -18,7 +18,8 @@ use Rattle.wh_text.specs.declared.fault.LoadFault.{LoadFault}
 use Rattle.wh_text.specs.declared.fault.LoadFault.TheVariants as fault
 use Rattle.wh_text.proofs.FirstFaults.{IsFirstOf, first_of, first_of-append, is-first, none-finds}
 use Rattle.wh_text_catalogue.specs.BaseColumns.{base_columns, columns_in, columns_written, is_few}
-use Rattle.wh_text_catalogue.specs.Catalogue.{◌>>=◌, array_of}
+use Rattle.wh_text.specs.ValueOrFault.{◌>>=◌}
+use Rattle.wh_text_catalogue.specs.Catalogue.{array_of}
 use Rattle.wh_text_catalogue.specs.ColumnNames.{Seen, checked, fresh_columns, fresh_name, unless_unknown}
 use Rattle.wh_text_catalogue.specs.Definitions.{ViewOf, ViewOutcome, derived_view, header_of, next_view, view_at, views_after}
 use Rattle.wh_text_catalogue.specs.ExprForm.{Reference, is_expr, parts_pass}
@@ -28,7 +29,7 @@ use Rattle.wh_text_catalogue.specs.FormulaColumns.{unknown}
 use Rattle.wh_text_catalogue.specs.FormulaKinds.{Texts, unfit}
 use Rattle.wh_text_catalogue.specs.Header.{HeaderOf, cell_of}
 use Rattle.wh_text_catalogue.specs.Join.{WrittenLink, join_of, joined, joined_link, links_written, same_kind, unknown_in_links}
-use Rattle.wh_text_catalogue.specs.Output.{ColumnsOf, Groups, OutputOutcome, count_column, count_written, group_written, groups_of, kept, output_at, output_of, summed, sums_at, sums_of}
+use Rattle.wh_text_catalogue.specs.Output.{ColumnsOf, Groups, OutputOutcome, count_column, count_written, group_written, groups_of, joined_columns, output_at, output_of, summary_columns, sum_pairs_at, sum_columns}
 use Rattle.wh_text_catalogue.specs.Pairs.{GroupColumns, TypedColumns, WrittenPair, are_exprs, are_references, group_cell, group_columns, grouped, known_pairs, pairs_written, reference_in, typed_cell, typed_columns, typed_pairs, with_cell, with_expr}
 use Rattle.wh_text_catalogue.specs.Reference.{is_reference}
 use Rattle.wh_text_catalogue.specs.ViewFaults.{DefinitionsEndByFirst, DefinitionsWrong, are_one_kind, base_judged, columns_form, count_form, count_judged, derived_judged, formed, group_form, group_judged, group_judged_cell, group_names, in_view, join_judged, keep_judged, kind_of, kinds_fit, kinds_judged, link_judged, link_kinds_judged, links_form, name_judged, names_judged, output_judged, pairs_form, pairs_judged, passing, reference_judged, references_judged, sum_form, sum_judged, summary_judged, table_judged, takes, where_judged, width_of}
@@ -282,7 +283,7 @@ grouped-length header found read (pair ∷ rest) e =
 abbrev keeps : List WrittenPair → Bool
 keeps pairs = is_few (length pairs) && are_exprs pairs
 
-keep-judged : (header : HeaderOf) (value : Data) (texts : Texts) → result_err (kept header value texts) ≡ first_of (keep_judged header value)
+keep-judged : (header : HeaderOf) (value : Data) (texts : Texts) → result_err (joined_columns header value texts) ≡ first_of (keep_judged header value)
 keep-judged header value texts =
     let last : List WrittenPair → OutputOutcome = λ pairs. typed_pairs header AnyKind (typed_columns [] []) pairs texts >>= (λ (typed : TypedColumns × Texts). Ok (record { columns = typed.0.columns; output = Keep typed.0.exprs }, typed.1)) in
     let next : List WrittenPair → OutputOutcome = λ pairs. known_pairs header.columns [] pairs >>= (λ names. last pairs) in
@@ -352,7 +353,7 @@ is-grouped header value groups e =
 
 -- `sum`.
 
-sum-written : (o : Option Data) → sums_at o ≡ ok_or (sum_form o) (fault.Key key.Sum)
+sum-written : (o : Option Data) → sum_pairs_at o ≡ ok_or (sum_form o) (fault.Key key.Sum)
 sum-written None = refl
 sum-written (Some value) = passing-is (pairs_form value) (fault.Key key.Sum) are_exprs
 
@@ -360,7 +361,7 @@ sum-exprs : (o : Option Data) (pairs : List WrittenPair) → sum_form o ≡ Some
 sum-exprs None pairs e = (let same : [] ≡ pairs = cc in ap are_exprs (sym same))
 sum-exprs (Some value) pairs e = (passed are_exprs (pairs_form value) pairs e).1
 
-sum-judged : (header : HeaderOf) (above : Seen) (columns : List NamedKind) (entry : Data) (texts : Texts) → result_err (sums_of header above columns entry texts) ≡ first_of (sum_judged header above (get (codes "sum") entry))
+sum-judged : (header : HeaderOf) (above : Seen) (columns : List NamedKind) (entry : Data) (texts : Texts) → result_err (sum_columns header above columns entry texts) ≡ first_of (sum_judged header above (get (codes "sum") entry))
 sum-judged header above columns entry texts =
     let last : List WrittenPair → Result (TypedColumns × Texts) LoadFault = λ pairs. typed_pairs header Numbers (typed_columns columns []) pairs texts in
     let next : List WrittenPair → Result (TypedColumns × Texts) LoadFault = λ pairs. known_pairs header.columns above pairs >>= (λ names. last pairs) in
@@ -370,10 +371,10 @@ sum-judged header above columns entry texts =
     (pairs-judge header.columns above pairs (exprs-referring header.columns pairs (sum-exprs (get (codes "sum") entry) pairs e)))
     (λ names same. typed-judged header Numbers (typed_columns columns []) pairs texts))
 
-sum-length : (header : HeaderOf) (above : Seen) (columns : List NamedKind) (entry : Data) (texts : Texts) (sums : TypedColumns × Texts) → sums_of header above columns entry texts ≡ Ok sums
+sum-length : (header : HeaderOf) (above : Seen) (columns : List NamedKind) (entry : Data) (texts : Texts) (sums : TypedColumns × Texts) → sum_columns header above columns entry texts ≡ Ok sums
     → length sums.0.columns ≡ length columns + length (unwrap_or (sum_form (get (codes "sum") entry)) [])
 sum-length header above columns entry texts sums e =
-    let pairs = gone_on (sums_at (get (codes "sum") entry)) _ sums e in
+    let pairs = gone_on (sum_pairs_at (get (codes "sum") entry)) _ sums e in
     let names = gone_on (known_pairs header.columns above pairs.0) _ sums pairs.2 in
     let form = form-of (sum_form (get (codes "sum") entry)) (fault.Key key.Sum) pairs.0 (sym (sum-written (get (codes "sum") entry)) ∙ pairs.1) in
     typed-length header Numbers (typed_columns columns []) pairs.0 texts sums names.2 ∙ ap (λ o. length columns + length (unwrap_or o [])) (sym form)
@@ -383,7 +384,7 @@ sum-length header above columns entry texts sums e =
 -- what follows `group`
 abbrev after_group : HeaderOf → Data → Groups → Texts → List ℕ → OutputOutcome
 after_group header entry groups texts count =
-    fresh_name groups.names count >>= (λ names. sums_of header names (groups.found.columns ++ count_column count ∷ []) entry texts
+    fresh_name groups.names count >>= (λ names. sum_columns header names (groups.found.columns ++ count_column count ∷ []) entry texts
     >>= (λ (sums : TypedColumns × Texts). checked (nat_le (length sums.0.columns) 64) (fault.Key key.Group) sums.0.columns
     >>= (λ columns. Ok (record { columns = columns; output = Sums groups.found.places sums.0.exprs }, sums.1))))
 
@@ -395,14 +396,14 @@ sums-judged header entry value groups texts count is =
     one-judged (fresh_name groups.names count) _ (name_judged (group_names value) count)
     (sum_judged header (group_names value ++ count ∷ []) (get (codes "sum") entry) ++ fault_if (not (nat_le (width_of value (get (codes "sum") entry)) 64)) (fault.Key key.Group) ∷ [])
     (fresh-judged groups.names count ∙ ap (λ ns. name_judged ns count) is.names)
-    (λ names e. then-judged (sums_of header names (groups.found.columns ++ count_column count ∷ []) entry texts)
+    (λ names e. then-judged (sum_columns header names (groups.found.columns ++ count_column count ∷ []) entry texts)
     (λ (sums : TypedColumns × Texts). checked (nat_le (length sums.0.columns) 64) (fault.Key key.Group) sums.0.columns >>= (λ columns. Ok (record { columns = columns; output = Sums groups.found.places sums.0.exprs }, sums.1)))
     (sum_judged header (group_names value ++ count ∷ []) (get (codes "sum") entry)) (fault_if (not (nat_le (width_of value (get (codes "sum") entry)) 64)) (fault.Key key.Group) ∷ [])
     (sum-judged header names (groups.found.columns ++ count_column count ∷ []) entry texts
     ∙ ap (λ ns. first_of (sum_judged header ns (get (codes "sum") entry))) (fresh-is groups.names count names e ∙ ap (λ ns. ns ++ count ∷ []) is.names))
     (λ sums same. total sums (nat_le (length sums.0.columns) 64) (ap (λ n. nat_le n 64) (width sums names same))))
   where
-    width : (sums : TypedColumns × Texts) (names : Seen) → sums_of header names (groups.found.columns ++ count_column count ∷ []) entry texts ≡ Ok sums → length sums.0.columns ≡ width_of value (get (codes "sum") entry)
+    width : (sums : TypedColumns × Texts) (names : Seen) → sum_columns header names (groups.found.columns ++ count_column count ∷ []) entry texts ≡ Ok sums → length sums.0.columns ≡ width_of value (get (codes "sum") entry)
     width sums names same =
         sum-length header names (groups.found.columns ++ count_column count ∷ []) entry texts sums same
         ∙ ap (λ n. n + length (unwrap_or (sum_form (get (codes "sum") entry)) [])) (length-append groups.found.columns (count_column count ∷ []) ∙ ap (λ n. n + 1) is.long)
@@ -425,7 +426,7 @@ count-judged header entry value groups texts is = by (count_form entry)
     by None = refl
     by (Some count) = sums-judged header entry value groups texts count is
 
-summary-judged : (header : HeaderOf) (entry value : Data) (texts : Texts) → result_err (summed header entry value texts) ≡ first_of (summary_judged header entry value)
+summary-judged : (header : HeaderOf) (entry value : Data) (texts : Texts) → result_err (summary_columns header entry value texts) ≡ first_of (summary_judged header entry value)
 summary-judged header entry value texts =
     then-judged (groups_of header value) (λ groups. count_written entry >>= after_group header entry groups texts) (group_judged header value)
     (count_judged (group_names value) entry
@@ -440,7 +441,7 @@ output-judged header entry None None texts = refl
 output-judged header entry None (Some group) texts = summary-judged header entry group texts
 output-judged header entry (Some keep) None texts = keep-judged header keep texts
 output-judged header entry (Some keep) (Some group) texts =
-    then-judged (kept header keep texts) (λ columns. Err (fault.Key key.Group)) (keep_judged header keep) (Some (fault.Key key.Group) ∷ []) (keep-judged header keep texts) (λ columns e. refl)
+    then-judged (joined_columns header keep texts) (λ columns. Err (fault.Key key.Group)) (keep_judged header keep) (Some (fault.Key key.Group) ∷ []) (keep-judged header keep texts) (λ columns e. refl)
 
 -- what a derived view is made of
 abbrev made_view : HeaderOf → List (ℕ × ℕ) → PredTree → ColumnsOf × Texts → ViewOf × Texts

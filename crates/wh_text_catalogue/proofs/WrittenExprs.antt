@@ -12,7 +12,7 @@ use Rattle.wh_text.specs.declared.columns.Kind.{Kind}
 use Rattle.wh_text.specs.declared.columns.Kind.TheVariants.{Int, Text}
 use Rattle.wh_text.specs.declared.fault.LoadFault.{LoadFault}
 use Rattle.wh_text.proofs.DictGrowth.{begins-same, begins-texts}
-use Rattle.wh_text_catalogue.specs.Catalogue.{◌>>=◌}
+use Rattle.wh_text.specs.ValueOrFault.{◌>>=◌}
 use Rattle.wh_text_catalogue.specs.ExprForm.{WrittenExpr, expr_form, is_expr, parts_pass}
 use Rattle.wh_text_catalogue.specs.ExprForm as level
 use Rattle.wh_text_catalogue.specs.Formula.{is_whole_expr, unknown_column, whole_expr}

@@ -9,7 +9,8 @@ use Rattle.wh_text.specs.declared.columns.Kind.{Kind}
 use Rattle.wh_text.specs.declared.columns.Kind.TheVariants.{Int, Text}
 use Rattle.wh_text.specs.declared.fault.Key.TheVariants as key
 use Rattle.wh_text.specs.declared.fault.LoadFault.TheVariants as fault
-use Rattle.wh_text_catalogue.specs.Catalogue.{◌>>=◌, array_of, elements}
+use Rattle.wh_text.specs.ValueOrFault.{◌>>=◌}
+use Rattle.wh_text_catalogue.specs.Catalogue.{array_of, elements}
 use Rattle.wh_text_catalogue.specs.ColumnNames.{unless_unknown}
 use Rattle.wh_text_catalogue.specs.Header.{HeaderOf, cell_of}
 use Rattle.wh_text_catalogue.specs.Join.{WrittenLink, joined, joined_link, link_of, linked, linked_cell, links_in, links_written, same_kind, unknown_in_link, unknown_in_links}

@@ -20,11 +20,12 @@ use Rattle.wh_text.specs.declared.fault.Key.TheVariants as key
 use Rattle.wh_text.specs.declared.fault.LoadFault.TheVariants as fault
 use Rattle.wh_text.proofs.DictGrowth.{begins-same}
 use Rattle.wh_text_catalogue.specs.BaseColumns.{is_few}
-use Rattle.wh_text_catalogue.specs.Catalogue.{◌>>=◌, name_in}
+use Rattle.wh_text.specs.ValueOrFault.{◌>>=◌}
+use Rattle.wh_text_catalogue.specs.Catalogue.{name_in}
 use Rattle.wh_text_catalogue.specs.ColumnNames.{Seen, checked, fresh_name}
 use Rattle.wh_text_catalogue.specs.FormulaKinds.{Texts, is_int}
 use Rattle.wh_text_catalogue.specs.Header.{HeaderOf}
-use Rattle.wh_text_catalogue.specs.Output.{ColumnsOf, Groups, count_column, count_written, group_written, groups, groups_of, kept, output_at, output_of, summed, sums_at, sums_of}
+use Rattle.wh_text_catalogue.specs.Output.{ColumnsOf, Groups, count_column, count_written, group_written, groups, groups_of, joined_columns, output_at, output_of, summary_columns, sum_pairs_at, sum_columns}
 use Rattle.wh_text_catalogue.specs.Pairs.{TypedColumns, WrittenPair, are_exprs, are_references, group_columns, grouped, known_pairs, pairs_written, typed_columns, typed_pairs}
 use Rattle.wh_text_catalogue.specs.WrittenFormula.{IsExprWritten, literals}
 use Rattle.wh_text_catalogue.specs.WrittenLaws.{AreReferences}
@@ -98,7 +99,7 @@ few-made n some few = rw (le-leb 1 n some, le-leb n 64 few) refl
 
 keep-read : (header : HeaderOf) (all : Texts) (columns : List NamedKind) (exprs : List ExprTree) (value : Data) (before : Texts) → AreReferences header.columns → IsDistinct bytes_eq all
     → All (λ e. depth e ≤ 64) exprs → 1 ≤ length columns → length columns ≤ 64 → AreNamed columns → IsListWritten header.columns all columns exprs (Some value)
-    → BeginsWith (with_texts before (literals value)) all → kept header value before ≡ Ok (record { columns = columns; output = Keep exprs }, with_texts before (literals value))
+    → BeginsWith (with_texts before (literals value)) all → joined_columns header value before ≡ Ok (record { columns = columns; output = Keep exprs }, with_texts before (literals value))
 keep-read header all columns exprs value before are distinct deep some few named w begins =
     let list = list-of header.columns all columns exprs value w in
     let same : literals value ≡ pair_literals list.pairs = list-literals value list.pairs list.is in
@@ -107,7 +108,7 @@ keep-read header all columns exprs value before are distinct deep some few named
     let count : length list.pairs ≡ length columns = sym (length-map list.pairs (λ (p : WrittenPair). p.name)) ∙ ap length names ∙ length-map columns (λ (c : NamedKind). c.name) in
     let typed = pairs-typed header AnyKind all columns exprs list.pairs before are distinct deep (any-taken columns) list.of (rw same at begins) in
     let known = known-made header.columns [] list.pairs typed.known (rw names named.distinct) in
-    ap (λ v. kept header v before) list.is
+    ap (λ v. joined_columns header v before) list.is
     ∙ rw (list-form key.Keep list.pairs formed, count, few-made (length columns) some few, typed.formed, known, typed.typed (typed_columns [] [])) refl
     ∙ ap (λ t. Ok (record { columns = columns; output = Keep exprs }, with_texts before t)) (sym same)
 
@@ -155,7 +156,7 @@ count-read entry count formed at = rw (at, formed) refl
 sum-read : (header : HeaderOf) (all : Texts) (seen : Seen) (front : List NamedKind) (names : List (List ℕ)) (sums : List ExprTree) (found : Option Data) (before : Texts) → AreReferences header.columns
     → IsDistinct bytes_eq all → BeginsWith before all → All (λ e. depth e ≤ 64) sums → list_all is_name names ≡ true → AllPairs Differ (seen ++ names)
     → IsListWrittenIfAny header.columns all (map number_column names) sums found
-    → (sums_at found >>= (λ pairs. known_pairs header.columns seen pairs >>= (λ later. typed_pairs header Numbers (typed_columns front []) pairs before)))
+    → (sum_pairs_at found >>= (λ pairs. known_pairs header.columns seen pairs >>= (λ later. typed_pairs header Numbers (typed_columns front []) pairs before)))
     ≡ Ok (typed_columns (front ++ map number_column names) sums, before)
 sum-read header all seen front names sums None before are distinct begins deep formed apart w =
     rw (w.0, w.1, append-nil front) refl
@@ -166,13 +167,13 @@ sum-read header all seen front names sums (Some value) before are distinct begin
     let same : before ≡ with_texts before (pair_literals list.pairs) = no-texts before ∙ ap (with_texts before) (sym none) in
     let typed = pairs-typed header Numbers all (map number_column names) sums list.pairs before are distinct deep (numbers-taken names) list.of (rw (← same) begins) in
     let known = known-made header.columns seen list.pairs typed.known (rw own apart) in
-    ap (λ v. sums_at (Some v) >>= (λ pairs. known_pairs header.columns seen pairs >>= (λ later. typed_pairs header Numbers (typed_columns front []) pairs before))) list.is
+    ap (λ v. sum_pairs_at (Some v) >>= (λ pairs. known_pairs header.columns seen pairs >>= (λ later. typed_pairs header Numbers (typed_columns front []) pairs before))) list.is
     ∙ rw (list-form key.Sum list.pairs (pairs-formed list.pairs (rw own formed)), typed.formed, known, typed.typed (typed_columns front [])) refl
     ∙ ap (λ t. Ok (typed_columns (front ++ map number_column names) sums, t)) (sym same)
 
 summary-read : (header : HeaderOf) (all : Texts) (columns : List NamedKind) (places : List ℕ) (sums : List ExprTree) (entry value : Data) (before : Texts) → AreReferences header.columns
     → IsDistinct bytes_eq all → BeginsWith before all → All (λ e. depth e ≤ 64) sums → length columns ≤ 64 → AreNamed columns → IsSummaryWritten header.columns all columns places sums entry
-    → get (codes "group") entry ≡ Some value → summed header entry value before ≡ Ok (record { columns = columns; output = Sums places sums }, before)
+    → get (codes "group") entry ≡ Some value → summary_columns header entry value before ≡ Ok (record { columns = columns; output = Sums places sums }, before)
 summary-read header all columns places sums entry value before are distinct begins deep few named w at =
     let names = summary-names columns w.groups w.count w.sum_names w.columns_are named in
     let group = group-read header all w.groups places value are names.groups_formed names.groups_distinct (rw at at w.group) in
@@ -232,7 +233,7 @@ list-written : (row : List NamedKind) (texts : Texts) (columns : List NamedKind)
 list-written row texts columns exprs value pairs is of = (pair_values pairs, is, of-pairs row texts columns exprs pairs of)
 
 keep-of : (header : HeaderOf) (entry value : Data) (texts : Texts) (own : ColumnsOf) (after : Texts) → get (codes "keep") entry ≡ Some value → get (codes "group") entry ≡ None
-    → kept header value texts ≡ Ok (own, after) → IsOfOutput header entry texts own after
+    → joined_columns header value texts ≡ Ok (own, after) → IsOfOutput header entry texts own after
 keep-of header entry value texts own after at none e =
     let pairs = gone_on (pairs_written key.Keep value) _ (own, after) e in
     let formed = gone_on (checked (is_few (length pairs.0) && are_exprs pairs.0) (fault.Key key.Keep) pairs.0) _ (own, after) pairs.2 in
@@ -288,7 +289,7 @@ record AreSumsWritten (row : List NamedKind) (texts : Texts) (front : List Named
   pub same : after ≡ texts
 
 -- what stands at the key of pairs that are read
-at-sum : (header : HeaderOf) (after : Texts) (o : Option Data) (pairs : List WrittenPair) (columns : List NamedKind) (exprs : List ExprTree) → sums_at o ≡ Ok pairs → ArePairsOf header.columns after columns exprs pairs
+at-sum : (header : HeaderOf) (after : Texts) (o : Option Data) (pairs : List WrittenPair) (columns : List NamedKind) (exprs : List ExprTree) → sum_pairs_at o ≡ Ok pairs → ArePairsOf header.columns after columns exprs pairs
     → IsListWrittenIfAny header.columns after columns exprs o
 at-sum header after None pairs columns exprs e of = let same : [] ≡ pairs = cc in empty columns exprs (rw (← same) at of)
   where
@@ -303,7 +304,7 @@ at-sum header after (Some value) pairs columns exprs e of =
     list-written header.columns after columns exprs value pairs (list-only key.Sum value written.0 written.1 ∙ ap (λ ps. array (items_of (pair_values ps))) test.1) of
 
 -- the sums that pairs are read as
-sums-from : (header : HeaderOf) (front : List NamedKind) (found : Option Data) (texts : Texts) (typed : TypedColumns) (after : Texts) (pairs : List WrittenPair) → sums_at found ≡ Ok pairs
+sums-from : (header : HeaderOf) (front : List NamedKind) (found : Option Data) (texts : Texts) (typed : TypedColumns) (after : Texts) (pairs : List WrittenPair) → sum_pairs_at found ≡ Ok pairs
     → AreOfTyped header Numbers (typed_columns front []) pairs texts typed after → AreSumsWritten header.columns texts front found typed after
 sums-from header front found texts typed after pairs at are =
     let columns = numbers-only header.columns after are.columns are.exprs pairs are.of are.taken in
@@ -318,21 +319,21 @@ sums-from header front found texts typed after pairs at are =
     }
 
 sums-of : (header : HeaderOf) (seen : Seen) (front : List NamedKind) (found : Option Data) (texts : Texts) (typed : TypedColumns) (after : Texts)
-    → (sums_at found >>= (λ pairs. known_pairs header.columns seen pairs >>= (λ later. typed_pairs header Numbers (typed_columns front []) pairs texts))) ≡ Ok (typed, after)
+    → (sum_pairs_at found >>= (λ pairs. known_pairs header.columns seen pairs >>= (λ later. typed_pairs header Numbers (typed_columns front []) pairs texts))) ≡ Ok (typed, after)
     → AreSumsWritten header.columns texts front found typed after
 sums-of header seen front found texts typed after e =
-    let pairs = gone_on (sums_at found) _ (typed, after) e in
+    let pairs = gone_on (sum_pairs_at found) _ (typed, after) e in
     let names = gone_on (known_pairs header.columns seen pairs.0) _ (typed, after) pairs.2 in
     sums-from header front found texts typed after pairs.0 pairs.1 (typed-written header Numbers (typed_columns front []) pairs.0 texts typed after names.2)
 
 summary-of : (header : HeaderOf) (entry value : Data) (texts : Texts) (own : ColumnsOf) (after : Texts) → get (codes "keep") entry ≡ None → get (codes "group") entry ≡ Some value
-    → summed header entry value texts ≡ Ok (own, after) → IsOfOutput header entry texts own after
+    → summary_columns header entry value texts ≡ Ok (own, after) → IsOfOutput header entry texts own after
 summary-of header entry value texts own after none at e =
     let read = gone_on (groups_of header value) _ (own, after) e in
     let count = gone_on (count_written entry) _ (own, after) read.2 in
     let names = gone_on (fresh_name read.0.names count.0) _ (own, after) count.2 in
     let front = read.0.found.columns ++ count_column count.0 ∷ [] in
-    let sums = gone_on (sums_of header names.0 front entry texts) _ (own, after) names.2 in
+    let sums = gone_on (sum_columns header names.0 front entry texts) _ (own, after) names.2 in
     let columns = gone_on (checked (nat_le (length sums.0.0.columns) 64) (fault.Key key.Group) sums.0.0.columns) _ (own, after) sums.2 in
     let made : ColumnsOf = record { columns = columns.0; output = Sums read.0.found.places sums.0.0.exprs } in
     let same = both-same {A = ColumnsOf} (made, sums.0.1) own after _ refl columns.2 in
@@ -363,7 +364,7 @@ output-of header entry texts own after = by (get (codes "keep") entry) (get (cod
     by None None k g e = cc e
     by None (Some group) k g e = summary-of header entry group texts own after k g e
     by (Some keep) None k g e = keep-of header entry keep texts own after k g e
-    by (Some keep) (Some group) k g e = let columns = gone_on (kept header keep texts) _ (own, after) e in cc
+    by (Some keep) (Some group) k g e = let columns = gone_on (joined_columns header keep texts) _ (own, after) e in cc
 
 pub read-outputs-are-written : ReadOutputsAreWritten
 read-outputs-are-written header entry texts own after e =

@@ -10,15 +10,10 @@ use Rattle.wh_dag.specs.Shape.{Views}
 use Rattle.wh_dag.specs.Written.{children_written, texts, written}
 use Rattle.wh_dag.specs.declared.fault.ShapeFault.{ShapeFault}
 use Rattle.wh_text.specs.NameForm.{is_name}
+pub use Rattle.wh_text.specs.ValueOrFault.{◌>>=◌}
 use Rattle.wh_text.specs.declared.fault.Key.TheVariants as key
 use Rattle.wh_text.specs.declared.fault.LoadFault.{LoadFault}
 use Rattle.wh_text.specs.declared.fault.LoadFault.TheVariants as fault
-
--- what comes of the value, or the fault that stands in its place
-infixl 10 ◌>>=◌
-abbrev pub ◌>>=◌ : {A B : Type 0} → Result A LoadFault → (A → Result B LoadFault) → Result B LoadFault
-Ok value >>= next = next value
-Err first >>= next = Err first
 
 -- the values of an array as a list
 abbrev pub elements : Items → List Data

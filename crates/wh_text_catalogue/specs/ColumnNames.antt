@@ -5,7 +5,7 @@ use Rattle.std.specs.Str.{bytes_eq}
 use Rattle.wh_text.specs.Columns.{NamedKind}
 use Rattle.wh_text.specs.declared.fault.LoadFault.{LoadFault}
 use Rattle.wh_text.specs.declared.fault.LoadFault.TheVariants as fault
-use Rattle.wh_text_catalogue.specs.Catalogue.{◌>>=◌}
+use Rattle.wh_text.specs.ValueOrFault.{◌>>=◌}
 
 -- the names of columns that stood earlier in a view
 abbrev pub Seen : Type 0

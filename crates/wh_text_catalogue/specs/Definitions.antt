@@ -10,7 +10,8 @@ use Rattle.wh_text.specs.declared.fault.Key.TheVariants as key
 use Rattle.wh_text.specs.declared.fault.LoadFault.{LoadFault}
 use Rattle.wh_text.specs.declared.fault.LoadFault.TheVariants as fault
 use Rattle.wh_text_catalogue.specs.BaseColumns.{base_columns}
-use Rattle.wh_text_catalogue.specs.Catalogue.{◌>>=◌, document_of, views_of}
+use Rattle.wh_text.specs.ValueOrFault.{◌>>=◌}
+use Rattle.wh_text_catalogue.specs.Catalogue.{document_of, views_of}
 use Rattle.wh_text_catalogue.specs.Filter.{filter_of}
 use Rattle.wh_text_catalogue.specs.FormulaKinds.{Texts}
 use Rattle.wh_text_catalogue.specs.Header.{HeaderOf}

@@ -4,7 +4,7 @@ use Rattle.toml.specs.Data.{Data, get}
 use Rattle.wh_formula.specs.Pred.{True}
 use Rattle.wh_text.specs.declared.fault.Key.TheVariants as key
 use Rattle.wh_text.specs.declared.fault.LoadFault.TheVariants as fault
-use Rattle.wh_text_catalogue.specs.Catalogue.{◌>>=◌}
+use Rattle.wh_text.specs.ValueOrFault.{◌>>=◌}
 use Rattle.wh_text_catalogue.specs.ColumnNames.{checked, unless_unknown}
 use Rattle.wh_text_catalogue.specs.Formula.{is_whole_pred, unknown_in_test, whole_pred}
 use Rattle.wh_text_catalogue.specs.FormulaKinds.{PredOutcome, Texts}

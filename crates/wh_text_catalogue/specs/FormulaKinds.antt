@@ -12,7 +12,7 @@ use Rattle.wh_text.specs.declared.columns.Kind.{Kind}
 use Rattle.wh_text.specs.declared.columns.Kind.TheVariants.{Int, Text}
 use Rattle.wh_text.specs.declared.fault.LoadFault.{LoadFault}
 use Rattle.wh_text.specs.declared.fault.LoadFault.TheVariants as fault
-use Rattle.wh_text_catalogue.specs.Catalogue.{◌>>=◌}
+use Rattle.wh_text.specs.ValueOrFault.{◌>>=◌}
 use Rattle.wh_text_catalogue.specs.ExprForm.{WrittenExpr, expr_form}
 use Rattle.wh_text_catalogue.specs.ExprForm as form
 use Rattle.wh_text_catalogue.specs.Header.{HeaderOf, cell_of}

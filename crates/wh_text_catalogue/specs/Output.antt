@@ -8,7 +8,8 @@ use Rattle.wh_text.specs.declared.fault.Key.TheVariants as key
 use Rattle.wh_text.specs.declared.fault.LoadFault.{LoadFault}
 use Rattle.wh_text.specs.declared.fault.LoadFault.TheVariants as fault
 use Rattle.wh_text_catalogue.specs.BaseColumns.{is_few}
-use Rattle.wh_text_catalogue.specs.Catalogue.{◌>>=◌, name_in}
+use Rattle.wh_text.specs.ValueOrFault.{◌>>=◌}
+use Rattle.wh_text_catalogue.specs.Catalogue.{name_in}
 use Rattle.wh_text_catalogue.specs.ColumnNames.{Seen, checked, fresh_name}
 use Rattle.wh_text_catalogue.specs.FormulaKinds.{Texts}
 use Rattle.wh_text_catalogue.specs.Header.{HeaderOf}
@@ -24,7 +25,7 @@ pub record ColumnsOf : Type 0 where
 
 -- the output that lists in memory make
 abbrev pub shown_output : WrittenOutput → OutputOf
-shown_output (written.Keep kept) = Keep kept.items
+shown_output (written.Keep exprs) = Keep exprs.items
 shown_output (written.Sums group sums) = Sums group.items sums.items
 
 -- columns and their output, and the texts once all literals have numbers
@@ -32,8 +33,8 @@ abbrev pub OutputOutcome : Type 0
 OutputOutcome = Result (ColumnsOf × Texts) LoadFault
 
 -- the kept columns of a joined view: the form of 1 to 64 pairs, then their names and columns, then their kinds
-abbrev pub kept : HeaderOf → Data → Texts → OutputOutcome
-kept header value texts = do
+abbrev pub joined_columns : HeaderOf → Data → Texts → OutputOutcome
+joined_columns header value texts = do
   pairs ← pairs_written key.Keep value
   formed ← checked (is_few (length pairs) && are_exprs pairs) (fault.Key key.Keep) pairs
   names ← known_pairs header.columns [] formed
@@ -51,15 +52,15 @@ abbrev pub count_written : Data → Result (List ℕ) LoadFault
 count_written view = ok_or (option_and_then name_in (option_and_then as_str (get (codes "count") view))) (fault.Key key.Count)
 
 -- the pairs of `sum`: of a name and an expression
-abbrev pub sums_in : Data → Result (List WrittenPair) LoadFault
-sums_in value = do
+abbrev pub sum_pairs_in : Data → Result (List WrittenPair) LoadFault
+sum_pairs_in value = do
   pairs ← pairs_written key.Sum value
   checked (are_exprs pairs) (fault.Key key.Sum) pairs
 
 -- the pairs of this key, none where it is missing
-abbrev pub sums_at : Option Data → Result (List WrittenPair) LoadFault
-sums_at None = Ok []
-sums_at (Some value) = sums_in value
+abbrev pub sum_pairs_at : Option Data → Result (List WrittenPair) LoadFault
+sum_pairs_at None = Ok []
+sum_pairs_at (Some value) = sum_pairs_in value
 
 -- the columns by which a summary groups, and their names
 pub record Groups : Type 0 where
@@ -83,38 +84,38 @@ abbrev pub count_column : List ℕ → NamedKind
 count_column name = record { name = name; kind = Int }
 
 -- `sum`, after these names and columns: its form, then its names and columns, then its kinds
-abbrev pub sums_of : HeaderOf → Seen → List NamedKind → Data → Texts → Result (TypedColumns × Texts) LoadFault
-sums_of header seen columns view texts = do
-  pairs ← sums_at (get (codes "sum") view)
+abbrev pub sum_columns : HeaderOf → Seen → List NamedKind → Data → Texts → Result (TypedColumns × Texts) LoadFault
+sum_columns header seen columns view texts = do
+  pairs ← sum_pairs_at (get (codes "sum") view)
   names ← known_pairs header.columns seen pairs
   typed_pairs header Numbers (typed_columns columns []) pairs texts
 
 -- a summary: its groups, its count, its sums, at most 64 columns in all
-abbrev pub summed : HeaderOf → Data → Data → Texts → OutputOutcome
-summed header view value texts = do
+abbrev pub summary_columns : HeaderOf → Data → Data → Texts → OutputOutcome
+summary_columns header view value texts = do
   groups ← groups_of header value
   count ← count_written view
   names ← fresh_name groups.names count
-  sums ← sums_of header names (groups.found.columns ++ count_column count ∷ []) view texts
+  sums ← sum_columns header names (groups.found.columns ++ count_column count ∷ []) view texts
   columns ← checked (nat_le (length sums.0.columns) 64) (fault.Key key.Group) sums.0.columns
   Ok (record { columns = columns; output = Sums groups.found.places sums.0.exprs }, sums.1)
 
 -- a joined view, which has no `group`
-abbrev pub kept_alone : HeaderOf → Data → Option Data → Texts → OutputOutcome
-kept_alone header value None texts = kept header value texts
-kept_alone header value (Some group) texts = do
-  columns ← kept header value texts
+abbrev pub joined_columns_alone : HeaderOf → Data → Option Data → Texts → OutputOutcome
+joined_columns_alone header value None texts = joined_columns header value texts
+joined_columns_alone header value (Some group) texts = do
+  columns ← joined_columns header value texts
   Err (fault.Key key.Group)
 
 -- a view without `keep` is a summary, which has `group`
-abbrev pub summed_at : HeaderOf → Data → Option Data → Texts → OutputOutcome
-summed_at header view None texts = Err (fault.Key key.Keep)
-summed_at header view (Some group) texts = summed header view group texts
+abbrev pub summary_columns_if_grouped : HeaderOf → Data → Option Data → Texts → OutputOutcome
+summary_columns_if_grouped header view None texts = Err (fault.Key key.Keep)
+summary_columns_if_grouped header view (Some group) texts = summary_columns header view group texts
 
 -- a view has one of `keep` and `group`
 abbrev pub output_at : HeaderOf → Data → Option Data → Option Data → Texts → OutputOutcome
-output_at header view None group texts = summed_at header view group texts
-output_at header view (Some keep) group texts = kept_alone header keep group texts
+output_at header view None group texts = summary_columns_if_grouped header view group texts
+output_at header view (Some keep) group texts = joined_columns_alone header keep group texts
 
 -- the columns of a derived view, which the keys `keep`, or `group`, `count` and `sum` write
 abbrev pub output_of : HeaderOf → Data → Texts → OutputOutcome

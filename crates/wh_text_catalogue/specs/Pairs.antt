@@ -9,7 +9,8 @@ use Rattle.wh_text.specs.declared.columns.Kind.{Kind}
 use Rattle.wh_text.specs.declared.fault.Key.{Key}
 use Rattle.wh_text.specs.declared.fault.LoadFault.{LoadFault}
 use Rattle.wh_text.specs.declared.fault.LoadFault.TheVariants as fault
-use Rattle.wh_text_catalogue.specs.Catalogue.{◌>>=◌, array_of}
+use Rattle.wh_text.specs.ValueOrFault.{◌>>=◌}
+use Rattle.wh_text_catalogue.specs.Catalogue.{array_of}
 use Rattle.wh_text_catalogue.specs.ColumnNames.{Seen, checked, fresh_name, unless_unknown}
 use Rattle.wh_text_catalogue.specs.Formula.{is_whole_expr, unknown_column, whole_expr}
 use Rattle.wh_text_catalogue.specs.FormulaKinds.{ExprOutcome, Texts, is_int, unfit}

@@ -11,7 +11,7 @@ ghost use Rattle.wh_text_catalogue.specs.Inner.Catalogue.{seen};
 use crate::name_form::is_name;
 use std::alloc::{AllocError, Global};
 use toml::{Table, Value};
-use wh_dag::{Shape, ShapeFault};
+use wh_dag::Shape;
 use wh_text::{Key, LoadFault};
 
 /// The views by name, and what each is over, as they are written.
@@ -147,11 +147,7 @@ fn shape_written(alloc: Global, views: Written) -> Result<Shape, LoadFault>
     ensures err { IfErr result (λ f. (f ≡ LoadFault.Memory) ⊎ (shape_written (seen views.names.items views.over.items) ≡ Err f)) }
 {
     let Written { names, over } = views;
-    match Shape::new(alloc, names, over) {
-        Ok(shape) => Ok(shape),
-        Err(ShapeFault::Memory) => Err(LoadFault::Memory),
-        Err(fault) => Err(LoadFault::Shape(fault)),
-    }
+    Ok(Shape::new(alloc, names, over)?)
 }
 
 /// Reads the shape of a catalogue, a text in TOML 1.1: the `name` and `over` of each view, and no other key. The fault

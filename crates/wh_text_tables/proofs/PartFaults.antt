@@ -8,7 +8,8 @@ use Rattle.wh_text.specs.declared.fault.LoadFault.{LoadFault}
 use Rattle.wh_text.specs.declared.fault.LoadFault.TheVariants.{Header}
 use Rattle.wh_text.proofs.FirstFaults.{IsFirstOf, first_of, is-first, none-finds}
 use Rattle.wh_text_tables.specs.FaultPlaces.{Cells, Judging, PartWrong, header_judged, in_header, in_record, no_header, record_judged}
-use Rattle.wh_text_tables.specs.Part.{◌>>=◌, Below, Scheme, below_header, or_fault, part_gives, record_gives, records_give}
+use Rattle.wh_text.specs.ValueOrFault.{◌>>=◌, or_fault}
+use Rattle.wh_text_tables.specs.Part.{Below, Scheme, below_header, part_gives, record_gives, records_give}
 use Rattle.wh_text_tables.specs.Records.{form_fault}
 use Rattle.wh_text_tables.proofs.PartReads.{from_step, or_fault-ok, records_give-first, records_give-none, same_Ok, some-or}
 

@@ -5,7 +5,8 @@ use Rattle.std.specs.Result.{result_err}
 use Rattle.std.proofs.lemmas.List.{append-nil}
 use Rattle.wh_text.specs.declared.fault.LoadFault.{LoadFault}
 use Rattle.wh_text.specs.declared.fault.LoadFault.TheVariants.{Memory}
-use Rattle.wh_text_tables.specs.Part.{◌>>=◌, Below, Scheme, below_header, or_fault, part_gives, record_gives, records_give}
+use Rattle.wh_text.specs.ValueOrFault.{◌>>=◌, or_fault}
+use Rattle.wh_text_tables.specs.Part.{Below, Scheme, below_header, part_gives, record_gives, records_give}
 use Rattle.wh_text_tables.specs.Inner.Part.{EndsBy, IsReadTo, TakenTo}
 use Rattle.wh_text_tables.specs.Records.{form_fault}
 use Rattle.wh_text_tables.specs.Unread.{Unread}

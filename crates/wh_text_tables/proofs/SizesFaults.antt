@@ -17,7 +17,8 @@ use Rattle.wh_text.specs.declared.fault.LoadFault.{LoadFault}
 use Rattle.wh_text.specs.declared.fault.LoadFault.TheVariants.{Number, Sizes}
 use Rattle.wh_text.proofs.FirstFaults.{first_of}
 use Rattle.wh_text_tables.specs.FaultPlaces.{Cells, PartWrong, in_header, in_record, no_header}
-use Rattle.wh_text_tables.specs.Part.{◌>>=◌, Below, below_header, or_fault, part_gives, record_gives, records_give}
+use Rattle.wh_text.specs.ValueOrFault.{◌>>=◌, or_fault}
+use Rattle.wh_text_tables.specs.Part.{Below, below_header, part_gives, record_gives, records_give}
 use Rattle.wh_text_tables.specs.Records.{cell, form_fault, records_of}
 use Rattle.wh_text_tables.specs.RowSizes.{counts_of, rows_in, size_of}
 use Rattle.wh_text_tables.specs.SizesFaults.{HasNoRow, SizesEndByFirst, SizesWrong, are_apart, in_part, no_row, size_judged, sizes_judging, view_in}

@@ -19,7 +19,8 @@ use Rattle.wh_strategy.specs.declared.sizes.SizeRow.{SizeRow}
 use Rattle.wh_text.specs.WholeNumber.{whole_number}
 use Rattle.wh_text.specs.declared.fault.LoadFault.{LoadFault}
 use Rattle.wh_text.proofs.WholeNumbers.{is_i64-decides}
-use Rattle.wh_text_tables.specs.Part.{◌>>=◌, below_header, part_gives, record_gives, records_give}
+use Rattle.wh_text.specs.ValueOrFault.{◌>>=◌}
+use Rattle.wh_text_tables.specs.Part.{below_header, part_gives, record_gives, records_give}
 use Rattle.wh_text_tables.specs.Records.{form_fault}
 use Rattle.wh_text_tables.specs.RowSizes.{counts_of, size_of}
 use Rattle.wh_text_tables.specs.SizesReadBack.{SizesReadBack, size_record, size_records}

@@ -30,7 +30,8 @@ use Rattle.wh_text.specs.declared.fault.LoadFault.TheVariants.{Number}
 use Rattle.wh_text.proofs.DictGrowth.{begins-texts, has-text, number-begins}
 use Rattle.wh_text.proofs.FirstFaults.{first_of}
 use Rattle.wh_text_tables.specs.FaultPlaces.{Cells, PartWrong}
-use Rattle.wh_text_tables.specs.Part.{◌>>=◌, part_gives, record_gives, records_give}
+use Rattle.wh_text.specs.ValueOrFault.{◌>>=◌}
+use Rattle.wh_text_tables.specs.Part.{part_gives, record_gives, records_give}
 use Rattle.wh_text_tables.specs.Records.{form_fault, records_of}
 use Rattle.wh_text_tables.specs.TableFaults.{TablesEndByFirst, cells_judged, counts_row, entry_judged, entry_judging, is_wrong_cell, total_of, write_same_cell, write_same_row}
 use Rattle.wh_text_tables.specs.TableText.{EntriesRead, added, bag_read, cell_number, count_of, entry_of, row_cells, row_of, table_scheme, text_gives, text_in, texts_after, texts_in_row, with_entry}

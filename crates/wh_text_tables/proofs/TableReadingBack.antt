@@ -33,7 +33,8 @@ use Rattle.wh_text.specs.WholeNumber.{are_digits, is_i64, whole_number}
 use Rattle.wh_text.specs.declared.columns.Kind.{Kind}
 use Rattle.wh_text.specs.declared.columns.Kind.TheVariants as of_kind
 use Rattle.wh_text.proofs.WholeNumbers.{are_digits-decides, is_i64-decides, whole_number-parse}
-use Rattle.wh_text_tables.specs.Part.{◌>>=◌, below_header, part_gives, record_gives, records_give}
+use Rattle.wh_text.specs.ValueOrFault.{◌>>=◌}
+use Rattle.wh_text_tables.specs.Part.{below_header, part_gives, record_gives, records_give}
 use Rattle.wh_text_tables.specs.Records.{form_fault}
 use Rattle.wh_text_tables.specs.TableReadsBack.{IsCell, TableReadsBack}
 use Rattle.wh_text_tables.specs.TableText.{bag_read, cell_number, counted_header, counting_of, entry_of, positive, row_of, table_scheme, text_gives, text_in, texts_after, texts_in_row}

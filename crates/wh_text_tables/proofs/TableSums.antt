@@ -16,7 +16,8 @@ use Rattle.wh_text.specs.WholeNumber.{is_i64}
 use Rattle.wh_text.specs.declared.fault.LoadFault.{LoadFault}
 use Rattle.wh_text.specs.declared.fault.LoadFault.TheVariants.{Memory, Number}
 use Rattle.wh_text.proofs.WholeNumbers.{is_i64-decides}
-use Rattle.wh_text_tables.specs.Part.{◌>>=◌, Below, below_header, or_fault, part_gives, record_gives, records_give}
+use Rattle.wh_text.specs.ValueOrFault.{◌>>=◌, or_fault}
+use Rattle.wh_text_tables.specs.Part.{Below, below_header, part_gives, record_gives, records_give}
 use Rattle.wh_text_tables.specs.Inner.Part.{EndsBy, IsReadTo, TakenTo}
 use Rattle.wh_text_tables.specs.Records.{form_fault, records_of}
 use Rattle.wh_text_tables.specs.TableText.{EntriesRead, bag_read, entry_of, table_scheme, text_gives, texts_after, with_entry}

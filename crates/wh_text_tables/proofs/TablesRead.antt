@@ -17,7 +17,8 @@ use Rattle.wh_text.specs.declared.columns.Kind.{Kind}
 use Rattle.wh_text.specs.WholeNumber.{is_i64}
 use Rattle.wh_text.specs.declared.fault.LoadFault.{LoadFault}
 use Rattle.wh_text.specs.declared.fault.LoadFault.TheVariants.{Header, Number}
-use Rattle.wh_text_tables.specs.Part.{Below, below_header, or_fault, part_of, record_gives, records_give}
+use Rattle.wh_text.specs.ValueOrFault.{or_fault}
+use Rattle.wh_text_tables.specs.Part.{Below, below_header, part_of, record_gives, records_give}
 use Rattle.wh_text_tables.specs.Records.{form_fault, records_of}
 use Rattle.wh_text_tables.specs.TableText.{EntriesRead, added, cell_number, count_of, counted_header, counting_of, entry_of, positive, row_cells, row_of, table_scheme, text_gives, texts_after, with_entry}
 use Rattle.wh_text_tables.specs.declared.table.header.Content.{Content}

@@ -1,19 +1,9 @@
 -- A CSV part: its header says what it is, each record below it has a first fault or a value, and the values are folded from the first to the last.
 use Rattle.std.specs.Prelude.{ℕ, ◌+◌, List, [], ◌∷◌, length, Option, Some, None, ok_or, Result, Ok, Err}
+pub use Rattle.wh_text.specs.ValueOrFault.{◌>>=◌, or_fault}
 use Rattle.wh_text.specs.declared.fault.LoadFault.{LoadFault}
 use Rattle.wh_text.specs.declared.fault.LoadFault.TheVariants.{Header}
 use Rattle.wh_text_tables.specs.Records.{form_fault, records_of}
-
--- what comes of the value, or the fault that stands in its place
-infixl 10 ◌>>=◌
-abbrev pub ◌>>=◌ : {A B : Type 0} → Result A LoadFault → (A → Result B LoadFault) → Result B LoadFault
-Ok value >>= next = next value
-Err fault >>= next = Err fault
-
--- the fault, if there is one, else this
-abbrev pub or_fault : {A : Type 0} → Option LoadFault → Result A LoadFault → Result A LoadFault
-or_fault None other = other
-or_fault (Some fault) other = Err fault
 
 -- what parts of one sort say: the kind that the cells of a header tell, where they are a header; and what the cells of a record of this number make of a state below a header of that kind: the state after it, or what is wrong with them
 pub record Scheme (K S : Type 0) : Type 0 where

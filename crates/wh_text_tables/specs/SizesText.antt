@@ -7,7 +7,8 @@ use Rattle.wh_dag.specs.Written.{name_of, number_of}
 use Rattle.wh_strategy.specs.declared.sizes.SizeRow.{SizeRow}
 use Rattle.wh_text.specs.declared.fault.LoadFault.{LoadFault}
 use Rattle.wh_text.specs.declared.fault.LoadFault.TheVariants.{Number, Sizes}
-use Rattle.wh_text_tables.specs.Part.{◌>>=◌, Scheme, or_fault, part_of}
+use Rattle.wh_text.specs.ValueOrFault.{◌>>=◌, or_fault}
+use Rattle.wh_text_tables.specs.Part.{Scheme, part_of}
 use Rattle.wh_text_tables.specs.Records.{cell}
 use Rattle.wh_text_tables.specs.RowSizes.{counts_of, size_of}
 

@@ -13,8 +13,9 @@ use Rattle.wh_text.specs.declared.columns.Kind.{Kind}
 use Rattle.wh_text.specs.declared.columns.Kind.TheVariants as of_kind
 use Rattle.wh_text.specs.declared.fault.LoadFault.{LoadFault}
 use Rattle.wh_text.specs.declared.fault.LoadFault.TheVariants.{Number}
-pub use Rattle.wh_text_tables.specs.Part.{or_fault}
-use Rattle.wh_text_tables.specs.Part.{◌>>=◌, Scheme, part_of}
+pub use Rattle.wh_text.specs.ValueOrFault.{or_fault}
+use Rattle.wh_text.specs.ValueOrFault.{◌>>=◌}
+use Rattle.wh_text_tables.specs.Part.{Scheme, part_of}
 use Rattle.wh_text_tables.specs.Records.{cell}
 use Rattle.wh_text_tables.specs.declared.table.header.Content.{Content}
 use Rattle.wh_text_tables.specs.declared.table.header.Content.TheVariants as of_content

@@ -29,17 +29,29 @@ pub(crate) fn comp_of<F: RowTest, G: RowValue>(
     comp(alloc, catalog, view, sources, tables, changes)
 }
 
-/// Notes what a Comp would save.
+/// A Comp: of which view, from which sources, over which tables, and by which changes.
+#[derive(Clone, Copy)]
+pub(crate) struct Asked<'a> {
+    pub(crate) view: usize,
+    pub(crate) sources: &'a [usize],
+    pub(crate) tables: &'a [Bag],
+    pub(crate) changes: &'a [Bag],
+}
+
+/// Notes what a Comp misses.
 pub(crate) fn note<F: RowTest, G: RowValue>(
     rt: &impl Abort,
     alloc: Global,
     wants: &mut Wants,
     catalog: &Catalog<F, G>,
-    view: usize,
-    sources: &[usize],
-    tables: &[Bag],
-    changes: &[Bag],
+    asked: &Asked<'_>,
 ) -> Result<(), AllocError> {
+    let Asked {
+        view,
+        sources,
+        tables,
+        changes,
+    } = *asked;
     assert!(rt; view < catalog.shape().len());
     assert!(rt; !catalog.is_base(view));
     assert!(rt; are_sources(catalog, view, sources));

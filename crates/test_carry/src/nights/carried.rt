@@ -70,6 +70,7 @@ fn ends_with(night: &Option<Result<Carried, CarryFault>>, steps: &[u128], rows: 
     }
 }
 
+/// Whether the report has a step for each of these numbers of rows, in their order.
 fn has_steps(carried: &Carried, rows: &[u128]) -> bool {
     let steps = carried.report.steps.as_slice();
     if steps.len() != rows.len() {
@@ -83,6 +84,7 @@ fn has_steps(carried: &Carried, rows: &[u128]) -> bool {
     true
 }
 
+/// Whether the table has just these rows, each of which counts once.
 fn has_rows(table: &Bag, rows: &[&[i64]]) -> bool {
     for row in rows {
         if table.count(row) != 1 {

@@ -19,7 +19,7 @@ use wh_row::Bag;
 
 type Value = Box<dyn Fn(&[i64]) -> Option<i64> + Sync>;
 
-// v keeps a.x and b.z where a.y = b.y.
+/// v keeps a.x and b.z where a.y = b.y.
 fn joins<F: RowTest + Drop, G: RowValue + Drop>(
     rt: &impl Abort,
     alloc: Global,
@@ -51,6 +51,7 @@ static TWO_CHANGES: [&[(&[i64], i64)]; 3] = [
     &[],
 ];
 
+/// The joined view of this catalogue has its value, the rows of its operands, and its Comp from both tables.
 fn joins_tables<F: RowTest, G: RowValue>(
     rt: &impl Abort,
     alloc: Global,
@@ -72,6 +73,7 @@ fn joins_tables<F: RowTest, G: RowValue>(
     Ok(())
 }
 
+/// The joined view of this catalogue has its value.
 fn has_its_value<F: RowTest, G: RowValue>(
     rt: &impl Abort,
     alloc: Global,
@@ -117,7 +119,7 @@ fn two_tables_are_joined_by_closures(rt: HostRuntime) -> Result<(), Fail> {
     )
 }
 
-// The sums of a.x by a.g.
+/// The sums of a.x by a.g.
 fn sums<F: RowTest + Drop, G: RowValue + Drop>(
     rt: &impl Abort,
     alloc: Global,
@@ -145,6 +147,7 @@ static A_SUMMARY: [&[(&[i64], i64)]; 2] = [
 
 static A_CHANGE: [&[(&[i64], i64)]; 2] = [&[(&[1, 5], -1), (&[2, 4], -1), (&[2, -3], 1)], &[]];
 
+/// The summary of this catalogue has its Comp, and its change.
 fn sums_groups<F: RowTest, G: RowValue>(
     rt: &impl Abort,
     alloc: Global,
@@ -165,6 +168,7 @@ fn sums_groups<F: RowTest, G: RowValue>(
     Ok(())
 }
 
+/// The summary of this catalogue has its change, where this is pending.
 fn changes_groups<F: RowTest, G: RowValue>(
     rt: &impl Abort,
     alloc: Global,

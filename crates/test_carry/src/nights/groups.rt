@@ -10,7 +10,7 @@ use wh_dag::Catalog;
 use wh_maint::{MaintFault, Pending, are_bags, are_sources, is_fit};
 use wh_row::Bag;
 
-// The change of the summary, whose table is given, by a change of a. The table's rows may have several widths.
+/// The change of the summary, whose table is given, by a change of a. The table's rows may have several widths.
 fn change(
     rt: &impl Abort,
     alloc: Global,
@@ -24,7 +24,7 @@ fn change(
     Ok(change_of_sums(rt, alloc, &catalog, &before, &changes, &table))
 }
 
-// The change of the summary with this table, where these are the tables before the changes.
+/// The change of the summary with this table, where these are the tables before the changes.
 fn change_of_sums(
     rt: &impl Abort,
     alloc: Global,
@@ -58,7 +58,7 @@ fn a_group_that_leaves_has_no_sum(rt: HostRuntime) -> Result<(), Fail> {
     Ok(())
 }
 
-// Whether these rows count so, and no other does.
+/// Whether these rows count so, and no other does.
 fn is_change(change: &Bag, rows: &[(&[i64], i64)]) -> bool {
     for (row, count) in rows {
         if change.count(row) != *count {
@@ -114,6 +114,7 @@ static TABLES: [(&[(&[i64], i64)], bool); 6] = [
     (&[(&[3], 1)], false),
 ];
 
+/// Whether the table is fit for the summary.
 fn is_fit_for_sums(
     rt: &impl Abort,
     alloc: Global,
@@ -137,6 +138,7 @@ fn bags_sources_and_pendings_are_told_apart(rt: HostRuntime) -> Result<(), Fail>
     Ok(())
 }
 
+/// Bags of another width, and too few of them, are none of the catalogue's.
 fn tells_bags_apart(
     rt: &impl Abort,
     alloc: Global,
@@ -148,6 +150,7 @@ fn tells_bags_apart(
     Ok(())
 }
 
+/// A Comp has a child as its source, and not none, one twice, or the view itself.
 fn tells_sources_apart(rt: &impl Abort, catalog: &Catalog<Every, Cell>) {
     assert!(rt; catalog.shape().len() == 2 && !catalog.is_base(1));
     assert!(rt; are_sources(catalog, 1, &[0]));
@@ -156,6 +159,7 @@ fn tells_sources_apart(rt: &impl Abort, catalog: &Catalog<Every, Cell>) {
     assert!(rt; !are_sources(catalog, 1, &[1]));
 }
 
+/// Whether what is pending is of the summary.
 fn is_for_sums(rt: &impl Abort, pending: &Pending, catalog: &Catalog<Every, Cell>) -> bool {
     assert!(rt; catalog.shape().len() == 2 && !catalog.is_base(1));
     pending.is_for(catalog, 1)

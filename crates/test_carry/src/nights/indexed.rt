@@ -1,7 +1,7 @@
 // Joins of four thousand rows with ten, what they save, and an index by itself.
 ghost use Rattle.std.specs.Prelude.{◌≡◌};
 
-use crate::nights::calls::{change_of, comp_of, contents_of, note, rows_of, value_of};
+use crate::nights::calls::{Asked, change_of, comp_of, contents_of, note, rows_of, value_of};
 use std::alloc::Global;
 use std::process::Abort;
 use std::test::Fail;
@@ -81,7 +81,13 @@ fn granted(
     let catalog = joined(alloc)?;
     let changes = one_of_b(alloc)?;
     for _ in 0..times {
-        note(rt, alloc, wants, &catalog, 2, &[1], tables, &changes)?;
+        let asked = Asked {
+            view: 2,
+            sources: &[1],
+            tables,
+            changes: &changes,
+        };
+        note(rt, alloc, wants, &catalog, &asked)?;
     }
     wants.grant(alloc, tables, 1)?;
     Ok(())

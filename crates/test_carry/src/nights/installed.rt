@@ -6,7 +6,7 @@ use test_given::tables::bag;
 use wh_maint::{MaintFault, changed, install};
 use wh_row::Bag;
 
-// The number of what was refused, 0 for nothing.
+/// The number of what was refused, 0 for nothing.
 fn refusal<T: Drop>(answer: Result<T, MaintFault>) -> u8 {
     match answer {
         Ok(_given) => 0,
@@ -14,7 +14,7 @@ fn refusal<T: Drop>(answer: Result<T, MaintFault>) -> u8 {
     }
 }
 
-// The view and the first cell of the row that is absent, if one is.
+/// The view and the first cell of the row that is absent, if one is.
 fn absent(answer: Result<(), MaintFault>) -> Option<(usize, i64)> {
     match answer {
         Err(MaintFault::Absent(view, row)) => match row.cells() {
@@ -26,7 +26,7 @@ fn absent(answer: Result<(), MaintFault>) -> Option<(usize, i64)> {
     }
 }
 
-// How often the row counts in what is installed.
+/// How often the row counts in what is installed.
 fn count_after(alloc: Global, table: &Bag, delta: &Bag, row: &[i64]) -> Option<i64> {
     match install(alloc, 0, table, delta) {
         Ok(new) => Some(new.count(row)),

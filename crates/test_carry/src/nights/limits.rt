@@ -8,7 +8,7 @@ use test_given::catalogs::kept;
 use test_given::tables::two_bags;
 use wh_maint::{MaintFault, Pending};
 
-// What a Comp adds that reads this many rows (3,9).
+/// What a Comp adds that reads this many rows (3,9).
 fn added(rt: &impl Abort, alloc: Global, count: i64) -> Result<Option<Pending>, Fail> {
     let tables = two_bags(alloc, &[], &[])?;
     let changes = two_bags(alloc, &[(&[3, 9], count)], &[])?;
@@ -26,6 +26,7 @@ fn a_count_of_two_comps_leaves_i64(rt: HostRuntime) -> Result<(), Fail> {
     Ok(())
 }
 
+/// What is pending takes the same Comp 126 times more, and then its count would leave i64.
 fn grows_127_times_and_no_further(rt: &impl Abort, one: &Pending, all: Pending) {
     let mut all = all;
     for _time in 0..126 {

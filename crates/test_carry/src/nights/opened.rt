@@ -25,7 +25,7 @@ fn a_view_is_opened_over_its_children(rt: HostRuntime) -> Result<(), Fail> {
     Ok(())
 }
 
-// The contents of a sum of this row of a, so often.
+/// The contents of a sum of this row of a, so often.
 fn summed_up(
     rt: &impl Abort,
     alloc: Global,

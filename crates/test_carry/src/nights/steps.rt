@@ -25,6 +25,7 @@ fn changes(alloc: Global) -> Result<Vec<Bag>, Fail> {
     Ok(changes)
 }
 
+/// The state before the first expression.
 fn first(
     rt: &impl Abort,
     alloc: Global,

@@ -44,6 +44,7 @@ fn is_wave(stage: &Stage, targets: &[(usize, usize)]) -> bool {
     }
 }
 
+/// Whether the stage installs this view.
 fn is_inst(stage: &Stage, view: usize) -> bool {
     match stage {
         Stage::Wave(_) => false,
@@ -65,6 +66,7 @@ fn one_way(alloc: Global) -> Result<Vec<Expression>, Fail> {
     Ok(list)
 }
 
+/// Whether these are the stages of the one-way strategy.
 fn are_of_one_way(stages: &[Stage]) -> bool {
     match stages {
         [first, b, second, third, c, v1, v2] => {

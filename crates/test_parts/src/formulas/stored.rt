@@ -13,7 +13,7 @@ use std::sync::atomic::{AtomicUsize, Ordering};
 use std::test::Fail;
 use wh_formula::{Combiner, Comparison, Expr, Filter, Native, Pred, RowTest, RowValue};
 
-// Stores the closure as a filter for a positive first cell, and asks it three times.
+/// Stores the closure as a filter for a positive first cell, and asks it three times.
 fn ask_three_times<T: RowTest + Drop>(rt: &impl Abort, call: T)
     requires callable { CallableOnRows 1 (T.can_test call) }
     requires answers { AnswersPred (Cmp Greater (Column 0) (Number (pos 0))) 1 (T.tests call) }
@@ -42,7 +42,7 @@ fn accepts_calls_the_closure(rt: HostRuntime) {
     assert_eq!(rt; calls.load(Ordering::SeqCst), 3);
 }
 
-// The sum of the two cells, twice by the closure.
+/// The sum of the two cells, twice by the closure.
 fn combine_twice<V: RowValue + Drop>(
     rt: &impl Abort,
     alloc: Global,
@@ -80,7 +80,7 @@ fn combine_calls_the_closure(rt: HostRuntime) -> Result<(), Fail> {
 
 type Answer = Box<dyn Fn(&[i64]) -> bool + Sync>;
 
-// So many filters of a list accept each row: one is for a first cell below 5, one for a second cell below 7.
+/// So many filters of a list accept each row: one is for a first cell below 5, one for a second cell below 7.
 fn accept<T: RowTest + Drop>(
     rt: &impl Abort,
     alloc: Global,
@@ -104,7 +104,7 @@ fn accept<T: RowTest + Drop>(
     Ok(())
 }
 
-// How many of the filters accept the row.
+/// How many of the filters accept the row.
 fn accepting<T: RowTest>(filters: &[Filter<T>], row: &[i64]) -> usize {
     let mut count: usize = 0;
     for filter in filters {

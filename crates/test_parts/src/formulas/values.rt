@@ -13,16 +13,19 @@ const LAST: i64 = 3037000499;
 
 const NEXT: i64 = 3037000500;
 
+/// The expression has this value, or none, over the row.
 fn has_value(rt: &impl Abort, expr: &Expr, row: &[i64], value: Option<i64>) {
     assert!(rt; expr.fits(row.len()));
     assert_eq!(rt; expr.value(row), value);
 }
 
+/// The predicate gives this answer over the row.
 fn answers(rt: &impl Abort, test: &Pred, row: &[i64], answer: bool) {
     assert!(rt; test.fits(row.len()));
     assert_eq!(rt; test.holds(row), answer);
 }
 
+/// The expression and a copy of it have this value, or none, over a row of this cell.
 fn has_value_as_its_copy(
     rt: &impl Abort,
     alloc: Global,
@@ -35,6 +38,7 @@ fn has_value_as_its_copy(
     Ok(())
 }
 
+/// The first cell times itself.
 fn square(alloc: Global) -> Result<Expr, AllocError>
     ensures { IfOk result (λ e. depth e ≡ 2) }
 {
@@ -106,13 +110,14 @@ fn all_of_none_holds_and_any_of_none_does_not(rt: HostRuntime) {
     answers(&rt, &Pred::any(Vec::new(rt.alloc())), &[], false);
 }
 
-// The first cell is on this side of the number.
+/// The first cell is on this side of the number.
 fn beside(op: Comparison, number: i64) -> Pred
     ensures { pred.depth result ≡ 2 }
 {
     Pred::compare(op, Expr::column(0), Expr::number(number))
 }
 
+/// These two comparisons as a list.
 fn both(alloc: Global, first: Pred, second: Pred) -> Result<Vec<Pred>, AllocError>
     requires first { pred.depth first ≡ 2 }
     requires second { pred.depth second ≡ 2 }
@@ -124,6 +129,7 @@ fn both(alloc: Global, first: Pred, second: Pred) -> Result<Vec<Pred>, AllocErro
     Ok(parts)
 }
 
+/// That the first cell is above 0, and that it is below 9.
 fn between(alloc: Global) -> Result<Vec<Pred>, AllocError>
     ensures { IfOk result (λ parts. All (λ p. pred.depth p ≡ 2) parts.items) }
 {
@@ -149,6 +155,7 @@ fn any_asks_for_one_part(rt: HostRuntime) -> Result<(), Fail> {
     Ok(())
 }
 
+/// The predicate and a copy of it give this answer over a row of this cell.
 fn answers_as_its_copy(
     rt: &impl Abort,
     alloc: Global,

@@ -25,6 +25,7 @@ fn a_join_of_two_tables_reads_back(rt: HostRuntime) -> Result<(), Fail> {
     Ok(())
 }
 
+/// The catalogue gives back how wide its views are, and which of them are base views.
 fn widths_read_back(rt: &impl Abort, catalog: &Catalog<Every, Cell>) {
     assert_eq!(rt; catalog.shape().len(), 3);
     assert_eq!(rt; (catalog.width(0), catalog.width(2)), (2, 2));
@@ -35,6 +36,7 @@ fn widths_read_back(rt: &impl Abort, catalog: &Catalog<Every, Cell>) {
     assert!(rt; catalog.definition(1).is_none() && catalog.is_base(1));
 }
 
+/// The definition gives back its join, its filter and the columns that it keeps.
 fn join_reads_back(rt: &impl Abort, definition: &Definition<Every, Cell>) {
     assert_eq!(rt; definition.join(), [(1, 2)].as_slice());
     assert_eq!(rt; definition.filter().width(), 4);

@@ -30,6 +30,7 @@ fn planned(
     }
 }
 
+/// What `min_work` answers, where rows cost 1 each.
 fn asked(rt: &impl Abort, alloc: Global, given: &Measured) -> Result<Planned, MinFault> {
     let Measured { shape, sizes } = given;
     let costs = Costs::new(1, 1).expect(rt, "costs of 1");

@@ -44,6 +44,7 @@ fn found(
     }
 }
 
+/// What `plan` or `prune` answers within this budget of nodes, where rows cost 1 each.
 fn asked(
     rt: &impl Abort,
     alloc: Global,
@@ -61,6 +62,7 @@ fn asked(
     }
 }
 
+/// The plan in words, once `certify` has accepted it with its scope.
 fn in_words(
     rt: &impl Abort,
     alloc: Global,

@@ -41,6 +41,7 @@ fn children_in_another_order_are_other_lists(rt: HostRuntime) -> Result<(), Fail
     Ok(())
 }
 
+/// The child lists of three views give back those of the last, also when they are copied.
 fn lists_read_back(rt: &impl Abort, alloc: Global, lists: &ChildLists) -> Result<(), AllocError> {
     assert_eq!(rt; lists.len(), 3);
     assert!(rt; !lists.is_empty());
@@ -116,6 +117,7 @@ fn of_two_faults_the_first_is_told(rt: HostRuntime) -> Result<(), Fail> {
     Ok(())
 }
 
+/// The shape of these views is refused by this fault: its number, the view, and the name that it tells.
 fn tells(
     rt: &impl Abort,
     alloc: Global,
@@ -126,6 +128,7 @@ fn tells(
     Ok(())
 }
 
+/// What was made is refused by this fault.
 fn is_refused(rt: &impl Abort, made: Result<Shape, ShapeFault>, want: (u8, usize, &str)) {
     match made {
         Ok(_) => assert!(rt; false, "no fault"),
@@ -190,6 +193,7 @@ fn a_view_over_nothing_is_told_before_the_65th(rt: HostRuntime) -> Result<(), Fa
     Ok(())
 }
 
+/// The shape of these lists is refused by this fault.
 fn refuses(
     rt: &impl Abort,
     alloc: Global,

@@ -127,6 +127,7 @@ fn a_seventh_child_is_one_too_many(rt: HostRuntime) -> Result<(), Fail> {
     Ok(())
 }
 
+/// Sizes of these numbers are refused by this fault, or by none.
 fn refuses(
     rt: &impl Abort,
     alloc: Global,
@@ -169,6 +170,7 @@ fn costs_scale_the_two_parts_of_the_work(rt: HostRuntime) -> Result<(), Fail> {
     Ok(())
 }
 
+/// The work of the only strategy of one view over another, by costs of 1,000,000 and 3.
 fn work_of_the_only_list(rt: &impl Abort, alloc: Global, given: &Measured) -> Result<u128, Fail> {
     let Measured { shape, sizes } = given;
     let costs = Costs::new(1_000_000, 3).expect(rt, "costs");

@@ -200,7 +200,7 @@ x
 y
 ";
 
-// What a part's heading is, and the name that it has.
+/// What a part's heading is, and the name that it has.
 fn spelled<'a>(heading: &Heading<'a>) -> (&'static str, &'a [u8]) {
     match heading {
         Heading::Catalogue => ("catalogue", b""),
@@ -214,6 +214,7 @@ fn spelled<'a>(heading: &Heading<'a>) -> (&'static str, &'a [u8]) {
     }
 }
 
+/// The text of a part, lent or made.
 fn part_text(alloc: Global, part: &Part<'_>) -> Result<String, AllocError> {
     match part.text(alloc)? {
         CowSlice::Borrowed(found) => text_of(alloc, found),
@@ -221,6 +222,7 @@ fn part_text(alloc: Global, part: &Part<'_>) -> Result<String, AllocError> {
     }
 }
 
+/// A line for each part, with its night and heading, and then its text.
 fn part_lines(alloc: Global, bundle: &Bundle<'_>) -> Result<String, AllocError> {
     let mut text = String::new(alloc);
     for part in bundle.parts() {
@@ -276,7 +278,7 @@ fn bundles_are_cut_or_their_first_fault_is_told(rt: HostRuntime) -> Result<(), A
     agree(&rt, alloc, Reads::Bundle(Nights::Ignored), "", NO_NIGHTS)
 }
 
-// The texts of the parts with these headings in each of three nights.
+/// The texts of the parts with these headings in each of three nights.
 fn found_texts(
     alloc: Global,
     bundle: &Bundle<'_>,
@@ -297,6 +299,7 @@ fn found_texts(
     Ok(text)
 }
 
+/// What is found in the bundle of two nights.
 fn found_in_nights(alloc: Global) -> Result<String, AllocError> {
     let Ok(bundle) = parts(alloc, TWO_NIGHTS.as_bytes(), Nights::All) else {
         return String::from_str(alloc, "no bundle");
@@ -320,6 +323,7 @@ fn a_part_is_found_in_its_night(rt: HostRuntime) -> Result<(), AllocError> {
     Ok(())
 }
 
+/// For each part whether its text is lent or made.
 fn lent_or_made(alloc: Global, text: &[u8]) -> Result<String, AllocError> {
     let mut words = String::new(alloc);
     let Ok(bundle) = parts(alloc, text, Nights::First) else {

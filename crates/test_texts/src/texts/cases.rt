@@ -61,6 +61,7 @@ pub(crate) fn fault_line(alloc: Global, fault: &LoadFault) -> Result<String, All
     Ok(format!(in alloc; "{number} {line}\n")?)
 }
 
+/// What a reader makes of a text, as lines.
 fn outcome(alloc: Global, reads: Reads, text: &[u8]) -> Result<String, AllocError> {
     match reads {
         Reads::Bundle(nights) => bundles::outcome(alloc, nights, text),
@@ -76,7 +77,7 @@ fn outcome(alloc: Global, reads: Reads, text: &[u8]) -> Result<String, AllocErro
     }
 }
 
-// What is wanted of a case, and the text that is read.
+/// What is wanted of a case, and the text that is read.
 fn parted(case: &str) -> (&str, &str) {
     match case.split_once("----\n") {
         Some(parts) => parts,
@@ -84,7 +85,7 @@ fn parted(case: &str) -> (&str, &str) {
     }
 }
 
-// Compares what a case says with what is wanted of it.
+/// Compares what a case says with what is wanted of it.
 fn agree_in(
     rt: &impl Abort,
     alloc: Global,
@@ -135,7 +136,7 @@ pub(crate) fn times(alloc: Global, count: usize, text: &str) -> Result<String, A
     Ok(all)
 }
 
-// Whether it is what was read, which begins with no number, or a fault of one of these.
+/// Whether it is what was read, which begins with no number, or a fault of one of these.
 fn is_told(found: &str, faults: &[&str]) -> bool {
     for fault in faults {
         if found.starts_with(*fault) {

@@ -285,7 +285,7 @@ over = [\"x\"]
 name = \"w\"
 ";
 
-// The name of a view, `?` where there is none of this number.
+/// The name of a view, `?` where there is none of this number.
 fn name(shape: &Shape, view: usize) -> &str {
     if view < shape.len() {
         shape.name(view)
@@ -294,7 +294,7 @@ fn name(shape: &Shape, view: usize) -> &str {
     }
 }
 
-// The views line by line, each with its children.
+/// The views line by line, each with its children.
 fn shape_lines(alloc: Global, shape: &Shape) -> Result<String, AllocError> {
     let mut text = String::new(alloc);
     for view in 0..shape.len() {
@@ -327,7 +327,7 @@ fn of_two_faults_of_shapes_the_first_is_told(rt: HostRuntime) -> Result<(), Allo
     agree(&rt, rt.alloc(), Reads::Shape, "", TWO_FAULTS)
 }
 
-// Base views v0, v1 and so on, as many as count.
+/// Base views v0, v1 and so on, as many as count.
 fn bases(alloc: Global, count: usize) -> Result<String, AllocError> {
     let mut text = String::new(alloc);
     for number in 0..count {
@@ -344,7 +344,7 @@ fn the_65th_view_is_one_too_many(rt: HostRuntime) -> Result<(), Fail> {
     Ok(agree(&rt, alloc, Reads::Shape, &most, AFTER_64)?)
 }
 
-// A view over none, whose name has this many bytes.
+/// A view over none, whose name has this many bytes.
 fn named(alloc: Global, count: usize) -> Result<String, AllocError> {
     let name = times(alloc, count, "n")?;
     let text = format!(in alloc; "view = [{{over = [], name = \"{name}\"}}]")?;

@@ -14,6 +14,7 @@ use wh_load::{
     read_shape,
 };
 
+/// Adds a line of the columns and their kinds.
 fn append_columns(text: &mut String, columns: &[Column]) -> Result<(), AllocError> {
     for column in columns {
         text.push_str(column.name())?;
@@ -25,7 +26,7 @@ fn append_columns(text: &mut String, columns: &[Column]) -> Result<(), AllocErro
     text.push_str("\n")
 }
 
-// The combined row whose cells are their own places.
+/// The combined row whose cells are their own places.
 fn places(alloc: Global, width: usize) -> Result<Vec<i64>, AllocError> {
     let mut row = Vec::new(alloc);
     for place in 0..width {
@@ -48,6 +49,7 @@ pub(crate) fn holds(pred: &Pred, row: &[i64]) -> bool {
     pred.fits(row.len()) && pred.holds(row)
 }
 
+/// Adds a line of the values that expressions have over the row.
 fn append_values(
     alloc: Global,
     text: &mut String,
@@ -65,6 +67,7 @@ fn append_values(
     text.push_str("\n")
 }
 
+/// Adds a line of the places by which a summary groups.
 fn append_group(alloc: Global, text: &mut String, group: &[usize]) -> Result<(), AllocError> {
     text.push_str(" group")?;
     for place in group {
@@ -73,6 +76,7 @@ fn append_group(alloc: Global, text: &mut String, group: &[usize]) -> Result<(),
     text.push_str("\n")
 }
 
+/// Adds a line of the pairs of places that are equal.
 fn append_join(
     alloc: Global,
     text: &mut String,
@@ -85,6 +89,7 @@ fn append_join(
     text.push_str("\n")
 }
 
+/// Adds the lines of a definition: its join, the filter's answer and its columns' values over a row of places.
 fn append_definition(
     alloc: Global,
     text: &mut String,
@@ -107,6 +112,7 @@ fn append_definition(
     }
 }
 
+/// The lines of all views that were read.
 fn written_lines(alloc: Global, written: &Written) -> Result<String, AllocError> {
     let mut text = String::new(alloc);
     for view in &written.views {
@@ -141,6 +147,7 @@ pub(crate) fn read_catalogue(
     read_definitions(alloc, text, &shape, dict)
 }
 
+/// The lines of all views that were read, and then those of the texts.
 fn catalogue_lines(alloc: Global, written: &Written, dict: &Dict) -> Result<String, AllocError> {
     let mut lines = written_lines(alloc, written)?;
     lines.push_str(dict_lines(alloc, dict)?.as_str())?;

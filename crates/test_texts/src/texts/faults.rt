@@ -13,6 +13,7 @@ const LINES: &str = "10 fault read
 12 fault part \u{ff}
 ";
 
+/// The fault at a place of the list of cases.
 fn fault(alloc: Global, place: usize) -> Result<LoadFault, AllocError> {
     Ok(match place {
         0 => LoadFault::Read,
@@ -24,6 +25,7 @@ fn fault(alloc: Global, place: usize) -> Result<LoadFault, AllocError> {
     })
 }
 
+/// The lines of all faults of the list.
 fn lines(alloc: Global) -> Result<String, AllocError> {
     let mut lines = String::new(alloc);
     for place in 0..6 {

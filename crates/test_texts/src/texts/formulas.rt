@@ -11,7 +11,7 @@ const SQUARES: &str = r#"view = [
 ]
 "#;
 
-// Whether the filter of a view holds of the two numbers, and the values that the view keeps of them.
+/// Whether the filter of a view holds of the two numbers, and the values that the view keeps of them.
 fn answers(written: &Written, view: usize) -> Option<(bool, bool, Option<i64>, Option<i64>)> {
     let definition = written.views.get(view)?.definition.as_ref()?;
     let WrittenOutput::Keep(exprs) = &definition.output else {

@@ -11,6 +11,7 @@ use wh_load::{Names, Plan, read_plan, read_sizes, write_plan, write_strategy};
 use wh_minwork::min_work;
 use wh_strategy::Costs;
 
+/// The lines of a plan: its scope and work, its strategy, and its certificate.
 fn plan_lines(alloc: Global, names: &Names, plan: &Plan) -> Result<String, AllocError> {
     let scope = if plan.scope == Scope::All {
         "all"
@@ -45,6 +46,7 @@ fn plan_lines(alloc: Global, names: &Names, plan: &Plan) -> Result<String, Alloc
     Ok(text)
 }
 
+/// The lines of a node of a certificate.
 fn node_line(alloc: Global, names: &Names, node: &TreeNode) -> Result<String, AllocError> {
     match node {
         TreeNode::Bound => String::from_str(alloc, "bound\n"),
@@ -78,6 +80,7 @@ fn plans_are_read_or_their_fault_is_told(rt: HostRuntime) -> Result<(), AllocErr
     agree(&rt, rt.alloc(), Reads::Plan, "", FAULTS)
 }
 
+/// A plan for one view over two.
 fn plan_all(alloc: Global, shape: &Shape) -> Option<Planned> {
     let rows = b"view,pre,post,change\nA,10,12,4\nB,100,70,30\nV,50,44,6\n";
     let sizes = read_sizes(alloc, shape, rows).ok()?;
@@ -85,6 +88,7 @@ fn plan_all(alloc: Global, shape: &Shape) -> Option<Planned> {
     min_work(alloc, shape, &sizes, costs).ok()
 }
 
+/// The text of a plan for one view over two.
 fn plan_all_text(alloc: Global) -> Result<Vec<u8>, AllocError> {
     let Ok(shape) = two_children(alloc) else {
         return Ok(Vec::new(alloc));
@@ -95,6 +99,7 @@ fn plan_all_text(alloc: Global) -> Result<Vec<u8>, AllocError> {
     }
 }
 
+/// The text of a plan.
 fn plan_text(alloc: Global, shape: &Shape, planned: &Planned) -> Result<Vec<u8>, AllocError> {
     let names = Names::of(alloc, shape)?;
     let mut out = Vec::new(alloc);

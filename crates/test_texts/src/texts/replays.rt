@@ -12,6 +12,7 @@ use wh_load::{
 };
 use wh_row::Bag;
 
+/// The tables of these views, as they are written.
 fn rows_text(
     alloc: Global,
     views: &[WrittenView],
@@ -25,6 +26,7 @@ fn rows_text(
     text_of(alloc, &out)
 }
 
+/// What is given of a night: its changes as tables, and its strategy.
 fn night_text(
     alloc: Global,
     names: &Names,
@@ -39,6 +41,7 @@ fn night_text(
     Ok(text)
 }
 
+/// All that was read for a replay: texts, tables, nights and schedule.
 fn input_text(alloc: Global, input: &ReplayInput) -> Result<String, AllocError> {
     let names = Names::of(alloc, &input.shape)?;
     let opening = &input.opening;

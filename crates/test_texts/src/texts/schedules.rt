@@ -7,6 +7,7 @@ use given::{EXAMPLES, FAULTS, SCHEDULES, TWO_FAULTS};
 use std::alloc::{AllocError, Global};
 use wh_load::{LoadFault, Names, Schedule, ScheduledEvent, read_schedule, read_shape};
 
+/// The names of two views, the second over the first.
 fn names(alloc: Global) -> Result<Names, LoadFault> {
     let shape = read_shape(
         alloc,
@@ -15,6 +16,7 @@ fn names(alloc: Global) -> Result<Names, LoadFault> {
     Ok(Names::of(alloc, &shape)?)
 }
 
+/// The line of a read.
 fn read_line(
     alloc: Global,
     desk: usize,
@@ -27,6 +29,7 @@ fn read_line(
     }
 }
 
+/// The line of an event.
 fn event_line(alloc: Global, event: ScheduledEvent) -> Result<String, AllocError> {
     match event {
         ScheduledEvent::Begin => String::from_str(alloc, "night\n"),

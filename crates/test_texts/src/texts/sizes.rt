@@ -297,6 +297,7 @@ view,pre,post,change
 C,x,1,\u{c3}
 ";
 
+/// A line for each view: its rows before, after and of the change.
 fn size_line(alloc: Global, sizes: &Sizes) -> Result<String, AllocError> {
     let mut line = String::new(alloc);
     for view in 0..sizes.len() {

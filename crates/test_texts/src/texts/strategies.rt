@@ -126,6 +126,7 @@ fn views_are_found_by_name(rt: HostRuntime) -> Result<(), Fail> {
     Ok(())
 }
 
+/// Two expressions, each written by itself with nothing between them.
 fn written_side_by_side(alloc: Global, names: &Names) -> Result<Vec<u8>, AllocError> {
     let mut out = Vec::new(alloc);
     if let Ok(strategy) = read_strategy(alloc, names, b"comp V from B A\ninst B") {

@@ -13,6 +13,7 @@ use std::test::Fail;
 use wh_load::{Column, Dict, Kind, LoadFault, read_changes, read_table, write_table};
 use wh_row::Bag;
 
+/// Columns by their names: with `:` behind a name one of texts, without one of numbers.
 fn columns_of(alloc: Global, names: &str) -> Result<Vec<Column>, AllocError> {
     let mut columns = Vec::new(alloc);
     for word in names.split_whitespace() {
@@ -25,6 +26,7 @@ fn columns_of(alloc: Global, names: &str) -> Result<Vec<Column>, AllocError> {
     Ok(columns)
 }
 
+/// The table that was read as it is written again, or the line of its fault.
 fn written(
     alloc: Global,
     columns: &[Column],
@@ -88,7 +90,7 @@ fn the_parts_of_worked_examples_are_read(rt: HostRuntime) -> Result<(), AllocErr
     agree(&rt, alloc, Reads::Changes("g x"), "", SUMMARY_CHANGES)
 }
 
-// How often each row (x, 10) counts in a table and in the changes to it.
+/// How often each row (x, 10) counts in a table and in the changes to it.
 fn counts(alloc: Global, table: &Bag, delta: &Bag) -> Result<String, AllocError> {
     let mut counts = String::new(alloc);
     for x in 0..4 {
@@ -98,6 +100,7 @@ fn counts(alloc: Global, table: &Bag, delta: &Bag) -> Result<String, AllocError>
     Ok(counts)
 }
 
+/// The counts of a table and a change that are read one after another.
 fn two_table_night(alloc: Global) -> Result<String, LoadFault> {
     let columns = columns_of(alloc, "x y")?;
     let mut dict = Dict::new(alloc);
@@ -126,6 +129,7 @@ static PARTS: [&str; 3] = [
     "#,k,n\n-1,y,3\n1,x,3\n1,r,3\n",
 ];
 
+/// What is read of each part, with one dictionary for all of them.
 fn read_in_turn(alloc: Global, columns: &[Column], dict: &mut Dict) -> Result<String, AllocError> {
     let mut text = String::new(alloc);
     for part in &PARTS {
@@ -139,7 +143,7 @@ fn read_in_turn(alloc: Global, columns: &[Column], dict: &mut Dict) -> Result<St
     Ok(text)
 }
 
-// Numbers the texts of the catalogue.
+/// Numbers the texts of the catalogue.
 fn note_literals(alloc: Global, dict: &mut Dict) -> bool {
     match read_catalogue(alloc, NAMED.as_bytes(), dict) {
         Ok(_written) => true,
@@ -147,6 +151,7 @@ fn note_literals(alloc: Global, dict: &mut Dict) -> bool {
     }
 }
 
+/// What is read of each part after the catalogue with texts.
 fn numbered(alloc: Global) -> Result<String, AllocError> {
     let mut dict = Dict::new(alloc);
     if !note_literals(alloc, &mut dict) {
@@ -155,7 +160,7 @@ fn numbered(alloc: Global) -> Result<String, AllocError> {
     numbered_after(alloc, &mut dict)
 }
 
-// The parts, and the texts that have numbers then.
+/// The parts, and the texts that have numbers then.
 fn numbered_after(alloc: Global, dict: &mut Dict) -> Result<String, AllocError> {
     let columns = columns_of(alloc, "k:text n")?;
     let mut text = read_in_turn(alloc, &columns, dict)?;

@@ -28,6 +28,7 @@ pub(crate) enum Step {
     Branch(usize, usize),
 }
 
+/// The nodes of a certificate, by steps.
 fn nodes(alloc: Global, names: &Names, steps: &[Step]) -> Result<Vec<TreeNode>, Fail> {
     let mut nodes = Vec::new(alloc);
     for step in steps {

@@ -9,18 +9,19 @@ use wh_load::{LoadFault, Plan, read_plan};
 
 static CYCLE: &str = "cycle inst V1; comp V2 from B; inst B; comp V1 from C\n";
 
-// The plan of two lines, the eight of the list, and these.
+/// The plan of two lines, the eight of the list, and these.
 fn plan_text(alloc: Global, tree: &str) -> Result<String, AllocError> {
     Ok(format!(in alloc; "scope one-way\nwork 490\n{STRATEGY}{tree}")?)
 }
 
+/// The plan with this tree.
 fn plan_of(alloc: Global, tree: &str) -> Result<Plan, Fail> {
     let names = the_names(alloc)?;
     let text = plan_text(alloc, tree)?;
     Ok(read_plan(alloc, &names, text.as_bytes())?)
 }
 
-// The first faulty line of the plan with these lines for its tree, if there is one.
+/// The first faulty line of the plan with these lines for its tree, if there is one.
 fn faulty_line(alloc: Global, tree: &str) -> Result<Option<usize>, Fail> {
     let names = the_names(alloc)?;
     let text = plan_text(alloc, tree)?;
@@ -31,7 +32,7 @@ fn faulty_line(alloc: Global, tree: &str) -> Result<Option<usize>, Fail> {
     }
 }
 
-// What is certified of the plan with these lines for its tree.
+/// What is certified of the plan with these lines for its tree.
 fn verdict(rt: &impl Abort, alloc: Global, tree: &str) -> Result<Verdict, Fail> {
     let plan = plan_of(alloc, tree)?;
     assert_eq!(rt; plan.scope, Scope::OneWay);
@@ -39,7 +40,7 @@ fn verdict(rt: &impl Abort, alloc: Global, tree: &str) -> Result<Verdict, Fail> 
     judged(rt, alloc, plan.strategy, &plan.certificate)
 }
 
-// So many lines of this text, and then so many of the other.
+/// So many lines of this text, and then so many of the other.
 fn lines(
     alloc: Global,
     count: usize,

@@ -3,7 +3,7 @@ ghost use Rattle.std.specs.Prelude.{◌≡◌, ◌⊎◌, [], codes, map, Ok, Er
 ghost use Rattle.toml.specs.Data.{get};
 ghost use Rattle.toml.specs.View.{view};
 ghost use Rattle.wh_text.specs.Inner.Dict.{Grows};
-ghost use Rattle.wh_text_catalogue.specs.Output.{count_column, count_written, group_written, groups, groups_of, kept, kept_alone, output_of, summed, summed_at, sums_at, sums_in, sums_of};
+ghost use Rattle.wh_text_catalogue.specs.Output.{count_column, count_written, group_written, groups, groups_of, joined_columns, joined_columns_alone, output_of, summary_columns, summary_columns_if_grouped, sum_pairs_at, sum_pairs_in, sum_columns};
 ghost use Rattle.wh_text_catalogue.specs.Inner.Output.{shown_outcome};
 ghost use Rattle.wh_text_catalogue.specs.Pairs.{typed_columns};
 ghost use Rattle.wh_text_catalogue.specs.Inner.Pairs.{seen_pair};
@@ -45,14 +45,14 @@ pub(crate) struct Outcome {
 }
 
 /// The columns that `keep` says, or the first fault.
-fn kept(
+fn joined_columns(
     alloc: Global,
     header: &Header,
     texts: &mut Dict,
     value: &Value,
 ) -> Result<Outcome, LoadFault>
-    ensures ok { IfOk result (λ outcome. kept header.now (view value.now) texts.old ≡ Ok (shown_outcome outcome, texts.new)) }
-    ensures err { IfErr result (λ f. (f ≡ LoadFault.Memory) ⊎ (kept header.now (view value.now) texts.old ≡ Err f)) }
+    ensures ok { IfOk result (λ outcome. joined_columns header.now (view value.now) texts.old ≡ Ok (shown_outcome outcome, texts.new)) }
+    ensures err { IfErr result (λ f. (f ≡ LoadFault.Memory) ⊎ (joined_columns header.now (view value.now) texts.old ≡ Err f)) }
     ensures grows { Grows texts.old texts.new }
 {
     let pairs = pairs_written(alloc, Key::Keep, value)?;
@@ -106,9 +106,9 @@ fn count_written(table: &Value) -> Result<&str, LoadFault>
 }
 
 /// The pairs of `sum`, else Key(Sum).
-fn sums_in(alloc: Global, value: &Value) -> Result<Vec<Pair<'_>>, LoadFault>
-    ensures ok { IfOk result (λ pairs. sums_in (view value.now) ≡ Ok (map seen_pair pairs.items)) }
-    ensures err { IfErr result (λ f. (f ≡ LoadFault.Memory) ⊎ (sums_in (view value.now) ≡ Err f)) }
+fn sum_pairs_in(alloc: Global, value: &Value) -> Result<Vec<Pair<'_>>, LoadFault>
+    ensures ok { IfOk result (λ pairs. sum_pairs_in (view value.now) ≡ Ok (map seen_pair pairs.items)) }
+    ensures err { IfErr result (λ f. (f ≡ LoadFault.Memory) ⊎ (sum_pairs_in (view value.now) ≡ Err f)) }
 {
     let pairs = pairs_written(alloc, Key::Sum, value)?;
     if !are_exprs(&pairs) {
@@ -118,12 +118,12 @@ fn sums_in(alloc: Global, value: &Value) -> Result<Vec<Pair<'_>>, LoadFault>
 }
 
 /// The pairs of `sum`, none where the key is missing.
-fn sums_at(alloc: Global, table: &Value) -> Result<Vec<Pair<'_>>, LoadFault>
-    ensures ok { IfOk result (λ pairs. sums_at (get (codes "sum") (view table.now)) ≡ Ok (map seen_pair pairs.items)) }
-    ensures err { IfErr result (λ f. (f ≡ LoadFault.Memory) ⊎ (sums_at (get (codes "sum") (view table.now)) ≡ Err f)) }
+fn sum_pairs_at(alloc: Global, table: &Value) -> Result<Vec<Pair<'_>>, LoadFault>
+    ensures ok { IfOk result (λ pairs. sum_pairs_at (get (codes "sum") (view table.now)) ≡ Ok (map seen_pair pairs.items)) }
+    ensures err { IfErr result (λ f. (f ≡ LoadFault.Memory) ⊎ (sum_pairs_at (get (codes "sum") (view table.now)) ≡ Err f)) }
 {
     match table.get("sum") {
-        Some(value) => sums_in(alloc, value),
+        Some(value) => sum_pairs_in(alloc, value),
         None => Ok(Vec::new(alloc)),
     }
 }
@@ -148,7 +148,7 @@ fn groups_of<'a>(
 }
 
 /// The expressions of a summary's sums, whose columns and names are noted.
-fn sums_of<'a>(
+fn sum_columns<'a>(
     alloc: Global,
     header: &Header,
     texts: &mut Dict,
@@ -156,19 +156,19 @@ fn sums_of<'a>(
     columns: &mut Vec<Column>,
     table: &'a Value,
 ) -> Result<Vec<Expr>, LoadFault>
-    ensures ok { IfOk result (λ exprs. sums_of header.now (map (λ n. n.now) seen.old.keys) columns.old.items (view table.now) texts.old
+    ensures ok { IfOk result (λ exprs. sum_columns header.now (map (λ n. n.now) seen.old.keys) columns.old.items (view table.now) texts.old
         ≡ Ok (typed_columns columns.new.items exprs.items, texts.new)) }
     ensures err { IfErr result (λ f. (f ≡ LoadFault.Memory)
-        ⊎ (sums_of header.now (map (λ n. n.now) seen.old.keys) columns.old.items (view table.now) texts.old ≡ Err f)) }
+        ⊎ (sum_columns header.now (map (λ n. n.now) seen.old.keys) columns.old.items (view table.now) texts.old ≡ Err f)) }
     ensures grows { Grows texts.old texts.new }
 {
-    let pairs = sums_at(alloc, table)?;
+    let pairs = sum_pairs_at(alloc, table)?;
     known_pairs(alloc, header, seen, &pairs)?;
     typed_pairs(alloc, header, texts, KindRule::Numbers, columns, &pairs)
 }
 
 /// The column that counts the rows of a group.
-fn counted(alloc: Global, name: &str) -> Result<Column, LoadFault>
+fn count_column(alloc: Global, name: &str) -> Result<Column, LoadFault>
     ensures ok { IfOk result (λ column. column ≡ count_column name.now) }
     ensures err { IfErr result (λ f. f ≡ LoadFault.Memory) }
 {
@@ -177,15 +177,15 @@ fn counted(alloc: Global, name: &str) -> Result<Column, LoadFault>
 }
 
 /// The columns of a summary with this `group`, or the first fault.
-fn summed(
+fn summary_columns(
     alloc: Global,
     header: &Header,
     texts: &mut Dict,
     table: &Value,
     value: &Value,
 ) -> Result<Outcome, LoadFault>
-    ensures ok { IfOk result (λ outcome. summed header.now (view table.now) (view value.now) texts.old ≡ Ok (shown_outcome outcome, texts.new)) }
-    ensures err { IfErr result (λ f. (f ≡ LoadFault.Memory) ⊎ (summed header.now (view table.now) (view value.now) texts.old ≡ Err f)) }
+    ensures ok { IfOk result (λ outcome. summary_columns header.now (view table.now) (view value.now) texts.old ≡ Ok (shown_outcome outcome, texts.new)) }
+    ensures err { IfErr result (λ f. (f ≡ LoadFault.Memory) ⊎ (summary_columns header.now (view table.now) (view value.now) texts.old ≡ Err f)) }
     ensures grows { Grows texts.old texts.new }
 {
     let mut seen = IndexSet::new(alloc);
@@ -193,9 +193,9 @@ fn summed(
     let group = groups_of(alloc, header, &mut seen, &mut columns, value)?;
     let count = count_written(table)?;
     fresh_name(alloc, &mut seen, count)?;
-    let column = counted(alloc, count)?;
+    let column = count_column(alloc, count)?;
     columns.push(column)?;
-    let sums = sums_of(alloc, header, texts, &mut seen, &mut columns, table)?;
+    let sums = sum_columns(alloc, header, texts, &mut seen, &mut columns, table)?;
     if columns.len() > MAX_COLUMNS {
         return Err(LoadFault::Key(Key::Group));
     }
@@ -206,18 +206,18 @@ fn summed(
 }
 
 /// The columns that `keep` says, where there is no `group` beside it, else Key(Group).
-fn kept_alone(
+fn joined_columns_alone(
     alloc: Global,
     header: &Header,
     texts: &mut Dict,
     table: &Value,
     value: &Value,
 ) -> Result<Outcome, LoadFault>
-    ensures ok { IfOk result (λ outcome. kept_alone header.now (view value.now) (get (codes "group") (view table.now)) texts.old ≡ Ok (shown_outcome outcome, texts.new)) }
-    ensures err { IfErr result (λ f. (f ≡ LoadFault.Memory) ⊎ (kept_alone header.now (view value.now) (get (codes "group") (view table.now)) texts.old ≡ Err f)) }
+    ensures ok { IfOk result (λ outcome. joined_columns_alone header.now (view value.now) (get (codes "group") (view table.now)) texts.old ≡ Ok (shown_outcome outcome, texts.new)) }
+    ensures err { IfErr result (λ f. (f ≡ LoadFault.Memory) ⊎ (joined_columns_alone header.now (view value.now) (get (codes "group") (view table.now)) texts.old ≡ Err f)) }
     ensures grows { Grows texts.old texts.new }
 {
-    let outcome = kept(alloc, header, texts, value)?;
+    let outcome = joined_columns(alloc, header, texts, value)?;
     match table.get("group") {
         Some(_) => Err(LoadFault::Key(Key::Group)),
         None => Ok(outcome),
@@ -225,18 +225,18 @@ fn kept_alone(
 }
 
 /// The columns of a summary, where there is a `group`, else Key(Keep).
-fn summed_at(
+fn summary_columns_if_grouped(
     alloc: Global,
     header: &Header,
     texts: &mut Dict,
     table: &Value,
 ) -> Result<Outcome, LoadFault>
-    ensures ok { IfOk result (λ outcome. summed_at header.now (view table.now) (get (codes "group") (view table.now)) texts.old ≡ Ok (shown_outcome outcome, texts.new)) }
-    ensures err { IfErr result (λ f. (f ≡ LoadFault.Memory) ⊎ (summed_at header.now (view table.now) (get (codes "group") (view table.now)) texts.old ≡ Err f)) }
+    ensures ok { IfOk result (λ outcome. summary_columns_if_grouped header.now (view table.now) (get (codes "group") (view table.now)) texts.old ≡ Ok (shown_outcome outcome, texts.new)) }
+    ensures err { IfErr result (λ f. (f ≡ LoadFault.Memory) ⊎ (summary_columns_if_grouped header.now (view table.now) (get (codes "group") (view table.now)) texts.old ≡ Err f)) }
     ensures grows { Grows texts.old texts.new }
 {
     match table.get("group") {
-        Some(value) => summed(alloc, header, texts, table, value),
+        Some(value) => summary_columns(alloc, header, texts, table, value),
         None => Err(LoadFault::Key(Key::Keep)),
     }
 }
@@ -254,7 +254,7 @@ pub(crate) fn output_of(
     ensures grows { Grows texts.old texts.new }
 {
     match table.get("keep") {
-        Some(value) => kept_alone(alloc, header, texts, table, value),
-        None => summed_at(alloc, header, texts, table),
+        Some(value) => joined_columns_alone(alloc, header, texts, table, value),
+        None => summary_columns_if_grouped(alloc, header, texts, table),
     }
 }

@@ -6,7 +6,7 @@ use Rattle.wh_text.specs.Columns.{NamedKind, kinds_of, names_of}
 use Rattle.wh_text.specs.declared.columns.Kind.{Kind}
 use Rattle.wh_text.specs.declared.fault.LoadFault.{LoadFault}
 use Rattle.wh_text.specs.declared.fault.LoadFault.TheVariants.{Number}
-use Rattle.wh_text_tables.specs.Part.{◌>>=◌}
+use Rattle.wh_text.specs.ValueOrFault.{◌>>=◌}
 use Rattle.wh_text_tables.specs.Part.{Scheme}
 use Rattle.wh_text_tables.specs.declared.table.header.Content.{Content}
 use Rattle.wh_text_tables.specs.declared.table.header.Counting.{Counting}

@@ -19,6 +19,7 @@ const IN_WHERE: &str = "keep = [[\"p\", 1]]\nwhere = ";
 
 const IN_KEEP: &str = "keep = [[\"p\", ";
 
+/// So many levels of a predicate at `where`, and what is read of them.
 fn in_where(count: usize, kernel: &'static str, want: &'static str) -> Nest {
     Nest {
         front: IN_WHERE,
@@ -30,6 +31,7 @@ fn in_where(count: usize, kernel: &'static str, want: &'static str) -> Nest {
     }
 }
 
+/// So many levels of an expression at `keep`, and what is read of them.
 fn in_keep(count: usize, kernel: &'static str, want: &'static str) -> Nest {
     Nest {
         front: IN_KEEP,
@@ -41,8 +43,8 @@ fn in_keep(count: usize, kernel: &'static str, want: &'static str) -> Nest {
     }
 }
 
-// A formula's root has depth 1. A formula that is too deep has another form, whatever its columns are; past 80 arrays in
-// one another the text is no TOML.
+/// A formula's root has depth 1. A formula that is too deep has another form, whatever its columns are; past 80 arrays in
+/// one another the text is no TOML.
 fn nest_at(place: usize) -> Nest {
     match place {
         0 => in_where(63, "true", "x:int"),
@@ -81,7 +83,7 @@ fn a_formula_is_at_most_64_deep(rt: HostRuntime) -> Result<(), AllocError> {
     Ok(())
 }
 
-// So many members of an array, each with its number.
+/// So many members of an array, each with its number.
 fn members(alloc: Global, count: usize, front: &str, back: &str) -> Result<String, AllocError> {
     let mut text = String::new(alloc);
     for number in 0..count {
@@ -90,7 +92,7 @@ fn members(alloc: Global, count: usize, front: &str, back: &str) -> Result<Strin
     Ok(text)
 }
 
-// That a summary has more than 64 columns is told after all of its keys.
+/// That a summary has more than 64 columns is told after all of its keys.
 fn summary(alloc: Global, groups: usize, sums: usize, back: &str) -> Result<String, AllocError> {
     let group = members(alloc, groups, "g", "a.x")?;
     let sum = members(alloc, sums, "s", "a.y")?;
@@ -99,6 +101,7 @@ fn summary(alloc: Global, groups: usize, sums: usize, back: &str) -> Result<Stri
     outcome(alloc, text.as_bytes())
 }
 
+/// What is read of a joined view with so many columns.
 fn joined(alloc: Global, pairs: usize, back: &str) -> Result<String, AllocError> {
     let keep = members(alloc, pairs, "p", "a.x")?;
     let text = format!(in alloc; "{TWO_BASES}{OPEN_VIEW}keep = [{keep}{back}]\n")?;
