@@ -64,7 +64,7 @@ impl MaintFault {
         }
     }
 
-    /// The fault of the view whose bag was not changed.
+    /// The fault of the view whose bag was not changed. It is no `From`, as a bag's fault does not tell the view.
     pub(crate) fn of_bag(fault: BagFault, view: usize) -> MaintFault
         ensures { result ≡ bag_fault_of view fault }
     {
@@ -115,7 +115,7 @@ impl<T: Drop> From<AllocFailed<T>> for RowFault {
 }
 
 impl RowFault {
-    /// The fault of the view.
+    /// The fault of the view. It is no `From`, as this does not tell the view.
     pub(crate) fn of(self, view: usize) -> MaintFault
         ensures { result ≡ fault_of view self }
     {

@@ -1,5 +1,5 @@
 -- What the entries of a map from rows count.
-use Rattle.std.proofs.Common.{◌≡◌, ◌≢◌, refl, sym, ap, subst, ◌∙◌, zero, suc, ℤ, pos, negsuc, ◌+ℤ◌, true, false, cond, Bool, List, [], ◌∷◌, Option, Some, None, T, ◌&&◌, map, FitsSigned, unwrap_or, Result, Ok, Err, OnOk, OnErr, to_z, of_z, to_z-of_z}
+use Rattle.std.proofs.Common.{◌≡◌, ◌≢◌, refl, sym, ap, subst, ◌∙◌, zero, suc, ℤ, pos, negsuc, ◌+ℤ◌, true, false, cond, Bool, List, [], ◌∷◌, Option, Some, None, T, ◌&&◌, map, FitsSigned, unwrap_or, Result, Ok, Err, OnOk, OnErr}
 use lib.IntN.{+ℤ_idl, +ℤ_idr}
 use mir.Syntax.{w64}
 use Rattle.std.specs.Int.{Width}

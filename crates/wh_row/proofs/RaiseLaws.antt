@@ -1,5 +1,5 @@
 -- More that is added to what a row counts by one search.
-use Rattle.std.proofs.Common.{◌≡◌, ◌≢◌, ◌⊎◌, inl, inr, true, false, refl, sym, ap, subst, ◌∙◌, ℤ, pos, ◌+ℤ◌, Option, Some, None, unwrap_or, cond, FitsSigned, to_z, of_z, to_z-of_z}
+use Rattle.std.proofs.Common.{◌≡◌, ◌≢◌, ◌⊎◌, inl, inr, true, false, refl, sym, ap, subst, ◌∙◌, ℤ, pos, ◌+ℤ◌, Option, Some, None, unwrap_or, FitsSigned, to_z, of_z, to_z-of_z}
 use lib.IntN.{+ℤ_idl}
 use Rattle.std.specs.Int.{Width}
 use Rattle.std.specs.Ordering.{int_eq}
@@ -11,8 +11,7 @@ use Rattle.wh_row.specs.Bag.{Bag, count, set_count, plus}
 use Rattle.wh_row.specs.Inner.Room.{IsRaised}
 use Rattle.wh_row.specs.Stored.{from_counts}
 use Rattle.wh_row.specs.Inner.Stored.{AreCountsIn}
-use Rattle.wh_row.proofs.RowLaws.{itself}
-use Rattle.wh_row.proofs.CountLaws.{count-set_count, set_twice, set_same}
+use Rattle.wh_row.proofs.CountLaws.{set_twice, set_same}
 use Rattle.wh_row.proofs.WrittenLaws.{zero_or_not}
 use Rattle.wh_row.proofs.MapLaws.{from_counts-with, counts-with, found_counts, seen_count}
 

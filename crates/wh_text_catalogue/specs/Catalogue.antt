@@ -7,7 +7,7 @@ use Rattle.toml.specs.Data.{Data, Items, no_items, item, Members, as_array, as_s
 use Rattle.toml.specs.Parse.{parse_document}
 use Rattle.wh_dag.specs.Fault.{first_fault}
 use Rattle.wh_dag.specs.Shape.{Views}
-use Rattle.wh_dag.specs.Written.{children_written, texts, written}
+use Rattle.wh_dag.specs.Written.{children_written, written}
 use Rattle.wh_dag.specs.declared.fault.ShapeFault.{ShapeFault}
 use Rattle.wh_text.specs.NameForm.{is_name}
 pub use Rattle.wh_text.specs.ValueOrFault.{◌>>=◌}
