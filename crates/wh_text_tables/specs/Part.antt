@@ -1,5 +1,5 @@
 -- A CSV part: its header says what it is, each record below it has a first fault or a value, and the values are folded from the first to the last.
-use Rattle.std.specs.Prelude.{ℕ, ◌+◌, List, [], ◌∷◌, length, Option, Some, None, ok_or, Result, Ok, Err}
+use Rattle.std.specs.Prelude.{ℕ, ◌+◌, List, [], ◌∷◌, length, Option, ok_or, Result, Ok, Err}
 pub use Rattle.wh_text.specs.ValueOrFault.{◌>>=◌, or_fault}
 use Rattle.wh_text.specs.declared.fault.LoadFault.{LoadFault}
 use Rattle.wh_text.specs.declared.fault.LoadFault.TheVariants.{Header}

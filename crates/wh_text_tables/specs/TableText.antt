@@ -1,5 +1,5 @@
 -- Tables and changes as parts write them: a header, and a record for each row with its count.
-use Rattle.std.specs.Prelude.{ℕ, zero, suc, ◌+◌, ℤ, pos, negsuc, List, [], ◌∷◌, ◌++◌, drop, codes, Option, Some, None, ok_or, Result, Ok, Err, if◌then◌else◌, option_and_then, option_map}
+use Rattle.std.specs.Prelude.{ℕ, zero, suc, ℤ, pos, negsuc, List, [], ◌∷◌, ◌++◌, drop, codes, Option, Some, None, ok_or, Result, Ok, Err, if◌then◌else◌, option_and_then, option_map}
 use Rattle.std.specs.Cmp.Lexicographic.{pointwise}
 use Rattle.std.specs.Str.{bytes_eq}
 use Rattle.wh_row.specs.Bag.{Bag, bag_of}

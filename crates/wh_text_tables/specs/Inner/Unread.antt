@@ -1,5 +1,5 @@
 -- What a reader of records shows: how many it gave, and the records that are left: what only proofs and private contracts use.
-use Rattle.std.specs.Prelude.{◌≡◌, ℕ, ◌+◌, ◌^◌, ◌<◌, Bool, false, List, ◌∷◌, length, Option, Some, None, IsSome}
+use Rattle.std.specs.Prelude.{◌≡◌, ℕ, ◌+◌, ◌^◌, ◌<◌, Bool, false, List, ◌∷◌, length, Option, Some, IsSome}
 use denote.Ref.{Bor}
 use Rattle.csv.specs.Reading.{Ready, default_config, reader_config, reader_trim, source_of}
 use Rattle.csv.specs.declared.reader.Reader.{Reader}
