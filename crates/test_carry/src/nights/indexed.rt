@@ -148,6 +148,31 @@ fn a_table_is_laid_out_where_few_comps_want_it_again_and_again(
 }
 
 #[test]
+fn a_table_is_not_laid_out_where_no_comp_asks_for_it_any_more(rt: HostRuntime) -> Result<(), Fail> {
+    let alloc = rt.alloc();
+    let catalog = joined(alloc)?;
+    let changes = one_of_b(alloc)?;
+    let mut tables = tables(alloc, of_a(alloc, 1)?, of_b(alloc)?)?;
+    let mut wants = Wants::new(alloc);
+    for _ in 0..20 {
+        let asked = Asked {
+            view: 2,
+            sources: &[1],
+            tables: &tables,
+            changes: &changes,
+        };
+        note(&rt, alloc, &mut wants, &catalog, &asked)?;
+    }
+    wants.grant(alloc, &mut tables, 16)?;
+    assert!(&rt; !is_laid_out(&tables));
+    wants.grant(alloc, &mut tables, 1)?;
+    assert!(&rt; !is_laid_out(&tables));
+    granted(&rt, alloc, &mut wants, &mut tables, 1)?;
+    assert!(&rt; is_laid_out(&tables));
+    Ok(())
+}
+
+#[test]
 fn what_was_missed_counts_from_0_once_a_table_is_laid_out(rt: HostRuntime) -> Result<(), Fail> {
     let alloc = rt.alloc();
     let mut first = tables(alloc, of_a(alloc, 1)?, of_b(alloc)?)?;
