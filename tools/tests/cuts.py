@@ -48,3 +48,14 @@ class Beginnings(unittest.TestCase):
             "@strategy": ("fault part schedule\n", 3), "inst a\n@": ("fault part text\n", 3), "workers 1\n": ("fault schedule 3\n", 3),
             "keys 1\n": ("", 0), "keys 1\nop": ("fault schedule 4\n", 3), "open 0": ("session 0\n", 0),
         })  # fmt: skip
+
+    def test_a_replay_with_a_line_of_versions(self):
+        given = Replayed("a replay", REPLAYED.replace("open 0", "versions 3\nopen 0"), ["a"])
+        self.told(given, {
+            "keys 1\n": ("", 0), "keys 1\nversions": ("fault schedule 4\n", 3), "versions ": ("fault schedule 4\n", 3),
+            "versions 3": ("", 0), "versions 3\nopen": ("fault schedule 5\n", 3), "open 0": ("session 0\n", 0),
+        })  # fmt: skip
+        for wrong in ("versions 1", "versions 5", "versions 3 3", "versions 3\nversions 3", "open 0\nversions 3"):
+            with self.subTest(wrong=wrong):
+                told = given.expected(given.given.replace("versions 3", wrong))
+                self.assertEqual(told, (f"fault schedule {4 + wrong.count(chr(10))}\n", 3))

@@ -241,7 +241,8 @@ class Replayed(Input):
 
     command, wanted = "replay", ("catalogue", "strategy", "schedule")
     headings = ("catalogue", "data a", "changes a", "strategy", "night", "schedule")
-    head = (("desks", 16), ("workers", 16), ("keys", 256))
+    head = (("desks", 1, 16), ("workers", 1, 16), ("keys", 1, 256))
+    versions = ("versions", 2, 4)
     numbers = {"begin": 0, "page": 0, "commit": 0, "giveup": 0, "take": 1, "done": 1, "open": 1, "close": 1}
 
     def __init__(self, what, bundle, names):
@@ -261,18 +262,22 @@ class Replayed(Input):
             return len(words) == 4 and is_number(words[1], 0, 10**6) and is_number(words[3], 0, 10**6)
         return len(words) - 1 == self.numbers.get(words[0]) and all(is_number(word, 0, 10**6) for word in words[1:])
 
+    @staticmethod
+    def is_said(words, name, least, most):
+        return len(words) == 2 and words[0] == name and is_number(words[1], least, most)
+
+    def is_below(self, place, words):
+        """Whether a line of these words may stand below as many others: in the head, right below it, or as an event."""
+        if place < len(self.head):
+            return self.is_said(words, *self.head[place])
+        return self.is_event(words) or (place == len(self.head) and self.is_said(words, *self.versions))
+
     def judge_schedule(self, lines):
         """Tells the first line that is none of a schedule."""
-        head = list(self.head)
-        for number, words in enumerate(map(str.split, lines), 1):
-            if head:
-                name, most = head.pop(0)
-                right = len(words) == 2 and words[0] == name and is_number(words[1], 1, most)
-            else:
-                right = self.is_event(words)
-            if not right:
-                raise Told(f"fault schedule {number}", 3)
-        if head:
+        for place, words in enumerate(map(str.split, lines)):
+            if not self.is_below(place, words):
+                raise Told(f"fault schedule {place + 1}", 3)
+        if len(lines) < len(self.head):
             raise Told(f"fault schedule {len(lines) + 1}", 3)
 
 

@@ -125,9 +125,51 @@ class TheVersionBeforeExpiresAtOnce(Machine):
         return version == self.current
 
 
-class TheVersionBeforeStaysInANight(Machine):
+class TheLastKeptVersionStaysInANight(Machine):
     def unexpired(self, version):
-        return version >= self.current - 1
+        return self.current - version < self.kept
+
+
+class AVersionTooManyIsRead(Machine):
+    def unexpired(self, version):
+        return self.current - version <= self.kept - bool(self.night)
+
+
+class AVersionTooFewIsRead(Machine):
+    def unexpired(self, version):
+        return version == self.current or self.current - version < self.kept - 1 - bool(self.night)
+
+
+class TwoVersionsAreKeptAlways(Machine):
+    def unexpired(self, version):
+        return self.current - version < 2 - bool(self.night)
+
+
+class ANightLeavesTheCurrentVersionAlone(Machine):
+    def unexpired(self, version):
+        return self.current - version < (1 if self.night else self.kept)
+
+
+class ANightTakesTwoVersions(Machine):
+    def unexpired(self, version):
+        return version == self.current or self.current - version < self.kept - 2 * bool(self.night)
+
+
+class AGiveUpExpiresNothing(Machine):
+    def giveup(self):
+        told = super().giveup()
+        self.kept += 1
+        return told
+
+
+class AnExpiredSessionIsToldTheOldestVersion(Machine):
+    def expired(self, session):
+        return f"expired {max(0, self.current - self.kept)} current {self.current} {'active' if self.night else 'idle'}"
+
+
+class AnExpiredSessionIsToldTheOldestAsCurrent(Machine):
+    def expired(self, session):
+        return f"expired {session.version} current {self.current - self.kept} {'active' if self.night else 'idle'}"
 
 
 class GivingUpKeepsTheNumber(Machine):

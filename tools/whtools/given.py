@@ -4,6 +4,8 @@ from whtools.bundle import parts_of, words_of
 from whtools.catalogue import views_of
 from whtools.tables import bag_of
 
+KEPT = 2  # where a schedule does not say how many versions are kept
+
 
 def event_of(words):
     """An event: its name and its numbers, of which a read has a view's name among them."""
@@ -25,7 +27,9 @@ class Given:
             self.nights.append((changes, self.strategy(parts["strategy"])))
         lines = words_of(once["schedule"])
         self.desks, self.workers, self.keys = (int(number) for _, number in lines[:3])
-        self.events = [event_of(words) for words in lines[3:]]
+        told = lines[3:4] if lines[3:] and lines[3][0] == "versions" else []
+        self.kept = int(told[0][1]) if told else KEPT
+        self.events = [event_of(words) for words in lines[3 + len(told) :]]
 
     def number(self, text):
         """The number of a text: texts are numbered as they first appear."""

@@ -46,7 +46,7 @@ class Machine(Evaluator):
     """The versions, the open night, and what each desk and each worker has. A refused event changes nothing."""
 
     def __init__(self, given):
-        self.views, self.nights, self.keys = given.views, given.nights, given.keys
+        self.views, self.nights, self.keys, self.kept = given.views, given.nights, given.keys, given.kept
         self.names = {view.name: v for v, view in enumerate(self.views)}
         self.versions, self.night, self.begun = [self.contents(self.views, given.tables)], None, 0
         self.sessions, self.jobs = [None] * given.desks, [None] * given.workers
@@ -203,19 +203,22 @@ class Machine(Evaluator):
         return "closed"
 
     def unexpired(self, version):
-        return version == self.current or (version == self.current - 1 and not self.night)
+        return self.current - version < self.kept - bool(self.night)
 
     def read(self, desk, name, limit):
         session = self.session(desk)
         if not session:
             raise Refused("NoSession")
         if not self.unexpired(session.version):
-            return f"expired {session.version} current {self.current} {'active' if self.night else 'idle'}"
+            return self.expired(session)
         if name not in self.names:
             raise Refused("NoView")
         if not 1 <= limit <= MOST_KEYS:
             raise Refused("Limit")
         return self.rows(session, self.names[name], limit)
+
+    def expired(self, session):
+        return f"expired {session.version} current {self.current} {'active' if self.night else 'idle'}"
 
     def rows(self, session, v, limit):
         """The next rows of a view."""

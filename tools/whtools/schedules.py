@@ -1,11 +1,11 @@
-"""Small warehouses with one night to three, drawn, and schedules over them, drawn by going along with the machine."""
+"""Small warehouses with one night to five, drawn, and schedules over them, drawn by going along with the machine."""
 
 import random
 
 from whtools.bundle import part
 from whtools.drawn import Drawer
 from whtools.evaluator import NoContents, added
-from whtools.given import Given
+from whtools.given import KEPT, Given
 from whtools.machine import Machine
 from whtools.strategies import broken
 from whtools.views import Place, View
@@ -14,6 +14,7 @@ from whtools.warehouses import Warehouse
 CELLS = [3037000500, 2**62, 2**62, 2**62, 2**63 - 1, -(2**63)]
 COUNTS = [1, 2**27, 2**28, 2**28, 2**55, 2**56]
 KEYS = [1, 1, 2, 2, 3, 4, 256]
+VERSIONS = [None, None, 2, 3, 3, 4]
 STAGES = ["at its beginning", "between stages", "in a wave", "among pages", "at its end"]
 LIMITS = [0, 1, 1, 2, 2, 3, 5, 256, 257, 1000000]
 
@@ -89,11 +90,14 @@ class Drawn:
         drawer = Small(self.source)
         drawer.draw_views()
         self.warehouse = Warehouse(drawer.views)
-        self.fates = [self.source.choice([None, None, None, 0, 1, 2, 3, 5, 8]) for _ in range(self.source.choice([1, 2, 2, 3]))]
+        told = self.source.choice(VERSIONS)
+        self.more = (told or KEPT) - KEPT
+        nights = self.source.choice([1, 2, 2, 3]) + self.more
+        self.fates = [self.source.choice([None, None, None, 0, 1, 2, 3, 5, 8]) for _ in range(nights)]
         self.once, self.nights = self.drawn_parts(drawer)
         self.desks, self.workers = (self.source.choice([1, 2, 2, 3, 3, 16]) for _ in range(2))
         self.keys = self.source.choice([*KEYS, self.source.randint(1, 256)])
-        head = f"desks {self.desks}\nworkers {self.workers}\nkeys {self.keys}\n"
+        head = f"desks {self.desks}\nworkers {self.workers}\nkeys {self.keys}\n" + (f"versions {told}\n" if told else "")
         self.given, self.given_up = Given(self.bundle(head).decode()), []
         self.given.events = self.events()
         self.bytes = self.bundle(head + "".join(map(self.line, self.given.events)))
@@ -155,7 +159,7 @@ class Drawn:
             return [self.any_event() for _ in range(3)]
         found, vain = [], 0
         self.gone = 0
-        while len(found) < 70 and vain < 6:
+        while len(found) < 70 + 30 * self.more and vain < 6:
             draw = self.source.choices([self.onward, self.at_desk, self.any_event], [11, 4, 4])[0]
             found.append(draw(machine))
             if found[-1] == ("giveup",) and machine.night:

@@ -95,6 +95,103 @@ page [1 2] end
 closed
 ";
 
+/// A bundle of three nights for `replay`, each of which replaces the one row of a by the next number, up to its schedule's keys.
+pub const NIGHTS: &str = "@catalogue
+[[view]]
+name = \"a\"
+columns = [\"x\"]
+@data a
+x
+1
+@changes a
+#,x
+-1,1
+1,2
+@strategy
+inst a
+@night
+@changes a
+#,x
+-1,2
+1,3
+@strategy
+inst a
+@night
+@changes a
+#,x
+-1,3
+1,4
+@strategy
+inst a
+@schedule
+desks 3
+workers 1
+keys 256
+";
+
+/// Events for those nights: sessions of their versions read while others are made.
+pub const EVENTS: &str = "open 0
+begin
+page
+commit
+open 1
+begin
+read 0 a 10
+page
+commit
+read 0 a 10
+begin
+read 0 a 10
+read 1 a 10
+page
+giveup
+read 1 a 10
+open 2
+read 2 a 10
+";
+
+/// What `replay` says to them where two versions are kept: only the current one is read in a night.
+pub const OF_TWO: &str = "session 0
+begun
+paged 2
+version 1
+session 1
+begun
+expired 0 current 1 active
+paged 2
+version 2
+expired 0 current 2 idle
+begun
+expired 0 current 2 active
+expired 1 current 2 active
+paged 2
+version 3
+expired 1 current 3 idle
+session 3
+page [1 3] end
+";
+
+/// Where three are kept: in a night the one before the current one is read too, and between nights the one before that.
+pub const OF_THREE: &str = "session 0
+begun
+paged 2
+version 1
+session 1
+begun
+page [1 1] end
+paged 2
+version 2
+page [1 1] end
+begun
+expired 0 current 2 active
+page [1 2] end
+paged 2
+version 3
+page [1 2] end
+session 3
+page [1 3] end
+";
+
 /// A bundle for `plan`: the views and the sizes of [`BUNDLE`].
 pub const MEASURED: &str = "@catalogue
 [[view]]

@@ -1,8 +1,8 @@
 // The program over readers and writers of every kind.
 
 use crate::given::{
-    ANSWER, BUNDLE, CARRIED, ENDLESS, Endless, GivenReader, GivenWriter, Halting, MEASURED, NIGHT,
-    PLANNED, REPLIES, SCHEDULE,
+    ANSWER, BUNDLE, CARRIED, ENDLESS, EVENTS, Endless, GivenReader, GivenWriter, Halting, MEASURED,
+    NIGHT, NIGHTS, OF_THREE, OF_TWO, PLANNED, REPLIES, SCHEDULE,
 };
 use std::test::Fail;
 use whview::{Counted, run, want_of_memory, words_without_text};
@@ -38,6 +38,27 @@ fn plans_certificates_and_replays_are_answered(rt: HostRuntime) -> Result<(), Fa
         assert!(&rt;
             out.inner.text.as_slice() == answer.as_bytes(),
             "of {command}"
+        );
+    }
+    Ok(())
+}
+
+#[test]
+fn as_many_versions_are_kept_as_the_schedule_says(rt: HostRuntime) -> Result<(), Fail> {
+    for (line, answer, ends) in [
+        ("", OF_TWO, 0),
+        ("versions 2\n", OF_TWO, 0),
+        ("versions 3\n", OF_THREE, 0),
+        ("versions 5\n", "fault schedule 4\n", 3),
+    ] {
+        let bundle = format!(in rt.alloc(); "{NIGHTS}{line}{EVENTS}")?;
+        let mut input = Counted::new(GivenReader::new(bundle.as_bytes(), 4096));
+        let mut out = Counted::new(GivenWriter::new(rt.alloc(), ENDLESS, true));
+        let status = run(&rt, rt.alloc(), &["replay"], &mut input, &mut out);
+        assert_eq!(&rt; status, ends, "with {line}");
+        assert!(&rt;
+            out.inner.text.as_slice() == answer.as_bytes(),
+            "with {line}"
         );
     }
     Ok(())

@@ -1,5 +1,5 @@
 -- Which texts are schedules, and where a text stops being one.
-use Rattle.std.specs.Prelude.{◌≡◌, ◌↔◌, ◌++◌, ℕ, List, ◌∷◌, map, Some, Ok, Err}
+use Rattle.std.specs.Prelude.{◌≡◌, ◌↔◌, ◌++◌, ℕ, List, [], ◌∷◌, map, Some, Ok, Err}
 use Rattle.wh_text.specs.declared.fault.LoadFault.{LoadFault}
 use Rattle.wh_text.specs.declared.fault.LoadFault.TheVariants.{Schedule as ScheduleFault}
 use Rattle.wh_text_lines.specs.LineGrammar.{StopAt}
@@ -8,22 +8,31 @@ use Rattle.wh_text_lines.specs.ScheduleLine.{line_in}
 use Rattle.wh_text_lines.specs.ScheduleText.{ScheduleOf, schedule_of}
 use Rattle.wh_text_lines.specs.Words.{lines_of}
 use Rattle.wh_text_lines.specs.declared.schedule.line.ScheduleLine.{ScheduleLine}
-use Rattle.wh_text_lines.specs.declared.schedule.line.ScheduleLine.TheVariants.{Desks, Workers, Keys, Event}
+use Rattle.wh_text_lines.specs.declared.schedule.line.ScheduleLine.TheVariants.{Desks, Workers, Keys, Versions, Event}
 
--- the lines of a schedule: its desks, its workers, its keys and its events
-abbrev pub schedule_lines : ScheduleOf → List ScheduleLine
-schedule_lines schedule = Desks schedule.desks ∷ Workers schedule.workers ∷ Keys schedule.keys ∷ map Event schedule.events
+-- the lines of a schedule below these of its versions: its desks, its workers, its keys, these, and its events
+abbrev pub schedule_lines : ScheduleOf → List ScheduleLine → List ScheduleLine
+schedule_lines schedule versions = Desks schedule.desks ∷ Workers schedule.workers ∷ Keys schedule.keys ∷ versions ++ map Event schedule.events
+
+-- what a schedule may say of its versions: how many there are, and nothing where there are two
+pub data AreVersions (schedule : ScheduleOf) (versions : List ScheduleLine) : Type 0 where
+  are_told : versions ≡ Versions schedule.versions ∷ [] → AreVersions schedule versions
+  are_two : versions ≡ [] → schedule.versions ≡ 2 → AreVersions schedule versions
 
 -- the lines with words are those of this schedule
-abbrev pub SaySchedule : List (List ℕ) → List (List ℕ) → ScheduleOf → Type 0
-SaySchedule names lines schedule = told_in (line_in names) lines ≡ map Some (schedule_lines schedule)
+pub record SaySchedule (names : List (List ℕ)) (lines : List (List ℕ)) (schedule : ScheduleOf) : Type 0 where
+  pub versions : List ScheduleLine
+  pub are_versions : AreVersions schedule versions
+  pub told : told_in (line_in names) lines ≡ map Some (schedule_lines schedule versions)
 
 -- the lines with words are the first ones of some schedule
 pub record BeginSchedule (names : List (List ℕ)) (lines : List (List ℕ)) : Type 0 where
   pub schedule : ScheduleOf
+  pub versions : List ScheduleLine
+  pub are_versions : AreVersions schedule versions
   pub first : List ScheduleLine
   pub rest : List ScheduleLine
-  pub parts : schedule_lines schedule ≡ first ++ rest
+  pub parts : schedule_lines schedule versions ≡ first ++ rest
   pub told : told_in (line_in names) lines ≡ map Some first
 
 -- a text is read as the schedule that its lines say, and as none where they say none

@@ -7,7 +7,7 @@ use Rattle.wh_text_lines.specs.Natural.{number_within}
 use Rattle.wh_text_lines.specs.declared.schedule.event.ScheduledEvent.{ScheduledEvent}
 use Rattle.wh_text_lines.specs.declared.schedule.event.ScheduledEvent.TheVariants.{Begin, Take, Done, Page, Commit, GiveUp, Open, Read, Close}
 use Rattle.wh_text_lines.specs.declared.schedule.line.ScheduleLine.{ScheduleLine}
-use Rattle.wh_text_lines.specs.declared.schedule.line.ScheduleLine.TheVariants.{Desks, Workers, Keys, Event}
+use Rattle.wh_text_lines.specs.declared.schedule.line.ScheduleLine.TheVariants.{Desks, Workers, Keys, Versions, Event}
 
 -- the number of a desk, a worker or a limit
 abbrev pub event_number : List ℕ → Option ℕ
@@ -42,17 +42,18 @@ event_of names (first ∷ number ∷ []) = option_and_then (numbered_event first
 event_of names (first ∷ desk ∷ view ∷ limit ∷ []) = if bytes_eq first (codes "read") then read_event names desk view limit else None
 event_of names _ = None
 
--- the number of a line of the head, which is this word and a number from 1 to this one
-abbrev pub head_number : List ℕ → ℕ → List (List ℕ) → Option ℕ
-head_number word most (first ∷ number ∷ []) = if bytes_eq first word then number_within 1 most number else None
-head_number word most _ = None
+-- the number of a line of the head, which is this word and a number from the least to the most
+abbrev pub head_number : List ℕ → ℕ → ℕ → List (List ℕ) → Option ℕ
+head_number word least most (first ∷ number ∷ []) = if bytes_eq first word then number_within least most number else None
+head_number word least most _ = None
 
 -- what a line of these words says in a schedule over views of these names, if it says anything there: no two forms have one first word
 abbrev pub schedule_line_of : List (List ℕ) → List (List ℕ) → Option ScheduleLine
 schedule_line_of names words =
-    option_or (option_map Desks (head_number (codes "desks") 16 words))
-    (option_or (option_map Workers (head_number (codes "workers") 16 words))
-    (option_or (option_map Keys (head_number (codes "keys") 256 words)) (option_map Event (event_of names words))))
+    option_or (option_map Desks (head_number (codes "desks") 1 16 words))
+    (option_or (option_map Workers (head_number (codes "workers") 1 16 words))
+    (option_or (option_map Keys (head_number (codes "keys") 1 256 words))
+    (option_or (option_map Versions (head_number (codes "versions") 2 4 words)) (option_map Event (event_of names words)))))
 
 -- what a line says, by its words alone
 abbrev pub line_in : List (List ℕ) → List ℕ → List (List ℕ) → Option ScheduleLine

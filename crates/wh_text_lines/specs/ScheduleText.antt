@@ -8,23 +8,25 @@ use Rattle.wh_text_lines.specs.ListedLines.{listed_grammar}
 use Rattle.wh_text_lines.specs.ScheduleLine.{line_in}
 use Rattle.wh_text_lines.specs.declared.schedule.event.ScheduledEvent.{ScheduledEvent}
 use Rattle.wh_text_lines.specs.declared.schedule.line.ScheduleLine.{ScheduleLine}
-use Rattle.wh_text_lines.specs.declared.schedule.line.ScheduleLine.TheVariants.{Desks, Workers, Keys, Event}
+use Rattle.wh_text_lines.specs.declared.schedule.line.ScheduleLine.TheVariants.{Desks, Workers, Keys, Versions, Event}
 
--- how many desks and workers a machine has, how many keys its pages have at most, and the events that it goes through
+-- how many desks and workers a machine has, how many keys its pages have at most, of how many versions it keeps the contents, and the events that it goes through
 pub record ScheduleOf : Type 0 where
   pub desks : ℕ
   pub workers : ℕ
   pub keys : ℕ
+  pub versions : ℕ
   pub events : List ScheduledEvent
 
--- a line of this kind may stand after these: first the desks, then the workers, the keys, and at the end the events
+-- a line of this kind may stand after these: first the desks, then the workers, the keys, the versions, and at the end the events, which may stand in place of the versions
 abbrev pub may_follow : List ScheduleLine → ScheduleLine → Bool
 may_follow before (Desks n) = length before == 0
 may_follow before (Workers n) = length before == 1
 may_follow before (Keys n) = length before == 2
+may_follow before (Versions n) = length before == 3
 may_follow before (Event e) = nat_lt 2 (length before)
 
--- lines may end where the whole head is said
+-- lines may end where the desks, the workers and the keys are said
 abbrev pub may_end : List ScheduleLine → Bool
 may_end said = nat_lt 2 (length said)
 
@@ -45,6 +47,11 @@ abbrev pub keys_in : List ScheduleLine → ℕ
 keys_in (first ∷ second ∷ Keys n ∷ lines) = n
 keys_in _ = 0
 
+-- the versions that the fourth line says; two where it says none
+abbrev pub versions_in : List ScheduleLine → ℕ
+versions_in (first ∷ second ∷ third ∷ Versions n ∷ lines) = n
+versions_in _ = 2
+
 -- the event that a line says, if it does
 abbrev pub events_in : ScheduleLine → List ScheduledEvent
 events_in (Event e) = e ∷ []
@@ -52,7 +59,7 @@ events_in _ = []
 
 -- the schedule that lines say
 abbrev pub schedule_from : List ScheduleLine → ScheduleOf
-schedule_from lines = record { desks = desks_in lines; workers = workers_in lines; keys = keys_in lines; events = flat_map events_in lines }
+schedule_from lines = record { desks = desks_in lines; workers = workers_in lines; keys = keys_in lines; versions = versions_in lines; events = flat_map events_in lines }
 
 -- the schedule that lines say, where they say one
 abbrev pub schedule_said : Result (List ScheduleLine) LoadFault → Result ScheduleOf LoadFault

@@ -1,7 +1,7 @@
 //! A schedule as text: how large the machine is, and the events that it goes through.
 ghost use Rattle.std.specs.Prelude.{◌≡◌, ◌≢◌, ◌⊎◌, ◌≤◌, [], Ok, Err, IfOk, IfErr};
 ghost use Rattle.wh_text_lines.specs.ScheduleGrammar.{ScheduleFaults, ScheduleGrammar};
-ghost use Rattle.wh_text_lines.specs.ScheduleText.{desks_in, keys_in, schedule_from, schedule_of, workers_in};
+ghost use Rattle.wh_text_lines.specs.ScheduleText.{desks_in, keys_in, schedule_from, schedule_of, versions_in, workers_in};
 ghost use Rattle.wh_text_lines.specs.Inner.ScheduleText.{IsSized};
 
 pub mod event;
@@ -22,6 +22,7 @@ pub struct Schedule {
     desks: usize,
     workers: usize,
     keys: usize,
+    versions: usize,
     events: Vec<ScheduledEvent>,
 }
 
@@ -31,9 +32,9 @@ impl Model for Schedule {
 
     ghost Value = { ScheduleOf };
 
-    ghost view = { λ s. record { desks = s.desks; workers = s.workers; keys = s.keys; events = s.events.items } };
+    ghost view = { λ s. record { desks = s.desks; workers = s.workers; keys = s.keys; versions = s.versions; events = s.events.items } };
 
-    ghost invariant = { λ s. IsSized s.desks s.workers s.keys };
+    ghost invariant = { λ s. IsSized s.desks s.workers s.keys s.versions };
 }
 
 impl Schedule {
@@ -62,6 +63,15 @@ impl Schedule {
         ensures most { result ≤ 256 }
     {
         self.keys
+    }
+
+    /// Of how many versions the contents are kept: the current one, and those just before it.
+    pub fn versions(&self) -> usize
+        ensures value { result ≡ self.now.versions }
+        ensures some { 2 ≤ result }
+        ensures most { result ≤ 4 }
+    {
+        self.versions
     }
 
     /// The events, in order.
@@ -102,14 +112,25 @@ fn keys_in(lines: &[ScheduleLine]) -> usize
     }
 }
 
+/// How many versions the fourth of these lines says; two where it says none.
+fn versions_in(lines: &[ScheduleLine]) -> usize
+    ensures { result ≡ versions_in lines.now }
+{
+    match lines {
+        [_, _, _, ScheduleLine::Versions(versions), ..] => *versions,
+        _ => 2,
+    }
+}
+
 /// The schedule that these lines say.
 fn schedule_from(alloc: Global, lines: Vec<ScheduleLine>) -> Result<Schedule, AllocError>
-    requires { IsSized (desks_in lines.items) (workers_in lines.items) (keys_in lines.items) }
+    requires { IsSized (desks_in lines.items) (workers_in lines.items) (keys_in lines.items) (versions_in lines.items) }
     ensures { IfOk result (λ schedule. schedule ≡ schedule_from lines.items) }
 {
     let desks = desks_in(&lines);
     let workers = workers_in(&lines);
     let keys = keys_in(&lines);
+    let versions = versions_in(&lines);
     let mut events = Vec::new(alloc);
     for line in lines {
         if let ScheduleLine::Event(event) = line {
@@ -120,24 +141,25 @@ fn schedule_from(alloc: Global, lines: Vec<ScheduleLine>) -> Result<Schedule, Al
         desks,
         workers,
         keys,
+        versions,
         events,
     })
 }
 
 /// A law of the definitions: a text is read as a schedule exactly where its lines with words are those of that schedule, in
-/// order: `desks`, `workers` and `keys` with their numbers, and its events. Any other text is at fault at the first line with
-/// which its lines no longer begin a schedule, or after its last line.
+/// order: `desks`, `workers` and `keys` with their numbers, `versions` with its number, where two need not be said, and its
+/// events. Any other text is at fault at the first line with which its lines no longer begin a schedule, or after its last line.
 pub fn schedule_grammar_law()
     ensures grammar { ScheduleGrammar }
     ensures faults { ScheduleFaults }
 {}
 
-/// The schedule that the text is, over these views: `desks N` and `workers N`, each 1 to 16, `keys N`, 1 to 256, and then the
-/// events, a line each. Lines of spaces and tabs alone are skipped. Numbers are at most 1,000,000. A `read` may name what is no
-/// view.
+/// The schedule that the text is, over these views: `desks N` and `workers N`, each 1 to 16, `keys N`, 1 to 256, perhaps
+/// `versions N`, 2 to 4, which is 2 where there is no such line, and then the events, a line each. Lines of spaces and tabs
+/// alone are skipped. Numbers are at most 1,000,000. A `read` may name what is no view.
 ///
 /// The fault is `Schedule` with the first line that may not stand where it does, counted from 1, blank ones included; where the
-/// text ends within its head, that is the line after its last. An empty text is at fault at line 1, always.
+/// text ends before its keys are said, that is the line after its last. An empty text is at fault at line 1, always.
 pub fn read_schedule(alloc: Global, names: &Names, text: &[u8]) -> Result<Schedule, LoadFault>
     ensures ok { IfOk result (λ schedule. schedule_of names.now text.now ≡ Ok schedule) }
     ensures err { IfErr result (λ f. (f ≡ LoadFault.Memory) ⊎ (schedule_of names.now text.now ≡ Err f)) }

@@ -128,25 +128,28 @@ is_ready cat is base old read bags opened valued nights ok changes of same = rec
 }
 
 pub ready_setup : (cat : CatalogOf) (schedule : ScheduleOf) (tables : List Bag) (nights : List NightOfMachine) → IsReady cat tables nights
-    → (keys : ℕ) → keys ≡ schedule.keys → 1 ≤ keys → keys ≤ 256 → IsSetup (machine_of cat schedule tables nights)
-ready_setup cat schedule tables nights ready keys same some few = record {
+    → (keys : ℕ) → keys ≡ schedule.keys → 1 ≤ keys → keys ≤ 256 → (versions : ℕ) → versions ≡ schedule.versions → 2 ≤ versions → versions ≤ 4
+    → IsSetup (machine_of cat schedule tables nights)
+ready_setup cat schedule tables nights ready keys same some few versions kept least most = record {
   catalogue = ready.catalogue;
   opening = ready.opening;
   tables = ready.tables_fit;
   nights = ready.nights_fit;
   some_keys = subst (λ k. 1 ≤ k) same some;
   few_keys = subst (λ k. k ≤ 256) same few;
-  versions = omega arith;
+  versions = subst (λ n. 2 ≤ n) kept least;
+  few_versions = subst (λ n. n ≤ 4) kept most;
 }
 
 -- the setup of a machine in which each number is the schedule's
-pub of_schedule : (cat : CatalogOf) (schedule : ScheduleOf) (tables : List Bag) (nights : List NightOfMachine) (desks workers keys : ℕ)
-    → desks ≡ schedule.desks → workers ≡ schedule.workers → keys ≡ schedule.keys → (P : Setup → Type 0)
-    → P (record { catalog = cat; desks = desks; workers = workers; versions = 2; keys = keys; opening = tables; nights = nights }) → P (machine_of cat schedule tables nights)
-of_schedule cat schedule tables nights desks workers keys d w k P p =
-    subst (λ x. P (record { catalog = cat; desks = schedule.desks; workers = schedule.workers; versions = 2; keys = x; opening = tables; nights = nights })) k
-    (subst (λ x. P (record { catalog = cat; desks = schedule.desks; workers = x; versions = 2; keys = keys; opening = tables; nights = nights })) w
-    (subst (λ x. P (record { catalog = cat; desks = x; workers = workers; versions = 2; keys = keys; opening = tables; nights = nights })) d p))
+pub of_schedule : (cat : CatalogOf) (schedule : ScheduleOf) (tables : List Bag) (nights : List NightOfMachine) (desks workers keys versions : ℕ)
+    → desks ≡ schedule.desks → workers ≡ schedule.workers → keys ≡ schedule.keys → versions ≡ schedule.versions → (P : Setup → Type 0)
+    → P (record { catalog = cat; desks = desks; workers = workers; versions = versions; keys = keys; opening = tables; nights = nights }) → P (machine_of cat schedule tables nights)
+of_schedule cat schedule tables nights desks workers keys versions d w k n P p =
+    subst (λ x. P (record { catalog = cat; desks = schedule.desks; workers = schedule.workers; versions = x; keys = schedule.keys; opening = tables; nights = nights })) n
+    (subst (λ x. P (record { catalog = cat; desks = schedule.desks; workers = schedule.workers; versions = versions; keys = x; opening = tables; nights = nights })) k
+    (subst (λ x. P (record { catalog = cat; desks = schedule.desks; workers = x; versions = versions; keys = keys; opening = tables; nights = nights })) w
+    (subst (λ x. P (record { catalog = cat; desks = x; workers = workers; versions = versions; keys = keys; opening = tables; nights = nights })) d p)))
 
 -- ---- what is told
 

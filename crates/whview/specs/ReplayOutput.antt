@@ -46,13 +46,13 @@ event_of views (scheduled.Open desk) = event.Open desk
 event_of views (scheduled.Read desk view limit) = event.Read desk (unwrap_or view views) limit
 event_of views (scheduled.Close desk) = event.Close desk
 
--- a machine over this catalogue, of the schedule's size, from these contents; the current version is kept, and the one before it
+-- a machine over this catalogue, of the schedule's size, from these contents; it keeps as many versions as the schedule says
 abbrev pub machine_of : CatalogOf → ScheduleOf → List Bag → List NightOfMachine → Setup
 machine_of catalog schedule tables nights = record {
   catalog = catalog;
   desks = schedule.desks;
   workers = schedule.workers;
-  versions = 2;
+  versions = schedule.versions;
   keys = schedule.keys;
   opening = tables;
   nights = nights;

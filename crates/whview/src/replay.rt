@@ -128,6 +128,7 @@ fn replies_to<F: RowTest + Drop, G: RowValue + Drop>(
         schedule.desks(),
         schedule.workers(),
         schedule.keys(),
+        schedule.versions(),
     )?;
     let replies = core.run(&events)?;
     if lacks_memory(&replies) {

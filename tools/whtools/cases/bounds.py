@@ -162,11 +162,12 @@ def trees():
         yield f"work {work}", "certify", bundle_of_no_work(work), answer
 
 
-def replay(events, head=(1, 1, 256), rows="", changes="", views=""):
-    """A bundle over a(x), and perhaps other views, with these events."""
+def replay(events, head=(1, 1, 256), rows="", changes="", views="", nights=1):
+    """A bundle over a(x), and perhaps other views, with these events; after its first night there may be others without changes."""
     over = "comp v from a\ninst a\ninst v\n" if views else "inst a\n"
-    parts = f"{ONE}{views}@data a\n#,x\n{rows}@changes a\n#,x\n{changes}@strategy\n{over}"
-    return f"{parts}@schedule\ndesks {head[0]}\nworkers {head[1]}\nkeys {head[2]}\n" + "".join(f"{event}\n" for event in events)
+    parts = f"{ONE}{views}@data a\n#,x\n{rows}@changes a\n#,x\n{changes}@strategy\n{over}" + (nights - 1) * f"@night\n@strategy\n{over}"
+    lines = [f"{word} {number}" for word, number in zip(("desks", "workers", "keys", "versions"), head)]
+    return f"{parts}@schedule\n" + "".join(f"{line}\n" for line in (*lines, *events))
 
 
 ONE = '@catalogue\n[[view]]\nname = "a"\ncolumns = ["x"]\n'
@@ -203,6 +204,17 @@ def schedules():
         yield f"{rows} rows read", "replay", replay(reads, rows=counted(rows)), (answer, 0)
 
 
+def versions():
+    """A session can be read until as many versions as are kept were made from its own on, and one less in a night."""
+    for most in (2, 3, 4):
+        events = ["open 0", *(most - 1) * ["begin", "giveup"], "read 0 a 1", "begin", "read 0 a 1", "giveup", "read 0 a 1"]
+        made = "".join(f"begun\nversion {number}\n" for number in range(1, most))
+        expired = f"begun\nexpired 0 current {most - 1} active\nversion {most}\nexpired 0 current {most} idle\n"
+        yield f"{most} versions", "replay", replay(events, (1, 1, 256, most), nights=most), (f"session 0\n{made}page end\n{expired}", 0)
+    for number in (0, 1, 5, 10**30):
+        yield f"{number} versions", "replay", replay([], (1, 1, 256, number)), ("fault schedule 4\n", 3)
+
+
 def replayed():
     """Counts, products and sums at their ends as events meet them, and one past each."""
     begin, through = ["begin"], ["begin", "take 0", "done 0", "page", "page", "commit", "open 0", "read 0 v 1"]
@@ -235,6 +247,6 @@ def bundle_of_no_work(work):
 
 def cases():
     """All cases; of a plan is known how it begins."""
-    for group in (formulas, numbers, names, costs, trees, schedules, replayed, words):
+    for group in (formulas, numbers, names, costs, trees, schedules, versions, replayed, words):
         for what, asked, bundle, (text, status) in group():
             yield Case(asked.split(), bundle.encode(), text, status, what, is_beginning=asked.startswith("plan") and status == 0)

@@ -46,8 +46,9 @@ fn event_line(alloc: Global, event: ScheduledEvent) -> Result<String, AllocError
 
 /// The numbers of the head, and a line for each event.
 pub(crate) fn schedule_lines(alloc: Global, schedule: &Schedule) -> Result<String, AllocError> {
-    let (desks, workers, keys) = (schedule.desks(), schedule.workers(), schedule.keys());
-    let mut text = format!(in alloc; "{desks} {workers} {keys}\n")?;
+    let (desks, workers) = (schedule.desks(), schedule.workers());
+    let (keys, versions) = (schedule.keys(), schedule.versions());
+    let mut text = format!(in alloc; "{desks} {workers} {keys} {versions}\n")?;
     for event in schedule.events() {
         text.push_str(event_line(alloc, *event)?.as_str())?;
     }
@@ -86,7 +87,7 @@ fn the_schedules_of_worked_examples_are_read(rt: HostRuntime) -> Result<(), Allo
 
 #[test]
 fn every_beginning_of_a_schedule_is_read_or_refused(rt: HostRuntime) -> Result<(), AllocError> {
-    let text = "desks 2\nworkers 1\nkeys 256\nopen 0\nread 0 a 10\ngiveup\n";
+    let text = "desks 2\nworkers 1\nkeys 256\nversions 3\nopen 0\nread 0 a 10\ngiveup\n";
     beginnings(
         &rt,
         rt.alloc(),

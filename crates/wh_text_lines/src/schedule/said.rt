@@ -40,6 +40,7 @@ impl Said {
             ScheduleLine::Desks(_) => self.lines.is_empty(),
             ScheduleLine::Workers(_) => self.lines.len() == 1,
             ScheduleLine::Keys(_) => self.lines.len() == 2,
+            ScheduleLine::Versions(_) => self.lines.len() == 3,
             ScheduleLine::Event(_) => self.lines.len() > 2,
         }
     }

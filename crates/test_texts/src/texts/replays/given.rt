@@ -29,7 +29,7 @@ night
 -1,two
 #,x
 inst b
-1 2 3
+1 2 3 2
 night
 ----
 @schedule
@@ -90,7 +90,7 @@ night
 night
 #,x
 -1,-1
-1 1 1
+1 1 1 2
 ----
 @catalogue
 [[view]]
@@ -120,7 +120,7 @@ keys 1
 
 // The first night is open from the start.
 pub(crate) const NO_NIGHT: &str = "night
-1 1 1
+1 1 1 2
 ----
 @catalogue
 view = []

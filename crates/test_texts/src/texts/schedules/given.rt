@@ -1,13 +1,13 @@
 // Schedules over a base a, view 0, and v over it, view 1, each with what it says or its first fault.
 
 // Heads and numbers at their limits, blanks, and words that name no view.
-pub(crate) const SCHEDULES: &str = "1 1 1
+pub(crate) const SCHEDULES: &str = "1 1 1 2
 ----
 desks 1
 workers 1
 keys 1
 ====
-16 16 256
+16 16 256 2
 worker 0 draws
 worker 1000000 is done
 desk 7 comes
@@ -26,7 +26,7 @@ open 007
 read 0 v 0
 close 001000000
 ====
-2 1 3
+2 1 3 2
 night
 desk 1 reads 1000000 of no view
 desk 1 reads 5 of no view
@@ -41,6 +41,35 @@ read 1 zz 1000000
 read 1 A 5
 read 1 9.\u{ff} 5
 read 1 v\r 5
+====
+1 1 1 3
+----
+desks 1
+workers 1
+keys 1
+versions 3
+====
+2 1 256 4
+desk 0 comes
+night
+----
+desks 2
+workers 1
+keys 256
+
+ versions\t004
+
+open 0
+begin
+====
+1 1 1 2
+old
+----
+desks 1
+workers 1
+keys 1
+versions 2
+giveup
 ====
 9 fault schedule 1
 ----
@@ -68,7 +97,59 @@ workers 1
 // Lines below the head `desks 2`, `workers 1`, `keys 256`.
 pub(crate) const FAULTS: &str = "9 fault schedule 4
 ----
-versions 2
+versions 1
+====
+9 fault schedule 4
+----
+versions 0
+====
+9 fault schedule 4
+----
+versions 5
+begin
+====
+9 fault schedule 5
+----
+
+versions 5
+begin
+====
+9 fault schedule 4
+----
+versions
+====
+9 fault schedule 4
+----
+versions 2 3
+====
+9 fault schedule 4
+----
+versions +3
+====
+9 fault schedule 4
+----
+version 3
+====
+9 fault schedule 5
+----
+versions 3
+versions 3
+====
+9 fault schedule 5
+----
+begin
+versions 3
+====
+9 fault schedule 5
+----
+versions 3
+keys 256
+====
+9 fault schedule 6
+----
+versions 3
+begin
+foo
 ====
 9 fault schedule 5
 ----
@@ -280,6 +361,14 @@ workers 1
 
 versions 2
 ====
+9 fault schedule 4
+----
+desks 2
+workers 1
+keys 256
+versions 5
+versions 5
+====
 9 fault schedule 6
 ----
 desks 2
@@ -291,8 +380,9 @@ foo
 read 0 a
 ";
 
-// The schedules of `replay_two_nights`, `replay_give_up`, `replay_one_key_a_page` and `replay_refusals`.
-pub(crate) const EXAMPLES: &str = "2 1 256
+// The schedules of `replay_two_nights`, `replay_give_up`, `replay_one_key_a_page`, `replay_refusals`, `replay_three_versions` and
+// `replay_too_many_versions`.
+pub(crate) const EXAMPLES: &str = "2 1 256 2
 desk 0 comes
 night
 worker 0 draws
@@ -324,7 +414,7 @@ begin
 read 0 v 10
 read 1 v 10
 ====
-3 1 256
+3 1 256 2
 desk 0 comes
 night
 put
@@ -354,7 +444,7 @@ read 1 a 10
 open 2
 read 2 a 10
 ====
-2 1 1
+2 1 1 2
 desk 0 comes
 night
 desk 0 reads 1 of 0
@@ -386,7 +476,7 @@ read 0 a 10
 open 1
 read 1 a 10
 ====
-1 1 256
+1 1 256 2
 put
 worker 1 draws
 desk 0 reads 1 of 0
@@ -429,4 +519,72 @@ commit
 close 0
 close 0
 open 1
+====
+3 1 256 3
+desk 0 comes
+night
+put
+new
+desk 1 comes
+night
+desk 0 reads 10 of 0
+put
+new
+desk 0 reads 10 of 0
+night
+desk 0 reads 10 of 0
+desk 1 reads 10 of 0
+put
+old
+desk 1 reads 10 of 0
+desk 2 comes
+desk 2 reads 10 of 0
+----
+desks 3
+workers 1
+keys 256
+versions 3
+open 0
+begin
+page
+commit
+open 1
+begin
+read 0 a 10
+page
+commit
+read 0 a 10
+begin
+read 0 a 10
+read 1 a 10
+page
+giveup
+read 1 a 10
+open 2
+read 2 a 10
+====
+9 fault schedule 4
+----
+desks 3
+workers 1
+keys 256
+versions 5
+open 0
+begin
+page
+commit
+open 1
+begin
+read 0 a 10
+page
+commit
+read 0 a 10
+begin
+read 0 a 10
+read 1 a 10
+page
+giveup
+read 1 a 10
+open 2
+read 2 a 10
 ";
