@@ -1,0 +1,46 @@
+-- The tables that a machine keeps, after an event more.
+use Rattle.std.proofs.Common.{◌≡◌, refl, sym, subst, ◌∙◌, ℕ, ◌<◌, List, ◌∷◌, length, true, false, Option, Some, None}
+use Rattle.std.specs.Global.{Vec}
+use Rattle.std.proofs.lemmas.Bool.{false≢true}
+use Rattle.std.proofs.lemmas.List.{ext_get_or}
+use Rattle.wh_row.specs.Bag.{Bag, empty}
+use Rattle.wh_store.specs.Laws.{VersionsStay}
+use Rattle.wh_carry.specs.Course.{IsEnd}
+use Rattle.wh_carry.specs.Legs.{Over}
+use Rattle.wh_carry.specs.NightLaws.{HaveTables}
+use Rattle.wh_core.specs.Laws.{IsSetup}
+use Rattle.wh_core.specs.Log.{Log, Committed, Paged_in, is_open}
+use Rattle.wh_core.specs.Nights.{Setup, night, published, turn, versions}
+use Rattle.wh_core.specs.Replies.{IsLegalLog}
+use Rattle.wh_core.specs.Inner.Tables.{KeepsTables}
+use Rattle.wh_core.proofs.Sound.{commits_end}
+use Rattle.wh_core.proofs.Underway.{night-paged}
+
+-- there are as many tables, and each is the same
+same_tables : (a b : List Bag) (views : ℕ) (tables : ℕ → Bag) → HaveTables a views tables → HaveTables b views tables → a ≡ b
+same_tables a b views tables left right =
+    ext_get_or empty a b (left.each ∙ sym right.each) (λ v l. let within : v < views = subst (λ n. v < n) left.each l in left.are v within ∙ sym (right.are v within))
+
+module _ (s : Setup) (log : Log) where
+  -- a night is open that ends with these
+  pub keeps_end : (last : Option (Vec Bag)) → is_open log ≡ true → IsEnd (night s log) last → KeepsTables s log last
+  keeps_end None opened end = tt
+  keeps_end (Some tables) opened end = (λ shut. absurd (false≢true (sym shut ∙ opened)), λ _. end)
+
+  -- none is open, and these are the newest contents
+  pub keeps_newest : (tables : Vec Bag) → is_open log ≡ false → tables.items ≡ (versions s log).newest → KeepsTables s log (Some tables)
+  keeps_newest tables shut newest = (λ _. newest, λ opened. absurd (false≢true (sym shut ∙ opened)))
+
+  pub keeps_paged : (kept : Option (Vec Bag)) → is_open log ≡ true → KeepsTables s log kept → KeepsTables s (Paged_in ∷ log) kept
+  keeps_paged None opened keeps = tt
+  keeps_paged (Some tables) opened keeps = (
+    λ shut. absurd (false≢true (sym shut ∙ opened)),
+    λ _. subst (λ n. IsEnd n (Some tables)) (sym (night-paged s log)) (keeps.1 opened),
+  )
+
+  pub keeps_committed : VersionsStay → IsSetup s → IsLegalLog s log → is_open log ≡ true → turn s log ≡ Over → (kept : Option (Vec Bag)) → KeepsTables s log kept → KeepsTables s (Committed ∷ log) kept
+  keeps_committed stay setup legal opened over None keeps = tt
+  keeps_committed stay setup legal opened over (Some tables) keeps = (
+    λ _. same_tables tables.items (versions s (Committed ∷ log)).newest _ _ (keeps.1 opened) (commits_end stay s log setup legal opened over),
+    λ e. absurd (false≢true e),
+  )
