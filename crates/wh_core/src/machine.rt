@@ -6,8 +6,8 @@ ghost use Rattle.wh_store.specs.Kept.{AreTables};
 ghost use Rattle.wh_store.specs.Operations.{Operation, Opens, Writes, operation};
 ghost use Rattle.wh_store.specs.Pages.{Contents};
 ghost use Rattle.wh_store.specs.Refusals.{refusal};
-ghost use Rattle.wh_store.specs.Versions.{number};
-ghost use Rattle.wh_store.specs.Windows.{Shows, applied, current};
+ghost use Rattle.wh_store.specs.Versions.{number, versions_of};
+ghost use Rattle.wh_store.specs.Windows.{Shows, applied};
 ghost use Rattle.wh_carry.specs.Legs.{legs_of};
 ghost use Rattle.wh_carry.specs.Course.{AreParts, IsEnd};
 ghost use Rattle.wh_core.specs.Laws.{IsSetup};
@@ -375,7 +375,7 @@ impl Machine {
 
 /// The tables of the store's current version, copied.
 fn copied(alloc: Global, store: &Store) -> Result<Vec<Bag>, AllocError>
-    ensures { IfOk result (λ tables. tables.items ≡ current store.now) }
+    ensures { IfOk result (λ tables. (opening : Contents) (ops : List Operation) → Shows store.now opening ops → tables.items ≡ (versions_of opening ops).newest) }
 {
     let mut tables = Vec::new(alloc);
     for view in 0..store.current_views() {
@@ -390,7 +390,8 @@ pub(crate) fn taken(
     store: &Store,
     kept: &mut Option<Vec<Bag>>,
 ) -> Result<Vec<Bag>, AllocError>
-    ensures tables { IfOk result (λ tables. MatchOption kept.old (tables.items ≡ current store.now) (λ own. tables ≡ own)) }
+    ensures tables { IfOk result (λ tables. MatchOption kept.old
+        ((opening : Contents) (ops : List Operation) → Shows store.now opening ops → tables.items ≡ (versions_of opening ops).newest) (λ own. tables ≡ own)) }
     ensures none { kept.new ≡ None }
 {
     match kept.take() {

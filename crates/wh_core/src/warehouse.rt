@@ -106,7 +106,8 @@ impl<F: RowTest + Drop, G: RowValue + Drop> Core<F, G> {
         let Ok(tables) = taken(self.alloc, &self.machine.store, &mut self.machine.tables) else {
             return Reply::Refused(Cause::Memory);
         };
-        if let Err(fault) = base_changes(self.alloc, &self.catalog, &tables, changes) {
+        let changes = changes.as_slice();
+        if let Err(fault) = base_changes(self.alloc, &self.catalog, tables.as_slice(), changes) {
             self.machine.tables = Some(tables);
             return Reply::Refused(cause_of(&fault));
         }

@@ -31,6 +31,8 @@ pub fn carry_out<F: RowTest + Drop, G: RowValue + Drop>(
     requires judged { AreJudged catalog nights.items }
     ensures comes_true { IfOk result (λ replies. ComesTrue (record { catalog = catalog; desks = desks; workers = workers; versions = versions; keys = keys; opening = tables.items; nights = nights_of nights.items }) events.now replies.items) }
 {
-    let mut core = Core::new(alloc, catalog, tables, nights, desks, workers, keys, versions)?;
+    let mut core = Core::new(
+        alloc, catalog, tables, nights, desks, workers, keys, versions,
+    )?;
     core.run(events)
 }
