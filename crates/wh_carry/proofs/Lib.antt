@@ -20,6 +20,7 @@ pub mod NightLists
 pub mod Fitted
 pub mod Sources
 pub mod Growing
+pub mod CourseEnds
 pub mod CourseWaves
 pub mod Pages
 pub mod Lengths

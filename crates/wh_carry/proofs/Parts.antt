@@ -39,6 +39,7 @@ use Rattle.wh_carry.proofs.Refusals.{passed_here, same_fit, told_first, told_nex
 use Rattle.wh_carry.proofs.StageLaws.{lists_have_one_stages, waves_are_side_by_side}
 use Rattle.wh_strategy.specs.Rules.{IsCorrect}
 use Rattle.wh_carry.proofs.Sources.{job_at}
+use Rattle.wh_carry.proofs.CourseEnds.{some_refused}
 use Rattle.wh_carry.proofs.CourseWaves.{split_at}
 use Rattle.wh_carry.specs.declared.course.Part.{Part}
 use Rattle.wh_carry.specs.declared.course.Part.TheVariants as part
@@ -223,6 +224,7 @@ module _ (n : Night) (before after : List Stage) (jobs : List Job) (k : Kept) (s
               (subst (λ st. AreParts n (place_behind (before ++ stage.Wave jobs ∷ [])) (legs_after g n.changes n.keys (place_behind (before ++ stage.Wave jobs ∷ [])) st after) rest stop) (sym wave_state) are),
         );
         ending = λ s t. (none_passed n p, (each, outcome), λ passed. absurd (false≢true (sym t ∙ goes_is ∙ passed)));
+        refused = λ s t. let r = some_refused outcomes.items (sym goes_is ∙ t) in record { place = p + r.0; fault = r.1; refused = outcome r.0 (Some r.1) r.2 };
       }
 
 -- ---- an Inst
@@ -273,6 +275,7 @@ module _ (n : Night) (before after : List Stage) (v : ℕ) (k : Kept) (stands : 
             absorb n p (p + 1) (map (Page p v) (inst_pages g n.changes n.keys (state_at n p) v) ++ legs) (puts.added ++ rest) stop (omega arith) (past_pages n p v (inst_pages g n.changes n.keys (state_at n p) v) legs later) (one_passed n p here)
             (pages_parts n p v (inst_pages g n.changes n.keys (state_at n p) v) puts.added legs rest stop (subst (λ ps. ArePages v ps puts.added) pages puts.are) left);
         ending = λ s t. absurd (false≢true (sym t));
+        refused = λ s t. absurd (false≢true (sym t));
       }
 
   inst_fault : (f : MaintFault) → f ≢ fault.Memory → IsStepFaultIn n.catalog k (Inst v) f → IsFaultAt n (place_behind before) f
@@ -306,6 +309,7 @@ module _ (n : Night) (before after : List Stage) (v : ℕ) (k : Kept) (stands : 
         (fault_stops n (place_behind before) (map (Page (place_behind before) v) (inst_pages (graph_of n.catalog) n.changes n.keys (state_at n (place_behind before)) v) ++ legs_after (graph_of n.catalog) n.changes n.keys (place_behind before + 1) (step (graph_of n.catalog) n.changes (Inst v) (state_at n (place_behind before))) after) f
         (let l = past_pages n (place_behind before) v (inst_pages (graph_of n.catalog) n.changes n.keys (state_at n (place_behind before)) v) (legs_after (graph_of n.catalog) n.changes n.keys (place_behind before + 1) (step (graph_of n.catalog) n.changes (Inst v) (state_at n (place_behind before))) after) later in omega arith)
         (inst_fault f other h));
+    refused = λ s t. record { place = place_behind before; fault = f; refused = inst_fault f other h };
   }
 
 -- ---- all stages

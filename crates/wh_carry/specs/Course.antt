@@ -7,6 +7,11 @@ use Rattle.wh_carry.specs.declared.course.Part.{Part}
 use Rattle.wh_carry.specs.declared.course.Part.TheVariants as part
 use Rattle.wh_carry.specs.Night.{Night, ArePassedAt, IsPassedAt, IsFaultAt, IsFirstFaultOf, places_from}
 use Rattle.wh_carry.specs.Legs.{Leg, Wave, Page}
+use Rattle.wh_carry.specs.Carry.{tables_after}
+use Rattle.wh_carry.specs.NightLaws.{HaveTables}
+use Rattle.wh_maint.specs.Definition.{graph_of}
+use Rattle.wh_row.specs.Bag.{Bag}
+use Rattle.std.specs.Global.{Vec}
 
 -- how many expressions of the list are carried out where a leg is in turn, and where it is over
 abbrev pub start_of : Leg → ℕ
@@ -48,3 +53,14 @@ AreParts n from [] (p ∷ parts) stop = ⊥
 AreParts n from (leg ∷ legs) [] stop = (fault : MaintFault) × (stop ≡ Some fault) × IsFirstFaultOf n (places_from from (start_of leg)) fault
 AreParts n from (leg ∷ legs) (p ∷ parts) stop =
     ArePassedAt n (places_from from (start_of leg)) × IsPart n leg p × (is_passed p ≡ true → AreParts n (end_of leg) legs parts stop)
+
+-- some expression of the night is refused
+pub record IsRefused (n : Night) : Type 0 where
+  pub place : ℕ
+  pub fault : MaintFault
+  pub refused : IsFaultAt n place fault
+
+-- these are the tables that the whole night ends with; there are none where some expression of it is refused
+abbrev pub IsEnd : Night → Option (Vec Bag) → Type 0
+IsEnd n None = IsRefused n
+IsEnd n (Some tables) = HaveTables tables.items (length n.catalog.views.children) (tables_after (graph_of n.catalog) n.changes n.list n.tables)

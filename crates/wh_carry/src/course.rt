@@ -1,22 +1,20 @@
 //! What becomes of a night.
 
-ghost use Rattle.std.specs.Prelude.{◌≡◌, ◌⊎◌, ◌≤◌, ◌++◌, ◌∷◌, ◌<◌, ℕ, List, Some, true, false, is_none, length, slice_get, OnOk, IfOk, IfErr};
+ghost use Rattle.std.specs.Prelude.{◌≡◌, ◌≤◌, ◌++◌, ◌∷◌, ◌<◌, ℕ, List, Some, true, false, cond, is_none, length, slice_get, OnOk, IfOk};
 ghost use Rattle.std.specs.List.{list_all};
 ghost use Rattle.wh_maint.specs.Asked.{AreBags};
 ghost use Rattle.wh_maint.specs.Comp.{bag_at};
 ghost use Rattle.wh_carry.specs.Fit.{AreFitTables};
 ghost use Rattle.wh_carry.specs.Kept.{kept, HaveParts as AreKeptParts, CanFinish};
-ghost use Rattle.wh_carry.specs.Refused.{AreAllowedBelow, IsBaseFault};
 ghost use Rattle.wh_carry.specs.Waves.{stages_of};
 ghost use Rattle.wh_carry.specs.declared.stages.Stage.{Stage as StageOf};
 ghost use Rattle.wh_carry.specs.declared.stages.Stage.TheVariants as stage;
 ghost use Rattle.wh_carry.specs.Night.{Night};
 ghost use Rattle.wh_carry.specs.Legs.{legs_of};
-ghost use Rattle.wh_carry.specs.Course.{AreParts};
+ghost use Rattle.wh_carry.specs.Course.{AreParts, IsEnd, IsRefused};
 ghost use Rattle.wh_carry.specs.Standing.{IsStageIn, place_behind};
 ghost use Rattle.wh_carry.specs.Inner.Standing.{GoesPast, StandsAt};
 
-use crate::carrying::base_changes;
 use crate::inst::inst_of;
 use crate::stages::{Job, Stage, waves};
 use crate::state::NightState;
@@ -47,65 +45,58 @@ pub struct Course {
     pub stop: Option<MaintFault>,
 }
 
-/// What becomes of a night. There is a table and a change for each view; the changes of derived views are not read. The
-/// strategy was judged over this catalogue's shape (`is_of` tests it), each table is fit, as the contents of a base are,
-/// and a page has 1 to 256 rows.
-///
-/// First the base changes are tested, view by view: Absent, then Large. Memory comes only after them, or for the row that
-/// a base change lacks.
+/// What becomes of a night whose base changes are allowed, as [`base_changes`](crate::base_changes) tests them, and the tables that
+/// the whole night ends with: none where some expression of it is refused. The tables are changed in place, and none is copied. There is
+/// a table and a change for each view; the changes of derived views are not read. The strategy was judged over this catalogue's shape
+/// (`is_of` tests it), each table is fit, as the contents of a base are, and a page has 1 to 256 rows.
 pub fn course_of<F: RowTest, G: RowValue>(
     alloc: Global,
     catalog: &Catalog<F, G>,
-    tables: &[Bag],
+    tables: Vec<Bag>,
     changes: &[Bag],
     correct: &Correct,
     keys: usize,
-) -> Result<Course, MaintFault>
+) -> Result<(Course, Option<Vec<Bag>>), AllocError>
     requires judged { correct.now.children ≡ catalog.now.views.children }
-    requires tables { AreBags catalog.now tables.now }
+    requires tables { AreBags catalog.now tables.items }
     requires changes { AreBags catalog.now changes.now }
-    requires fit { AreFitTables catalog.now tables.now }
+    requires fit { AreFitTables catalog.now tables.items }
     requires least { 1 ≤ keys }
     requires most { keys ≤ 256 }
-    ensures allowed { OnOk result (AreAllowedBelow catalog.now (bag_at tables.now) (bag_at changes.now) (length catalog.now.views.children)) }
-    ensures parts { IfOk result (λ course. AreParts
-        (record { catalog = catalog.now; list = correct.now.list; tables = bag_at tables.now; changes = bag_at changes.now; keys = keys }) 0
-        (legs_of (record { catalog = catalog.now; list = correct.now.list; tables = bag_at tables.now; changes = bag_at changes.now; keys = keys }))
-        course.parts.items course.stop) }
-    ensures refused { IfErr result (λ fault. ((fault ≡ MaintFault.Memory) × AreAllowedBelow catalog.now (bag_at tables.now) (bag_at changes.now) (length catalog.now.views.children))
-        ⊎ IsBaseFault catalog.now (bag_at tables.now) (bag_at changes.now) fault) }
+    ensures parts { IfOk result (λ made. AreParts
+        (record { catalog = catalog.now; list = correct.now.list; tables = bag_at tables.items; changes = bag_at changes.now; keys = keys }) 0
+        (legs_of (record { catalog = catalog.now; list = correct.now.list; tables = bag_at tables.items; changes = bag_at changes.now; keys = keys }))
+        made.0.parts.items made.0.stop) }
+    ensures ends { IfOk result (λ made. IsEnd (record { catalog = catalog.now; list = correct.now.list; tables = bag_at tables.items; changes = bag_at changes.now; keys = keys }) made.1) }
 {
-    if let Err(fault) = base_changes(alloc, catalog, tables, changes) {
-        return Err(fault);
-    }
     // Makes known that the list is correct.
     let _ = correct.strategy();
-    let Ok(mut state) = NightState::new(alloc, catalog, tables, changes) else {
-        return Err(MaintFault::Memory);
-    };
-    let Ok(stages) = waves(alloc, correct) else {
-        return Err(MaintFault::Memory);
-    };
-    match through(alloc, catalog, stages.as_slice(), keys, &mut state) {
-        Ok(course) => Ok(course),
-        Err(_) => Err(MaintFault::Memory),
+    let mut state = NightState::over(alloc, catalog, tables, changes)?;
+    let stages = waves(alloc, correct)?;
+    let (course, ended) = through(alloc, catalog, stages.as_slice(), keys, &mut state)?;
+    if !ended {
+        return Ok((course, None));
     }
+    Ok((course, Some(state.into_tables())))
 }
 
-/// Goes through the stages of a night, as far as one can come.
+/// Goes through the stages of a night, as far as one can come, and answers whether one comes to its end.
 fn through<F: RowTest, G: RowValue>(
     alloc: Global,
     catalog: &Catalog<F, G>,
     stages: &[Stage],
     keys: usize,
     state: &mut NightState,
-) -> Result<Course, AllocError>
+) -> Result<(Course, bool), AllocError>
     requires parts { AreKeptParts catalog.now state.old }
     requires fit { CanFinish catalog.now (kept state.old) }
     requires some { 1 ≤ keys }
     requires stages { (i : ℕ) (stage : StageOf) → slice_get stages.now i ≡ Some stage → IsStageIn catalog.now stage }
-    ensures parts { IfOk result (λ course. (n : Night) → n.catalog ≡ catalog.now → n.keys ≡ keys → stages.now ≡ stages_of n.list → StandsAt n 0 (kept state.old)
-        → AreParts n 0 (legs_of n) course.parts.items course.stop) }
+    ensures kept { OnOk result (AreKeptParts catalog.now state.new) }
+    ensures parts { IfOk result (λ made. (n : Night) → n.catalog ≡ catalog.now → n.keys ≡ keys → stages.now ≡ stages_of n.list → StandsAt n 0 (kept state.old)
+        → AreParts n 0 (legs_of n) made.0.parts.items made.0.stop) }
+    ensures ends { IfOk result (λ made. (n : Night) → n.catalog ≡ catalog.now → n.keys ≡ keys → stages.now ≡ stages_of n.list → StandsAt n 0 (kept state.old)
+        → cond made.1 (StandsAt n (place_behind stages.now) (kept state.new)) (IsRefused n)) }
 {
     let mut course = Course {
         parts: Vec::new(alloc),
@@ -113,10 +104,10 @@ fn through<F: RowTest, G: RowValue>(
     };
     for stage in stages {
         if !stage_of(alloc, catalog, stage, keys, state, &mut course)? {
-            return Ok(course);
+            return Ok((course, false));
         }
     }
-    Ok(course)
+    Ok((course, true))
 }
 
 /// Carries a stage out, and answers whether one can go on after it.

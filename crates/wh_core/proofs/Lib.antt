@@ -14,6 +14,8 @@ pub mod Ones
 pub mod Steps
 pub mod Moves
 pub mod Seats
+pub mod Tables
+pub mod Allowed
 pub mod Wholes
 pub mod Headline
 pub mod Told

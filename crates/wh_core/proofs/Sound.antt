@@ -20,6 +20,7 @@ use Rattle.wh_maint.proofs.FromScratch.{contents_are_values, catalogs_are_graphs
 use Rattle.wh_maint.proofs.Widths.{columns_have_width, tables_have_width}
 use Rattle.wh_carry.specs.Carry.{at_first, carried, tables_after}
 use Rattle.wh_carry.specs.Refused.{ArePassedBelow}
+use Rattle.wh_carry.specs.NightLaws.{HaveTables}
 use Rattle.wh_carry.specs.NightList.{puts_of}
 use Rattle.wh_carry.proofs.Stands.{strategies_end_in_views}
 use Rattle.wh_carry.proofs.NewValues.{ends_in_contents, passed_have_values}
@@ -32,6 +33,7 @@ use Rattle.wh_carry.specs.Legs.{Leg, Wave, Page, Turn, In_wave, At_page, Over}
 use Rattle.wh_core.specs.Laws.{CommitsMakeContents, IsGivenNight, IsSetup, VersionsAreContents}
 use Rattle.wh_core.specs.Log.{Deed, Log, Began, Drew, Finished, Paged_in, Committed, Gave_up, Sat_down, Turned, Left, last_begun, nights_begun, is_open, pages, holding}
 use Rattle.wh_core.specs.Nights.{GivenNight, Setup, next_night, night, night_from, last_night, page_in_turn, published, remaining, turn, turn_in, versions}
+use Rattle.wh_core.specs.Replies.{IsLegalLog}
 use Rattle.wh_core.proofs.Deeds.{AreDeeds, IsDeed, deeds_of, none, one_more}
 use Rattle.wh_core.proofs.Nights.{last_is, night-start, whole_puts}
 use Rattle.wh_core.proofs.Sessions.{version_stays}
@@ -181,6 +183,13 @@ module _ (stay : VersionsStay) (s : Setup) (setup : IsSetup s) where
         (sym (night-start s log before opened))
         (subst (λ c. AreContentsOf (graph_of s.catalog) (changed n.tables n.changes) (bag_at c) × AreBags s.catalog c) (sym now_newest) (ends, made_bags))
 
+    -- its tables are those that the whole list makes
+    commit_ends : HaveTables (versions s (Committed ∷ log)).newest (length (night s log).catalog.views.children) (tables_after (graph_of (night s log).catalog) (night s log).changes (night s log).list (night s log).tables)
+    commit_ends =
+        subst (λ (m : Night). HaveTables (versions s (Committed ∷ log)).newest (length m.catalog.views.children) (tables_after (graph_of m.catalog) m.changes m.list m.tables)) (sym (night-start s log before opened))
+        (subst (λ c. HaveTables c (length s.catalog.views.children) (tables_after (graph_of s.catalog) n.changes n.list n.tables)) (sym now_newest)
+        (record { each = made.long ∙ start_sound.1.each; are = λ v l. made.same v }))
+
   -- one deed more: of its versions, those that were not there before
   one_deed : (d : Deed) (log : Log) → IsSound log → ((k : ℕ) → number (versions s log) < k → k ≤ number (versions s (d ∷ log)) → AreSound s (version (versions s (d ∷ log)) k))
       → (is_open (d ∷ log) ≡ true → AreAllowed (night s (d ∷ log))) → nights_begun (d ∷ log) ≤ length s.nights → IsSound (d ∷ log)
@@ -247,3 +256,9 @@ versions_are_contents stay s log k setup legal within = (sound stay s setup log 
 pub commits_make_contents : VersionsStay → CommitsMakeContents
 commits_make_contents stay s log setup legal opened over =
     let deeds = deeds_of s log legal in (committed stay s setup log deeds (sound stay s setup log deeds) opened over).0
+
+-- a commit makes the tables that the whole night ends with
+pub commits_end : VersionsStay → (s : Setup) (log : Log) → IsSetup s → IsLegalLog s log → is_open log ≡ true → turn s log ≡ Over
+    → HaveTables (versions s (Committed ∷ log)).newest (length (night s log).catalog.views.children) (tables_after (graph_of (night s log).catalog) (night s log).changes (night s log).list (night s log).tables)
+commits_end stay s log setup legal opened over =
+    let deeds = deeds_of s log legal in commit_ends stay s setup log deeds (sound stay s setup log deeds) opened over

@@ -18,7 +18,8 @@ use Rattle.wh_maint.specs.declared.fault.MaintFault.TheVariants as fault
 use Rattle.wh_carry.specs.Refused.{AreAllowedBelow, IsBaseFault}
 use Rattle.wh_store.specs.Pages.{Contents}
 use Rattle.wh_store.specs.Versions.{number, version, versions_of}
-use Rattle.wh_carry.specs.Night.{Night, AreAllowed}
+use Rattle.wh_carry.specs.Night.{Night, AreAllowed, places_from}
+use Rattle.wh_carry.specs.Legs.{carried_up_to, legs_of, turn_of, untouched}
 use Rattle.wh_core.specs.declared.event.Event.TheVariants as event
 use Rattle.wh_core.specs.declared.machine.Machine.{Machine}
 use Rattle.wh_core.specs.declared.reply.Cause.TheVariants as cause
@@ -27,8 +28,9 @@ use Rattle.wh_core.specs.declared.reply.Reply.TheVariants as reply
 use Rattle.wh_core.specs.Laws.{IsGivenNight, IsSetup, VersionsAreContents}
 use Rattle.wh_core.specs.Log.{Log, is_open, nights_begun}
 use Rattle.wh_core.specs.Nights.{GivenNight, Setup, next_night, versions}
-use Rattle.wh_core.specs.Replies.{IsLegalLog, IsReply, cause_of}
+use Rattle.wh_core.specs.Replies.{IsLegalLog, IsReply, IsRuled, Starts, cause_of}
 use Rattle.wh_core.specs.Standing.{Stands, given_of, nights_of}
+use Rattle.wh_core.proofs.Allowed.{allowed_or_memory}
 use Rattle.wh_core.proofs.Steps.{le_false, le_true, onward, refuse}
 use Rattle.wh_core.proofs.Moves.{not_equal, number_here, open_here}
 
@@ -50,14 +52,22 @@ module _ (s : Setup) (log : Log) (m : Machine) (h : Stands s log m) where
       (onward (nat_le (length s.nights) (nights_begun log)) cause.NoNight _ _ (le_false (length s.nights) (nights_begun log) l)
       (refuse (number (versions s log) + 1 == 2 ^ 64) cause.LastVersion _ (equal (number (versions s log) + 1) (2 ^ 64) e)))
 
-  pub not_begun : is_open log ≡ false → nights_begun log < length s.nights → number (versions s log) + 1 ≢ 2 ^ 64 → (f : MaintFault)
-      → ((f ≡ fault.Memory) × AreAllowed (next_night s log)) ⊎ IsBaseFault (next_night s log).catalog (next_night s log).tables (next_night s log).changes f
-      → IsReply s log event.Begin (reply.Refused (cause_of f))
-  not_begun o l few f why =
-      onward (is_open log) cause.NightOpen _ _ o
-      (onward (nat_le (length s.nights) (nights_begun log)) cause.NoNight _ _ (le_false (length s.nights) (nights_begun log) l)
-      (onward (number (versions s log) + 1 == 2 ^ 64) cause.LastVersion _ _ (not_equal (number (versions s log) + 1) (2 ^ 64) few)
-      (⊎_elim (λ k. inl (k.1, inr (ap (λ f. reply.Refused (cause_of f)) k.0))) (λ b. inr (f, b, inl refl)) why)))
+  module _ (closed : is_open log ≡ false) (left : nights_begun log < length s.nights) (few : number (versions s log) + 1 ≢ 2 ^ 64) where
+    starts : (r : Reply) → IsRuled (Starts (next_night s log) (places_from 0 (carried_up_to (next_night s log) (turn_of (untouched (legs_of (next_night s log)))))) reply.Begun) r → IsReply s log event.Begin r
+    starts r how =
+        onward (is_open log) cause.NightOpen _ r closed
+        (onward (nat_le (length s.nights) (nights_begun log)) cause.NoNight _ r (le_false (length s.nights) (nights_begun log) left)
+        (onward (number (versions s log) + 1 == 2 ^ 64) cause.LastVersion _ r (not_equal (number (versions s log) + 1) (2 ^ 64) few) how))
+
+    pub not_begun : (f : MaintFault) → IsBaseFault (next_night s log).catalog (next_night s log).tables (next_night s log).changes f → IsReply s log event.Begin (reply.Refused (cause_of f))
+    not_begun f why = starts (reply.Refused (cause_of f)) (inr (f, why, inl refl))
+
+    -- whatever the base changes are, want of memory may be told
+    pub begin_wants_memory : IsReply s log event.Begin (reply.Refused cause.Memory)
+    begin_wants_memory = starts (reply.Refused cause.Memory) (⊎_elim
+        (λ allowed. inl (allowed, inr refl))
+        (λ bad. inr (bad.fault, bad.first, ⊎_elim (λ e. inl (ap (λ f. reply.Refused (cause_of f)) (sym e))) (λ large. inr (large, refl)) bad.or_memory))
+        (allowed_or_memory (next_night s log).catalog (next_night s log).tables (next_night s log).changes))
 
 -- the given night of this number
 module _ (nights : List (Vec Bag Global × Judged)) (n : ℕ) (given : Vec Bag Global × Judged) (l : n < length nights) (is : given ≡ slice_index_or nights n given) where

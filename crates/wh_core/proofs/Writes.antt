@@ -35,11 +35,11 @@ pages_join keys rows some = within_all (length rows) keys rows some (omega arith
 
 -- ---- counts that are written
 
-abbrev is_among : Counted → Row → Bool
+abbrev pub is_among : Counted → Row → Bool
 is_among [] q = false
 is_among (e ∷ es) q = is_row q e.0 || is_among es q
 
-none_counts : (es : Counted) (q : Row) → is_among es q ≡ false → count_in es q ≡ pos 0
+pub none_counts : (es : Counted) (q : Row) → is_among es q ≡ false → count_in es q ≡ pos 0
 none_counts [] q h = refl
 none_counts (e ∷ es) q h = elim (is_row q e.0) as (λ b. (b || is_among es q) ≡ false → cond b e.1 (pos 0) +ℤ count_in es q ≡ pos 0) [
   | true ↦ λ t. absurd (false≢true (sym t))

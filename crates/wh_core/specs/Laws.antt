@@ -40,7 +40,7 @@ pub record IsGivenNight (catalog : CatalogOf) (given : GivenNight) : Type 0 wher
   pub list : IsCorrect catalog.views.children given.list
 
 -- it fits together: the opening tables are contents of a base, each night is one of the catalogue, a page has 1 to 256 rows, and the
--- current version and the one before it are kept at least
+-- current version and the one before it are kept at least, and 4 versions at most
 pub record IsSetup (s : Setup) : Type 0 where
   pub catalogue : IsCatalog s.catalog
   pub opening : AreContents (graph_of s.catalog) (bag_at s.opening)
@@ -49,6 +49,7 @@ pub record IsSetup (s : Setup) : Type 0 where
   pub some_keys : 1 ≤ s.keys
   pub few_keys : s.keys ≤ 256
   pub versions : 2 ≤ s.versions
+  pub few_versions : s.versions ≤ 4
 
 -- ---- the published list
 

@@ -18,6 +18,7 @@ use Rattle.wh_core.specs.Nights.{GivenNight, Setup, night, published, remaining}
 use Rattle.wh_core.specs.Replies.{IsLegalLog}
 use Rattle.std.specs.declared.alloc.Global.{Global}
 use Rattle.wh_core.specs.Laws.{IsSetup}
+use Rattle.wh_core.specs.Inner.Tables.{KeepsTables}
 
 abbrev pub bookmark_of : Mark → Bookmark
 bookmark_of m = record { view = m.view; row = m.row.items }
@@ -52,6 +53,7 @@ pub record Stands (s : Setup) (log : Log) (m : Machine) : Type 0 where
   pub legal : IsLegalLog s log
   pub shows : Shows m.store s.opening (published s log)
   pub versions : m.store.limit ≡ s.versions
+  pub tables : KeepsTables s log m.tables
   pub begun : m.begun ≡ nights_begun log
   pub desks : length m.seats.items ≡ s.desks
   pub sessions : (d : ℕ) → d < s.desks → slice_get (map (option_map session_of) m.seats.items) d ≡ Some (session log d)

@@ -1,15 +1,16 @@
 //! What a machine keeps beside its catalogue, and the events that need no more.
 
-ghost use Rattle.std.specs.Prelude.{◌≡◌, ◌≢◌, ◌⊎◌, ◌<◌, ◌==◌, ◌||◌, not, nat_lt, ◌+◌, ◌^◌, ℕ, length, false, drop, replicate, slice_get, List, [], ◌∷◌, ◌++◌, None, Some, IfOk, OnErr, OnOk, MatchOption};
+ghost use Rattle.std.specs.Prelude.{◌≡◌, ◌≢◌, ◌⊎◌, ◌<◌, ◌≤◌, ◌==◌, ◌||◌, not, nat_lt, ◌+◌, ◌^◌, ℕ, length, false, drop, replicate, slice_get, List, [], ◌∷◌, ◌++◌, None, Some, IfOk, OnErr, OnOk, MatchOption};
 ghost use Rattle.wh_row.specs.Weigh.{Counted};
 ghost use Rattle.wh_store.specs.Kept.{AreTables};
 ghost use Rattle.wh_store.specs.Operations.{Operation, Opens, Writes, operation};
 ghost use Rattle.wh_store.specs.Pages.{Contents};
 ghost use Rattle.wh_store.specs.Refusals.{refusal};
-ghost use Rattle.wh_store.specs.Versions.{number};
-ghost use Rattle.wh_store.specs.Windows.{Shows, applied, current};
+ghost use Rattle.wh_store.specs.Versions.{number, versions_of};
+ghost use Rattle.wh_store.specs.Windows.{Shows, applied};
 ghost use Rattle.wh_carry.specs.Legs.{legs_of};
-ghost use Rattle.wh_carry.specs.Course.{AreParts};
+ghost use Rattle.wh_carry.specs.Course.{AreParts, IsEnd};
+ghost use Rattle.wh_core.specs.Laws.{IsSetup};
 ghost use Rattle.wh_core.specs.Log.{Log, is_open, logged, nights_begun};
 ghost use Rattle.wh_core.specs.Nights.{Setup, next_night, versions};
 ghost use Rattle.wh_core.specs.Replies.{IsReply};
@@ -25,14 +26,17 @@ use std::alloc::{AllocError, Global};
 use wh_carry::{Course, Part};
 use wh_maint::MaintFault;
 use wh_row::Bag;
-use wh_store::{MAX_KEYS, Op, Store, StoreFault, well_formed_law};
+use wh_store::{MAX_KEYS, Op, Store, StoreFault, versions_stay_law, well_formed_law};
 
-/// The versions, the sessions of the desks, the jobs of the workers, how many nights have begun, and of the night that
-/// began last what becomes of it, which part of it is in turn, and how many jobs of that part are drawn and done.
+/// The versions, the tables that the next night begins from, the sessions of the desks, the jobs of the workers, how many
+/// nights have begun, and of the night that began last what becomes of it, which part of it is in turn, and how many jobs of
+/// that part are drawn and done.
 #[derive(Drop)]
 pub(crate) struct Machine {
     pub(crate) alloc: Global,
     pub(crate) store: Store,
+    // Those of the current version, or while a night is open those that it ends with. Where there are none, the store's are copied.
+    pub(crate) tables: Option<Vec<Bag>>,
     pub(crate) seats: Vec<Option<Seat>>,
     pub(crate) holders: Vec<Option<usize>>,
     pub(crate) begun: usize,
@@ -123,22 +127,26 @@ fn hindrance(course: &Course, place: usize) -> Option<&MaintFault>
 }
 
 impl Machine {
-    /// Over these tables, as version 0.
+    /// Over these tables, as version 0. Sessions of the last so many versions can be read.
     pub(crate) fn new(
         alloc: Global,
         tables: Vec<Bag>,
         desks: usize,
         workers: usize,
+        versions: usize,
     ) -> Result<Machine, AllocError>
-        requires { AreTables tables.items }
-        ensures { IfOk result (λ machine. (s : Setup) → s.opening ≡ tables.items → s.desks ≡ desks → s.workers ≡ workers → s.versions ≡ 2 → Stands s [] machine) }
+        requires tables { AreTables tables.items }
+        requires least { 2 ≤ versions }
+        requires most { versions ≤ 4 }
+        ensures { IfOk result (λ machine. (s : Setup) → s.opening ≡ tables.items → s.desks ≡ desks → s.workers ≡ workers → s.versions ≡ versions → Stands s [] machine) }
     {
-        let store = Store::new(alloc, tables)?;
+        let store = Store::new(alloc, tables.as_slice(), versions)?;
         let seats = no_seats(alloc, desks)?;
         let holders = no_jobs(alloc, workers)?;
         Ok(Machine {
             alloc,
             store,
+            tables: Some(tables),
             seats,
             holders,
             begun: 0,
@@ -150,13 +158,6 @@ impl Machine {
             drawn: 0,
             ended: 0,
         })
-    }
-
-    /// The tables of the current version.
-    pub(crate) fn tables(&self) -> &[Bag]
-        ensures tables { (s : Setup) (log : Log) → Stands s log self.now → result.now ≡ (versions s log).newest }
-    {
-        self.store.current_tables()
     }
 
     pub(crate) fn open(&mut self, desk: usize) -> Reply
@@ -283,7 +284,7 @@ impl Machine {
     /// The part in turn is over.
     fn turn_over(&mut self)
         requires { self.old.place < length self.old.course.parts.items }
-        ensures { self.new ≡ record { alloc = self.old.alloc; store = self.old.store; seats = self.old.seats; holders = self.old.holders; begun = self.old.begun; course = self.old.course; place = self.old.place + 1; drawn = 0; ended = 0 } }
+        ensures { self.new ≡ record { alloc = self.old.alloc; store = self.old.store; tables = self.old.tables; seats = self.old.seats; holders = self.old.holders; begun = self.old.begun; course = self.old.course; place = self.old.place + 1; drawn = 0; ended = 0 } }
     {
         self.place += 1;
         self.drawn = 0;
@@ -313,8 +314,9 @@ impl Machine {
         Reply::Paged(rows)
     }
 
+    /// The tables that the night ends with become those of the current version.
     pub(crate) fn commit(&mut self) -> Reply
-        ensures { (s : Setup) (log : Log) → Stands s log self.old → Stands s (logged log Event.Commit result) self.new × IsReply s log Event.Commit result }
+        ensures { (s : Setup) (log : Log) → IsSetup s → Stands s log self.old → Stands s (logged log Event.Commit result) self.new × IsReply s log Event.Commit result }
     {
         if !self.store.is_active() {
             return Reply::Refused(Cause::NoNight);
@@ -322,6 +324,7 @@ impl Machine {
         if self.place < self.course.parts.len() {
             return Reply::Refused(Cause::NotReady);
         }
+        versions_stay_law();
         let Ok(()) = self.store.apply(&Op::Commit) else {
             unreachable!()
         };
@@ -329,6 +332,8 @@ impl Machine {
         Reply::Version(self.store.number())
     }
 
+    /// The tables that the night would end with are forgotten. Those of before are gone: keeping them, or what takes them back,
+    /// would cost every night memory, and a night is seldom given up.
     pub(crate) fn give_up(&mut self) -> Reply
         ensures { (s : Setup) (log : Log) → Stands s log self.old → Stands s (logged log Event.GiveUp result) self.new × IsReply s log Event.GiveUp result }
     {
@@ -338,17 +343,18 @@ impl Machine {
         let Ok(()) = apply_next(&mut self.store, &Op::GiveUp) else {
             return Reply::Refused(Cause::Memory);
         };
+        self.tables = None;
         free_all(&mut self.holders);
         Reply::Version(self.store.number())
     }
 
-    /// Begins the next night, of which this becomes.
-    pub(crate) fn start(&mut self, course: Course) -> Reply
+    /// Begins the next night, of which this becomes, and which ends with these tables.
+    pub(crate) fn start(&mut self, course: Course, last: Option<Vec<Bag>>) -> Reply
         requires begun { self.old.begun < 2 ^ 63 }
         requires free { refusal self.old.store Opens ≡ None }
         ensures { (s : Setup) (log : Log) → Stands s log self.old → is_open log ≡ false → nights_begun log < length s.nights → number (versions s log) + 1 ≢ 2 ^ 64
             → AreAllowed (next_night s log) → AreParts (next_night s log) 0 (legs_of (next_night s log)) course.parts.items course.stop
-            → Stands s (logged log Event.Begin result) self.new × IsReply s log Event.Begin result }
+            → IsEnd (next_night s log) last → Stands s (logged log Event.Begin result) self.new × IsReply s log Event.Begin result }
     {
         if let Some(fault) = hindrance(&course, 0) {
             return Reply::Refused(cause_of(fault));
@@ -358,11 +364,39 @@ impl Machine {
         };
         free_all(&mut self.holders);
         self.begun += 1;
+        self.tables = last;
         self.course = course;
         self.place = 0;
         self.drawn = 0;
         self.ended = 0;
         Reply::Begun
+    }
+}
+
+/// The tables of the store's current version, copied.
+fn copied(alloc: Global, store: &Store) -> Result<Vec<Bag>, AllocError>
+    ensures { IfOk result (λ tables. (opening : Contents) (ops : List Operation) → Shows store.now opening ops → tables.items ≡ (versions_of opening ops).newest) }
+{
+    let mut tables = Vec::new(alloc);
+    for view in 0..store.current_views() {
+        tables.push(store.table(view)?)?;
+    }
+    Ok(tables)
+}
+
+/// Takes the tables that are kept, or copies those of the store's current version where none are.
+pub(crate) fn taken(
+    alloc: Global,
+    store: &Store,
+    kept: &mut Option<Vec<Bag>>,
+) -> Result<Vec<Bag>, AllocError>
+    ensures tables { IfOk result (λ tables. MatchOption kept.old
+        ((opening : Contents) (ops : List Operation) → Shows store.now opening ops → tables.items ≡ (versions_of opening ops).newest) (λ own. tables ≡ own)) }
+    ensures none { kept.new ≡ None }
+{
+    match kept.take() {
+        Some(tables) => Ok(tables),
+        None => copied(alloc, store),
     }
 }
 

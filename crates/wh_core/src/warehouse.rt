@@ -12,10 +12,10 @@ ghost use Rattle.wh_core.specs.Standing.{AreJudged, IsFresh, IsStanding, StandsW
 
 use crate::event::Event;
 use crate::laws::{runs_come_true, versions_are_contents};
-use crate::machine::Machine;
+use crate::machine::{Machine, taken};
 use crate::reply::{Cause, Reply, cause_of};
 use std::alloc::{AllocError, Global};
-use wh_carry::{contents_are_fit_for_nights, course_of};
+use wh_carry::{base_changes, contents_are_fit_for_nights, course_of};
 use wh_dag::Catalog;
 use wh_formula::{RowTest, RowValue};
 use wh_row::Bag;
@@ -35,7 +35,7 @@ impl<F: RowTest + Drop, G: RowValue + Drop> Core<F, G> {
     /// A machine that has done nothing yet, over these tables: the contents of a base, as `opening_contents` gives them, and from
     /// such contents `carry` and a published night. That tables are fit (`are_fit`) does not suffice. A night is the changes of the
     /// base views and a strategy that was judged over this catalogue's shape. There are 1 to 16 desks and as many workers, and a page
-    /// has 1 to 256 rows.
+    /// has 1 to 256 rows. Sessions of the last `versions` versions can be read, 2 to 4, and of one less while a night is open.
     pub fn new(
         alloc: Global,
         catalog: Catalog<F, G>,
@@ -44,13 +44,14 @@ impl<F: RowTest + Drop, G: RowValue + Drop> Core<F, G> {
         desks: usize,
         workers: usize,
         keys: usize,
+        versions: usize,
     ) -> Result<Core<F, G>, AllocError>
-        requires setup { IsSetup (record { catalog = catalog; desks = desks; workers = workers; versions = 2; keys = keys; opening = tables.items; nights = nights_of nights.items }) }
+        requires setup { IsSetup (record { catalog = catalog; desks = desks; workers = workers; versions = versions; keys = keys; opening = tables.items; nights = nights_of nights.items }) }
         requires judged { AreJudged catalog nights.items }
-        ensures stands { IfOk result (λ core. StandsWith (record { catalog = catalog; desks = desks; workers = workers; versions = 2; keys = keys; opening = tables.items; nights = nights_of nights.items }) [] core) }
+        ensures stands { IfOk result (λ core. StandsWith (record { catalog = catalog; desks = desks; workers = workers; versions = versions; keys = keys; opening = tables.items; nights = nights_of nights.items }) [] core) }
         ensures fresh { IfOk result (λ core. IsFresh core) }
     {
-        let machine = Machine::new(alloc, tables, desks, workers)?;
+        let machine = Machine::new(alloc, tables, desks, workers, versions)?;
         Ok(Core {
             alloc,
             catalog,
@@ -102,18 +103,25 @@ impl<F: RowTest + Drop, G: RowValue + Drop> Core<F, G> {
         versions_are_contents();
         contents_are_fit_for_nights();
         let (changes, correct) = &self.nights[self.machine.begun];
-        let tables = self.machine.tables();
-        match course_of(
+        let Ok(tables) = taken(self.alloc, &self.machine.store, &mut self.machine.tables) else {
+            return Reply::Refused(Cause::Memory);
+        };
+        let changes = changes.as_slice();
+        if let Err(fault) = base_changes(self.alloc, &self.catalog, tables.as_slice(), changes) {
+            self.machine.tables = Some(tables);
+            return Reply::Refused(cause_of(&fault));
+        }
+        let Ok((course, last)) = course_of(
             self.alloc,
             &self.catalog,
             tables,
-            changes.as_slice(),
+            changes,
             correct,
             self.keys,
-        ) {
-            Ok(course) => self.machine.start(course),
-            Err(fault) => Reply::Refused(cause_of(&fault)),
-        }
+        ) else {
+            return Reply::Refused(Cause::Memory);
+        };
+        self.machine.start(course, last)
     }
 
     /// Answers events, one after another, from a machine that has done nothing yet. Memory comes before the first.

@@ -321,7 +321,7 @@ impl Writer {
         ensures newest { result ≡ length (versions_in self.now.ledger.of self.now.ledger.list).newest }
     {
         told_law();
-        self.inner.raw.published().store.current_tables().len()
+        self.inner.raw.published().store.current_views()
     }
 
     /// The table of a view in the current version. Memory is wanted for its rows alone.

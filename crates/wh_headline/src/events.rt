@@ -14,7 +14,8 @@ use wh_row::Bag;
 use wh_strategy::Correct;
 
 /// Goes through the events of workers, readers and the writer, from a warehouse of these tables, nights, desks and workers,
-/// and gives a reply for each. The strategies were judged over this catalogue's shape, and a page has 1 to 256 rows.
+/// and gives a reply for each. The strategies were judged over this catalogue's shape, a page has 1 to 256 rows, and sessions of the
+/// last `versions` versions can be read, 2 to 4, and of one less while a night is open.
 pub fn carry_out<F: RowTest + Drop, G: RowValue + Drop>(
     alloc: Global,
     catalog: Catalog<F, G>,
@@ -23,12 +24,15 @@ pub fn carry_out<F: RowTest + Drop, G: RowValue + Drop>(
     desks: usize,
     workers: usize,
     keys: usize,
+    versions: usize,
     events: &[Event],
 ) -> Result<Vec<Reply>, AllocError>
-    requires setup { IsSetup (record { catalog = catalog; desks = desks; workers = workers; versions = 2; keys = keys; opening = tables.items; nights = nights_of nights.items }) }
+    requires setup { IsSetup (record { catalog = catalog; desks = desks; workers = workers; versions = versions; keys = keys; opening = tables.items; nights = nights_of nights.items }) }
     requires judged { AreJudged catalog nights.items }
-    ensures comes_true { IfOk result (λ replies. ComesTrue (record { catalog = catalog; desks = desks; workers = workers; versions = 2; keys = keys; opening = tables.items; nights = nights_of nights.items }) events.now replies.items) }
+    ensures comes_true { IfOk result (λ replies. ComesTrue (record { catalog = catalog; desks = desks; workers = workers; versions = versions; keys = keys; opening = tables.items; nights = nights_of nights.items }) events.now replies.items) }
 {
-    let mut core = Core::new(alloc, catalog, tables, nights, desks, workers, keys)?;
+    let mut core = Core::new(
+        alloc, catalog, tables, nights, desks, workers, keys, versions,
+    )?;
     core.run(events)
 }

@@ -315,7 +315,7 @@ pub fn serve_night<F: RowTest, G: RowValue, W: Watch + Sync, R: Threads + Wait +
     if count == 0 {
         return serve_none(rt, alloc, catalog, tables, changes, correct, options, watch);
     }
-    let Ok(store) = Store::new(alloc, tables) else {
+    let Ok(store) = Store::new(alloc, tables.as_slice(), 2) else {
         return Err(want_of_memory());
     };
     serve_some(

@@ -27,4 +27,4 @@ pub use operation::{MAX_KEYS, Op};
 pub use page::Page;
 pub use publish::Publish;
 pub use publish_fault::PublishFault;
-pub use store::{Store, VERSIONS};
+pub use store::{MAX_VERSIONS, MIN_VERSIONS, Store};

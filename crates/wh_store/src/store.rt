@@ -18,8 +18,11 @@ use std::alloc::{AllocError, Global};
 use std::marker::Model;
 use wh_row::{Bag, Row};
 
-/// Of how many versions a store keeps the tables: the current one and the one before it.
-pub const VERSIONS: usize = 2;
+/// The fewest versions that a store keeps: the current one and the one before it.
+pub const MIN_VERSIONS: usize = 2;
+
+/// The most versions that a store keeps.
+pub const MAX_VERSIONS: usize = 4;
 
 /// The versions of a warehouse that sessions can still read, and in a night the tables that are being written. Seen as
 /// what it shows: the number of the current version, the contents of each version that is kept, the newest first, and
@@ -50,18 +53,21 @@ impl Model for Store {
 }
 
 impl Store {
-    /// Version 0, of these tables, in no night.
-    pub fn new(alloc: Global, tables: Vec<Bag>) -> Result<Store, AllocError>
-        requires { AreTables tables.items }
-        ensures shows { IfOk result (λ store. Shows store tables.items []) }
-        ensures limit { IfOk result (λ store. store.limit ≡ 2) }
-        ensures current { IfOk result (λ store. current store ≡ tables.items) }
+    /// Version 0, of these tables, in no night. Sessions of the last `versions` versions can be read, 2 to 4, and of one less
+    /// while a night is open.
+    pub fn new(alloc: Global, tables: &[Bag], versions: usize) -> Result<Store, AllocError>
+        requires tables { AreTables tables.now }
+        requires least { 2 ≤ versions }
+        requires most { versions ≤ 4 }
+        ensures shows { IfOk result (λ store. Shows store tables.now []) }
+        ensures limit { IfOk result (λ store. store.limit ≡ versions) }
+        ensures current { IfOk result (λ store. current store ≡ tables.now) }
     {
         let mut held = Vec::new(alloc);
-        held.push(tables)?;
+        held.push(copy_of(alloc, tables)?)?;
         Ok(Store {
             alloc,
-            limit: VERSIONS,
+            limit: versions,
             number: 0,
             active: false,
             held,
@@ -283,13 +289,13 @@ impl Store {
         page_of(self.alloc, &self.tables(version)[view], after, limit)
     }
 
-    /// The tables of the current version.
-    pub fn current_tables(&self) -> &[Bag]
-        ensures tables { result.now ≡ current self.now }
-        ensures of_list { (opening : Contents) (ops : List Operation) → Shows self.now opening ops → result.now ≡ (versions_of opening ops).newest }
+    /// How many views the current version has.
+    pub fn current_views(&self) -> usize
+        ensures len { result ≡ length (current self.now) }
+        ensures of_list { (opening : Contents) (ops : List Operation) → Shows self.now opening ops → result ≡ length (versions_of opening ops).newest }
     {
         let newest = if self.active { 1 } else { 0 };
-        self.held[newest].as_slice()
+        self.held[newest].len()
     }
 
     /// The table of a view in the current version. Memory is wanted for its rows alone.

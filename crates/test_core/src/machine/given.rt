@@ -184,12 +184,13 @@ fn nights(
     Ok(nights)
 }
 
-/// How many desks and workers a machine has, and how many rows a page has at most.
+/// How many desks and workers a machine has, how many rows a page has at most, and of how many versions sessions are read.
 #[derive(Clone, Copy)]
 pub(crate) struct Places {
     pub(crate) desks: usize,
     pub(crate) workers: usize,
     pub(crate) keys: usize,
+    pub(crate) versions: usize,
 }
 
 /// A machine over the contents of this base that has done nothing yet: of a alone, or of a and v.
@@ -227,9 +228,13 @@ fn core_of(
         desks,
         workers,
         keys,
+        versions,
     } = places;
     assert!(rt; keys >= 1 && keys <= 256);
-    let core = Core::new(alloc, catalog, tables, nights, desks, workers, keys)?;
+    assert!(rt; versions >= 2 && versions <= 4);
+    let core = Core::new(
+        alloc, catalog, tables, nights, desks, workers, keys, versions,
+    )?;
     Ok(core)
 }
 
@@ -267,8 +272,12 @@ fn replies_to(
         desks,
         workers,
         keys,
+        versions,
     } = places;
     assert!(rt; keys >= 1 && keys <= 256);
-    let replies = carry_out(alloc, catalog, tables, nights, desks, workers, keys, events)?;
+    assert!(rt; versions >= 2 && versions <= 4);
+    let replies = carry_out(
+        alloc, catalog, tables, nights, desks, workers, keys, versions, events,
+    )?;
     Ok(replies)
 }

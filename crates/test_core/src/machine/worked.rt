@@ -44,6 +44,7 @@ fn replay_two_nights(rt: HostRuntime) -> Result<(), Fail> {
         desks: 2,
         workers: 1,
         keys: 256,
+        versions: 2,
     };
     let mut core = two_nights(&rt, rt.alloc(), places)?;
     assert_run(&rt, rt.alloc(), &mut core, &TWO_NIGHTS)
@@ -55,6 +56,7 @@ fn two_nights_are_carried_out_by_one_call(rt: HostRuntime) -> Result<(), Fail> {
         desks: 2,
         workers: 1,
         keys: 256,
+        versions: 2,
     };
     let alloc = rt.alloc();
     let events = events_of(alloc, &TWO_NIGHTS)?;
@@ -88,10 +90,104 @@ fn replay_give_up(rt: HostRuntime) -> Result<(), Fail> {
         desks: 3,
         workers: 1,
         keys: 256,
+        versions: 2,
     };
     let changes: [Lists<'_>; 2] = [&[&[(&[1], -1), (&[2], 1)]], &[&[(&[2], -1), (&[3], 1)]]];
     let mut core = machine(&rt, rt.alloc(), &[&[(&[1], 1)]], &changes, places)?;
     assert_run(&rt, rt.alloc(), &mut core, &GIVE_UP)
+}
+
+static THREE_VERSIONS: [(Event, Said); 19] = [
+    (Event::Open(0), Said::Session(0)),
+    (Event::Begin, Said::Begun),
+    (Event::PageIn, Said::Paged(2)),
+    (Event::Commit, Said::Version(1)),
+    (Event::Open(1), Said::Session(1)),
+    (Event::Begin, Said::Begun),
+    (Event::Read(0, 0, 10), Said::End(&[1])),
+    (Event::PageIn, Said::Paged(2)),
+    (Event::Commit, Said::Version(2)),
+    (Event::Read(0, 0, 10), Said::End(&[1])),
+    (Event::Begin, Said::Begun),
+    (
+        Event::Read(0, 0, 10),
+        Said::Refused(Cause::Expired(0, 2, true)),
+    ),
+    (Event::Read(1, 0, 10), Said::End(&[2])),
+    (Event::PageIn, Said::Paged(2)),
+    (Event::GiveUp, Said::Version(3)),
+    (Event::Read(1, 0, 10), Said::End(&[2])),
+    (Event::Open(2), Said::Session(3)),
+    (Event::Read(2, 0, 10), Said::End(&[3])),
+    (Event::Begin, Said::Refused(Cause::NoNight)),
+];
+
+#[test]
+fn replay_three_versions(rt: HostRuntime) -> Result<(), Fail> {
+    let places = Places {
+        desks: 3,
+        workers: 1,
+        keys: 256,
+        versions: 3,
+    };
+    let changes: [Lists<'_>; 3] = [
+        &[&[(&[1], -1), (&[2], 1)]],
+        &[&[(&[2], -1), (&[3], 1)]],
+        &[&[(&[3], -1), (&[4], 1)]],
+    ];
+    let mut core = machine(&rt, rt.alloc(), &[&[(&[1], 1)]], &changes, places)?;
+    assert_run(&rt, rt.alloc(), &mut core, &THREE_VERSIONS)
+}
+
+static AFTER_A_GIVE_UP: [(Event, Said); 29] = [
+    (Event::Open(0), Said::Session(0)),
+    (Event::Begin, Said::Begun),
+    (Event::Take(0), Said::Job(0)),
+    (Event::Done(0), Said::Done),
+    (Event::PageIn, Said::Paged(2)),
+    (Event::PageIn, Said::Paged(2)),
+    (Event::GiveUp, Said::Version(1)),
+    (Event::Open(1), Said::Session(1)),
+    (Event::Read(1, 0, 10), Said::End(&[1])),
+    (Event::Read(1, 1, 10), Said::End(&[1])),
+    (Event::Begin, Said::Begun),
+    (Event::Take(0), Said::Job(0)),
+    (Event::Done(0), Said::Done),
+    (Event::PageIn, Said::Paged(1)),
+    (Event::PageIn, Said::Paged(1)),
+    (Event::Commit, Said::Version(2)),
+    (Event::Open(2), Said::Session(2)),
+    (Event::Read(2, 0, 10), Said::End(&[1, 3])),
+    (Event::Read(2, 1, 10), Said::End(&[1, 3])),
+    (Event::Begin, Said::Begun),
+    (Event::Take(0), Said::Job(0)),
+    (Event::Done(0), Said::Done),
+    (Event::PageIn, Said::Paged(1)),
+    (Event::PageIn, Said::Paged(1)),
+    (Event::Commit, Said::Version(3)),
+    (Event::Begin, Said::Refused(Cause::Absent)),
+    (Event::Open(3), Said::Session(3)),
+    (Event::Read(3, 0, 10), Said::End(&[1])),
+    (Event::Read(3, 1, 10), Said::End(&[1])),
+];
+
+/// A night that brings -(1) +(2) is given up; the nights behind it bring +(3), then -(3), and then -(2), which is not there.
+#[test]
+fn nights_go_on_after_one_that_was_given_up(rt: HostRuntime) -> Result<(), Fail> {
+    let places = Places {
+        desks: 4,
+        workers: 1,
+        keys: 256,
+        versions: 4,
+    };
+    let changes: [Lists<'_>; 4] = [
+        &[&[(&[1], -1), (&[2], 1)], &[]],
+        &[&[(&[3], 1)], &[]],
+        &[&[(&[3], -1)], &[]],
+        &[&[(&[2], -1)], &[]],
+    ];
+    let mut core = machine(&rt, rt.alloc(), &[&[(&[1], 1)], &[]], &changes, places)?;
+    assert_run(&rt, rt.alloc(), &mut core, &AFTER_A_GIVE_UP)
 }
 
 static ONE_KEY_A_PAGE: [(Event, Said); 13] = [
@@ -118,6 +214,7 @@ fn one_night(rt: &impl Abort, alloc: Global) -> Result<Core<Every, Cell>, Fail>
         desks: 2,
         workers: 1,
         keys: 1,
+        versions: 2,
     };
     let changes: [Lists<'_>; 1] = [&[&[(&[2], 1), (&[3], -1), (&[4], 1)]]];
     machine(
@@ -170,6 +267,7 @@ fn replay_refusals(rt: HostRuntime) -> Result<(), Fail> {
         desks: 1,
         workers: 1,
         keys: 256,
+        versions: 2,
     };
     let mut core = two_nights(&rt, rt.alloc(), places)?;
     assert_run(&rt, rt.alloc(), &mut core, &REFUSALS)

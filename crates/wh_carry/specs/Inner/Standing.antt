@@ -16,7 +16,7 @@ use Rattle.wh_carry.specs.NightList.{pages_of}
 use Rattle.wh_carry.specs.declared.stages.Stage.{Stage}
 use Rattle.wh_carry.specs.declared.stages.Stage.TheVariants as stage
 use Rattle.wh_carry.specs.declared.course.Course.{Course}
-use Rattle.wh_carry.specs.Course.{AreParts}
+use Rattle.wh_carry.specs.Course.{AreParts, IsRefused}
 use Rattle.wh_carry.specs.Legs.{Leg, legs_after}
 use Rattle.wh_carry.specs.declared.course.Part.{Part}
 use Rattle.wh_carry.specs.declared.course.Part.TheVariants as part
@@ -95,7 +95,7 @@ abbrev pub legs_at : Night → ℕ → List Stage → List Leg
 legs_at n place stages = legs_after (graph_of n.catalog) n.changes n.keys place (state_at n place) stages
 
 -- After a stage: where one can go on, carrying out stands behind it, and with parts for what is left its parts are those from it on. Else
--- its parts are all
+-- its parts are all, and some expression is refused
 pub record GoesPast (n : Night) (before : List Stage) (stage : Stage) (after : List Stage) (goes : Bool) (old new : Kept) (was is : Course) : Type 0 where
   pub stands : StandsAt n (place_behind before) old → goes ≡ true → StandsAt n (place_behind (before ++ stage ∷ [])) new
   pub added : List Part
@@ -104,3 +104,4 @@ pub record GoesPast (n : Night) (before : List Stage) (stage : Stage) (after : L
   pub going : StandsAt n (place_behind before) old → goes ≡ true → (rest : List Part) (stop : Option MaintFault)
       → AreParts n (place_behind (before ++ stage ∷ [])) (legs_at n (place_behind (before ++ stage ∷ [])) after) rest stop → AreParts n (place_behind before) (legs_at n (place_behind before) (stage ∷ after)) (added ++ rest) stop
   pub ending : StandsAt n (place_behind before) old → goes ≡ false → AreParts n (place_behind before) (legs_at n (place_behind before) (stage ∷ after)) added is.stop
+  pub refused : StandsAt n (place_behind before) old → goes ≡ false → IsRefused n

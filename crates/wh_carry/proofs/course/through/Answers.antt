@@ -64,6 +64,7 @@ loop-stage-preserved g c =
 
 pub returns-then-not-branch : goal.returns-then-not-branch
 returns-then-not-branch g c = record {
+  kept = c.in_ok-stage_of.ensures.parts;
   parts = λ n same keys are stands.
       let stages : List Stage = c.args.stages.now in
       let i : ℕ = c.loop-stage.stage-index in
@@ -75,10 +76,19 @@ returns-then-not-branch g c = record {
       let stop : Option MaintFault = c.stage_of.new.course.stop in
       subst (λ ps. AreParts n 0 (legs_of n) ps stop) (sym on.parts)
       (s.2 on.added stop (subst (λ ts. AreParts n (place_behind (take i stages)) (legs_at n (place_behind (take i stages)) ts) on.added stop) (sym (drop_stage stages i x here)) (on.ending s.0 no_more)));
+  ends = λ n same keys are stands.
+      let stages : List Stage = c.args.stages.now in
+      let i : ℕ = c.loop-stage.stage-index in
+      let x : Stage = c.stage-item.result in
+      let here : slice_get stages i ≡ Some x = slice_get_read stages (length stages) i x refl (omega arith) c.stage-item.is in
+      let no_more : c.in_ok-stage_of.field-0 ≡ false = search rules in
+      let s = c.loop-stage.invariant.so_far n same keys are stands in
+      (c.in_ok-stage_of.ensures.goes n (take i stages) (drop (i + 1) stages) same keys (sym are ∙ split_here stages i x here) s.0).refused s.0 no_more;
 }
 
 pub returns : goal.returns
 returns g c = record {
+  kept = c.loop-stage.invariant.parts;
   parts = λ n same keys are stands.
       let stages : List Stage = c.args.stages.now in
       let i : ℕ = c.loop-stage.stage-index in
@@ -89,4 +99,9 @@ returns g c = record {
       (subst (λ ps. AreParts n 0 (legs_of n) ps None) (append-nil c.loop-stage.course.parts.items)
       (s.2 [] None (subst (λ ts. AreParts n (place_behind ts) (legs_at n (place_behind ts) (drop i stages)) [] None) (sym all)
       (subst (λ ts. AreParts n (place_behind stages) (legs_at n (place_behind stages) ts) [] None) (sym none) (ends_so n stages are)))));
+  ends = λ n same keys are stands.
+      let stages : List Stage = c.args.stages.now in
+      let i : ℕ = c.loop-stage.stage-index in
+      let all : take i stages ≡ stages = take_all i stages (omega arith) in
+      subst (λ ts. StandsAt n (place_behind ts) (kept c.loop-stage.state)) all (c.loop-stage.invariant.so_far n same keys are stands).0;
 }

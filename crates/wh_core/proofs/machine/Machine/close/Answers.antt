@@ -28,6 +28,7 @@ returns c = λ s log h.
         legal = more log (event.Close c.args.desk) reply.Closed h.legal r;
         shows = h.shows;
         versions = h.versions;
+        tables = h.tables;
         begun = h.begun;
         desks = search rules;
         sessions = seat_set m.seats.items s.desks c.args.desk None (session log) (omega arith) h.sessions;

@@ -29,6 +29,7 @@ returns c = λ s log h.
         legal = more log (event.Open c.args.desk) (reply.Session v) h.legal r;
         shows = h.shows;
         versions = h.versions;
+        tables = h.tables;
         begun = h.begun;
         desks = search rules;
         sessions = seat_set m.seats.items s.desks c.args.desk (Some new) (session log) (omega arith) h.sessions;

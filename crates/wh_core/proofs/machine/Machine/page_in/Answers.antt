@@ -11,7 +11,8 @@ use Rattle.wh_core.specs.Replies.{IsReply, more}
 use Rattle.wh_core.specs.Standing.{AreLeft, Stands}
 use Rattle.wh_core.proofs.Underway.{night-paged}
 use Rattle.wh_core.proofs.Steps.{drop_one, page_over}
-use Rattle.wh_core.proofs.Moves.{goes_here, no_memory_to_page, no_night_to_page, no_page, page_done, page_in_turn_there, page_stopped, page_there}
+use Rattle.wh_core.proofs.Tables.{keeps_paged}
+use Rattle.wh_core.proofs.Moves.{goes_here, no_memory_to_page, no_night_to_page, no_page, open_here, page_done, page_in_turn_there, page_stopped, page_there}
 use Rattle.wh_core.proofs.Accepts.{page_accepted}
 use Rattle.wh_core.proofs.machine.Machine.page_in.Goals as goal
 
@@ -51,6 +52,7 @@ returns-in_default-apply_next c = λ s log h.
         legal = h.legal;
         shows = subst (λ w. Shows w s.opening (published s log)) (sym same) h.shows;
         versions = ap (λ (w : Window). w.limit) same ∙ h.versions;
+        tables = h.tables;
         begun = h.begun;
         desks = h.desks;
         sessions = h.sessions;
@@ -77,6 +79,7 @@ returns c = λ s log h.
         legal = more log event.PageIn (reply.Paged c.rows_of-rows.result) h.legal r;
         shows = subst (λ ops. Shows c.apply_next.new.store s.opening (published s log ++ ops)) (put ∙ ap page_in_turn (sym (page_in_turn_there s log m h active op first))) (c.in-Ok.ensures.shows s.opening (published s log) h.shows);
         versions = ap (λ (w : Window). w.limit) (c.in-Ok.ensures.ok ∙ ap (applied m.store) there.writes) ∙ h.versions;
+        tables = keeps_paged s log m.tables (sym (open_here s log m h) ∙ active) h.tables;
         begun = h.begun;
         desks = h.desks;
         sessions = h.sessions;

@@ -59,6 +59,7 @@ returns c = λ s log h.
         legal = more log (event.Read c.args.desk c.args.view c.args.limit) (reply.Page c.in-Ok.page) h.legal r;
         shows = h.shows;
         versions = h.versions;
+        tables = h.tables;
         begun = h.begun;
         desks = search rules;
         sessions = λ w k. seat_set m.seats.items s.desks c.args.desk (Some new) (session log) (omega arith) h.sessions w k ∙ ap Some (turned log c.args.desk w c.args.view c.in-Ok.page of (session_of new) seat left);

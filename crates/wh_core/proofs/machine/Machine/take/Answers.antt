@@ -67,6 +67,7 @@ returns c = λ s log h.
         legal = more log (event.Take c.args.worker) (reply.Job m.drawn) h.legal r;
         shows = h.shows;
         versions = h.versions;
+        tables = h.tables;
         begun = h.begun;
         desks = h.desks;
         sessions = h.sessions;

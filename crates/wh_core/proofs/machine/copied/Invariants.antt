@@ -1,0 +1,9 @@
+use Rattle.std.proofs.Common.{◌≡◌, List, take}
+use Rattle.wh_store.specs.Operations.{Operation}
+use Rattle.wh_store.specs.Pages.{Contents}
+use Rattle.wh_store.specs.Versions.{versions_of}
+use Rattle.wh_store.specs.Windows.{Shows}
+use Rattle.wh_core.proofs.machine.copied.Given as goal
+
+abbrev pub invariant-loop-view : goal.invariant-loop-view
+invariant-loop-view l = (opening : Contents) (ops : List Operation) → Shows l.store opening ops → l.tables.items ≡ take l.view (versions_of opening ops).newest
