@@ -7,7 +7,11 @@
 #[cfg(test)]
 mod bags;
 #[cfg(test)]
+mod drawn_nights;
+#[cfg(test)]
 mod formulas;
+#[cfg(test)]
+mod plain;
 #[cfg(test)]
 mod plans;
 #[cfg(test)]

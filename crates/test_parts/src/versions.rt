@@ -11,9 +11,7 @@ use wh_store::{Op, Store, StoreFault};
 fn store_of(rt: &impl Abort, alloc: Global, rows: &[(&[i64], i64)]) -> Result<Store, Fail> {
     let table = bag_of(alloc, rows)?;
     assert!(rt; table.is_table());
-    let mut tables = Vec::new(alloc);
-    tables.push(table)?;
-    Ok(Store::new(alloc, tables)?)
+    Ok(Store::new(alloc, &[table], 2)?)
 }
 
 /// New counts of some rows of view 0.
@@ -23,6 +21,17 @@ fn put(alloc: Global, counts: &[(&[i64], i64)]) -> Result<Op, AllocError> {
         rows.push((Row::from_slice(alloc, row)?, *count))?;
     }
     Ok(Op::Put(0, rows))
+}
+
+/// Asserts that a row of view 0 has these pairs.
+fn assert_slots(rt: &impl Abort, store: &Store, row: &[i64], wanted: &[(u64, i64)]) {
+    let Some(pairs) = store.slots(0, row) else {
+        panic!(rt; "no such row")
+    };
+    for place in 0..wanted.len() {
+        assert_eq!(rt; pairs.pair(place), Some(wanted[place]));
+    }
+    assert!(rt; pairs.pair(wanted.len()).is_none());
 }
 
 /// Asserts that a page has these rows of one column, each once, and whether it is the last.
@@ -45,6 +54,60 @@ fn assert_page(
         assert_eq!(rt; count, 1);
     }
     assert_eq!(rt; page.last, last);
+    Ok(())
+}
+
+/// A store of one view in which one row counts twice, in its first night, which put it to 0 and another to 1.
+fn first_night(rt: &impl Abort, alloc: Global) -> Result<Store, Fail> {
+    let mut store = store_of(rt, alloc, &[(&[1], 2)])?;
+    store.apply(&Op::Begin)?;
+    store.apply(&put(alloc, &[(&[1], 0), (&[2], 1)])?)?;
+    assert_slots(rt, &store, &[1], &[(1, 0), (0, 2)]);
+    assert_slots(rt, &store, &[2], &[(1, 1)]);
+    Ok(store)
+}
+
+/// Asserts what a row of view 0 counts in a version that can be read, alone.
+fn assert_alone(
+    rt: &impl Abort,
+    store: &Store,
+    version: u64,
+    row: &[i64],
+    wanted: i64,
+) -> Result<(), Fail> {
+    assert!(rt; store.unexpired(version) && store.views(version) == 1);
+    let page = store.visible(version, 0, None, 10)?;
+    assert!(rt; page.rows.len() == 1 && page.last);
+    let (only, count) = page.rows.get(0);
+    assert_eq!(rt; only, row);
+    assert_eq!(rt; count, wanted);
+    Ok(())
+}
+
+#[test]
+fn a_row_is_kept_while_a_session_reads_it(rt: HostRuntime) -> Result<(), Fail> {
+    let mut store = first_night(&rt, rt.alloc())?;
+    store.apply(&Op::Commit)?;
+    assert_alone(&rt, &store, 0, &[1], 2)?;
+    assert_alone(&rt, &store, 1, &[2], 1)?;
+    assert_slots(&rt, &store, &[1], &[(1, 0), (0, 2)]);
+    store.apply(&Op::Begin)?;
+    assert!(rt; store.slots(0, &[1]).is_none() && store.slots(1, &[2]).is_none());
+    assert_slots(&rt, &store, &[2], &[(1, 1)]);
+    Ok(())
+}
+
+#[test]
+fn a_row_of_a_night_that_is_given_up_goes(rt: HostRuntime) -> Result<(), Fail> {
+    let mut store = first_night(&rt, rt.alloc())?;
+    store.apply(&Op::GiveUp)?;
+    assert_slots(&rt, &store, &[1], &[(0, 2)]);
+    assert_slots(&rt, &store, &[2], &[]);
+    assert_alone(&rt, &store, 0, &[1], 2)?;
+    assert_alone(&rt, &store, 1, &[1], 2)?;
+    store.apply(&Op::Begin)?;
+    assert!(rt; store.slots(0, &[2]).is_none());
+    assert_slots(&rt, &store, &[1], &[(0, 2)]);
     Ok(())
 }
 
@@ -86,7 +149,7 @@ fn pages_of_one_row_go_on_while_the_next_version_is_written(rt: HostRuntime) -> 
 
 #[test]
 fn the_first_reason_refuses_an_operation(rt: HostRuntime) -> Result<(), Fail> {
-    let mut store = Store::new(rt.alloc(), Vec::new(rt.alloc()))?;
+    let mut store = Store::new(rt.alloc(), &[], 2)?;
     assert_eq!(rt; store.apply(&Op::Commit), Err(StoreFault::NoNight));
     assert_eq!(rt;
         store.apply(&put(rt.alloc(), &[])?),
@@ -119,7 +182,7 @@ fn rows_that_are_no_page_are_refused(rt: HostRuntime) -> Result<(), Fail> {
     }
     store.apply(&put(rt.alloc(), &[(&[1], 0), (&[2], 3)])?)?;
     store.apply(&Op::Commit)?;
-    assert!(rt; store.current_tables().len() == 1);
+    assert!(rt; store.current_views() == 1);
     let table = store.table(0)?;
     assert_eq!(rt;
         (table.count(&[1]), table.count(&[2]), table.total()),

@@ -10,7 +10,7 @@ use std::sync::Wait;
 use std::thread;
 use std::thread::Threads;
 use wh_desk::{Desk, Writer, open_warehouse};
-use wh_store::Store;
+use wh_store::{MIN_VERSIONS, Store};
 
 /// What stands in the way of a run.
 #[derive(Clone, Copy)]
@@ -104,10 +104,7 @@ fn warehouse<R: Wait>(rt: &R, alloc: Global, plan: &Plan) -> Result<(Writer, Vec
     if !table.is_table() {
         return Err(Fault::Warehouse);
     }
-    let Ok(tables) = vec![in alloc; table] else {
-        return Err(Fault::Refused);
-    };
-    let Ok(store) = Store::new(alloc, tables) else {
+    let Ok(store) = Store::new(alloc, &[table], MIN_VERSIONS) else {
         return Err(Fault::Refused);
     };
     match open_warehouse(rt, alloc, store, plan.readers.clamp(1, 16)) {

@@ -7,9 +7,7 @@ use Rattle.atomic_table.proofs.Lists.{at_set, at_snoc}
 use Rattle.wh_store.specs.Laws.{WellFormedGoesOn, WindowsFollow}
 use Rattle.wh_store.specs.Operations.{Operation, operation, Opens, Writes, Commits, Gives_up}
 use Rattle.wh_store.specs.Refusals.{refusal}
-use Rattle.wh_store.specs.Versions.{versions_of}
-use Rattle.wh_store.specs.Windows.{Shows, Window, applied, window}
-use Rattle.wh_store.specs.Ledgers.{window_in}
+use Rattle.wh_store.specs.Windows.{Shows, Window, applied}
 use Rattle.wh_desk.specs.declared.kept.Kept.{Kept}
 use Rattle.wh_desk.specs.declared.kept.Publication.{Publication}
 use Rattle.wh_desk.specs.Known.{Begins, IsStory, Known, known}
@@ -77,11 +75,11 @@ limit_stays w Commits = refl
 limit_stays w Gives_up = refl
 
 shows : (x : Kept) → IsCopy x → Shows x.store x.front.of.opening x.front.list
-shows x copy = copy.0 ∙ ap (λ n. window n (versions_of x.front.of.opening x.front.list)) (sym (ap (λ (w : Window). w.limit) copy.0))
+shows x copy = copy.1.0
 
 -- a list that is shown, with an operation that is not refused
 pub story_next : WellFormedGoesOn → (x : Kept) (op : Operation) → IsCopy x → refusal x.store op ≡ None → IsStory (known x.front.book x.front.of (x.front.list ++ op ∷ []))
-story_next goes_on x op copy free = (copy.1.0, goes_on x.store x.front.of.opening x.front.list op copy.1.1 (shows x copy) free)
+story_next goes_on x op copy free = (copy.1.1.0, goes_on x.store x.front.of.opening x.front.list op copy.1.1.1 (shows x copy) free)
 
 -- a copy that takes in an operation that is not refused is a copy
 pub copy_next : WindowsFollow → WellFormedGoesOn → (x : Kept) (p : Publication) → IsCopy x → p.front ≡ known x.front.book x.front.of (x.front.list ++ (operation p.op) ∷ [])
@@ -89,10 +87,11 @@ pub copy_next : WindowsFollow → WellFormedGoesOn → (x : Kept) (p : Publicati
 copy_next follow goes_on x p copy next free =
     let opening = x.front.of.opening in
     let op = operation p.op in
-    let limit : x.store.limit ≡ x.front.of.limit = ap (λ (w : Window). w.limit) copy.0 in
-    let enough : 2 ≤ x.store.limit = subst (λ n. 2 ≤ n) (sym limit) copy.1.0 in
+    let limit : x.store.limit ≡ x.front.of.limit = copy.0 in
+    let enough : 2 ≤ x.store.limit = subst (λ n. 2 ≤ n) (sym limit) copy.1.1.0 in
     let is = follow x.store opening x.front.list op enough (shows x copy) free in (
-      is ∙ (ap (λ n. window n (versions_of opening (x.front.list ++ op ∷ []))) (limit_stays x.store op ∙ limit) ∙ ap (λ (k : Known). window_in k.of k.list) (sym next)),
+      limit_stays x.store op ∙ limit ∙ ap (λ (k : Known). k.of.limit) (sym next),
+      subst (λ (k : Known). Shows (applied x.store op) k.of.opening k.list) (sym next) is,
       subst IsStory (sym next) (story_next goes_on x op copy free),
     )
 

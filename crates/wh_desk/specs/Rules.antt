@@ -2,8 +2,7 @@
 use Rattle.std.specs.Prelude.{◌≡◌, List, [], ◌∷◌, ◌++◌, Option, Some, None}
 use Rattle.wh_store.specs.Operations.{operation}
 use Rattle.wh_store.specs.Refusals.{refusal}
-use Rattle.wh_store.specs.Windows.{applied}
-use Rattle.wh_store.specs.Ledgers.{window_in}
+use Rattle.wh_store.specs.Windows.{Shows, applied}
 use Rattle.wh_desk.specs.declared.kept.Kept.{Kept}
 use Rattle.wh_desk.specs.declared.kept.Publication.{Publication}
 use Rattle.wh_desk.specs.Known.{Known, known, Begins, IsStory}
@@ -14,7 +13,7 @@ taken_in k p = record { store = applied k.store (operation p.op); front = p.fron
 
 -- the store shows the list that stands beside it
 abbrev pub IsCopy : Kept → Type 0
-IsCopy x = (x.store ≡ window_in x.front.of x.front.list) × IsStory x.front
+IsCopy x = (x.store.limit ≡ x.front.of.limit) × Shows x.store x.front.of.opening x.front.list × IsStory x.front
 
 -- what a place knows, if anything, is a beginning of f
 abbrev pub Fits : Known → Option Known → Type 0

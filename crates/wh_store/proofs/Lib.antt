@@ -1,6 +1,9 @@
 mod Shown
 mod Sets
 mod Lists
+mod RowLaws
+mod SlotLaws
+mod KeptLaws
 mod Pages
 mod PageLaws
 mod VersionLaws

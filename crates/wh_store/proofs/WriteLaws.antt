@@ -1,6 +1,6 @@
 -- Counts of rising rows that are written over a table.
-use Rattle.std.proofs.Common.{◌≡◌, refl, sym, ap, ◌∙◌, subst, ℕ, ℤ, zero, suc, ◌<◌, [], ◌∷◌, length, Bool, true, false, cond, arith, Option, Some, None, ◌⊎◌, inl, inr}
-use Rattle.std.specs.Prelude.{IsTrue, ◌&&◌, slice_index_or, Contains}
+use Rattle.std.proofs.Common.{rules, pos, ◌≤ℤ◌, ◌≡◌, refl, sym, ap, ◌∙◌, subst, ℕ, ℤ, zero, suc, ◌<◌, [], ◌∷◌, length, Bool, true, false, cond, arith, Option, Some, None, ◌⊎◌, inl, inr}
+use Rattle.std.specs.Prelude.{IsTrue, ◌&&◌, int_le, nat_le, slice_index_or, Contains}
 use Rattle.std.specs.Cmp.{tied_itself}
 use Rattle.std.specs.Ordering.{is_lt}
 use Rattle.std.specs.declared.cmp.Ordering.{Ordering}
@@ -11,8 +11,9 @@ use Rattle.wh_row.specs.Row.{Row, row_cmp, is_row}
 use Rattle.wh_row.specs.Weigh.{Counted}
 use Rattle.wh_row.proofs.BagLaws.{rows_total, same_row, itself}
 use Rattle.wh_row.proofs.CountLaws.{count-set_count}
+use Rattle.wh_versions.specs.Tables.{HaveCounts}
 use Rattle.wh_store.specs.Laws.{IsWrittenOver, CountsAreGiven}
-use Rattle.wh_store.specs.Pages.{rises_after, is_after, with_counts}
+use Rattle.wh_store.specs.Pages.{count_no_less, is_page, rises_after, is_after, with_counts}
 
 less_of : (o : Ordering) → is_lt o ≡ true → o ≡ Less
 less_of Less h = refl
@@ -88,3 +89,17 @@ written table after (e ∷ es) h =
 
 pub counts_are_given : CountsAreGiven
 counts_are_given table rows h = written table None rows h
+
+-- the counts of a page are not below zero
+least_of : (n : ℤ) (b : Bool) → IsTrue (int_le (pos 0) n && b) → (pos 0 ≤ℤ n) × IsTrue b
+least_of n b h = search rules
+
+have_counts : (es : Counted) → IsTrue (count_no_less es) → HaveCounts es
+have_counts [] h = tt
+have_counts (e ∷ es) h = let first = least_of e.1 (count_no_less es) h in (first.0, have_counts es first.1)
+
+last_of : (a b c d : Bool) → IsTrue (a && b && c && d) → IsTrue d
+last_of a b c d h = search rules
+
+pub page_have : (es : Counted) → IsTrue (is_page es) → HaveCounts es
+page_have es h = have_counts es (last_of (nat_le 1 (length es)) (nat_le (length es) 256) (rises_after None es) (count_no_less es) h)

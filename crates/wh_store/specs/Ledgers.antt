@@ -23,9 +23,9 @@ ledger of list held = record { of = of; list = list; held = held }
 abbrev pub versions_in : Warehouse → List Operation → Versions
 versions_in of list = versions_of of.opening list
 
--- what is shown of them
+-- what is shown of them, rows aside
 abbrev pub window_in : Warehouse → List Operation → Window
-window_in of list = window of.limit (versions_in of list)
+window_in of list = window of.limit [] (versions_in of list)
 
 -- the published list once what is held has gone out
 abbrev pub with_held : List Operation → Option Operation → List Operation

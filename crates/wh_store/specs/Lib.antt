@@ -1,6 +1,7 @@
 pub mod Pages
 pub mod Operations
 pub mod Versions
+pub mod Slots
 pub mod Windows
 pub mod Refusals
 pub mod Kept

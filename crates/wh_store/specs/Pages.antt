@@ -1,9 +1,11 @@
 -- Tables as their readers see them: rows in rising order, each with its count, a page at a time.
 use Rattle.std.specs.Prelude.{ℕ, ℤ, pos, Bool, true, nat_le, int_le, ◌&&◌, List, [], ◌∷◌, length, take, filter, Option, Some, None}
 use Rattle.std.specs.Ordering.{is_lt}
-use Rattle.wh_row.specs.Bag.{Bag, set_count, written}
+use Rattle.wh_row.specs.Bag.{Bag, written}
 use Rattle.wh_row.specs.Row.{Row, row_cmp}
 use Rattle.wh_row.specs.Weigh.{Counted}
+-- the table in which rows have new counts, one after another
+pub use Rattle.wh_versions.specs.Tables.{with_counts}
 
 -- the tables of all views, by their numbers
 abbrev pub Contents : Type 0
@@ -44,8 +46,3 @@ count_no_less (e ∷ es) = int_le (pos 0) e.1 && count_no_less es
 -- new counts that one operation may write: of 1 to 256 rows, rising, none of them below zero
 abbrev pub is_page : Counted → Bool
 is_page rows = nat_le 1 (length rows) && nat_le (length rows) 256 && rises_after None rows && count_no_less rows
-
--- the table in which these rows have these counts, one after another, and all other rows those that they had; a row whose count is 0 has left
-abbrev pub with_counts : Bag → Counted → Bag
-with_counts table [] = table
-with_counts table (e ∷ es) = with_counts (set_count table e.0 e.1) es

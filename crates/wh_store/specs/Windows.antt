@@ -1,23 +1,26 @@
 -- What a store shows of the versions: those whose sessions can still be read, and what is being written.
-use Rattle.std.specs.Prelude.{◌≡◌, ℕ, ◌+◌, ◌-◌, List, ◌∷◌, take, slice_index_or, [], Option, Some, None, is_some, unwrap_or, option_map, Bool, nat_le, nat_lt, ◌&&◌}
+use Rattle.std.specs.Prelude.{◌≡◌, ℕ, ◌+◌, ◌-◌, List, ◌∷◌, take, map, slice_index_or, slice_set, [], Option, Some, None, is_some, unwrap_or, option_map, Bool, nat_le, nat_lt, ◌&&◌}
+use Rattle.wh_versions.specs.Tables.{IsNewToNight}
 use Rattle.wh_store.specs.Operations.{Operation, Opens, Writes, Commits, Gives_up}
 use Rattle.wh_store.specs.Pages.{Contents}
+use Rattle.wh_store.specs.Slots.{Paired, put_in, rows_in, still_read, taken_back}
 use Rattle.wh_store.specs.Versions.{Versions, number, is_active, kept_count, versions_of, written_over}
 
--- of how many versions it keeps the contents, the current number, the contents of the versions that a session can be read of, the newest first, and what is being written
+-- of how many versions it keeps the contents, the current number, the contents of the versions that a session can be read of, the newest first, what is being written, and of each view the rows that have pairs
 pub record Window : Type 0 where
   pub limit : ℕ
   pub number : ℕ
   pub kept : List Contents
   pub draft : Option Contents
+  pub rows : List Paired
 
--- the window of versions
-abbrev pub window : ℕ → Versions → Window
-window n v = record { limit = n; number = number v; kept = take (kept_count n (is_active v)) (v.newest ∷ v.older); draft = v.draft }
+-- the window of versions, with these rows
+abbrev pub window : ℕ → List Paired → Versions → Window
+window n rows v = record { limit = n; number = number v; kept = take (kept_count n (is_active v)) (v.newest ∷ v.older); draft = v.draft; rows = rows }
 
--- what is shown is what these operations make of these opening contents
+-- what is shown is what these operations make of these opening contents, whatever pairs the rows have
 abbrev pub Shows : Window → Contents → List Operation → Type 0
-Shows w opening ops = w ≡ window w.limit (versions_of opening ops)
+Shows w opening ops = w ≡ window w.limit w.rows (versions_of opening ops)
 
 -- the contents of the current version
 abbrev pub current : Window → Contents
@@ -33,7 +36,16 @@ unexpired w s = nat_le s w.number && nat_lt w.number (s + kept_count w.limit (is
 
 -- what is shown after one operation more
 abbrev pub applied : Window → Operation → Window
-applied w Opens = record { limit = w.limit; number = w.number; kept = take (w.limit - 1) w.kept; draft = Some (current w) }
-applied w (Writes view rows) = record { limit = w.limit; number = w.number; kept = w.kept; draft = option_map (written_over view rows) w.draft }
-applied w Commits = record { limit = w.limit; number = w.number + 1; kept = unwrap_or w.draft (current w) ∷ w.kept; draft = None }
-applied w Gives_up = record { limit = w.limit; number = w.number + 1; kept = current w ∷ w.kept; draft = None }
+applied w Opens =
+    record { limit = w.limit; number = w.number; kept = take (w.limit - 1) w.kept; draft = Some (current w); rows = map (still_read w.limit (w.number + 1)) w.rows }
+applied w (Writes view rows) =
+    record { limit = w.limit; number = w.number; kept = w.kept; draft = option_map (written_over view rows) w.draft; rows = slice_set w.rows view (put_in w.limit (w.number + 1) rows (rows_in w.rows view)) }
+applied w Commits = record { limit = w.limit; number = w.number + 1; kept = unwrap_or w.draft (current w) ∷ w.kept; draft = None; rows = w.rows }
+applied w Gives_up = record { limit = w.limit; number = w.number + 1; kept = current w ∷ w.kept; draft = None; rows = map (taken_back (w.number + 1)) w.rows }
+
+-- an operation that may take memory: new counts of rows of which one has no pair of the night
+abbrev pub TakesMemory : Window → Operation → Type 0
+TakesMemory w Opens = ⊥
+TakesMemory w (Writes view rows) = IsNewToNight rows (record { night = w.number + 1; rows = rows_in w.rows view })
+TakesMemory w Commits = ⊥
+TakesMemory w Gives_up = ⊥

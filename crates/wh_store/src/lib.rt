@@ -1,19 +1,19 @@
 //! The versions of a warehouse: what sessions read while a night writes the next one, and what is asked of whatever keeps the
 //! published list of a warehouse.
 //!
-//! A [`Store`] holds whole tables: those of the versions that a session can still be read of, and in a night those that are
-//! being written. It changes by one [`Op`] at a time, and what it shows is what the list of all operations so far makes
-//! of its opening tables. A night publishes through [`Publish`].
+//! A [`Store`] holds the rows of all views, each with what it counts in the last versions. It changes by one [`Op`] at a time, and what it
+//! shows is what the list of all operations so far makes of its opening tables. A night publishes through [`Publish`].
 #![tactic(auto)]
 
-mod change;
 mod ended;
 mod fault;
+mod held;
 mod laws;
 mod operation;
 mod page;
 mod publish;
 mod publish_fault;
+mod slots;
 mod store;
 mod tables;
 
@@ -27,4 +27,5 @@ pub use operation::{MAX_KEYS, Op};
 pub use page::Page;
 pub use publish::Publish;
 pub use publish_fault::PublishFault;
+pub use slots::Slots;
 pub use store::{MAX_VERSIONS, MIN_VERSIONS, Store};

@@ -1,22 +1,24 @@
 //! The store.
 
-ghost use Rattle.std.specs.Prelude.{◌≡◌, ◌≢◌, ◌≤◌, ◌<◌, ◌++◌, [], ◌∷◌, List, Err, IfOk, OnOk, OnErr, IsOk, IsOkUnless, IsTrue, MatchOption, is_some, length, option_map, slice_index_or};
+ghost use Rattle.std.specs.Prelude.{◌≡◌, ◌≢◌, ◌≤◌, ◌<◌, ◌++◌, [], ◌∷◌, ℕ, List, Err, IfOk, OnOk, OnErr, IsOkUnless, IsTrue, MatchOption, is_some, length, option_map};
 ghost use Rattle.wh_row.specs.Bag.{empty};
-ghost use Rattle.wh_row.specs.Stored.{plain};
 ghost use Rattle.wh_store.specs.Kept.{AreTables};
-ghost use Rattle.wh_store.specs.Operations.{Operation, operation, Opens, Writes, Commits, Gives_up};
+ghost use Rattle.wh_store.specs.Operations.{Operation, operation};
 ghost use Rattle.wh_store.specs.Pages.{Contents, page_of};
 ghost use Rattle.wh_store.specs.Refusals.{refusal};
+ghost use Rattle.wh_store.specs.Slots.{pairs_at};
 ghost use Rattle.wh_store.specs.Versions.{table_in, table_of, version as version_of, versions_of};
-ghost use Rattle.wh_store.specs.Windows.{Shows, applied, current, kept_version, unexpired};
+ghost use Rattle.wh_store.specs.Windows.{Shows, TakesMemory, applied, current, kept_version, unexpired};
+ghost use Rattle.wh_versions.specs.Tables.{pairs_in};
 
 use crate::fault::StoreFault;
-use crate::operation::{MAX_KEYS, Op, is_page};
-use crate::page::{Page, page_of};
-use crate::tables::{copy_of, write_over};
+use crate::held::Held;
+use crate::operation::{MAX_KEYS, Op};
+use crate::page::Page;
+use crate::slots::{Places, Slots};
 use std::alloc::{AllocError, Global};
 use std::marker::Model;
-use wh_row::{Bag, Row};
+use wh_row::Bag;
 
 /// The fewest versions that a store keeps: the current one and the one before it.
 pub const MIN_VERSIONS: usize = 2;
@@ -24,32 +26,33 @@ pub const MIN_VERSIONS: usize = 2;
 /// The most versions that a store keeps.
 pub const MAX_VERSIONS: usize = 4;
 
-/// The versions of a warehouse that sessions can still read, and in a night the tables that are being written. Seen as
-/// what it shows: the number of the current version, the contents of each version that is kept, the newest first, and
-/// those that are being written.
+/// The rows of all views with as many versions as a store keeps.
+#[derive(Drop)]
+enum Depth {
+    Two(Held<2>),
+    Three(Held<3>),
+    Four(Held<4>),
+}
+
+/// The versions of a warehouse that sessions can still read, and in a night the one that is being written: the rows of each view, each row
+/// with its counts in the last versions. Seen as what it shows: the number of the current version, the contents of each version that is
+/// kept, the newest first, those that are being written, and the rows that have pairs.
 #[derive(Drop)]
 pub struct Store {
-    alloc: Global,
-    limit: usize,
-    number: u64,
-    active: bool,
-    // In a night the tables that are being written stand first.
-    held: Vec<Vec<Bag>>,
+    held: Depth,
 }
 
 impl Model for Store {
     ghost use Rattle.wh_store.specs.Windows.{Window};
     ghost use Rattle.wh_store.specs.Inner.Windows.{coded_window};
-    ghost use Rattle.wh_store.specs.Kept.{lists_of, kept_of, draft_of};
-    ghost use Rattle.wh_store.specs.Inner.Kept.{IsHeld};
 
     ghost Value = { Window };
 
     ghost coded = { coded_window };
 
-    ghost view = { λ s. record { limit = s.limit; number = s.number; kept = kept_of s.active (lists_of s.held.items); draft = draft_of s.active (lists_of s.held.items) } };
+    ghost use Rattle.wh_store.specs.Inner.Depths.{shown_by};
 
-    ghost invariant = { λ s. IsHeld s.limit s.number s.active (lists_of s.held.items) };
+    ghost view = { λ s. shown_by s.held };
 }
 
 impl Store {
@@ -63,108 +66,49 @@ impl Store {
         ensures limit { IfOk result (λ store. store.limit ≡ versions) }
         ensures current { IfOk result (λ store. current store ≡ tables.now) }
     {
-        let mut held = Vec::new(alloc);
-        held.push(copy_of(alloc, tables)?)?;
-        Ok(Store {
-            alloc,
-            limit: versions,
-            number: 0,
-            active: false,
-            held,
-        })
+        let held = match versions {
+            2 => Depth::Two(Held::new(alloc, tables)?),
+            3 => Depth::Three(Held::new(alloc, tables)?),
+            _ => Depth::Four(Held::new(alloc, tables)?),
+        };
+        Ok(Store { held })
     }
 
-    fn begin(&mut self) -> Result<(), StoreFault>
-        ensures ok { OnOk result (self.new ≡ applied self.old Opens) }
-        ensures err { OnErr result (self.new ≡ self.old) }
-        ensures refused { MatchOption (refusal self.old Opens) (IsOkUnless result StoreFault.Memory) (λ fault. result ≡ Err fault) }
+    /// At least two versions are kept. For proofs: it does nothing.
+    fn keeps_two(&self)
+        ensures { 2 ≤ self.now.limit }
     {
-        if self.active {
-            return Err(StoreFault::NightOpen);
+        match &self.held {
+            Depth::Two(held) => held.is_enough(),
+            Depth::Three(held) => held.is_enough(),
+            Depth::Four(held) => held.is_enough(),
         }
-        if self.number == u64::MAX {
-            return Err(StoreFault::LastVersion);
-        }
-        let draft = copy_of(self.alloc, self.held[0].as_slice())?;
-        self.held.reserve(1)?;
-        self.held.truncate(self.limit - 1);
-        self.held.insert(0, draft)?;
-        self.active = true;
-        Ok(())
-    }
-
-    fn put(&mut self, view: usize, rows: &[(Row, i64)]) -> Result<(), StoreFault>
-        ensures ok { OnOk result (self.new ≡ applied self.old (Writes view (plain rows.now))) }
-        ensures err { OnErr result (self.new ≡ self.old) }
-        ensures refused { MatchOption (refusal self.old (Writes view (plain rows.now))) (IsOkUnless result StoreFault.Memory) (λ fault. result ≡ Err fault) }
-    {
-        if !self.active {
-            return Err(StoreFault::NoNight);
-        }
-        if view >= self.held[0].len() {
-            return Err(StoreFault::NoView);
-        }
-        if !is_page(rows) {
-            return Err(StoreFault::BadPage);
-        }
-        write_over(self.alloc, &mut self.held[0], view, rows)?;
-        Ok(())
-    }
-
-    fn commit(&mut self) -> Result<(), StoreFault>
-        ensures ok { OnOk result (self.new ≡ applied self.old Commits) }
-        ensures err { OnErr result (self.new ≡ self.old) }
-        ensures refused { MatchOption (refusal self.old Commits) (IsOk result) (λ fault. result ≡ Err fault) }
-    {
-        if !self.active {
-            return Err(StoreFault::NoNight);
-        }
-        self.number += 1;
-        self.active = false;
-        Ok(())
-    }
-
-    fn give_up(&mut self) -> Result<(), StoreFault>
-        ensures ok { OnOk result (self.new ≡ applied self.old Gives_up) }
-        ensures err { OnErr result (self.new ≡ self.old) }
-        ensures refused { MatchOption (refusal self.old Gives_up) (IsOkUnless result StoreFault.Memory) (λ fault. result ≡ Err fault) }
-    {
-        if !self.active {
-            return Err(StoreFault::NoNight);
-        }
-        let again = copy_of(self.alloc, self.held[1].as_slice())?;
-        self.held[0] = again;
-        self.number += 1;
-        self.active = false;
-        Ok(())
     }
 
     fn change(&mut self, op: &Op) -> Result<(), StoreFault>
         ensures ok { OnOk result (self.new ≡ applied self.old (operation op.now)) }
         ensures err { OnErr result (self.new ≡ self.old) }
         ensures refused { MatchOption (refusal self.old (operation op.now)) (IsOkUnless result StoreFault.Memory) (λ fault. result ≡ Err fault) }
-        ensures memory { result ≡ Err StoreFault.Memory → operation op.now ≢ Commits }
+        ensures memory { result ≡ Err StoreFault.Memory → TakesMemory self.old (operation op.now) }
     {
-        match op {
-            Op::Begin => self.begin(),
-            Op::Put(view, rows) => self.put(*view, rows.as_slice()),
-            Op::Commit => self.commit(),
-            Op::GiveUp => self.give_up(),
+        match &mut self.held {
+            Depth::Two(held) => held.apply(op),
+            Depth::Three(held) => held.apply(op),
+            Depth::Four(held) => held.apply(op),
         }
     }
 
-    /// Does an operation. A refusal changes nothing; the fault is the first of [`StoreFault`]'s reasons that holds. A commit
-    /// takes no memory.
+    /// Does an operation. A refusal changes nothing that is shown; the fault is the first of [`StoreFault`]'s reasons that holds. Only a put
+    /// takes memory, and none where each of its rows was put in this night before.
     pub fn apply(&mut self, op: &Op) -> Result<(), StoreFault>
         // Each list of operations that was shown is shown with this one behind it.
         ensures shows { OnOk result ((opening : Contents) (ops : List Operation) → Shows self.old opening ops → Shows self.new opening (ops ++ operation op.now ∷ [])) }
         ensures ok { OnOk result (self.new ≡ applied self.old (operation op.now)) }
         ensures err { OnErr result (self.new ≡ self.old) }
         ensures refused { MatchOption (refusal self.old (operation op.now)) (IsOkUnless result StoreFault.Memory) (λ fault. result ≡ Err fault) }
-        ensures memory { result ≡ Err StoreFault.Memory → operation op.now ≢ Commits }
+        ensures memory { result ≡ Err StoreFault.Memory → TakesMemory self.old (operation op.now) }
     {
-        // Makes known what holds of a store.
-        let _ = &self.limit;
+        self.keeps_two();
         self.change(op)
     }
 
@@ -172,48 +116,10 @@ impl Store {
     pub fn refuses(&self, op: &Op) -> Option<StoreFault>
         ensures { result ≡ refusal self.now (operation op.now) }
     {
-        match op {
-            Op::Begin => self.refuses_begin(),
-            Op::Put(view, rows) => self.refuses_put(*view, rows.as_slice()),
-            Op::Commit => self.refuses_end(),
-            Op::GiveUp => self.refuses_end(),
-        }
-    }
-
-    fn refuses_begin(&self) -> Option<StoreFault>
-        ensures { result ≡ refusal self.now Opens }
-    {
-        if self.active {
-            return Some(StoreFault::NightOpen);
-        }
-        if self.number == u64::MAX {
-            return Some(StoreFault::LastVersion);
-        }
-        None
-    }
-
-    fn refuses_put(&self, view: usize, rows: &[(Row, i64)]) -> Option<StoreFault>
-        ensures { result ≡ refusal self.now (Writes view (plain rows.now)) }
-    {
-        if !self.active {
-            return Some(StoreFault::NoNight);
-        }
-        if view >= self.held[0].len() {
-            return Some(StoreFault::NoView);
-        }
-        if !is_page(rows) {
-            return Some(StoreFault::BadPage);
-        }
-        None
-    }
-
-    fn refuses_end(&self) -> Option<StoreFault>
-        ensures { (result ≡ refusal self.now Commits) × (result ≡ refusal self.now Gives_up) }
-    {
-        if self.active {
-            None
-        } else {
-            Some(StoreFault::NoNight)
+        match &self.held {
+            Depth::Two(held) => held.refuses(op),
+            Depth::Three(held) => held.refuses(op),
+            Depth::Four(held) => held.refuses(op),
         }
     }
 
@@ -221,43 +127,45 @@ impl Store {
     pub fn number(&self) -> u64
         ensures { result ≡ self.now.number }
     {
-        self.number
+        match &self.held {
+            Depth::Two(held) => held.number(),
+            Depth::Three(held) => held.number(),
+            Depth::Four(held) => held.number(),
+        }
     }
 
     /// Whether a night is open.
     pub fn is_active(&self) -> bool
         ensures { result ≡ is_some self.now.draft }
     {
-        self.active
+        match &self.held {
+            Depth::Two(held) => held.is_active(),
+            Depth::Three(held) => held.is_active(),
+            Depth::Four(held) => held.is_active(),
+        }
     }
 
     /// Whether sessions of this version can be read.
     pub fn unexpired(&self, version: u64) -> bool
         ensures { result ≡ unexpired self.now version }
     {
-        let kept = if self.active {
-            self.limit - 1
-        } else {
-            self.limit
-        };
-        version <= self.number && self.number - version < kept as u64
+        match &self.held {
+            Depth::Two(held) => held.unexpired(version),
+            Depth::Three(held) => held.unexpired(version),
+            Depth::Four(held) => held.unexpired(version),
+        }
     }
 
-    /// The tables of a version that sessions can be read of.
-    fn tables(&self, version: u64) -> &Vec<Bag>
-        requires { IsTrue (unexpired self.now version) }
-        ensures { result.now.items ≡ kept_version self.now version }
+    /// How many views there are, in each version that is kept.
+    fn views_of(&self) -> usize
+        ensures current { result ≡ length (current self.now) }
+        ensures kept { (version : ℕ) → IsTrue (unexpired self.now version) → result ≡ length (kept_version self.now version) }
     {
-        let back = (self.number - version) as usize;
-        let place = if self.active { back + 1 } else { back };
-        &self.held[place]
-    }
-
-    fn views_of(&self, version: u64) -> usize
-        requires { IsTrue (unexpired self.now version) }
-        ensures { result ≡ length (kept_version self.now version) }
-    {
-        self.tables(version).len()
+        match &self.held {
+            Depth::Two(held) => held.views(),
+            Depth::Three(held) => held.views(),
+            Depth::Four(held) => held.views(),
+        }
     }
 
     /// How many views a version has that sessions can be read of.
@@ -266,7 +174,27 @@ impl Store {
         ensures len { result ≡ length (kept_version self.now version) }
         ensures of_list { (opening : Contents) (ops : List Operation) → Shows self.now opening ops → result ≡ length (version_of (versions_of opening ops) version) }
     {
-        self.views_of(version)
+        self.views_of()
+    }
+
+    /// A page of a view in a version that sessions can be read of.
+    fn page(
+        &self,
+        version: u64,
+        view: usize,
+        after: Option<&[i64]>,
+        limit: usize,
+    ) -> Result<Page, AllocError>
+        requires unexpired { IsTrue (unexpired self.now version) }
+        requires view { view < length (kept_version self.now version) }
+        ensures page { IfOk result (λ page. page ≡ page_of (table_in (kept_version self.now version) view) (option_map (λ row. row.now) after.entry) limit) }
+        ensures memory { OnErr result ((page_of (table_in (kept_version self.now version) view) (option_map (λ row. row.now) after.entry) limit).rows ≢ []) }
+    {
+        match &self.held {
+            Depth::Two(held) => held.visible(version, view, after, limit),
+            Depth::Three(held) => held.visible(version, view, after, limit),
+            Depth::Four(held) => held.visible(version, view, after, limit),
+        }
     }
 
     /// A page of a view in a version that sessions can be read of: its first rows after this one, or from its beginning, at
@@ -286,7 +214,7 @@ impl Store {
         ensures of_list { IfOk result (λ page. (opening : Contents) (ops : List Operation) → Shows self.now opening ops → page ≡ page_of (table_of (versions_of opening ops) version view) (option_map (λ row. row.now) after.entry) limit) }
         ensures memory { OnErr result ((page_of (table_in (kept_version self.now version) view) (option_map (λ row. row.now) after.entry) limit).rows ≢ []) }
     {
-        page_of(self.alloc, &self.tables(version)[view], after, limit)
+        self.page(version, view, after, limit)
     }
 
     /// How many views the current version has.
@@ -294,8 +222,20 @@ impl Store {
         ensures len { result ≡ length (current self.now) }
         ensures of_list { (opening : Contents) (ops : List Operation) → Shows self.now opening ops → result ≡ length (versions_of opening ops).newest }
     {
-        let newest = if self.active { 1 } else { 0 };
-        self.held[newest].len()
+        self.keeps_two();
+        self.views_of()
+    }
+
+    fn table_of_view(&self, view: usize) -> Result<Bag, AllocError>
+        requires { view < length (current self.now) }
+        ensures table { IfOk result (λ table. table ≡ table_in (current self.now) view) }
+        ensures memory { OnErr result (table_in (current self.now) view ≢ empty) }
+    {
+        match &self.held {
+            Depth::Two(held) => held.table(view),
+            Depth::Three(held) => held.table(view),
+            Depth::Four(held) => held.table(view),
+        }
     }
 
     /// The table of a view in the current version. Memory is wanted for its rows alone.
@@ -305,28 +245,32 @@ impl Store {
         ensures of_list { IfOk result (λ table. (opening : Contents) (ops : List Operation) → Shows self.now opening ops → table ≡ table_in (versions_of opening ops).newest view) }
         ensures memory { OnErr result (table_in (current self.now) view ≢ empty) }
     {
-        let place = if self.active { 1 } else { 0 };
-        match self.held[place][view].copy(self.alloc) {
-            Ok(table) => Ok(table),
-            Err(_) => Err(AllocError),
-        }
+        self.keeps_two();
+        self.table_of_view(view)
+    }
+
+    /// What a row of a view counts in the last versions, where it is there: a row that is not there has no pairs, and one that is may have
+    /// none.
+    pub fn slots(&self, view: usize, row: &[i64]) -> Option<Slots>
+        ensures { pairs_in result ≡ pairs_at self.now.rows view row.now }
+    {
+        let places = match &self.held {
+            Depth::Two(held) => Places::Two(held.slots(view, row)?),
+            Depth::Three(held) => Places::Three(held.slots(view, row)?),
+            Depth::Four(held) => Places::Four(held.slots(view, row)?),
+        };
+        Some(Slots { places })
     }
 
     /// A store that shows the same.
     pub fn copy(&self, alloc: Global) -> Result<Store, AllocError>
         ensures { IfOk result (λ copy. copy ≡ self.now) }
     {
-        let mut held = Vec::new(alloc);
-        for tables in self.held.as_slice() {
-            let tables = copy_of(alloc, tables.as_slice())?;
-            held.push(tables)?;
-        }
-        Ok(Store {
-            alloc,
-            limit: self.limit,
-            number: self.number,
-            active: self.active,
-            held,
-        })
+        let held = match &self.held {
+            Depth::Two(held) => Depth::Two(held.copy(alloc)?),
+            Depth::Three(held) => Depth::Three(held.copy(alloc)?),
+            Depth::Four(held) => Depth::Four(held.copy(alloc)?),
+        };
+        Ok(Store { held })
     }
 }

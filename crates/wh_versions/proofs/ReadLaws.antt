@@ -126,7 +126,7 @@ put_number n m k c (p ∷ ps) h = elim (p.0 == m) as (λ t. HasNumber k (cond t 
 -- ---- a pair taken away
 
 -- below the next version nothing differs
-read_same : (s : ℕ) (ps : Pairs) → AreFalling (suc s) ps → read (suc s) ps ≡ read s ps
+pub read_same : (s : ℕ) (ps : Pairs) → AreFalling (suc s) ps → read (suc s) ps ≡ read s ps
 read_same s [] f = refl
 read_same s (p ∷ ps) f = let low : p.0 < suc s = f.0 in taken (suc s) p ps (omega arith) ∙ sym (taken s p ps (omega arith))
 

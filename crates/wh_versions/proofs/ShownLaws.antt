@@ -1,16 +1,18 @@
 -- What versions show once a night writes, is given up or begins.
-use Rattle.std.proofs.Common.{◌≡◌, refl, sym, ap, subst, ◌∙◌, ℕ, suc, ◌+◌, ◌-◌, ◌<◌, ◌≤◌, List, [], ◌∷◌, true, false, cond, Option, Some, None, arith}
+use Rattle.std.proofs.Common.{◌≡◌, refl, sym, ap, subst, ◌∙◌, ℕ, suc, ◌+◌, ◌-◌, ◌<◌, ◌≤◌, List, [], ◌∷◌, Bool, true, false, cond, Option, Some, None, ◌⊎◌, ⊎_elim, add-one, arith}
 use Rattle.std.specs.FinMap as fin
 use Rattle.wh_pieces.specs.Pieces.{found}
 use Rattle.wh_row.specs.Bag.{Bag, count, number, set_count}
 use Rattle.wh_row.specs.Row.{Row, row_cmp, is_row}
 use Rattle.wh_row.specs.Weigh.{Counted}
 use Rattle.wh_row.proofs.CountLaws.{count-set_count, same_bag}
-use Rattle.wh_versions.specs.Laws.{TablesCount, EachPutIsShown, EachGivesUp, EachBeginKeeps}
-use Rattle.wh_versions.specs.Rows.{Pairs, read, with_pair, without_pair, is_unread, ArePairs}
-use Rattle.wh_versions.specs.Tables.{pairs_in, shown, written, given_up, begun, with_counts}
-use Rattle.wh_versions.proofs.ReadLaws.{read_put, read_put_new, put_pairs, read_back, read_older}
-use Rattle.wh_versions.proofs.TableLaws.{unread_reads}
+use Rattle.wh_versions.specs.Inner.Rows.{is_unread}
+use Rattle.wh_versions.specs.Inner.Tables.{begun}
+use Rattle.wh_versions.specs.Laws.{TablesCount, EachPutIsShown, EachGivesUp, EachBeginKeeps, EachAddedIsUnseen}
+use Rattle.wh_versions.specs.Rows.{Pairs, read, with_pair, without_pair, AreFalling, ArePairs}
+use Rattle.wh_versions.specs.Tables.{pairs_in, shown, table_at, is_given, added, written, given_up, IsBegun, MayBeAdded, with_counts}
+use Rattle.wh_versions.proofs.ReadLaws.{read_put, read_put_new, put_pairs, read_back, read_older, read_same}
+use Rattle.wh_versions.proofs.TableLaws.{unread_reads, begun_of}
 
 pub count_shown : (s : ℕ) (rows : List (Row × Pairs)) (q : Row) → count (shown s rows) q ≡ read s (pairs_in (found q rows))
 count_shown s [] q = ap number (fin.get-empty row_cmp q)
@@ -79,5 +81,30 @@ read_begun n m s (Some ps) low high = elim (is_unread (n - 1) m ps) as (λ t. is
   | false ↦ λ t. refl
 ] refl
 
+-- the night's own version reads what the one before it does
+read_next : (n m : ℕ) (o : Option Pairs) → 2 ≤ n → AreFalling (suc m) (pairs_in o) → read (suc m) (pairs_in (begun n (suc m) o)) ≡ read m (pairs_in o)
+read_next n m None two f = refl
+read_next n m (Some ps) two f = elim (is_unread (n - 1) (suc m) ps) as (λ t. is_unread (n - 1) (suc m) ps ≡ t → read (suc m) (pairs_in (cond t None (Some ps))) ≡ read m ps) [
+  | true ↦ λ t. sym (unread_reads (n - 1) (suc m) m ps t (omega arith) (omega arith))
+  | false ↦ λ t. read_same m ps f
+] refl
+
 pub each_begin_keeps : EachBeginKeeps
-each_begin_keeps n m s old after is low high = same_shown s s old.rows after.rows (λ q. ap (λ o. read s (pairs_in o)) (is q) ∙ read_begun n m s (found q old.rows) low high)
+each_begin_keeps n old after two form is =
+    let at : (q : Row) → found q after.rows ≡ begun n (suc old.night) (found q old.rows) = λ q. begun_of n old.night (found q old.rows) (found q after.rows) (subst (λ (m : ℕ). IsBegun n m (found q old.rows) (found q after.rows)) (add-one old.night) (is q)) in
+    record {
+      before = λ s low high. same_shown s s old.rows after.rows (λ q. ap (λ o. read s (pairs_in o)) (at q) ∙ read_begun n (suc old.night) s (found q old.rows) (omega arith) (omega arith));
+      new = ap (table_at after) (add-one old.night) ∙ same_shown (suc old.night) old.night old.rows after.rows (λ q. ap (λ o. read (suc old.night) (pairs_in o)) (at q) ∙ read_next n old.night (found q old.rows) two (form q).falling);
+    }
+
+-- ---- rows that are added
+
+in_added : (b : Bool) (o : Option Pairs) → pairs_in (added b o) ≡ pairs_in o
+in_added true o = refl
+in_added false o = refl
+
+pub each_added_is_unseen : EachAddedIsUnseen
+each_added_is_unseen given s old after may = same_shown s s old.rows after.rows (λ q. ⊎_elim
+    (λ e. ap (λ o. read s (pairs_in o)) e)
+    (λ e. ap (λ o. read s (pairs_in o)) e ∙ ap (read s) (in_added (is_given q given) (found q old.rows)))
+    (may q))

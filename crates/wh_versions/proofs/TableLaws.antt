@@ -8,9 +8,11 @@ use Rattle.wh_pieces.specs.Row.{Row}
 use Rattle.wh_pieces.specs.Pieces.{found}
 use Rattle.wh_row.specs.Weigh.{Counted}
 use Rattle.wh_row.specs.Row.{is_row}
-use Rattle.wh_versions.specs.Rows.{Pairs, read, with_pair, without_pair, is_unread, ArePairs}
-use Rattle.wh_versions.specs.Tables.{pairs_in, is_given, added, written, given_up, begun, MayBeAdded, begins_with, IsNewToNight}
-use Rattle.wh_versions.specs.Inner.Tables.{Touched, is_in, set_at, for_touched, HasNumber, IsRead, IsListed, AreKept, AreAdded, AreSafe, IsNew}
+use Rattle.wh_versions.specs.Rows.{Pairs, read, with_pair, without_pair, IsUnread, ArePairs}
+use Rattle.wh_versions.specs.Tables.{pairs_in, is_given, added, written, given_up, IsBegun, MayBeAdded, begins_with, IsNewToNight}
+use Rattle.wh_versions.specs.Inner.Rows.{is_unread}
+use Rattle.wh_versions.specs.Laws.{UnreadIsTested}
+use Rattle.wh_versions.specs.Inner.Tables.{Touched, begun, is_in, set_at, for_touched, HasNumber, IsRead, IsListed, AreKept, AreAdded, AreSafe, IsNew}
 use Rattle.wh_versions.proofs.ReadLaws.{falling_below, put_pairs, put_number, back_pairs, back_number, back_none, number_below, read_step}
 use Rattle.wh_versions.proofs.TouchLaws.{written_added, written_other}
 
@@ -96,15 +98,50 @@ unread_reads (suc k) m s ps h low high = elim (nat_le m (s + k)) as (λ t. nat_l
 pub record Reads (k m : ℕ) (ps : Pairs) : Type 0 where
   pub session : ℕ
   pub low : session ≤ m
+  pub under : session ≤ m - 1
   pub high : m ≤ session + k
   pub some : read session ps ≢ pos 0
 
 reads_some : (k m : ℕ) (ps : Pairs) → is_unread k m ps ≡ false → Reads k m ps
 reads_some zero m ps h = cc
 reads_some (suc k) m ps h = elim (int_eq (read (m - suc k) ps) (pos 0)) as (λ t. int_eq (read (m - suc k) ps) (pos 0) ≡ t → (t && is_unread k m ps) ≡ false → Reads (suc k) m ps) [
-  | true ↦ λ t g. let r = reads_some k m ps g in record { session = r.session; low = r.low; high = omega (arith, r.high); some = r.some }
-  | false ↦ λ t g. record { session = m - suc k; low = omega arith; high = omega arith; some = other_int (read (m - suc k) ps) (pos 0) t }
+  | true ↦ λ t g. let r = reads_some k m ps g in record { session = r.session; low = r.low; under = r.under; high = omega (arith, r.high); some = r.some }
+  | false ↦ λ t g. record { session = m - suc k; low = omega arith; under = omega arith; high = omega arith; some = other_int (read (m - suc k) ps) (pos 0) t }
 ] refl h
+
+-- asked version by version
+pub reads_unread : (k m : ℕ) (ps : Pairs) → IsUnread k (suc m) ps → is_unread k (suc m) ps ≡ true
+reads_unread k m ps h = elim (is_unread k (suc m) ps) as (λ t. is_unread k (suc m) ps ≡ t → t ≡ true) [
+  | true ↦ λ t. refl
+  | false ↦ λ t.
+      let r = reads_some k (suc m) ps t in
+      let under : r.session ≤ suc m - 1 = r.under in
+      absurd (r.some (h r.session (omega (arith, under)) r.high))
+] refl
+
+pub unread_is_tested : UnreadIsTested
+unread_is_tested k m ps = (λ t s low high. unread_reads k (suc m) s ps t low high, λ h. reads_unread k m ps h)
+
+pub is_begun : (n m : ℕ) (old new : Option Pairs) → new ≡ begun n (suc m) old → IsBegun n (suc m) old new
+is_begun n m None new e = record { dropped = λ _. e; kept = λ _. e }
+is_begun n m (Some ps) new e = record {
+  dropped = λ h. e ∙ ap (λ b. cond b None (Some ps)) (reads_unread (n - 1) m ps h);
+  kept = λ h. e ∙ elim (is_unread (n - 1) (suc m) ps) as (λ t. is_unread (n - 1) (suc m) ps ≡ t → cond t None (Some ps) ≡ Some ps) [
+    | true ↦ λ t. absurd (h (λ s low high. unread_reads (n - 1) (suc m) s ps t low high))
+    | false ↦ λ t. refl
+  ] refl;
+}
+
+pub is_begun_at : (n m b : ℕ) (old new : Option Pairs) → b ≡ suc m → new ≡ begun n b old → IsBegun n b old new
+is_begun_at n m b old new e is = subst (λ (x : ℕ). IsBegun n x old new) (sym e) (is_begun n m old new (is ∙ ap (λ x. begun n x old) e))
+
+-- and the test decides
+pub begun_of : (n m : ℕ) (old new : Option Pairs) → IsBegun n (suc m) old new → new ≡ begun n (suc m) old
+begun_of n m None new is = is.dropped (λ s low high. refl)
+begun_of n m (Some ps) new is = elim (is_unread (n - 1) (suc m) ps) as (λ t. is_unread (n - 1) (suc m) ps ≡ t → new ≡ cond t None (Some ps)) [
+  | true ↦ λ t. is.dropped (λ s low high. unread_reads (n - 1) (suc m) s ps t low high)
+  | false ↦ λ t. is.kept (λ h. absurd (let b : true ≡ false = sym (reads_unread (n - 1) m ps h) ∙ t in let c : ⊥ = cc in c))
+] refl
 
 -- ---- what is listed
 

@@ -1,12 +1,13 @@
 -- What holds of all views' rows, whatever a night does to them. Numbers of pairs fall, and there are at most n.
-use Rattle.std.specs.Prelude.{◌≡◌, ℕ, suc, ◌+◌, ◌-◌, ◌<◌, ◌≤◌, ℤ, pos, IsTrue}
+use Rattle.std.specs.Prelude.{◌≡◌, ℕ, suc, ◌+◌, ◌-◌, ◌<◌, ◌≤◌, ℤ, pos, ◌↔◌, Option, Some, None, IsTrue}
 use Rattle.wh_pieces.specs.Place.{AreRisingRows}
 use Rattle.wh_row.specs.Bag.{count, written as written_out}
 use Rattle.wh_row.specs.Row.{Row}
 use Rattle.wh_row.specs.Weigh.{Counted}
-use Rattle.wh_versions.specs.Tables.{Slots, AreInForm, slots, count_at, table_at, written, given_up, begun, with_counts}
+use Rattle.wh_versions.specs.Tables.{Slots, AreInForm, slots, count_at, table_at, written, given_up, IsBegun, MayBeAdded, with_counts}
 use Rattle.wh_versions.specs.Pages.{shown_at}
-use Rattle.wh_versions.specs.Rows.{Pairs, ArePairs, read, with_pair, without_pair, is_unread}
+use Rattle.wh_versions.specs.Rows.{Pairs, ArePairs, read, with_pair, without_pair, IsUnread}
+use Rattle.wh_versions.specs.Inner.Rows.{is_unread}
 
 -- a count that night m writes changes what no session reads of the n - 1 versions before it, sessions of version m read it, and what is kept stays in form
 pub record PutsAreRead (n m : ℕ) (c : ℤ) (ps : Pairs) : Type 0 where
@@ -28,7 +29,11 @@ EachReadsBack = (n s : ℕ) (ps : Pairs) → ArePairs n (suc s) ps → ReadsBack
 
 -- of a row that is dropped as night m begins no session of the n - 1 versions before it reads anything
 abbrev pub DroppedAreUnread : Type 0
-DroppedAreUnread = (n m s : ℕ) (ps : Pairs) → IsTrue (is_unread (n - 1) m ps) → s < m → m ≤ s + (n - 1) → read s ps ≡ pos 0
+DroppedAreUnread = (n m : ℕ) (ps : Pairs) → IsBegun n (suc m) (Some ps) None → IsUnread (n - 1) (suc m) ps
+
+-- that is what asking version by version tells
+abbrev pub UnreadIsTested : Type 0
+UnreadIsTested = (k m : ℕ) (ps : Pairs) → IsTrue (is_unread k (suc m) ps) ↔ IsUnread k (suc m) ps
 
 -- each version shows the bag of what its sessions read
 abbrev pub TablesCount : Type 0
@@ -57,7 +62,16 @@ abbrev pub EachGivesUp : Type 0
 EachGivesUp =
     (n s : ℕ) (old after : Slots) → AreInForm n old → old.night ≡ suc s → ((row : Row) → slots after row ≡ given_up (suc s) (slots old row)) → GivesBack s old after
 
--- as night m begins, each of the n - 1 versions before it shows what it showed
+-- as a night begins, each of the n - 1 versions before it shows what it showed, and its own what the version before it shows
+pub record BeginKeeps (n : ℕ) (old after : Slots) : Type 0 where
+  pub before : (s : ℕ) → s ≤ old.night → old.night < s + (n - 1) → table_at after s ≡ table_at old s
+  pub new : table_at after (old.night + 1) ≡ table_at old old.night
+
 abbrev pub EachBeginKeeps : Type 0
 EachBeginKeeps =
-    (n m s : ℕ) (old after : Slots) → ((row : Row) → slots after row ≡ begun n m (slots old row)) → s < m → m ≤ s + (n - 1) → table_at after s ≡ table_at old s
+    (n : ℕ) (old after : Slots) → 2 ≤ n → AreInForm n old → ((row : Row) → IsBegun n (old.night + 1) (slots old row) (slots after row)) → BeginKeeps n old after
+
+-- rows that are added with no pairs are shown by no version
+abbrev pub EachAddedIsUnseen : Type 0
+EachAddedIsUnseen =
+    (given : Counted) (s : ℕ) (old after : Slots) → ((row : Row) → MayBeAdded given row (slots old row) (slots after row)) → table_at after s ≡ table_at old s

@@ -5,7 +5,7 @@ use Rattle.wh_pieces.specs.Row.{Row, is_row}
 use Rattle.wh_pieces.specs.Pieces.{found}
 use Rattle.wh_row.specs.Bag.{Bag, empty, set_count}
 use Rattle.wh_row.specs.Weigh.{Counted}
-use Rattle.wh_versions.specs.Rows.{Pairs, read, with_pair, without_pair, is_unread, ArePairs}
+use Rattle.wh_versions.specs.Rows.{Pairs, read, with_pair, without_pair, IsUnread, ArePairs}
 
 -- rows in rising order, each with its pairs, and the number of the last night that was begun: it writes the version of this number
 pub record Slots : Type 0 where
@@ -70,10 +70,10 @@ written n m (e ∷ es) row o = written n m es row (cond (is_row row e.0) (Some (
 abbrev pub given_up : ℕ → Option Pairs → Option Pairs
 given_up m o = option_map (without_pair m) o
 
--- what a row has once the night m is begun: those that no session of the n - 1 versions before it can read are dropped
-abbrev pub begun : ℕ → ℕ → Option Pairs → Option Pairs
-begun n m None = None
-begun n m (Some ps) = cond (is_unread (n - 1) m ps) None (Some ps)
+-- what a row has once the night m is begun: nothing if no session of the n - 1 versions before it reads anything, else what it had
+pub record IsBegun (n m : ℕ) (old new : Option Pairs) : Type 0 where
+  pub dropped : IsUnread (n - 1) m (pairs_in old) → new ≡ None
+  pub kept : (IsUnread (n - 1) m (pairs_in old) → ⊥) → new ≡ old
 
 -- the rows of a table as version 0 alone: each with its count
 abbrev pub opening : Counted → List (Row × Pairs)

@@ -1,6 +1,6 @@
 //! What holds of all rows, for proofs: these functions do nothing.
 
-ghost use Rattle.wh_versions.specs.Laws.{DroppedAreUnread, EachBeginKeeps, EachGivesUp, EachPutIsRead, EachPutIsShown, EachReadsBack, TablesAreWritten, TablesCount};
+ghost use Rattle.wh_versions.specs.Laws.{DroppedAreUnread, EachAddedIsUnseen, EachBeginKeeps, EachGivesUp, EachPutIsRead, EachPutIsShown, EachReadsBack, TablesAreWritten, TablesCount, UnreadIsTested};
 
 /// A count that a night writes is read in its version, and in no other that can be read.
 pub fn puts_law()
@@ -15,6 +15,11 @@ pub fn given_up_law()
 /// A row that is dropped is read by no session that can be read.
 pub fn dropped_law()
     ensures { DroppedAreUnread }
+{}
+
+/// Whether a row is read is told by asking version by version.
+pub fn unread_law()
+    ensures { UnreadIsTested }
 {}
 
 /// A version's table has what its sessions read of each row.
@@ -37,7 +42,12 @@ pub fn given_up_shown_law()
     ensures { EachGivesUp }
 {}
 
-/// As a night begins, no version that can be read shows anything else.
+/// Rows that are added with no pairs are shown by no version.
+pub fn added_unseen_law()
+    ensures { EachAddedIsUnseen }
+{}
+
+/// As a night begins, no version that can be read shows anything else, and its own shows what the one before it does.
 pub fn begun_shown_law()
     ensures { EachBeginKeeps }
 {}

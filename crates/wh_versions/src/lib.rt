@@ -8,8 +8,8 @@ mod table;
 mod writing;
 
 pub use laws::{
-    begun_shown_law, dropped_law, given_up_law, given_up_shown_law, puts_law, puts_shown_law,
-    tables_count_law, tables_written_law,
+    added_unseen_law, begun_shown_law, dropped_law, given_up_law, given_up_shown_law, puts_law,
+    puts_shown_law, tables_count_law, tables_written_law, unread_law,
 };
 pub use row::VersionRow;
 pub use table::VersionTable;

@@ -1,8 +1,8 @@
 //! What a row counts in the last versions.
 
 ghost use Rattle.std.specs.Prelude.{◌≡◌, ◌-◌, ◌≤ℤ◌, pos, [], length, slice_get};
-ghost use Rattle.wh_versions.specs.Rows.{is_unread, read, with_pair, without_pair};
-ghost use Rattle.wh_versions.specs.Inner.Rows.{BeginsWith, pairs_of};
+ghost use Rattle.wh_versions.specs.Rows.{read, with_pair, without_pair};
+ghost use Rattle.wh_versions.specs.Inner.Rows.{BeginsWith, is_unread, pairs_of};
 
 use std::marker::Model;
 
@@ -57,7 +57,7 @@ impl<const N: usize> VersionRow<N> {
     }
 
     /// Whether no session of the N - 1 versions before a night reads anything.
-    pub fn is_unread(self, night: u64) -> bool
+    pub(crate) fn is_unread(self, night: u64) -> bool
         ensures { result ≡ is_unread (N - 1) night self.entry }
     {
         for back in 1..N {

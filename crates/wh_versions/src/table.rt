@@ -5,7 +5,7 @@ ghost use Rattle.wh_pieces.specs.Place.{AreRisingRows};
 ghost use Rattle.wh_row.specs.Bag.{IsTable, empty, written as written_out};
 ghost use Rattle.wh_row.specs.Stored.{plain};
 ghost use Rattle.wh_versions.specs.Pages.{rows_after, shown_at};
-ghost use Rattle.wh_versions.specs.Tables.{AreInForm, HaveCounts, IsNewToNight, MayBeAdded, begun, count_at, given_up, opening, slots, table_at, written};
+ghost use Rattle.wh_versions.specs.Tables.{AreInForm, HaveCounts, IsBegun, IsNewToNight, MayBeAdded, count_at, given_up, opening, slots, table_at, written};
 
 use crate::row::VersionRow;
 use crate::shown::{first_shown, table_of};
@@ -149,7 +149,7 @@ impl<const N: usize> VersionTable<N> {
     pub fn begin(&mut self)
         requires { self.old.night + 1 < 2 ^ 64 }
         ensures night { self.new.night ≡ self.old.night + 1 }
-        ensures rows { (row : List ℤ) → slots self.new row ≡ begun N (self.old.night + 1) (slots self.old row) }
+        ensures rows { (row : List ℤ) → IsBegun N (self.old.night + 1) (slots self.old row) (slots self.new row) }
     {
         let last = self.touched.len() - 1;
         let night = self.night + 1;

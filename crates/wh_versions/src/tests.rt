@@ -118,3 +118,16 @@ fn three_versions_are_read(rt: HostRuntime) -> Result<(), Fail> {
     assert_eq!(rt; table.count(3, &[4]), 0);
     Ok(())
 }
+
+#[test]
+fn a_copy_goes_on_by_itself(rt: HostRuntime) -> Result<(), Fail> {
+    let table = first_night(&rt, rt.alloc())?;
+    let mut copy = table.copy(rt.alloc())?;
+    copy.give_up();
+    assert_pairs(&rt, &copy, &[1], &[(0, 2)]);
+    assert_pairs(&rt, &table, &[1], &[(1, 0), (0, 2)]);
+    copy.begin();
+    assert!(rt; copy.slots(&[2]).is_none());
+    assert_pairs(&rt, &table, &[2], &[(1, 1)]);
+    Ok(())
+}

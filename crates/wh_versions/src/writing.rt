@@ -5,9 +5,9 @@ ghost use Rattle.wh_pieces.specs.Pieces.{found};
 ghost use Rattle.wh_pieces.specs.Row.{is_row};
 ghost use Rattle.wh_row.specs.Stored.{plain};
 ghost use Rattle.wh_versions.specs.Rows.{read, with_pair};
-ghost use Rattle.wh_versions.specs.Tables.{HaveCounts, added, begun, given_up, is_given, opening, pairs_in, written};
+ghost use Rattle.wh_versions.specs.Tables.{HaveCounts, added, given_up, is_given, opening, pairs_in, written};
 ghost use Rattle.wh_row.specs.Bag.{IsTable, written as written_out};
-ghost use Rattle.wh_versions.specs.Inner.Tables.{AreAdded, AreSafe, IsNew, for_touched, is_in};
+ghost use Rattle.wh_versions.specs.Inner.Tables.{AreAdded, AreSafe, IsNew, begun, for_touched, is_in};
 
 use crate::row::VersionRow;
 use std::alloc::{AllocError, Global};

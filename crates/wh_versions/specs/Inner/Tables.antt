@@ -1,10 +1,10 @@
 -- What only proofs and private contracts use. What holds of a view's rows and of the rows that the last nights touched.
-use Rattle.std.specs.Prelude.{◌≡◌, ◌≢◌, ◌⊎◌, ℕ, ◌+◌, ◌-◌, ◌<◌, ◌≤◌, pos, Bool, true, false, List, [], ◌∷◌, length, slice_index_or, Option, Some, None, is_some, refl}
+use Rattle.std.specs.Prelude.{◌≡◌, ◌≢◌, ◌⊎◌, ℕ, ◌+◌, ◌-◌, ◌<◌, ◌≤◌, pos, Bool, true, false, List, [], ◌∷◌, length, slice_index_or, Option, Some, None, is_some, cond, refl}
 use Rattle.std.specs.Coded.{Coded, code_by, coded×, coded_ℕ, coded_ℤ, coded_list}
 use Rattle.wh_pieces.specs.Row.{Row}
 use Rattle.wh_pieces.specs.Pieces.{found}
 use Rattle.wh_versions.specs.Rows.{Pairs, read, ArePairs}
-use Rattle.wh_versions.specs.Inner.Rows.{coded_pairs}
+use Rattle.wh_versions.specs.Inner.Rows.{coded_pairs, is_unread}
 use Rattle.wh_row.specs.Weigh.{Counted}
 use Rattle.wh_versions.specs.Tables.{Slots, MayBeAdded, added, is_given}
 
@@ -23,6 +23,11 @@ set_at sets place = slice_index_or sets place []
 abbrev pub for_touched : {A : Type 0} → (Option A → Option A) → Option (Unit {0}) → Option A → Option A
 for_touched f None o = o
 for_touched f (Some u) o = f o
+
+-- what a row has once the night m is begun, as a test decides it
+abbrev pub begun : ℕ → ℕ → Option Pairs → Option Pairs
+begun n m None = None
+begun n m (Some ps) = cond (is_unread (n - 1) m ps) None (Some ps)
 
 -- one of the pairs has this number
 abbrev pub HasNumber : ℕ → Pairs → Type 0

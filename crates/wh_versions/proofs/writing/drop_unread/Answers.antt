@@ -2,8 +2,7 @@ use Rattle.std.proofs.Common.{rules, ◌≡◌, ◌∷◌, ap, sym, subst, ◌�
 use Rattle.wh_pieces.specs.Row.{Row}
 use Rattle.wh_pieces.specs.Place.{AreRisingRows}
 use Rattle.wh_pieces.specs.Pieces.{found}
-use Rattle.wh_versions.specs.Tables.{begun}
-use Rattle.wh_versions.specs.Inner.Tables.{Touched, for_touched}
+use Rattle.wh_versions.specs.Inner.Tables.{Touched, begun, for_touched}
 use Rattle.wh_versions.proofs.TouchLaws.{rising_rest, touched_step}
 use Rattle.wh_versions.proofs.writing.drop_unread.Goals as goal
 

@@ -2,8 +2,7 @@ use Rattle.std.proofs.Common.{◌≡◌}
 use Rattle.wh_pieces.specs.Row.{Row}
 use Rattle.wh_pieces.specs.Place.{AreRisingRows}
 use Rattle.wh_pieces.specs.Pieces.{found}
-use Rattle.wh_versions.specs.Tables.{begun}
-use Rattle.wh_versions.specs.Inner.Tables.{for_touched}
+use Rattle.wh_versions.specs.Inner.Tables.{begun, for_touched}
 use Rattle.wh_versions.proofs.writing.drop_unread.Given as goal
 
 abbrev pub invariant-loop-row : goal.invariant-loop-row

@@ -1,0 +1,46 @@
+//! What a row counts in the last versions.
+
+ghost use Rattle.std.specs.Prelude.{◌≡◌, slice_get};
+
+use std::marker::Model;
+use wh_versions::VersionRow;
+
+/// The pairs of a row, in as many places as its store keeps versions.
+#[derive(Drop)]
+pub(crate) enum Places {
+    Two(VersionRow<2>),
+    Three(VersionRow<3>),
+    Four(VersionRow<4>),
+}
+
+/// What a row counts in the last versions: pairs of a version's number and of what the row counts from that version on, the newest first.
+#[derive(Drop)]
+pub struct Slots {
+    pub(crate) places: Places,
+}
+
+impl Model for Slots {
+    ghost use Rattle.wh_versions.specs.Rows.{Pairs};
+    ghost use Rattle.wh_versions.specs.Inner.Rows.{coded_pairs};
+
+    ghost Value = { Pairs };
+
+    ghost coded = { coded_pairs };
+
+    ghost use Rattle.wh_store.specs.Inner.Slots.{pairs_of};
+
+    ghost view = { λ s. pairs_of s.places };
+}
+
+impl Slots {
+    /// The pair at a place, the newest first.
+    pub fn pair(&self, place: usize) -> Option<(u64, i64)>
+        ensures { result ≡ slice_get self.now place }
+    {
+        match &self.places {
+            Places::Two(pairs) => pairs.pair(place),
+            Places::Three(pairs) => pairs.pair(place),
+            Places::Four(pairs) => pairs.pair(place),
+        }
+    }
+}
