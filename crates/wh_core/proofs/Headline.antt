@@ -143,8 +143,8 @@ commit_so next k Over h = (refl, (let e : k ≡ next = cc in e))
 commit_so next k (In_wave place jobs drawn) h = cc
 commit_so next k (At_page place view rows) h = cc
 
-taken_version : (next k : ℕ) → IsRuled (Takes (reply.Version next)) (reply.Version k) → k ≡ next
-taken_version next k h = ⊎_elim (λ e. (let same : k ≡ next = cc in same)) (λ m. cc) h
+said_version : (next k : ℕ) → IsRuled (Says (reply.Version next)) (reply.Version k) → k ≡ next
+said_version next k h = cc
 
 taken_page : (next page : Shown) → IsRuled (Takes (reply.Page next)) (reply.Page page) → page ≡ next
 taken_page next page h = ⊎_elim (λ e. (let same : page ≡ next = cc in same)) (λ m. cc) h
@@ -415,17 +415,17 @@ module _ (join : PagesJoin) (stay : VersionsStay) (s : Setup) (events : List Eve
   give_up_made i k there =
       let step = step_at s [] events replies run i GiveUp (reply.Version k) there.0 there.1 in
       let open_night = through (not (is_open (at i))) cause.NoNight _ (reply.Version k) (λ c e. cc) step.ruled in
-      let number_is : k ≡ nights_ended (at i) + 1 = taken_version (number (versions s (at i)) + 1) k open_night.1 ∙ ap (λ m. m + 1) (sym (ended_is s (at i))) in
+      let number_is : k ≡ nights_ended (at i) + 1 = said_version (number (versions s (at i)) + 1) k open_night.1 ∙ ap (λ m. m + 1) (sym (ended_is s (at i))) in
       let new : made (nights_ended (at i) + 1) ≡ (versions s (Gave_up ∷ at i)).newest = subst (λ l. made (nights_ended l) ≡ (versions s l).newest) step.next (newest_made (suc i)) in
       let same : (versions s (Gave_up ∷ at i)).newest ≡ (versions s (at i)).newest =
       ap (λ (v : Versions). v.newest) (versions_from-append (opened s.opening) (published s (at i)) (Gives_up ∷ [])) in
       (not_false _ open_night.0, number_is, ap (λ k. version (versions s end) k) number_is ∙ new ∙ same ∙ sym (newest_made i))
 
-  is_given_up : (i : ℕ) (r : Reply) → IsAnswered events replies i GiveUp r → is_open (at i) ≡ true → (r ≡ reply.Version (nights_ended (at i) + 1)) ⊎ IsMemory r
+  is_given_up : (i : ℕ) (r : Reply) → IsAnswered events replies i GiveUp r → is_open (at i) ≡ true → r ≡ reply.Version (nights_ended (at i) + 1)
   is_given_up i r there opened =
       let step = step_at s [] events replies run i GiveUp r there.0 there.1 in
       let a = skip (not (is_open (at i))) cause.NoNight _ r (ap not opened) step.ruled in
-      ⊎_elim (λ e. inl (e ∙ ap (λ k. reply.Version (k + 1)) (sym (ended_is s (at i))))) (λ memory. inr memory) a
+      a ∙ ap (λ k. reply.Version (k + 1)) (sym (ended_is s (at i)))
 
   session_made : (i desk v : ℕ) → IsAnswered events replies i (Open desk) (reply.Session v) → IsNewSession s (at i) desk v
   session_made i desk v there =

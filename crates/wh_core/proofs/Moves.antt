@@ -297,8 +297,8 @@ module _ (s : Setup) (log : Log) (m : Machine) (h : Stands s log m) (active : is
   commits none = ends_here _ (subst (λ t. IsRuled (commit_ruling (number (versions s log) + 1) t) (reply.Version (number (versions s log) + 1)))
       (sym (end_turn_here (night s log) (remaining s log) (drop m.place m.course.parts.items) m.course.stop m.drawn m.ended (goes_here s log m h active) none)) refl)
 
-  pub gives_up : (r : Reply) → (r ≡ reply.Version (number (versions s log) + 1)) ⊎ (r ≡ reply.Refused cause.Memory) → IsReply s log event.GiveUp r
-  gives_up r k = onward (not (is_open log)) cause.NoNight _ r (ap not (sym (open_here s log m h) ∙ active)) k
+  pub gives_up : IsReply s log event.GiveUp (reply.Version (number (versions s log) + 1))
+  gives_up = onward (not (is_open log)) cause.NoNight _ (reply.Version (number (versions s log) + 1)) (ap not (sym (open_here s log m h) ∙ active)) refl
 
 module _ (s : Setup) (log : Log) (m : Machine) (h : Stands s log m) (idle : is_some m.store.draft ≡ false) where
   closed : not (is_open log) ≡ true

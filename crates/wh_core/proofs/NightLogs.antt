@@ -67,7 +67,7 @@ module _ (s : Setup) (setup : IsSetup s) (log : Log) (legal : IsLegalLog s log) 
   pub cut_night : IsOneMore s log (Opens ∷ Gives_up ∷ []) false (Gave_up ∷ Began ∷ log)
   unfolding Rattle.wh_core.specs.Nights.published
   cut_night = record {
-    legal = more (Began ∷ log) event.GiveUp (reply.Version (number (versions s (Began ∷ log)) + 1)) began (inl refl);
+    legal = more (Began ∷ log) event.GiveUp (reply.Version (number (versions s (Began ∷ log)) + 1)) began refl;
     active = refl;
     begun = refl;
     versions =

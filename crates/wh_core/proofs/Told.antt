@@ -288,8 +288,8 @@ module _ (s : Setup) (log : Log) (why : Cause) (is : is_of_rows why ≡ true) wh
 
   give_up_told : IsReply s log GiveUp (reply.Refused why) → Told s log GiveUp why
   give_up_told h =
-      let b = onwards (not (is_open log)) cause.NoNight _ why is refl h in
-      absurd (no_taking (reply.Version (number (versions s log) + 1)) (λ e. cc) b.1)
+      let b = onwards (not (is_open log)) cause.NoNight (Says (reply.Version (number (versions s log) + 1))) why is refl h in
+      let e : reply.Refused why ≡ reply.Version (number (versions s log) + 1) = b.1 in cc
 
   open_told : (d : ℕ) → IsReply s log (Open d) (reply.Refused why) → Told s log (Open d) why
   open_told d h =

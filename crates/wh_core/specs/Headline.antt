@@ -105,9 +105,9 @@ pub record ComesTrue (s : Setup) (events : List Event) (replies : List Reply) : 
   pub give_ups : (place k : ℕ) → IsAnswered events replies place GiveUp (reply.Version k)
       → (is_open (done_before events replies place) ≡ true) × (k ≡ nights_ended (done_before events replies place) + 1)
       × (made k ≡ made (nights_ended (done_before events replies place)))
-  -- and it can always be given up, but for want of memory
+  -- and it can always be given up
   pub given_up : (place : ℕ) (r : Reply) → IsAnswered events replies place GiveUp r → is_open (done_before events replies place) ≡ true
-      → (r ≡ reply.Version (nights_ended (done_before events replies place) + 1)) ⊎ IsMemory r
+      → r ≡ reply.Version (nights_ended (done_before events replies place) + 1)
   -- a session is of the version that is current when it is opened, at a desk that has none
   pub sessions : (place desk v : ℕ) → IsAnswered events replies place (Open desk) (reply.Session v) → IsNewSession s (done_before events replies place) desk v
   -- each single page is of the session's version, whatever was made since

@@ -106,7 +106,7 @@ ruling s log Commit =
     (commit_ruling (number (versions s log) + 1) (turn s log))
 ruling s log GiveUp =
     unless (not (is_open log)) cause.NoNight
-    (Takes (reply.Version (number (versions s log) + 1)))
+    (Says (reply.Version (number (versions s log) + 1)))
 ruling s log (Open d) =
     unless (nat_le s.desks d) cause.NoDesk
     (unless (is_some (session log d)) cause.SessionOpen

@@ -340,8 +340,8 @@ impl Machine {
         if !self.store.is_active() {
             return Reply::Refused(Cause::NoNight);
         }
-        let Ok(()) = apply_next(&mut self.store, &Op::GiveUp) else {
-            return Reply::Refused(Cause::Memory);
+        let Ok(()) = self.store.apply(&Op::GiveUp) else {
+            unreachable!()
         };
         self.tables = None;
         free_all(&mut self.holders);
