@@ -21,7 +21,7 @@ fn store_of_one(rt: &impl Abort, alloc: Global) -> Result<Store, Fail>
     assert!(rt; table.is_table());
     let mut tables = Vec::new(alloc);
     tables.push(table)?;
-    Ok(Store::new(alloc, tables)?)
+    Ok(Store::new(alloc, &tables, 2)?)
 }
 
 /// New counts of some rows of view 0.

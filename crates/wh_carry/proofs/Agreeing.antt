@@ -13,7 +13,7 @@ use Rattle.wh_strategy.specs.Expression.{At, is_new}
 use Rattle.wh_strategy.specs.Rules.{IsCorrect}
 use Rattle.wh_row.specs.Row.{Row, row_cmp, is_row}
 use Rattle.wh_row.specs.Weigh.{Counted, count_in}
-use Rattle.wh_row.specs.Bag.{Bag, bag_of, written, empty, sum_of, difference_of, count, size, number}
+use Rattle.wh_row.specs.Bag.{Bag, bag_of, written, empty, sum_of, count, size, number}
 use Rattle.wh_row.proofs.BagLaws.{same_bag, count-bag_of}
 use Rattle.wh_maint.specs.View.{View, ViewGraph, Fold, sums_of, column, weight_of, with_row, folded_rows, fold}
 use Rattle.wh_maint.specs.Product.{matching}
@@ -28,7 +28,7 @@ use Rattle.wh_maint.specs.Finishing.{kind_in}
 use Rattle.wh_maint.proofs.Differences.{sum-empty}
 use Rattle.wh_maint.proofs.FromScratch.{based, derived}
 use lib.IntN.{*ℤ-zero}
-use Rattle.wh_carry.specs.Carry.{State, change_in, step, carried, before, tables_after}
+use Rattle.wh_carry.specs.Carry.{State, change_in, step, carried, before}
 use Rattle.wh_carry.specs.Kept.{Kept, IsFirst, finished, installed}
 use Rattle.wh_carry.specs.Inner.Kept.{computed, stepped}
 use Rattle.wh_carry.proofs.Prefixes.{before_next, new_next}

@@ -1,5 +1,5 @@
 -- The first tables of a night's state.
-use Rattle.std.proofs.Common.{◌≡◌, refl, sym, ap, subst, ◌∙◌, ℕ, zero, suc, ◌+◌, ◌<◌, List, [], ◌∷◌, ◌++◌, take, length, arith}
+use Rattle.std.proofs.Common.{◌≡◌, refl, ap, subst, ◌∙◌, ℕ, zero, suc, ◌+◌, ◌<◌, List, [], ◌∷◌, ◌++◌, take, length, arith}
 use Rattle.wh_dag.specs.Catalog.{CatalogOf}
 use Rattle.wh_row.specs.Bag.{Bag}
 use Rattle.wh_maint.specs.Comp.{bag_at}

@@ -1,3 +1,4 @@
+pub mod HandedOn
 pub mod Prefixes
 pub mod Stands
 pub mod FitNights

@@ -1,5 +1,5 @@
 -- The first of an expression's reasons, from what its calls refuse one after another.
-use Rattle.std.proofs.Common.{◌≡◌, ℕ, ◌+◌, ◌<◌, ◌≤◌, refl, sym, ap, subst, true, false, List, length, ◌⊎◌, inl, inr, ⊎_elim, arith}
+use Rattle.std.proofs.Common.{◌≡◌, ℕ, ◌+◌, ◌<◌, ◌≤◌, refl, sym, ap, subst, true, List, length, ◌⊎◌, inl, inr, ⊎_elim, arith}
 use Rattle.std.proofs.lemmas.Bool.{cases_lt}
 use Rattle.wh_dag.specs.Shape.{has, children_of}
 use Rattle.wh_dag.specs.Catalog.{CatalogOf, definition_of, is_base}
@@ -7,14 +7,10 @@ use Rattle.wh_strategy.specs.declared.expression.Expression.TheVariants.{Comp, I
 use Rattle.wh_row.specs.Bag.{Bag, SumFits}
 use Rattle.wh_maint.specs.declared.fault.MaintFault.{MaintFault}
 use Rattle.wh_maint.specs.declared.fault.MaintFault.TheVariants.{Large, Range, Memory, Absent}
-use Rattle.wh_maint.specs.View.{View, column}
 use Rattle.wh_maint.specs.Definition.{graph_of, view_of}
-use Rattle.wh_maint.specs.Comp.{comp, TermsHaveValues}
-use Rattle.wh_maint.specs.Size.{IsTooLarge}
-use Rattle.wh_maint.specs.Finishing.{kind_in}
-use Rattle.wh_maint.specs.Refused.{NoneAbsent, IsChangeFault, IsFinishFault, IsInstallFault}
+use Rattle.wh_maint.specs.Refused.{NoneAbsent, IsChangeFault, IsInstallFault}
 use Rattle.wh_carry.specs.Carry.{State, at_first, change_in}
-use Rattle.wh_carry.specs.Refused.{AddedFit, CanBeComputed, CanHaveChange, Reason, RowIsLacking, BaseIsLarge, ChangeIsLarge, ChangeHasNoValue, CompIsLarge, CompMeetsNoValue, PendingIsLarge, TableIsLarge, IsRuledOut, IsOf, IsOfBaseBelow, IsAnswer, rank, IsEarlier, IsStepFault, IsBaseFault, AreAllowedBelow}
+use Rattle.wh_carry.specs.Refused.{Reason, RowIsLacking, BaseIsLarge, ChangeIsLarge, ChangeHasNoValue, CompIsLarge, CompMeetsNoValue, PendingIsLarge, TableIsLarge, IsRuledOut, IsOf, IsOfBaseBelow, IsAnswer, rank, IsEarlier, IsStepFault, IsBaseFault, AreAllowedBelow}
 use Rattle.wh_carry.specs.Inner.Reasons.{CanBeFinished, CanAllBeFinished, IsAddFault, IsUnfinished, IsFirstUnfinished}
 
 -- ---- turns

@@ -40,29 +40,29 @@ pub data Turn : Type 0 where
 pub record Remaining : Type 0 where
   pub legs : List Leg
   pub drawn : ℕ
-  pub ended : ℕ
+  pub done : ℕ
 
 -- these legs, of which nothing is drawn
 abbrev pub untouched : List Leg → Remaining
-untouched legs = record { legs = legs; drawn = 0; ended = 0 }
+untouched legs = record { legs = legs; drawn = 0; done = 0 }
 
 -- a draw takes the next job of the wave
 abbrev pub after_draw : Remaining → Remaining
-after_draw r = record { legs = r.legs; drawn = r.drawn + 1; ended = r.ended }
+after_draw r = record { legs = r.legs; drawn = r.drawn + 1; done = r.done }
 
 -- of the wave that comes first, so many of whose jobs are done, one job alone is left to do
 abbrev pub is_one_left : List Leg → ℕ → Bool
-is_one_left (Wave place jobs ∷ legs) ended = ended + 1 == jobs
-is_one_left (Page place view rows ∷ legs) ended = false
-is_one_left [] ended = false
+is_one_left (Wave place jobs ∷ legs) done = done + 1 == jobs
+is_one_left (Page place view rows ∷ legs) done = false
+is_one_left [] done = false
 
 -- the next Done is the last of its wave
 abbrev pub is_last : Remaining → Bool
-is_last r = is_one_left r.legs r.ended
+is_last r = is_one_left r.legs r.done
 
 -- the last Done of a wave takes the wave off the list
 abbrev pub after_done : Remaining → Remaining
-after_done r = if is_last r then untouched (drop 1 r.legs) else record { legs = r.legs; drawn = r.drawn; ended = r.ended + 1 }
+after_done r = if is_last r then untouched (drop 1 r.legs) else record { legs = r.legs; drawn = r.drawn; done = r.done + 1 }
 
 -- a page takes itself off the list
 abbrev pub after_page : Remaining → Remaining

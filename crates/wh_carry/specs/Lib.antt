@@ -4,6 +4,7 @@ pub mod Kept
 pub mod Laws
 pub mod Refused
 pub mod Steps
+pub mod CarriedOut
 pub mod Waves
 pub mod NightList
 pub mod AnyOrder

@@ -6,9 +6,10 @@ ghost use Rattle.wh_strategy.specs.declared.expression.Expression.{Expression as
 ghost use Rattle.wh_strategy.specs.Rules.{IsCorrect};
 ghost use Rattle.wh_maint.specs.Asked.{AreBags};
 ghost use Rattle.wh_maint.specs.Comp.{bag_at};
-ghost use Rattle.wh_maint.specs.Contents.{AreContents, AreContentsOf, AreValues, contents};
+ghost use Rattle.wh_maint.specs.Contents.{AreValues, contents};
 ghost use Rattle.wh_maint.specs.Definition.{graph_of};
 ghost use Rattle.wh_maint.specs.Laws.{changed};
+ghost use Rattle.wh_carry.specs.CarriedOut.{IsCarried};
 ghost use Rattle.wh_carry.specs.Carry.{tables_after};
 ghost use Rattle.wh_carry.specs.Fit.{AreFitTables};
 ghost use Rattle.wh_carry.specs.Kept.{kept, HaveParts, CanFinish, IsFirst};
@@ -44,18 +45,9 @@ pub fn carry<F: RowTest, G: RowValue>(
     requires tables { AreBags catalog.now tables.now }
     requires changes { AreBags catalog.now changes.now }
     requires fit { AreFitTables catalog.now tables.now }
-    ensures bags { IfOk result (λ c. AreBags catalog.now c.tables.items) }
-    ensures tables { IfOk result (λ c. (v : ℕ) → v < length catalog.now.views.children
-        → bag_at c.tables.items v ≡ tables_after (graph_of catalog.now) (bag_at changes.now) correct.now.list (bag_at tables.now) v) }
-    ensures contents { IfOk result (λ c. AreContents (graph_of catalog.now) (bag_at tables.now)
-        → AreContentsOf (graph_of catalog.now) (changed (bag_at tables.now) (bag_at changes.now)) (bag_at c.tables.items)) }
+    ensures carried { IfOk result (λ c. IsCarried catalog.now correct.now.list tables.now changes.now c.tables.items c.report) }
     ensures views { IfOk result (λ c. AreValues (graph_of catalog.now) (bag_at tables.now) → (v : ℕ) → v < length catalog.now.views.children
         → bag_at c.tables.items v ≡ contents (graph_of catalog.now) (changed (bag_at tables.now) (bag_at changes.now)) v) }
-    ensures version { IfOk result (λ c. c.report.version ≡ 1) }
-    ensures steps { IfOk result (λ c. AreSteps catalog.now.views.children correct.now.list (bag_at tables.now)
-        (tables_after (graph_of catalog.now) (bag_at changes.now) correct.now.list (bag_at tables.now)) c.report.steps.items) }
-    ensures allowed { OnOk result (AreAllowedBelow catalog.now (bag_at tables.now) (bag_at changes.now) (length catalog.now.views.children)) }
-    ensures passed { OnOk result (ArePassedBelow catalog.now correct.now.list (bag_at tables.now) (bag_at changes.now) (length correct.now.list)) }
     ensures refused { IfErr result (IsNightFault catalog.now correct.now.list (bag_at tables.now) (bag_at changes.now)) }
 {
     if let Err(fault) = base_changes(alloc, catalog, tables, changes) {
@@ -97,9 +89,7 @@ pub fn base_changes<F: RowTest, G: RowValue>(
 {
     for view in 0..catalog.shape().len() {
         if catalog.is_base(view) {
-            if let Err(fault) = changed(alloc, view, &tables[view], &changes[view]) {
-                return Err(fault);
-            }
+            changed(alloc, view, &tables[view], &changes[view])?;
         }
     }
     Ok(())
@@ -126,10 +116,7 @@ fn carry_out<F: RowTest, G: RowValue>(
 {
     let mut steps = Vec::new(alloc);
     for place in 0..list.len() {
-        let rows = match state.step(alloc, catalog, &list[place]) {
-            Ok(rows) => rows,
-            Err(fault) => return Err(fault),
-        };
+        let rows = state.step(alloc, catalog, &list[place])?;
         let Ok(expression) = list[place].copy(alloc) else {
             return Err(MaintFault::Memory);
         };

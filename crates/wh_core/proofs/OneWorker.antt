@@ -21,7 +21,7 @@ pub record IsUpTo (s : Setup) (n : Night) (from : Log) (legs : List Leg) (done :
   pub legal : IsLegalLog s log
   pub opened : is_open log ≡ true
   pub is : night s log ≡ n
-  pub left : remaining_in n log ≡ record { legs = legs; drawn = done; ended = done }
+  pub left : remaining_in n log ≡ record { legs = legs; drawn = done; done = done }
   pub free : holding log 0 ≡ None
   pub start : start_of s log ≡ start_of s from
   pub begun : nights_begun log ≡ nights_begun from

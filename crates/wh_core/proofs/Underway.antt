@@ -60,7 +60,7 @@ front from (Page place view rows ∷ legs) drawn = from
 
 -- these legs are left, and of the first so many jobs are drawn and done
 abbrev pub of_legs : ℕ → ℕ → List Leg → Remaining
-of_legs drawn ended legs = record { legs = legs; drawn = drawn; ended = ended }
+of_legs drawn ended legs = record { legs = legs; drawn = drawn; done = ended }
 
 -- where this is left of a night and so many pages are put, with these jobs held, where these operations are published, and the Comps at
 -- these places are drawn and done

@@ -42,7 +42,7 @@ HaveJobs (Page place view rows ∷ legs) = HaveJobs legs
 pub record AreLeft (n : Night) (r : Remaining) (parts : List Part) (stop : Option MaintFault) (drawn ended : ℕ) : Type 0 where
   pub from : ℕ
   pub legs : List Leg
-  pub is : r ≡ record { legs = legs; drawn = drawn; ended = ended }
+  pub is : r ≡ record { legs = legs; drawn = drawn; done = ended }
   pub within : IsWithin legs drawn ended
   pub some : HaveJobs legs
   pub are : AreParts n from legs parts stop

@@ -1,9 +1,10 @@
+pub mod Beginnings
 pub mod Outs
 pub mod Puts
 pub mod Ends
 pub mod WaveFaults
 pub mod Comes
-pub mod Stages
+pub mod StageByStage
 pub mod Soundness
 pub mod OneRefusal
 pub mod Ready

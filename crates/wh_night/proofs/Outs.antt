@@ -105,3 +105,11 @@ if_err_both P Q S (Err e) f a b = f e a b
 pub on_three : {A : Type 0} {E : Type 0} (P Q S T : Type 0) (r : Result A E) → (P → Q → S → T) → OnOk r P → OnOk r Q → OnOk r S → OnOk r T
 on_three P Q S T (Ok x) f a b c = f a b c
 on_three P Q S T (Err e) f a b c = tt
+
+pub if_ok_two : {A : Type 0} {E : Type 0} (P Q S : A → Type 0) (r : Result A E) → ((x : A) → P x → Q x → S x) → IfOk r P → IfOk r Q → IfOk r S
+if_ok_two P Q S (Ok x) f a b = f x a b
+if_ok_two P Q S (Err e) f a b = tt
+
+pub if_ok_three : {A : Type 0} {E : Type 0} (P Q S T : A → Type 0) (r : Result A E) → ((x : A) → P x → Q x → S x → T x) → IfOk r P → IfOk r Q → IfOk r S → IfOk r T
+if_ok_three P Q S T (Ok x) f a b c = f x a b c
+if_ok_three P Q S T (Err e) f a b c = tt

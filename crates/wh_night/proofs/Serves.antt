@@ -16,11 +16,13 @@ use Rattle.wh_store.specs.Kept.{AreTables}
 use Rattle.wh_store.specs.Ledgers.{Ledger, Warehouse}
 use Rattle.wh_carry.specs.Fit.{AreFitTables}
 use Rattle.wh_carry.specs.declared.report.CarryFault.{CarryFault}
+use Rattle.wh_carry.specs.declared.report.Carried.{Carried}
 use Rattle.wh_carry.specs.declared.report.Report.{Report}
 use Rattle.wh_desk.specs.Desks.{Sitting}
 use Rattle.wh_night.specs.declared.left.NightFault.{NightFault}
 use Rattle.wh_night.proofs.Soundness.{done_number}
 use Rattle.wh_night.specs.Tonight.{newest_in}
+use Rattle.wh_night.specs.Published.{IsPublished}
 use Rattle.wh_night.specs.Inner.Serving.{IsReady, IsRun, IsSeated, IsServed, newly}
 use Rattle.wh_night.specs.declared.serving.Served.{Served}
 
@@ -48,10 +50,10 @@ seated_same of desks all = λ k d l. (all k d l).0
 -- ---- what is answered
 
 -- what is answered beside readers is what the night made
-pub served_of : (catalog : CatalogOf) (list : List Expression) (l m : Ledger) (changes : List Bag) (keys : ℕ) (r : Result Served CarryFault) (night : Result Report NightFault) (rows : Option (Vec ℕ))
-    → IfOk r (λ s. (s.tables.items ≡ newest_in m) × (night ≡ Ok s.report) × (rows ≡ Some s.rows)) → IsRun catalog list l changes keys night m → IfOk r (IsServed catalog list l changes keys)
+pub served_of : (catalog : CatalogOf) (list : List Expression) (l m : Ledger) (changes : List Bag) (keys : ℕ) (r : Result Served CarryFault) (night : Result Carried NightFault) (rows : Option (Vec ℕ))
+    → IfOk r (λ s. (night ≡ Ok (record { tables = s.tables; report = s.report })) × (rows ≡ Some s.rows)) → IsRun catalog list l changes keys night m → IfOk r (IsServed catalog list l changes keys)
 served_of catalog list l m changes keys (Err f) night rows ok run = tt
-served_of catalog list l m changes keys (Ok s) night rows ok run = record { after = m; run = subst (λ n. IsRun catalog list l changes keys n m) ok.1 run; tables = ok.0 }
+served_of catalog list l m changes keys (Ok s) night rows ok run = let own = subst (λ n. IsRun catalog list l changes keys n m) ok.0 run in record { after = m; published = own.published; tables = own.tables }
 
 -- what follows from what was made holds of what is answered
 pub if_served : (P : Served → Type 0) (catalog : CatalogOf) (list : List Expression) (l : Ledger) (changes : List Bag) (keys : ℕ) (r : Result Served CarryFault)
@@ -59,13 +61,7 @@ pub if_served : (P : Served → Type 0) (catalog : CatalogOf) (list : List Expre
 if_served P catalog list l changes keys (Err f) served more = tt
 if_served P catalog list l changes keys (Ok s) served more = more s served
 
-pub on_served : (Q : Type 0) (catalog : CatalogOf) (list : List Expression) (l : Ledger) (changes : List Bag) (keys : ℕ) (r : Result Served CarryFault)
-    → IfOk r (IsServed catalog list l changes keys) → ((s : Served) → IsServed catalog list l changes keys s → Q) → OnOk r Q
-on_served Q catalog list l changes keys (Err f) served more = tt
-on_served Q catalog list l changes keys (Ok s) served more = more s served
-
 -- the first night of a warehouse makes version 1
-pub first_number : (catalog : CatalogOf) (list : List Expression) (tables changes : List Bag) (keys : ℕ) (r : Result Report NightFault) (m : Ledger) → IsCorrect catalog.views.children list
-    → AreBags catalog tables → 1 ≤ keys → IsRun catalog list (newly tables) changes keys r m → IfOk r (λ report. report.version ≡ 1)
-first_number catalog list tables changes keys (Err f) m ok bags some run = tt
-first_number catalog list tables changes keys (Ok report) m ok bags some run = run.version ∙ done_number catalog list (newly tables) m changes keys ok bags some run.done
+pub first_number : (catalog : CatalogOf) (list : List Expression) (tables changes : List Bag) (keys : ℕ) (report : Report) (m : Ledger) → IsCorrect catalog.views.children list
+    → AreBags catalog tables → 1 ≤ keys → IsPublished catalog list (newly tables) changes keys report m → report.version ≡ 1
+first_number catalog list tables changes keys report m ok bags some is = is.version ∙ done_number catalog list (newly tables) m changes keys ok bags some is.done

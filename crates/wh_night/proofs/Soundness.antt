@@ -4,10 +4,10 @@ use Rattle.std.specs.Prelude.{IsTrue, IfErr, OnErr, OnOk, Result, Ok, Err, slice
 use Rattle.std.specs.List.{list_all}
 use Rattle.std.proofs.lemmas.Bool.{and_parts, cases_lt, false≢true}
 use Rattle.wh_dag.specs.Shape.{children_of}
-use Rattle.wh_dag.specs.Catalog.{CatalogOf, IsCatalog, width_of}
+use Rattle.wh_dag.specs.Catalog.{CatalogOf, IsCatalog}
 use Rattle.wh_strategy.specs.declared.expression.Expression.{Expression}
 use Rattle.wh_strategy.specs.Rules.{IsCorrect}
-use Rattle.wh_row.specs.Bag.{Bag, HasWidth, IsTable, empty, sum_of}
+use Rattle.wh_row.specs.Bag.{Bag, IsTable, empty, sum_of}
 use Rattle.wh_maint.specs.Asked.{AreBags}
 use Rattle.wh_maint.specs.Comp.{bag_at}
 use Rattle.wh_maint.specs.Contents.{AreBaseTables, AreContents, AreContentsOf, contents}
@@ -24,7 +24,6 @@ use Rattle.wh_carry.specs.Carry.{at_first, carried}
 use Rattle.wh_carry.specs.NightLaws.{HaveTables}
 use Rattle.wh_carry.specs.NightList.{IsNightList, ends_before, night_below, puts_of, whole as whole_list}
 use Rattle.wh_carry.specs.Refused.{HaveValuesBelow}
-use Rattle.wh_carry.specs.declared.report.Report.{Report}
 use Rattle.wh_carry.proofs.Agreeing.{past}
 use Rattle.wh_carry.proofs.Prefixes.{take_whole}
 use Rattle.wh_carry.proofs.NewValues.{changed_base, strategies_end_in_contents}
@@ -35,7 +34,6 @@ use Rattle.wh_night.specs.declared.left.Left.{Left}
 use Rattle.wh_night.specs.declared.left.Left.TheVariants.{Untouched, GivenUp, StillOpen}
 use Rattle.wh_night.specs.declared.left.NightFault.{NightFault}
 use Rattle.wh_night.specs.Tonight.{Begin_it, IsCut, IsDone, IsOpen, IsSound, Leaves, made_by, newest_in, tonight}
-use Rattle.wh_night.specs.Inner.Underway.{AreWide}
 use Rattle.wh_night.proofs.Ends.{versions_append}
 use Rattle.wh_night.proofs.Puts.{begins_open, is_write, puts_write}
 
@@ -124,7 +122,7 @@ module _ (n : Night) (l m : Ledger) where
   left_newest cause GivenUp o = cut_newest cause o
   left_newest cause StillOpen o = open_newest cause o
 
-  pub refused_newest : (r : Result Report NightFault) → IfErr r (λ f. Leaves n f.cause l f.left m) → OnErr r (newest_in m ≡ newest_in l)
+  pub refused_newest : {A : Type 0} (r : Result A NightFault) → IfErr r (λ f. Leaves n f.cause l f.left m) → OnErr r (newest_in m ≡ newest_in l)
   refused_newest (Ok report) leaves = tt
   refused_newest (Err f) leaves = left_newest f.cause f.left leaves
 
@@ -207,7 +205,7 @@ module _ (catalog : CatalogOf) (list : List Expression) (l m : Ledger) (changes 
   left_sound cause GivenUp o = cut_sound cause o
   left_sound cause StillOpen o = open_sound cause o
 
-  pub stays_sound : (r : Result Report NightFault) → OnOk r (IsDone n l m) → IfErr r (λ f. Leaves n f.cause l f.left m) → IsSound catalog m
+  pub stays_sound : {A : Type 0} (r : Result A NightFault) → OnOk r (IsDone n l m) → IfErr r (λ f. Leaves n f.cause l f.left m) → IsSound catalog m
   stays_sound (Ok report) done left = done_sound done
   stays_sound (Err f) done left = left_sound f.cause f.left left
 
@@ -243,5 +241,9 @@ pub done_number : (catalog : CatalogOf) (list : List Expression) (l m : Ledger) 
     → IsDone (tonight catalog list l changes keys) l m → number (versions_in m.of m.list) ≡ suc (number (versions_in l.of l.list))
 done_number catalog list l m changes keys ok bags some o = let e = done_ends catalog list l m changes keys ok bags some o in ap number e.now
 
-pub done_bags : (catalog : CatalogOf) (tables : ℕ → Bag) (new : List Bag) → HaveTables new (length catalog.views.children) tables → AreWide catalog tables → AreBags catalog new
-done_bags catalog tables new have wide = record { each = have.each; widths = λ u l. subst (λ t. HasWidth t (width_of catalog u)) (sym (have.are u l)) (wide u l) }
+-- tables that agree at each place are one list
+pub one_list : (tables others : List Bag) → length tables ≡ length others → ((v : ℕ) → v < length others → bag_at tables v ≡ bag_at others v) → tables ≡ others
+one_list [] [] each are = refl
+one_list [] (o ∷ others) each are = absurd (omega (arith, each))
+one_list (t ∷ tables) [] each are = absurd (omega (arith, each))
+one_list (t ∷ tables) (o ∷ others) each are = (λ i. are 0 (omega arith) i ∷ one_list tables others (omega (arith, each)) (λ v l. are (suc v) (omega (arith, l))) i)

@@ -1,5 +1,6 @@
 pub mod Causes
 pub mod Tonight
+pub mod Published
 pub mod Refusals
 pub mod Underway
 pub mod RefusedWaves

@@ -15,10 +15,10 @@ ghost use Rattle.wh_carry.specs.Inner.Refused.{IsPassedIn, IsStepFaultIn};
 ghost use Rattle.wh_night.specs.Tonight.{goes_out};
 ghost use Rattle.wh_night.specs.Inner.Underway.{AreGoodPages, TakesPages, GoesOut, IsInstStopped, IsPartly, Reports, puts_in};
 
+use crate::gate::Gate;
+use crate::means::{Means, Progress};
 use std::alloc::{AllocError, Global};
 use std::sync::Wait;
-use wh_carry::NightState;
-use wh_dag::Catalog;
 use wh_formula::{RowTest, RowValue};
 use wh_maint::MaintFault;
 use wh_row::{Bag, Row};
@@ -137,74 +137,64 @@ fn publish_change<P: Publish, R: Wait>(
 }
 
 /// Carries an Inst out and reports it.
-pub(crate) fn install<F: RowTest, G: RowValue>(
-    alloc: Global,
-    catalog: &Catalog<F, G>,
+pub(crate) fn install<F: RowTest, G: RowValue, T: Gate>(
+    means: &Means<'_, F, G, T>,
     view: usize,
-    state: &mut NightState,
-    steps: &mut Vec<(Expression, u128)>,
+    progress: &mut Progress,
 ) -> Result<(), MaintFault>
-    requires parts { HaveParts catalog.now state.old }
-    requires fit { CanFinish catalog.now (kept state.old) }
-    requires view { view < length catalog.now.views.children }
-    ensures parts { OnOk result (HaveParts catalog.now state.new) }
-    ensures fit { OnOk result (CanFinish catalog.now (kept state.new)) }
-    ensures done { OnOk result (kept state.new ≡ installed view (finished catalog.now (λ u. view == u) (kept state.old))) }
-    ensures passed { OnOk result (IsPassedIn catalog.now (kept state.old) (Inst view)) }
-    ensures reported { OnOk result (Reports (rows_in catalog.now (Inst view) (kept state.old)) (Inst view) steps.old.items steps.new.items) }
-    ensures refused { IfErr result (IsStepFaultIn catalog.now (kept state.old) (Inst view)) }
+    requires parts { HaveParts means.now.catalog.now progress.old.state }
+    requires fit { CanFinish means.now.catalog.now (kept progress.old.state) }
+    requires view { view < length means.now.catalog.now.views.children }
+    ensures parts { OnOk result (HaveParts means.now.catalog.now progress.new.state) }
+    ensures fit { OnOk result (CanFinish means.now.catalog.now (kept progress.new.state)) }
+    ensures done { OnOk result (kept progress.new.state ≡ installed view (finished means.now.catalog.now (λ u. view == u) (kept progress.old.state))) }
+    ensures passed { OnOk result (IsPassedIn means.now.catalog.now (kept progress.old.state) (Inst view)) }
+    ensures reported { OnOk result (Reports (rows_in means.now.catalog.now (Inst view) (kept progress.old.state)) (Inst view) progress.old.steps.items progress.new.steps.items) }
+    ensures refused { IfErr result (IsStepFaultIn means.now.catalog.now (kept progress.old.state) (Inst view)) }
 {
-    if let Err(fault) = state.finish_one(alloc, catalog, view) {
-        return Err(fault);
-    }
-    let rows = state.change(view).total();
-    if let Err(fault) = state.install(view) {
-        return Err(fault);
-    }
-    let Ok(()) = steps.push((Expression::Inst(view), rows)) else {
+    progress.state.finish_one(means.alloc, means.catalog, view)?;
+    let rows = progress.state.change(view).total();
+    progress.state.install(view)?;
+    let Ok(()) = progress.steps.push((Expression::Inst(view), rows)) else {
         return Err(MaintFault::Memory);
     };
     Ok(())
 }
 
 /// Carries an Inst out and reports it, and publishes the new counts.
-pub(crate) fn inst<P: Publish, F: RowTest, G: RowValue, R: Wait>(
+pub(crate) fn inst<P: Publish, F: RowTest, G: RowValue, T: Gate, R: Wait>(
     rt: &R,
-    alloc: Global,
     writer: &mut P,
-    catalog: &Catalog<F, G>,
-    view: usize,
+    means: &Means<'_, F, G, T>,
     keys: usize,
-    state: &mut NightState,
-    steps: &mut Vec<(Expression, u128)>,
+    view: usize,
+    progress: &mut Progress,
 ) -> Result<(), MaintFault>
     requires takes { TakesPages (P.kept writer.old) view }
-    requires parts { HaveParts catalog.now state.old }
-    requires fit { CanFinish catalog.now (kept state.old) }
-    requires view { view < length catalog.now.views.children }
-    requires table { IsPassedIn catalog.now (kept state.old) (Inst view) → IsTable (sum_of ((kept state.old).tables view) ((finished catalog.now (λ u. view == u) (kept state.old)).changes view)) }
+    requires parts { HaveParts means.now.catalog.now progress.old.state }
+    requires fit { CanFinish means.now.catalog.now (kept progress.old.state) }
+    requires view { view < length means.now.catalog.now.views.children }
+    requires table { IsPassedIn means.now.catalog.now (kept progress.old.state) (Inst view) → IsTable (sum_of ((kept progress.old.state).tables view) ((finished means.now.catalog.now (λ u. view == u) (kept progress.old.state)).changes view)) }
     requires some { 1 ≤ keys }
     requires few { keys ≤ 256 }
     ensures home { P.home writer.new ≡ P.home writer.old }
-    ensures parts { OnOk result (HaveParts catalog.now state.new) }
-    ensures fit { OnOk result (CanFinish catalog.now (kept state.new)) }
-    ensures done { OnOk result (kept state.new ≡ installed view (finished catalog.now (λ u. view == u) (kept state.old))) }
-    ensures passed { OnOk result (IsPassedIn catalog.now (kept state.old) (Inst view)) }
-    ensures reported { OnOk result (Reports (rows_in catalog.now (Inst view) (kept state.old)) (Inst view) steps.old.items steps.new.items) }
-    ensures out { OnOk result (P.kept writer.new ≡ goes_out (P.kept writer.old) (puts_in catalog.now keys view (kept state.old)) None) }
-    ensures err { IfErr result (λ fault. IsInstStopped catalog.now keys view (kept state.old) fault (P.kept writer.old) (P.kept writer.new)) }
+    ensures parts { OnOk result (HaveParts means.now.catalog.now progress.new.state) }
+    ensures fit { OnOk result (CanFinish means.now.catalog.now (kept progress.new.state)) }
+    ensures done { OnOk result (kept progress.new.state ≡ installed view (finished means.now.catalog.now (λ u. view == u) (kept progress.old.state))) }
+    ensures passed { OnOk result (IsPassedIn means.now.catalog.now (kept progress.old.state) (Inst view)) }
+    ensures reported { OnOk result (Reports (rows_in means.now.catalog.now (Inst view) (kept progress.old.state)) (Inst view) progress.old.steps.items progress.new.steps.items) }
+    ensures out { OnOk result (P.kept writer.new ≡ goes_out (P.kept writer.old) (puts_in means.now.catalog.now keys view (kept progress.old.state)) None) }
+    ensures err { IfErr result (λ fault. IsInstStopped means.now.catalog.now keys view (kept progress.old.state) fault (P.kept writer.old) (P.kept writer.new)) }
 {
-    if let Err(fault) = install(alloc, catalog, view, state, steps) {
-        return Err(fault);
-    }
+    install(means, view, progress)?;
     match publish_change(
         rt,
-        alloc,
+        means.alloc,
         writer,
         view,
         keys,
-        state.table(view),
-        state.change(view),
+        progress.state.table(view),
+        progress.state.change(view),
     ) {
         Ok(()) => Ok(()),
         Err(_) => Err(MaintFault::Memory),

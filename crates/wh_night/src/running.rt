@@ -1,12 +1,8 @@
 //! A night over whatever publishes.
 
 ghost use Rattle.std.specs.Prelude.{◌≡◌, ◌≢◌, ◌⊎◌, ◌≤◌, ◌++◌, ◌∷◌, [], ℕ, List, None, Some, Err, length, slice_get, OnOk, OnErr, IfOk, IfErr, MatchOption, MatchResult};
-ghost use Rattle.wh_strategy.specs.declared.expression.Expression.{Expression as Step};
 ghost use Rattle.wh_maint.specs.Asked.{AreBags};
 ghost use Rattle.wh_maint.specs.Comp.{bag_at};
-ghost use Rattle.wh_maint.specs.Contents.{AreContents, AreContentsOf};
-ghost use Rattle.wh_maint.specs.Definition.{graph_of};
-ghost use Rattle.wh_maint.specs.Laws.{changed};
 ghost use Rattle.wh_maint.specs.declared.fault.MaintFault.TheVariants.{Memory};
 ghost use Rattle.wh_store.specs.Operations.{Commits, Opens};
 ghost use Rattle.wh_store.specs.Versions.{number};
@@ -14,7 +10,6 @@ ghost use Rattle.wh_store.specs.Faults.{publish_refusal};
 ghost use Rattle.wh_store.specs.Ledgers.{Ledger, versions_in};
 ghost use Rattle.wh_carry.specs.Fit.{AreFitFor};
 ghost use Rattle.wh_carry.specs.Kept.{kept, HaveParts, CanFinish};
-ghost use Rattle.wh_carry.specs.NightLaws.{HaveTables};
 ghost use Rattle.wh_carry.specs.Refused.{ArePassedBelow};
 ghost use Rattle.wh_carry.specs.Steps.{AreSteps};
 ghost use Rattle.wh_carry.specs.Waves.{stages_of};
@@ -24,18 +19,20 @@ ghost use Rattle.wh_carry.specs.Standing.{IsStageIn, place_behind};
 ghost use Rattle.wh_night.specs.Causes.{cause_of, cause_of_begin};
 ghost use Rattle.wh_night.specs.declared.left.Left.TheVariants.{Untouched};
 ghost use Rattle.wh_night.specs.Refusals.{IsRefused};
-ghost use Rattle.wh_night.specs.Tonight.{IsDone, IsSound, IsWhole, Leaves, goes_out, made_by, newest_in, tonight};
-ghost use Rattle.wh_night.specs.Inner.Underway.{AreWide, CanStart, CanPublish, Given, HasBegun, HasCome, IsAt, IsPut, IsRefusedLater, IsStopped, WaitsToCommit, night_given};
+ghost use Rattle.wh_night.specs.Tonight.{IsDone, IsSound, Leaves, goes_out, made_by, newest_in, tonight};
+ghost use Rattle.wh_night.specs.Published.{IsPublished};
+ghost use Rattle.wh_night.specs.Inner.Underway.{CanPublish, CanStart, Given, HasBegun, HasCome, IsAt, IsPut, IsRefusedLater, IsStopped, WaitsToCommit, night_given};
 
 use crate::gate::Gate;
 use crate::insts::inst;
+use crate::means::{Means, Progress};
 use crate::opening::{current_tables, not_ready};
 use crate::waves::wave;
 use crate::{Left, NightCause, NightFault};
 use std::alloc::Global;
 use std::sync::Wait;
 use std::thread::Threads;
-use wh_carry::{NightState, Report, Stage, base_changes, waves};
+use wh_carry::{Carried, NightState, Report, Stage, base_changes, waves};
 use wh_dag::Catalog;
 use wh_formula::{RowTest, RowValue};
 use wh_maint::MaintFault;
@@ -152,136 +149,112 @@ fn commit<P: Publish, R: Wait>(
     }
 }
 
-/// Carries a stage out.
+/// Carries a stage out, and reports its expressions.
 fn stage_of<P: Publish, F: RowTest, G: RowValue, T: Gate + Sync, R: Threads + Wait + Sync>(
     rt: &R,
-    alloc: Global,
     writer: &mut P,
-    catalog: &Catalog<F, G>,
-    stage: &Stage,
+    means: &Means<'_, F, G, T>,
     keys: usize,
-    workers: usize,
-    state: &mut NightState,
-    steps: &mut Vec<(Expression, u128)>,
-    gate: &T,
+    stage: &Stage,
+    progress: &mut Progress,
 ) -> Result<(), MaintFault>
-    requires held { (P.kept writer.old).held ≡ None }
-    requires parts { HaveParts catalog.now state.old }
-    requires fit { CanFinish catalog.now (kept state.old) }
-    requires stage { IsStageIn catalog.now stage.now }
-    requires publishes { CanPublish catalog.now stage.now (kept state.old) (P.kept writer.old) }
+    requires parts { HaveParts means.now.catalog.now progress.old.state }
+    requires fit { CanFinish means.now.catalog.now (kept progress.old.state) }
+    requires stage { IsStageIn means.now.catalog.now stage.now }
+    requires publishes { CanPublish means.now.catalog.now stage.now (kept progress.old.state) (P.kept writer.old) }
     requires some { 1 ≤ keys }
     requires few { keys ≤ 256 }
-    requires least { 1 ≤ workers }
-    requires most { workers ≤ 16 }
+    requires least { 1 ≤ means.now.workers }
+    requires most { means.now.workers ≤ 16 }
     ensures home { P.home writer.new ≡ P.home writer.old }
-    ensures held { OnOk result ((P.kept writer.new).held ≡ None) }
-    ensures parts { OnOk result (HaveParts catalog.now state.new) }
-    ensures fit { OnOk result (CanFinish catalog.now (kept state.new)) }
+    ensures parts { OnOk result (HaveParts means.now.catalog.now progress.new.state) }
+    ensures fit { OnOk result (CanFinish means.now.catalog.now (kept progress.new.state)) }
     ensures goes { OnOk result ((t : Given) (before after : List StageOf) → stages_of t.list ≡ before ++ stage.now ∷ after
-        → IsAt (night_given catalog.now keys t) t.before (place_behind before) (kept state.old) steps.old.items (P.kept writer.old)
-        → IsAt (night_given catalog.now keys t) t.before (place_behind (before ++ stage.now ∷ [])) (kept state.new) steps.new.items (P.kept writer.new)) }
+        → IsAt (night_given means.now.catalog.now keys t) t.before (place_behind before) (kept progress.old.state) progress.old.steps.items (P.kept writer.old)
+        → IsAt (night_given means.now.catalog.now keys t) t.before (place_behind (before ++ stage.now ∷ [])) (kept progress.new.state) progress.new.steps.items (P.kept writer.new)) }
     ensures stops { IfErr result (λ fault. (t : Given) (before after : List StageOf) → stages_of t.list ≡ before ++ stage.now ∷ after
-        → IsAt (night_given catalog.now keys t) t.before (place_behind before) (kept state.old) steps.old.items (P.kept writer.old)
-        → IsStopped (night_given catalog.now keys t) t.before fault (P.kept writer.new)) }
+        → IsAt (night_given means.now.catalog.now keys t) t.before (place_behind before) (kept progress.old.state) progress.old.steps.items (P.kept writer.old)
+        → IsStopped (night_given means.now.catalog.now keys t) t.before fault (P.kept writer.new)) }
 {
     match stage {
-        Stage::Wave(jobs) => wave(
-            rt,
-            alloc,
-            catalog,
-            jobs.as_slice(),
-            state,
-            steps,
-            workers,
-            gate,
-        ),
-        Stage::Inst(view) => inst(rt, alloc, writer, catalog, *view, keys, state, steps),
+        Stage::Wave(jobs) => wave(rt, means, jobs.as_slice(), progress),
+        Stage::Inst(view) => inst(rt, writer, means, keys, *view, progress),
     }
 }
 
-/// Carries the stages out, one after another, and reports their expressions.
+/// Carries the stages out, one after another, and reports their expressions. The first refusal ends it.
 fn through<P: Publish, F: RowTest, G: RowValue, T: Gate + Sync, R: Threads + Wait + Sync>(
     rt: &R,
-    alloc: Global,
     writer: &mut P,
-    catalog: &Catalog<F, G>,
-    stages: &[Stage],
+    means: &Means<'_, F, G, T>,
     keys: usize,
-    workers: usize,
-    state: &mut NightState,
-    gate: &T,
-) -> Result<Vec<(Expression, u128)>, MaintFault>
-    requires held { (P.kept writer.old).held ≡ None }
-    requires parts { HaveParts catalog.now state.old }
-    requires fit { CanFinish catalog.now (kept state.old) }
-    requires stages { (i : ℕ) (stage : StageOf) → slice_get stages.now i ≡ Some stage → IsStageIn catalog.now stage }
-    requires begun { HasBegun catalog.now keys stages.now (kept state.old) (P.kept writer.old) }
+    stages: &[Stage],
+    progress: &mut Progress,
+) -> Result<(), MaintFault>
+    requires parts { HaveParts means.now.catalog.now progress.old.state }
+    requires fit { CanFinish means.now.catalog.now (kept progress.old.state) }
+    requires stages { (i : ℕ) (stage : StageOf) → slice_get stages.now i ≡ Some stage → IsStageIn means.now.catalog.now stage }
+    requires begun { HasBegun means.now.catalog.now keys stages.now (kept progress.old.state) progress.old.steps.items (P.kept writer.old) }
     requires some { 1 ≤ keys }
     requires few { keys ≤ 256 }
-    requires least { 1 ≤ workers }
-    requires most { workers ≤ 16 }
+    requires least { 1 ≤ means.now.workers }
+    requires most { means.now.workers ≤ 16 }
     ensures home { P.home writer.new ≡ P.home writer.old }
-    ensures parts { OnOk result (HaveParts catalog.now state.new) }
-    ensures goes { IfOk result (λ steps. (t : Given) → stages.now ≡ stages_of t.list
-        → IsAt (night_given catalog.now keys t) t.before 0 (kept state.old) [] (P.kept writer.old)
-        → IsAt (night_given catalog.now keys t) t.before (length t.list) (kept state.new) steps.items (P.kept writer.new)) }
+    ensures parts { OnOk result (HaveParts means.now.catalog.now progress.new.state) }
+    ensures goes { OnOk result ((t : Given) → stages.now ≡ stages_of t.list
+        → IsAt (night_given means.now.catalog.now keys t) t.before 0 (kept progress.old.state) progress.old.steps.items (P.kept writer.old)
+        → IsAt (night_given means.now.catalog.now keys t) t.before (length t.list) (kept progress.new.state) progress.new.steps.items (P.kept writer.new)) }
     ensures stops { IfErr result (λ fault. (t : Given) → stages.now ≡ stages_of t.list
-        → IsAt (night_given catalog.now keys t) t.before 0 (kept state.old) [] (P.kept writer.old)
-        → IsStopped (night_given catalog.now keys t) t.before fault (P.kept writer.new)) }
+        → IsAt (night_given means.now.catalog.now keys t) t.before 0 (kept progress.old.state) progress.old.steps.items (P.kept writer.old)
+        → IsStopped (night_given means.now.catalog.now keys t) t.before fault (P.kept writer.new)) }
 {
-    let mut steps = Vec::new(alloc);
     for stage in stages {
-        if let Err(fault) = stage_of(
-            rt, alloc, writer, catalog, stage, keys, workers, state, &mut steps, gate,
-        ) {
-            return Err(fault);
-        }
+        stage_of(rt, writer, means, keys, stage, progress)?;
     }
-    Ok(steps)
+    Ok(())
 }
 
 /// Publishes a night whose stages these are.
 fn run<P: Publish, F: RowTest, G: RowValue, T: Gate + Sync, R: Threads + Wait + Sync>(
     rt: &R,
-    alloc: Global,
     writer: &mut P,
-    catalog: &Catalog<F, G>,
-    stages: &[Stage],
+    means: &Means<'_, F, G, T>,
     keys: usize,
-    workers: usize,
-    state: &mut NightState,
-    gate: &T,
-) -> Result<Report, NightFault>
+    stages: &[Stage],
+    progress: Progress,
+) -> Result<Carried, NightFault>
     requires free { publish_refusal (P.kept writer.old) Opens ≡ None }
-    requires parts { HaveParts catalog.now state.old }
-    requires fit { CanFinish catalog.now (kept state.old) }
-    requires stages { (i : ℕ) (stage : StageOf) → slice_get stages.now i ≡ Some stage → IsStageIn catalog.now stage }
-    requires begins { CanStart catalog.now keys stages.now (kept state.old) (P.kept writer.old) }
+    requires parts { HaveParts means.now.catalog.now progress.state }
+    requires fit { CanFinish means.now.catalog.now (kept progress.state) }
+    requires stages { (i : ℕ) (stage : StageOf) → slice_get stages.now i ≡ Some stage → IsStageIn means.now.catalog.now stage }
+    requires begins { CanStart means.now.catalog.now keys stages.now (kept progress.state) progress.steps.items (P.kept writer.old) }
     requires some { 1 ≤ keys }
     requires few { keys ≤ 256 }
-    requires least { 1 ≤ workers }
-    requires most { workers ≤ 16 }
+    requires least { 1 ≤ means.now.workers }
+    requires most { means.now.workers ≤ 16 }
     ensures home { P.home writer.new ≡ P.home writer.old }
-    ensures version { IfOk result (λ r. r.version ≡ number (versions_in (P.kept writer.new).of (P.kept writer.new).list)) }
-    ensures done { IfOk result (λ r. (t : Given) → t.before ≡ P.kept writer.old → stages.now ≡ stages_of t.list → HasCome (night_given catalog.now keys t) 0 (kept state.old) []
-        → IsDone (night_given catalog.now keys t) t.before (P.kept writer.new)
-        × ArePassedBelow catalog.now t.list t.tables t.changes (length t.list)
-        × AreSteps catalog.now.views.children t.list t.tables (made_by (night_given catalog.now keys t)) r.steps.items
-        × AreWide catalog.now (made_by (night_given catalog.now keys t))) }
-    ensures refused { IfErr result (λ f. (t : Given) → t.before ≡ P.kept writer.old → stages.now ≡ stages_of t.list → HasCome (night_given catalog.now keys t) 0 (kept state.old) []
-        → AreAllowed (night_given catalog.now keys t)
-        → Leaves (night_given catalog.now keys t) f.cause t.before f.left (P.kept writer.new) × IsRefusedLater (night_given catalog.now keys t) f) }
+    ensures version { IfOk result (λ c. c.report.version ≡ number (versions_in (P.kept writer.new).of (P.kept writer.new).list)) }
+    ensures bags { IfOk result (λ c. AreBags means.now.catalog.now c.tables.items) }
+    ensures done { IfOk result (λ c. (t : Given) → t.before ≡ P.kept writer.old → stages.now ≡ stages_of t.list → HasCome (night_given means.now.catalog.now keys t) 0 (kept progress.state) progress.steps.items
+        → IsDone (night_given means.now.catalog.now keys t) t.before (P.kept writer.new)
+        × ArePassedBelow means.now.catalog.now t.list t.tables t.changes (length t.list)
+        × AreSteps means.now.catalog.now.views.children t.list t.tables (made_by (night_given means.now.catalog.now keys t)) c.report.steps.items
+        × ((v : ℕ) → bag_at c.tables.items v ≡ made_by (night_given means.now.catalog.now keys t) v)) }
+    ensures refused { IfErr result (λ f. (t : Given) → t.before ≡ P.kept writer.old → stages.now ≡ stages_of t.list → HasCome (night_given means.now.catalog.now keys t) 0 (kept progress.state) progress.steps.items
+        → AreAllowed (night_given means.now.catalog.now keys t)
+        → Leaves (night_given means.now.catalog.now keys t) f.cause t.before f.left (P.kept writer.new) × IsRefusedLater (night_given means.now.catalog.now keys t) f) }
 {
-    if let Err(fault) = begin(rt, writer) {
-        return Err(fault);
+    begin(rt, writer)?;
+    let mut progress = progress;
+    if let Err(fault) = through(rt, writer, means, keys, stages, &mut progress) {
+        return Err(given_up(rt, writer, fault));
     }
-    match through(
-        rt, alloc, writer, catalog, stages, keys, workers, state, gate,
-    ) {
-        Ok(steps) => commit(rt, writer, steps),
-        Err(fault) => Err(given_up(rt, writer, fault)),
-    }
+    let Progress { state, steps } = progress;
+    let report = commit(rt, writer, steps)?;
+    Ok(Carried {
+        tables: state.into_tables(),
+        report,
+    })
 }
 
 /// Carries a night out over what is published, wave by wave, from the tables of the current version: one bag a view, which
@@ -316,17 +289,7 @@ pub fn night<P: Publish, F: RowTest, G: RowValue, T: Gate + Sync, R: Threads + W
     requires least { 1 ≤ options.page_keys }
     requires most { options.page_keys ≤ 256 }
     ensures home { P.home writer.new ≡ P.home writer.old }
-    ensures done { OnOk result (IsDone (tonight catalog.now correct.now.list (P.kept writer.old) changes.now options.page_keys) (P.kept writer.old) (P.kept writer.new)) }
-    ensures bags { OnOk result (AreBags catalog.now (newest_in (P.kept writer.new))) }
-    ensures tables { OnOk result (HaveTables (newest_in (P.kept writer.new)) (length catalog.now.views.children)
-        (made_by (tonight catalog.now correct.now.list (P.kept writer.old) changes.now options.page_keys))) }
-    ensures contents { OnOk result (AreContents (graph_of catalog.now) (bag_at (newest_in (P.kept writer.old)))
-        → AreContentsOf (graph_of catalog.now) (changed (bag_at (newest_in (P.kept writer.old))) (bag_at changes.now)) (bag_at (newest_in (P.kept writer.new)))) }
-    ensures version { IfOk result (λ r. r.version ≡ number (versions_in (P.kept writer.new).of (P.kept writer.new).list)) }
-    ensures steps { IfOk result (λ r. AreSteps catalog.now.views.children correct.now.list (bag_at (newest_in (P.kept writer.old)))
-        (made_by (tonight catalog.now correct.now.list (P.kept writer.old) changes.now options.page_keys)) r.steps.items) }
-    ensures allowed { OnOk result (AreAllowed (tonight catalog.now correct.now.list (P.kept writer.old) changes.now options.page_keys)) }
-    ensures passed { OnOk result (ArePassedBelow catalog.now correct.now.list (bag_at (newest_in (P.kept writer.old))) (bag_at changes.now) (length correct.now.list)) }
+    ensures published { IfOk result (λ r. IsPublished catalog.now correct.now.list (P.kept writer.old) changes.now options.page_keys r (P.kept writer.new)) }
     ensures leaves { IfErr result (λ f. Leaves (tonight catalog.now correct.now.list (P.kept writer.old) changes.now options.page_keys) f.cause (P.kept writer.old) f.left (P.kept writer.new)) }
     ensures newest { OnErr result (newest_in (P.kept writer.new) ≡ newest_in (P.kept writer.old)) }
     ensures sound { IsSound catalog.now (P.kept writer.old) → IsSound catalog.now (P.kept writer.new) }
@@ -340,27 +303,81 @@ pub fn night<P: Publish, F: RowTest, G: RowValue, T: Gate + Sync, R: Threads + W
     let Ok(tables) = current_tables(alloc, writer, catalog.shape().len()) else {
         return Err(untouched(NightCause::Memory));
     };
+    let carried = night_from(
+        rt, alloc, writer, catalog, tables, changes, correct, options, gate,
+    )?;
+    Ok(carried.report)
+}
+
+/// As [`night`], from these tables, which are those of the current version: whoever has them need not copy them out of what is
+/// published. They are changed where they lie; answers them as they stand after the night, with its report.
+pub fn night_from<
+    P: Publish,
+    F: RowTest,
+    G: RowValue,
+    T: Gate + Sync,
+    R: Threads + Wait + Sync,
+>(
+    rt: &R,
+    alloc: Global,
+    writer: &mut P,
+    catalog: &Catalog<F, G>,
+    tables: Vec<Bag>,
+    changes: &[Bag],
+    correct: &Correct,
+    options: Options,
+    gate: &T,
+) -> Result<Carried, NightFault>
+    requires judged { correct.now.children ≡ catalog.now.views.children }
+    requires tables { AreBags catalog.now (newest_in (P.kept writer.old)) }
+    requires current { tables.items ≡ newest_in (P.kept writer.old) }
+    requires changes { AreBags catalog.now changes.now }
+    requires fit { AreFitFor catalog.now (bag_at changes.now) correct.now.list (bag_at (newest_in (P.kept writer.old))) }
+    requires one { 1 ≤ options.workers }
+    requires sixteen { options.workers ≤ 16 }
+    requires least { 1 ≤ options.page_keys }
+    requires most { options.page_keys ≤ 256 }
+    ensures home { P.home writer.new ≡ P.home writer.old }
+    ensures published { IfOk result (λ c. IsPublished catalog.now correct.now.list (P.kept writer.old) changes.now options.page_keys c.report (P.kept writer.new)) }
+    ensures tables { IfOk result (λ c. c.tables.items ≡ newest_in (P.kept writer.new)) }
+    ensures leaves { IfErr result (λ f. Leaves (tonight catalog.now correct.now.list (P.kept writer.old) changes.now options.page_keys) f.cause (P.kept writer.old) f.left (P.kept writer.new)) }
+    ensures newest { OnErr result (newest_in (P.kept writer.new) ≡ newest_in (P.kept writer.old)) }
+    ensures sound { IsSound catalog.now (P.kept writer.old) → IsSound catalog.now (P.kept writer.new) }
+    ensures refused { MatchOption (publish_refusal (P.kept writer.old) Opens)
+        (IfErr result (IsRefused (tonight catalog.now correct.now.list (P.kept writer.old) changes.now options.page_keys)))
+        (λ fault. result ≡ Err (record { cause = cause_of_begin fault; left = Untouched })) }
+{
+    if let Some(cause) = not_ready(writer) {
+        return Err(untouched(cause));
+    }
     if let Err(fault) = base_changes(alloc, catalog, &tables, changes) {
         return Err(untouched(NightCause::of(fault)));
     }
     // Makes known that the list is correct.
     let _ = correct.strategy();
-    let Ok(mut state) = NightState::over(alloc, catalog, tables, changes) else {
+    let Ok(state) = NightState::over(alloc, catalog, tables, changes) else {
         return Err(untouched(NightCause::Memory));
     };
     let Ok(stages) = waves(alloc, correct) else {
         return Err(untouched(NightCause::Memory));
     };
+    let means = Means {
+        alloc,
+        catalog,
+        workers: options.workers,
+        gate,
+    };
+    let progress = Progress {
+        state,
+        steps: Vec::new(alloc),
+    };
     let answer = run(
         rt,
-        alloc,
         writer,
-        catalog,
-        stages.as_slice(),
+        &means,
         options.page_keys,
-        options.workers,
-        &mut state,
-        gate,
+        stages.as_slice(),
+        progress,
     );
     // Makes known that the published list is well formed.
     let _ = writer.current();

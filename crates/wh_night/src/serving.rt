@@ -1,18 +1,13 @@
 //! A night that runs while readers go through the tables of before.
 
-ghost use Rattle.std.specs.Prelude.{◌≡◌, ◌⊎◌, ◌≤◌, ◌<◌, ℕ, [], Ok, None, Some, length, replicate, IfErr, IfOk, IfSome, IsTrue, MatchResult, OnOk};
+ghost use Rattle.std.specs.Prelude.{◌≡◌, ◌⊎◌, ◌≤◌, ℕ, [], Ok, None, Some, length, replicate, IfErr, IfOk, IfSome, IsTrue, MatchResult, OnOk};
 ghost use Rattle.std.specs.List.{All};
 ghost use Rattle.std.specs.Thread.{IsSync};
 ghost use Rattle.wh_maint.specs.Asked.{AreBags};
 ghost use Rattle.wh_maint.specs.Comp.{bag_at};
-ghost use Rattle.wh_maint.specs.Contents.{AreContents, AreContentsOf};
-ghost use Rattle.wh_maint.specs.Definition.{graph_of};
-ghost use Rattle.wh_maint.specs.Laws.{changed};
 ghost use Rattle.wh_maint.specs.declared.fault.MaintFault.TheVariants.{Memory};
-ghost use Rattle.wh_carry.specs.Carry.{tables_after};
+ghost use Rattle.wh_carry.specs.CarriedOut.{IsCarried};
 ghost use Rattle.wh_carry.specs.Fit.{AreFitFor, AreFitTables};
-ghost use Rattle.wh_carry.specs.Refused.{AreAllowedBelow, ArePassedBelow};
-ghost use Rattle.wh_carry.specs.Steps.{AreSteps};
 ghost use Rattle.wh_carry.specs.Night.{Night};
 ghost use Rattle.wh_store.specs.Ledgers.{Warehouse};
 ghost use Rattle.wh_night.specs.Refusals.{IsRefused, IsRefusedSo, left_of};
@@ -24,9 +19,8 @@ ghost use Rattle.wh_night.specs.Inner.Serving.{CanRun, IsReady, IsRun, IsSeated,
 use crate::alone::night_alone;
 use crate::cause::NightCause;
 use crate::left::{Left, NightFault};
-use crate::opening::current_tables;
 use crate::reading::read_each;
-use crate::running::{Options, night};
+use crate::running::{Options, night_from};
 use crate::watch::Watch;
 use std::alloc::Global;
 use std::sync::Wait;
@@ -60,6 +54,17 @@ pub struct Served {
     pub rows: Vec<usize>,
 }
 
+/// The night that is asked for. Nothing of it is changed.
+#[derive(Drop)]
+struct Asked<'n, F: RowTest, G: RowValue, W: Watch> {
+    alloc: Global,
+    catalog: &'n Catalog<F, G>,
+    changes: &'n [Bag],
+    correct: &'n Correct,
+    options: Options,
+    watch: &'n W,
+}
+
 /// Opens a session of version 0 at each desk. False where one has no answer, or another version.
 fn sit_down(desks: &mut Vec<Desk>) -> bool
     ensures len { length desks.new.items ≡ length desks.old.items }
@@ -73,29 +78,31 @@ fn sit_down(desks: &mut Vec<Desk>) -> bool
     true
 }
 
-/// Runs a night while desks go through all views, each in a thread of its own where one can be started, and else after the night.
+/// Runs a night from these tables while desks go through all views, each in a thread of its own where one can be started, and else
+/// after the night.
 fn beside_readers<F: RowTest, G: RowValue, W: Watch + Sync, R: Threads + Wait + Sync>(
     rt: &R,
-    alloc: Global,
+    asked: &Asked<'_, F, G, W>,
     writer: &mut Writer,
     desks: &mut Vec<Desk>,
-    views: usize,
-    catalog: &Catalog<F, G>,
-    changes: &[Bag],
-    correct: &Correct,
-    options: Options,
-    watch: &W,
-) -> (Option<Vec<usize>>, Result<Report, NightFault>)
-    requires seated { All (IsReady views) desks.old.items }
+    tables: &mut Vec<Bag>,
+) -> (Option<Vec<usize>>, Result<Carried, NightFault>)
+    requires seated { All (IsReady (length tables.old.items)) desks.old.items }
     requires same { All (λ d. d.of ≡ writer.old.ledger.of) desks.old.items }
-    requires ready { CanRun catalog.now correct.now writer.old.ledger changes.now options }
+    requires current { tables.old.items ≡ newest_in writer.old.ledger }
+    requires ready { CanRun asked.now.catalog.now asked.now.correct.now writer.old.ledger asked.now.changes.now asked.now.options }
     ensures rows { IfSome result.0 (λ rows. rows.items ≡ replicate (length desks.old.items) (rows_of writer.old.ledger.of.opening)) }
-    ensures night { IsRun catalog.now correct.now.list writer.old.ledger changes.now options.page_keys result.1 writer.new.ledger }
+    ensures night { IsRun asked.now.catalog.now asked.now.correct.now.list writer.old.ledger asked.now.changes.now asked.now.options.page_keys result.1 writer.new.ledger }
 {
-    if desks.is_empty() {
-        let night = night(rt, alloc, writer, catalog, changes, correct, options, watch);
-        return (Some(Vec::new(alloc)), night);
-    }
+    let Asked {
+        alloc,
+        catalog,
+        changes,
+        correct,
+        options,
+        watch,
+    } = *asked;
+    let views = tables.len();
     join_mut(
         rt,
         &mut || -> Option<Vec<usize>>
@@ -105,10 +112,15 @@ fn beside_readers<F: RowTest, G: RowValue, W: Watch + Sync, R: Threads + Wait + 
             let seated = std::mem::replace(desks, Vec::new(alloc));
             read_each(rt, alloc, seated, views, watch)
         },
-        &mut || -> Result<Report, NightFault>
-            requires { CanRun catalog.now correct.now writer.now.ledger changes.now options }
+        &mut || -> Result<Carried, NightFault>
+            requires { CanRun catalog.now correct.now writer.now.ledger changes.now options × (tables.now.items ≡ newest_in writer.now.ledger) }
             ensures { IsRun catalog.entry.now correct.entry.now.list writer.entry.now.ledger changes.entry.now options.page_keys result writer.exit.now.ledger }
-        { night(rt, alloc, writer, catalog, changes, correct, options, watch) },
+        {
+            let current = std::mem::replace(tables, Vec::new(alloc));
+            night_from(
+                rt, alloc, writer, catalog, current, changes, correct, options, watch,
+            )
+        },
     )
 }
 
@@ -141,24 +153,17 @@ fn refusal(refused: NightFault) -> CarryFault
     CarryFault { fault, started }
 }
 
-/// What a night made, from what is published after it.
+/// What a night made, with what readers were given.
 fn answer_of(
-    alloc: Global,
-    writer: &Writer,
-    views: usize,
-    night: Result<Report, NightFault>,
+    night: Result<Carried, NightFault>,
     rows: Option<Vec<usize>>,
 ) -> Result<Served, CarryFault>
-    requires ready { OnOk night ((writer.now.ledger.held ≡ None) × (length (newest_in writer.now.ledger) ≡ views)) }
-    ensures ok { IfOk result (λ s. (s.tables.items ≡ newest_in writer.now.ledger) × (night ≡ Ok s.report) × (rows ≡ Some s.rows)) }
+    ensures ok { IfOk result (λ s. (night ≡ Ok (record { tables = s.tables; report = s.report })) × (rows ≡ Some s.rows)) }
     ensures err { IfErr result (λ f. MatchResult night (λ _. f.fault ≡ Memory) (λ g. (n : Night) → IsRefused n g → (f.fault ≡ Memory) ⊎ IsRefusedSo n (left_of f.started) f.fault)) }
 {
     match night {
-        Ok(report) => {
+        Ok(Carried { tables, report }) => {
             let Some(rows) = rows else {
-                return Err(want_of_memory());
-            };
-            let Ok(tables) = current_tables(alloc, writer, views) else {
                 return Err(want_of_memory());
             };
             Ok(Served {
@@ -174,98 +179,67 @@ fn answer_of(
 /// A night without readers, over the tables as they lie.
 fn serve_none<F: RowTest, G: RowValue, W: Watch + Sync, R: Threads + Sync>(
     rt: &R,
-    alloc: Global,
-    catalog: &Catalog<F, G>,
+    asked: &Asked<'_, F, G, W>,
     tables: Vec<Bag>,
-    changes: &[Bag],
-    correct: &Correct,
-    options: Options,
-    watch: &W,
 ) -> Result<Served, CarryFault>
-    requires judged { correct.now.children ≡ catalog.now.views.children }
-    requires tables { AreBags catalog.now tables.items }
-    requires changes { AreBags catalog.now changes.now }
-    requires fit { AreFitTables catalog.now tables.items }
-    requires some { 1 ≤ options.workers }
-    requires few { options.workers ≤ 16 }
-    ensures bags { IfOk result (λ s. AreBags catalog.now s.tables.items) }
-    ensures tables { IfOk result (λ s. (v : ℕ) → v < length catalog.now.views.children
-        → bag_at s.tables.items v ≡ tables_after (graph_of catalog.now) (bag_at changes.now) correct.now.list (bag_at tables.items) v) }
-    ensures contents { IfOk result (λ s. AreContents (graph_of catalog.now) (bag_at tables.items)
-        → AreContentsOf (graph_of catalog.now) (changed (bag_at tables.items) (bag_at changes.now)) (bag_at s.tables.items)) }
-    ensures version { IfOk result (λ s. s.report.version ≡ 1) }
-    ensures steps { IfOk result (λ s. AreSteps catalog.now.views.children correct.now.list (bag_at tables.items)
-        (tables_after (graph_of catalog.now) (bag_at changes.now) correct.now.list (bag_at tables.items)) s.report.steps.items) }
-    ensures allowed { OnOk result (AreAllowedBelow catalog.now (bag_at tables.items) (bag_at changes.now) (length catalog.now.views.children)) }
-    ensures passed { OnOk result (ArePassedBelow catalog.now correct.now.list (bag_at tables.items) (bag_at changes.now) (length correct.now.list)) }
+    requires judged { asked.now.correct.now.children ≡ asked.now.catalog.now.views.children }
+    requires tables { AreBags asked.now.catalog.now tables.items }
+    requires changes { AreBags asked.now.catalog.now asked.now.changes.now }
+    requires fit { AreFitTables asked.now.catalog.now tables.items }
+    requires some { 1 ≤ asked.now.options.workers }
+    requires few { asked.now.options.workers ≤ 16 }
+    ensures carried { IfOk result (λ s. IsCarried asked.now.catalog.now asked.now.correct.now.list tables.items asked.now.changes.now s.tables.items s.report) }
     ensures rows { IfOk result (λ s. s.rows.items ≡ []) }
     ensures refused { IfErr result (λ f. (f.fault ≡ Memory)
-        ⊎ ((keys : ℕ) → IsRefusedSo (night_over catalog.now correct.now.list tables.items changes.now keys) (left_of f.started) f.fault)) }
+        ⊎ ((keys : ℕ) → IsRefusedSo (night_over asked.now.catalog.now asked.now.correct.now.list tables.items asked.now.changes.now keys) (left_of f.started) f.fault)) }
 {
-    match night_alone(
+    let Carried { tables, report } = night_alone(
         rt,
-        alloc,
-        catalog,
+        asked.alloc,
+        asked.catalog,
         tables,
-        changes,
-        correct,
-        options.workers,
-        watch,
-    ) {
-        Ok(Carried { tables, report }) => Ok(Served {
-            tables,
-            report,
-            rows: Vec::new(alloc),
-        }),
-        Err(refused) => Err(refused),
-    }
+        asked.changes,
+        asked.correct,
+        asked.options.workers,
+        asked.watch,
+    )?;
+    Ok(Served {
+        tables,
+        report,
+        rows: Vec::new(asked.alloc),
+    })
 }
 
-/// A night beside one reader at least.
+/// A night beside one reader at least, over a new store of these tables.
 fn serve_some<F: RowTest, G: RowValue, W: Watch + Sync, R: Threads + Wait + Sync>(
     rt: &R,
-    alloc: Global,
-    catalog: &Catalog<F, G>,
+    asked: &Asked<'_, F, G, W>,
     store: Store,
-    changes: &[Bag],
-    correct: &Correct,
-    options: Options,
+    tables: Vec<Bag>,
     readers: usize,
-    watch: &W,
 ) -> Result<Served, CarryFault>
     requires new { Shows store (current store) [] }
     requires limit { store.limit ≡ 2 }
-    requires ready { CanRun catalog.now correct.now (newly (current store)) changes.now options }
+    requires current { current store ≡ tables.items }
+    requires ready { CanRun asked.now.catalog.now asked.now.correct.now (newly tables.items) asked.now.changes.now asked.now.options }
     requires least { 1 ≤ readers }
     requires most { readers ≤ 16 }
-    ensures run { IfOk result (IsServed catalog.now correct.now.list (newly (current store)) changes.now options.page_keys) }
-    ensures rows { IfOk result (λ s. s.rows.items ≡ replicate readers (rows_of (current store))) }
+    ensures run { IfOk result (IsServed asked.now.catalog.now asked.now.correct.now.list (newly tables.items) asked.now.changes.now asked.now.options.page_keys) }
+    ensures rows { IfOk result (λ s. s.rows.items ≡ replicate readers (rows_of tables.items)) }
     ensures refused { IfErr result (λ f. (f.fault ≡ Memory)
-        ⊎ IsRefusedSo (night_over catalog.now correct.now.list (current store) changes.now options.page_keys) (left_of f.started) f.fault) }
+        ⊎ IsRefusedSo (night_over asked.now.catalog.now asked.now.correct.now.list tables.items asked.now.changes.now asked.now.options.page_keys) (left_of f.started) f.fault) }
 {
-    let views = catalog.shape().len();
-    let Ok((mut writer, mut desks)) = open_warehouse(rt, alloc, store, readers) else {
+    let Ok((mut writer, mut desks)) = open_warehouse(rt, asked.alloc, store, readers) else {
         return Err(want_of_memory());
     };
     if !sit_down(&mut desks) {
         writer.end(rt);
         return Err(want_of_memory());
     }
-    let (rows, night) = beside_readers(
-        rt,
-        alloc,
-        &mut writer,
-        &mut desks,
-        views,
-        catalog,
-        changes,
-        correct,
-        options,
-        watch,
-    );
-    let answer = answer_of(alloc, &writer, views, night, rows);
+    let mut tables = tables;
+    let (rows, night) = beside_readers(rt, asked, &mut writer, &mut desks, &mut tables);
     writer.end(rt);
-    answer
+    answer_of(night, rows)
 }
 
 /// Runs a night over a new warehouse of these tables while readers go through them: one bag for each view, fit for the night, as
@@ -295,16 +269,7 @@ pub fn serve_night<F: RowTest, G: RowValue, W: Watch + Sync, R: Threads + Wait +
     requires least { 1 ≤ options.page_keys }
     requires most { options.page_keys ≤ 256 }
     requires readers { readers.count ≤ 16 }
-    ensures bags { IfOk result (λ s. AreBags catalog.now s.tables.items) }
-    ensures tables { IfOk result (λ s. (v : ℕ) → v < length catalog.now.views.children
-        → bag_at s.tables.items v ≡ tables_after (graph_of catalog.now) (bag_at changes.now) correct.now.list (bag_at tables.items) v) }
-    ensures contents { IfOk result (λ s. AreContents (graph_of catalog.now) (bag_at tables.items)
-        → AreContentsOf (graph_of catalog.now) (changed (bag_at tables.items) (bag_at changes.now)) (bag_at s.tables.items)) }
-    ensures version { IfOk result (λ s. s.report.version ≡ 1) }
-    ensures steps { IfOk result (λ s. AreSteps catalog.now.views.children correct.now.list (bag_at tables.items)
-        (tables_after (graph_of catalog.now) (bag_at changes.now) correct.now.list (bag_at tables.items)) s.report.steps.items) }
-    ensures allowed { OnOk result (AreAllowedBelow catalog.now (bag_at tables.items) (bag_at changes.now) (length catalog.now.views.children)) }
-    ensures passed { OnOk result (ArePassedBelow catalog.now correct.now.list (bag_at tables.items) (bag_at changes.now) (length correct.now.list)) }
+    ensures carried { IfOk result (λ s. IsCarried catalog.now correct.now.list tables.items changes.now s.tables.items s.report) }
     ensures rows { IfOk result (λ s. s.rows.items ≡ replicate readers.entry.count (rows_of tables.items)) }
     ensures refused { IfErr result (λ f. (f.fault ≡ Memory)
         ⊎ IsRefusedSo (night_over catalog.now correct.now.list tables.items changes.now options.page_keys) (left_of f.started) f.fault) }
@@ -312,13 +277,19 @@ pub fn serve_night<F: RowTest, G: RowValue, W: Watch + Sync, R: Threads + Wait +
     // Makes known that the strategy keeps the rules.
     let _ = correct.strategy();
     let Readers { count, watch } = readers;
+    let asked = Asked {
+        alloc,
+        catalog,
+        changes,
+        correct,
+        options,
+        watch,
+    };
     if count == 0 {
-        return serve_none(rt, alloc, catalog, tables, changes, correct, options, watch);
+        return serve_none(rt, &asked, tables);
     }
-    let Ok(store) = Store::new(alloc, tables.as_slice(), 2) else {
+    let Ok(store) = Store::new(alloc, &tables, 2) else {
         return Err(want_of_memory());
     };
-    serve_some(
-        rt, alloc, catalog, store, changes, correct, options, count, watch,
-    )
+    serve_some(rt, &asked, store, tables, count)
 }

@@ -25,6 +25,7 @@ ghost use Rattle.wh_night.specs.Underway.{IsAdded, AreAdded, SourcesAreKnown};
 ghost use Rattle.wh_night.specs.Inner.Underway.{Given, night_given, HasCome, Reports, SourcesFinish};
 
 use crate::gate::Gate;
+use crate::means::{Means, Progress};
 use std::alloc::{AllocError, Global};
 use std::thread::Threads;
 use wh_carry::{Job, NightState};
@@ -203,9 +204,7 @@ fn add_one<F: RowTest, G: RowValue>(
         (comp_columns (view_of (definition_of catalog.now job.now.view)) (children_of catalog.now.views.children job.now.view) job.now.from (kept state.old).tables (kept state.old).changes) fault) }
 {
     let rows = state.operand_rows(catalog, job.view, job.from.as_slice());
-    if let Err(fault) = state.add(added) {
-        return Err(fault);
-    }
+    state.add(added)?;
     match report(alloc, job, rows, steps) {
         Ok(()) => Ok(()),
         Err(_) => Err(MaintFault::Memory),
@@ -234,9 +233,7 @@ fn add_all<F: RowTest, G: RowValue>(
         → SourcesFinish (night_given catalog.now keys t) place jobs.now → (fault ≡ Memory) ⊎ IsWaveFault (night_given catalog.now keys t) place jobs.now fault) }
 {
     for number in 0..jobs.len() {
-        if let Err(fault) = add_one(alloc, catalog, &jobs[number], &added[number], state, steps) {
-            return Err(fault);
-        }
+        add_one(alloc, catalog, &jobs[number], &added[number], state, steps)?;
     }
     Ok(())
 }
@@ -245,34 +242,48 @@ fn add_all<F: RowTest, G: RowValue>(
 /// refusal ends it.
 pub(crate) fn wave<F: RowTest, G: RowValue, T: Gate + Sync, R: Threads + Sync>(
     rt: &R,
-    alloc: Global,
-    catalog: &Catalog<F, G>,
+    means: &Means<'_, F, G, T>,
     jobs: &[Job],
-    state: &mut NightState,
-    steps: &mut Vec<(Expression, u128)>,
-    workers: usize,
-    gate: &T,
+    progress: &mut Progress,
 ) -> Result<(), MaintFault>
-    requires parts { HaveParts catalog.now state.old }
-    requires fit { CanFinish catalog.now (kept state.old) }
-    requires jobs { IsStageIn catalog.now (stage.Wave jobs.now) }
-    requires least { 1 ≤ workers }
-    requires most { workers ≤ 16 }
-    ensures parts { OnOk result (HaveParts catalog.now state.new) }
-    ensures fit { OnOk result (CanFinish catalog.now (kept state.new)) }
-    ensures goes { OnOk result ((keys place : ℕ) (t : Given) → IsWaveAt catalog.now jobs.now (night_given catalog.now keys t) place → HasCome (night_given catalog.now keys t) place (kept state.old) steps.old.items
-        → HasCome (night_given catalog.now keys t) (place + length jobs.now) (kept state.new) steps.new.items) }
-    ensures refused { IfErr result (λ fault. (keys place : ℕ) (t : Given) → IsWaveAt catalog.now jobs.now (night_given catalog.now keys t) place → HasCome (night_given catalog.now keys t) place (kept state.old) steps.old.items
-        → (fault ≡ Memory) ⊎ IsWaveFault (night_given catalog.now keys t) place jobs.now fault) }
+    requires parts { HaveParts means.now.catalog.now progress.old.state }
+    requires fit { CanFinish means.now.catalog.now (kept progress.old.state) }
+    requires jobs { IsStageIn means.now.catalog.now (stage.Wave jobs.now) }
+    requires least { 1 ≤ means.now.workers }
+    requires most { means.now.workers ≤ 16 }
+    ensures parts { OnOk result (HaveParts means.now.catalog.now progress.new.state) }
+    ensures fit { OnOk result (CanFinish means.now.catalog.now (kept progress.new.state)) }
+    ensures goes { OnOk result ((keys place : ℕ) (t : Given) → IsWaveAt means.now.catalog.now jobs.now (night_given means.now.catalog.now keys t) place → HasCome (night_given means.now.catalog.now keys t) place (kept progress.old.state) progress.old.steps.items
+        → HasCome (night_given means.now.catalog.now keys t) (place + length jobs.now) (kept progress.new.state) progress.new.steps.items) }
+    ensures refused { IfErr result (λ fault. (keys place : ℕ) (t : Given) → IsWaveAt means.now.catalog.now jobs.now (night_given means.now.catalog.now keys t) place → HasCome (night_given means.now.catalog.now keys t) place (kept progress.old.state) progress.old.steps.items
+        → (fault ≡ Memory) ⊎ IsWaveFault (night_given means.now.catalog.now keys t) place jobs.now fault) }
 {
-    if let Err(fault) = finish_sources(alloc, catalog, jobs, state) {
-        return Err(fault);
-    }
+    let alloc = means.alloc;
+    let catalog = means.catalog;
+    let workers = means.workers;
+    finish_sources(alloc, catalog, jobs, &mut progress.state)?;
     // It is for time alone, so where memory is refused the wave goes on without it.
-    let _ = state.lay_out(alloc, catalog, jobs, workers.min(jobs.len()));
-    let added = match run_wave(rt, alloc, catalog, jobs, state, workers, gate) {
+    let _ = progress
+        .state
+        .lay_out(alloc, catalog, jobs, workers.min(jobs.len()));
+    let added = match run_wave(
+        rt,
+        alloc,
+        catalog,
+        jobs,
+        &progress.state,
+        workers,
+        means.gate,
+    ) {
         Ok(added) => added,
         Err(fault) => return Err(of_jobs(fault)),
     };
-    add_all(alloc, catalog, jobs, added.as_slice(), state, steps)
+    add_all(
+        alloc,
+        catalog,
+        jobs,
+        added.as_slice(),
+        &mut progress.state,
+        &mut progress.steps,
+    )
 }

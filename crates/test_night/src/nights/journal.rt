@@ -91,12 +91,24 @@ impl Journal {
         self.store.is_active()
     }
 
-    /// The tables of the current version.
-    pub(crate) fn tables(&self) -> &[Bag]
-        ensures { result.now ≡ (versions_in self.now.of self.now.list).newest }
+    /// How many views the current version has.
+    pub(crate) fn views(&self) -> usize
+        ensures { result ≡ length (versions_in self.now.of self.now.list).newest }
     {
         told_law();
-        self.store.current_tables()
+        self.store.current_views()
+    }
+
+    /// The tables of the current version.
+    pub(crate) fn tables(&self, alloc: Global) -> Result<Vec<Bag>, AllocError>
+        ensures { IfOk result (λ tables. tables.items ≡ (versions_in self.now.of self.now.list).newest) }
+    {
+        let mut tables = Vec::new(alloc);
+        for view in 0..self.views() {
+            let table = self.table(view)?;
+            tables.push(table)?;
+        }
+        Ok(tables)
     }
 
     /// The table of a view in the current version.

@@ -93,13 +93,14 @@ fn carry_out<R: Threads + Wait + Sync>(
         changes,
         correct,
     } = setting;
+    let tables = writer.tables(alloc)?;
     let is_asked = correct.is_of(catalog.shape())
         && are_bags(catalog, changes)
-        && are_bags(catalog, writer.tables());
+        && are_bags(catalog, &tables);
     if !is_asked {
         return Err(Fail::from("what a night asks for"));
     }
-    let Ok(true) = are_fit_for(alloc, catalog, writer.tables(), changes, correct) else {
+    let Ok(true) = are_fit_for(alloc, catalog, &tables, changes, correct) else {
         return Err(Fail::from("tables that are fit for the night"));
     };
     Ok(night(
@@ -219,7 +220,8 @@ fn a_night_whose_commit_is_held(rt: HostRuntime) -> Result<(), Fail> {
     assert_eq!(rt; writer.give_up(&rt), Ok(Ended::Committed));
     assert_published(&rt, alloc, &writer, &NIGHT)?;
     assert_eq!(rt; writer.current(), 1);
-    let is_new = match writer.tables() {
+    let tables = writer.tables(alloc)?;
+    let is_new = match tables.as_slice() {
         [_a, _b, table] => has_rows(table, &[&[1, 6], &[3, 6]]),
         _ => false,
     };

@@ -102,10 +102,10 @@ impl Refusing {
     }
 
     /// The tables of the current version.
-    pub(crate) fn tables(&self) -> &[Bag]
-        ensures { result.now ≡ (versions_in self.now.of self.now.list).newest }
+    pub(crate) fn tables(&self, alloc: Global) -> Result<Vec<Bag>, AllocError>
+        ensures { IfOk result (λ tables. tables.items ≡ (versions_in self.now.of self.now.list).newest) }
     {
-        self.journal.tables()
+        self.journal.tables(alloc)
     }
 
     /// All that was published, in its order.
@@ -190,7 +190,7 @@ impl Publish for Refusing {
 
     #[tactic(auto, using(wh_store::proofs::Views::newest_tables))]
     fn views(&self) -> usize {
-        self.journal.tables().len()
+        self.journal.views()
     }
 
     fn table(&self, view: usize) -> Result<Bag, AllocError> {

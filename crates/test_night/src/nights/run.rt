@@ -48,7 +48,7 @@ fn over_writer<R: Threads + Wait + Sync>(
     if !are_bags(catalog, &tables) || !are_fit(alloc, catalog, &tables)? {
         return Ok(None);
     }
-    let store = Store::new(alloc, tables)?;
+    let store = Store::new(alloc, &tables, 2)?;
     let Ok((mut writer, _desks)) = open_warehouse(rt, alloc, store, 1) else {
         return Ok(None);
     };

@@ -55,7 +55,7 @@ pub(crate) fn store_of(
     let Ok(true) = are_fit_for(alloc, catalog, &tables, changes, correct) else {
         return Ok(None);
     };
-    Ok(Some(Store::new(alloc, tables)?))
+    Ok(Some(Store::new(alloc, &tables, 2)?))
 }
 
 /// A warehouse of these tables with one desk. None where they are not what this night asks for.

@@ -131,7 +131,7 @@ fn goes_out<R: Threads + Wait + Sync + Abort>(
     let Ok(true) = are_fit_for(alloc, catalog, &tables, &changes, &correct) else {
         return Ok(false);
     };
-    let store = Store::new(alloc, tables)?;
+    let store = Store::new(alloc, &tables, 2)?;
     let Ok((mut writer, _desks)) = open_warehouse(rt, alloc, store, 1) else {
         return Ok(false);
     };

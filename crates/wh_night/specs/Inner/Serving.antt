@@ -1,30 +1,23 @@
 -- A night that runs while readers go through the tables of before: what only proofs and private contracts use.
-use Rattle.std.specs.Prelude.{◌≡◌, ◌≤◌, ℕ, List, [], None, Some, length, IfErr, IfOk, OnOk, Ok, Result}
+use Rattle.std.specs.Prelude.{◌≡◌, ◌≤◌, ℕ, List, [], None, Some, length, IfErr, IfOk, Result}
 use Rattle.wh_row.specs.Bag.{Bag}
 use Rattle.wh_dag.specs.Catalog.{CatalogOf}
 use Rattle.wh_strategy.specs.Rules.{Judged}
 use Rattle.wh_strategy.specs.declared.expression.Expression.{Expression}
 use Rattle.wh_maint.specs.Asked.{AreBags}
 use Rattle.wh_maint.specs.Comp.{bag_at}
-use Rattle.wh_maint.specs.Contents.{AreContents, AreContentsOf}
-use Rattle.wh_maint.specs.Definition.{graph_of}
-use Rattle.wh_maint.specs.Laws.{changed}
 use Rattle.wh_store.specs.Operations.{Opens}
 use Rattle.wh_store.specs.Pages.{Contents}
-use Rattle.wh_store.specs.Versions.{number}
 use Rattle.wh_store.specs.Faults.{publish_refusal}
-use Rattle.wh_store.specs.Ledgers.{Ledger, Warehouse, ledger, versions_in}
+use Rattle.wh_store.specs.Ledgers.{Ledger, Warehouse, ledger}
 use Rattle.wh_carry.specs.Fit.{AreFitFor}
-use Rattle.wh_carry.specs.NightLaws.{HaveTables}
-use Rattle.wh_carry.specs.Refused.{ArePassedBelow}
-use Rattle.wh_carry.specs.Steps.{AreSteps}
-use Rattle.wh_carry.specs.declared.report.Report.{Report}
+use Rattle.wh_carry.specs.declared.report.Carried.{Carried}
 use Rattle.wh_desk.specs.Desks.{Sitting}
 use Rattle.wh_night.specs.declared.left.NightFault.{NightFault}
 use Rattle.wh_night.specs.declared.running.Options.{Options}
 use Rattle.wh_night.specs.Refusals.{IsRefused}
-use Rattle.wh_carry.specs.Night.{AreAllowed}
-use Rattle.wh_night.specs.Tonight.{IsDone, made_by, newest_in, tonight}
+use Rattle.wh_night.specs.Tonight.{newest_in, tonight}
+use Rattle.wh_night.specs.Published.{IsPublished}
 use Rattle.wh_night.specs.declared.serving.Served.{Served}
 
 -- a warehouse that begins with these tables; nothing is published
@@ -52,19 +45,13 @@ pub record CanRun (catalog : CatalogOf) (correct : Judged) (l : Ledger) (changes
   pub most : options.page_keys ≤ 256
 
 -- what a night answers over a published list at which one can begin, and what is published then
-pub record IsRun (catalog : CatalogOf) (list : List Expression) (l : Ledger) (changes : List Bag) (keys : ℕ) (r : Result Report NightFault) (m : Ledger) : Type 0 where
-  pub done : OnOk r (IsDone (tonight catalog list l changes keys) l m)
-  pub bags : OnOk r (AreBags catalog (newest_in m))
-  pub tables : OnOk r (HaveTables (newest_in m) (length catalog.views.children) (made_by (tonight catalog list l changes keys)))
-  pub contents : OnOk r (AreContents (graph_of catalog) (bag_at (newest_in l)) → AreContentsOf (graph_of catalog) (changed (bag_at (newest_in l)) (bag_at changes)) (bag_at (newest_in m)))
-  pub version : IfOk r (λ report. report.version ≡ number (versions_in m.of m.list))
-  pub steps : IfOk r (λ report. AreSteps catalog.views.children list (bag_at (newest_in l)) (made_by (tonight catalog list l changes keys)) report.steps.items)
-  pub allowed : OnOk r (AreAllowed (tonight catalog list l changes keys))
-  pub passed : OnOk r (ArePassedBelow catalog list (bag_at (newest_in l)) (bag_at changes) (length list))
+pub record IsRun (catalog : CatalogOf) (list : List Expression) (l : Ledger) (changes : List Bag) (keys : ℕ) (r : Result Carried NightFault) (m : Ledger) : Type 0 where
+  pub published : IfOk r (λ c. IsPublished catalog list l changes keys c.report m)
+  pub tables : IfOk r (λ c. c.tables.items ≡ newest_in m)
   pub refused : IfErr r (IsRefused (tonight catalog list l changes keys))
 
 -- what is answered of a night that was done over this published list, without what readers were given
 pub record IsServed (catalog : CatalogOf) (list : List Expression) (l : Ledger) (changes : List Bag) (keys : ℕ) (s : Served) : Type 0 where
   pub after : Ledger
-  pub run : IsRun catalog list l changes keys (Ok s.report) after
+  pub published : IsPublished catalog list l changes keys s.report after
   pub tables : s.tables.items ≡ newest_in after

@@ -1,11 +1,11 @@
 -- Where a night has come to: what is carried out, reported and published: what only proofs and private contracts use.
 use Rattle.std.specs.Prelude.{◌≡◌, ◌≢◌, ◌⊎◌, ◌==◌, ℕ, ◌<◌, ◌≤◌, ◌^◌, true, List, [], ◌∷◌, ◌++◌, map, Option, Some, None, length}
 use Rattle.std.specs.List.{All}
-use Rattle.wh_dag.specs.Catalog.{CatalogOf, width_of}
+use Rattle.wh_dag.specs.Catalog.{CatalogOf}
 use Rattle.wh_strategy.specs.declared.expression.Expression.{Expression}
 use Rattle.wh_strategy.specs.declared.expression.Expression.TheVariants.{Inst}
 use Rattle.wh_row.specs.Weigh.{Counted}
-use Rattle.wh_row.specs.Bag.{Bag, HasWidth, IsTable, sum_of}
+use Rattle.wh_row.specs.Bag.{Bag, IsTable, sum_of}
 use Rattle.wh_maint.specs.Definition.{graph_of}
 use Rattle.wh_maint.specs.declared.fault.MaintFault.{MaintFault}
 use Rattle.wh_maint.specs.declared.fault.MaintFault.TheVariants.{Memory}
@@ -124,18 +124,18 @@ pub record AreFitStages (catalog : CatalogOf) (keys : ℕ) (t : Given) (stages :
   pub tables : HaveTables (newest_in t.before) (length catalog.views.children) t.tables
   pub fit : (place : ℕ) → HaveValuesBelow catalog t.list t.tables t.changes place → AreFit (graph_of catalog) (state_at (night_given catalog keys t) place).tables
 
--- the night of these stages can begin from what is kept
-pub record CanStart (catalog : CatalogOf) (keys : ℕ) (stages : List Stage) (k : Kept) (l : Ledger) : Type 0 where
+-- the night of these stages can begin from what is kept, and what is reported
+pub record CanStart (catalog : CatalogOf) (keys : ℕ) (stages : List Stage) (k : Kept) (steps : List (Expression × ℕ)) (l : Ledger) : Type 0 where
   pub given : Given
   pub fit : AreFitStages catalog keys given stages
   pub before : given.before ≡ l
-  pub come : HasCome (night_given catalog keys given) 0 k []
+  pub come : HasCome (night_given catalog keys given) 0 k steps
 
 -- it has begun
-pub record HasBegun (catalog : CatalogOf) (keys : ℕ) (stages : List Stage) (k : Kept) (m : Ledger) : Type 0 where
+pub record HasBegun (catalog : CatalogOf) (keys : ℕ) (stages : List Stage) (k : Kept) (steps : List (Expression × ℕ)) (m : Ledger) : Type 0 where
   pub given : Given
   pub fit : AreFitStages catalog keys given stages
-  pub at : IsAt (night_given catalog keys given) given.before 0 k [] m
+  pub at : IsAt (night_given catalog keys given) given.before 0 k steps m
 
 -- all but the commit has gone out, each expression being passed
 pub record IsPut (n : Night) (l m : Ledger) : Type 0 where
@@ -152,7 +152,3 @@ pub record IsRefusedLater (n : Night) (f : NightFault) : Type 0 where
   pub fault : MaintFault
   pub told : f.cause ≡ cause_of fault
   pub why : (fault ≡ Memory) ⊎ (IsFirstStageFault n fault × (f.left ≢ Untouched))
-
--- of each view the table has the view's width
-abbrev pub AreWide : CatalogOf → (ℕ → Bag) → Type 0
-AreWide catalog tables = (v : ℕ) → v < length catalog.views.children → HasWidth (tables v) (width_of catalog v)

@@ -3,6 +3,7 @@ use Rattle.std.specs.Prelude.{slice_get}
 use Rattle.std.proofs.lemmas.Option.{slice_get_read}
 use Rattle.wh_carry.specs.declared.stages.Stage.{Stage}
 use Rattle.wh_carry.specs.Kept.{kept}
+use Rattle.wh_carry.proofs.HandedOn.{handed_on}
 use Rattle.wh_carry.proofs.StageLaws.{lists_have_one_stages}
 use Rattle.wh_carry.specs.Standing.{place_behind}
 use Rattle.wh_carry.proofs.CourseWaves.{split_at, take_all, take_next}
@@ -13,7 +14,7 @@ pub loop-stage-init : goal.loop-stage-init
 loop-stage-init g c = record {
   parts = c.requires.parts;
   fit = c.requires.fit;
-  come = λ keys t are here. subst (λ steps. HasCome (night_given c.args.catalog.now keys t) 0 (kept c.args.state.now) steps) (sym c.new-steps.ensures.items) here;
+  come = λ keys t are here. here;
 }
 
 pub stage_of-requires-clause-stage : goal.stage_of-requires-clause-stage
@@ -33,23 +34,23 @@ loop-stage-preserved g c =
     let here : slice_get stages i ≡ Some x = slice_get_read stages (length stages) i x refl (omega arith) c.stage-item.is in
     let next : take (i + 1) stages ≡ take i stages ++ x ∷ [] = take_next stages i x here in
     record {
-      parts = c.in_default.ensures.parts;
-      fit = c.in_default.ensures.fit;
-      come = λ keys t are at. subst (λ ts. HasCome (night_given c.args.catalog.now keys t) (place_behind ts) (kept c.stage_of.new.state) c.stage_of.new.steps.items) (sym next)
-          (c.in_default.ensures.goes keys t (take i stages) (drop (i + 1) stages) (sym are ∙ split_here stages i x here) (c.loop-stage.invariant.come keys t are at));
+      parts = c.in_ok-stage_of.ensures.parts;
+      fit = c.in_ok-stage_of.ensures.fit;
+      come = λ keys t are at. subst (λ ts. HasCome (night_given c.args.means.now.catalog.now keys t) (place_behind ts) (kept c.stage_of.new.progress.state) c.stage_of.new.progress.steps.items) (sym next)
+          (c.in_ok-stage_of.ensures.goes keys t (take i stages) (drop (i + 1) stages) (sym are ∙ split_here stages i x here) (c.loop-stage.invariant.come keys t are at));
     }
 
-pub returns-in-Err-clause-stops : goal.returns-in-Err-clause-stops
-returns-in-Err-clause-stops g c = λ keys t are at.
+pub returns-in_err-stage_of-clause-stops : goal.returns-in_err-stage_of-clause-stops
+returns-in_err-stage_of-clause-stops g c = handed_on _ c.from_residual.result c.in_err-stage_of.field-0.0 c.from_residual.ensures (λ keys t are at.
     let stages : List Stage = c.args.stages.now in
     let i : ℕ = c.loop-stage.stage-index in
     let x : Stage = c.stage-item.result in
     let here : slice_get stages i ≡ Some x = slice_get_read stages (length stages) i x refl (omega arith) c.stage-item.is in
-    c.in-Err.ensures.stops keys t (take i stages) (drop (i + 1) stages) (sym are ∙ split_here stages i x here) (c.loop-stage.invariant.come keys t are at)
+    c.in_err-stage_of.ensures.stops keys t (take i stages) (drop (i + 1) stages) (sym are ∙ split_here stages i x here) (c.loop-stage.invariant.come keys t are at))
 
 pub returns-clause-goes : goal.returns-clause-goes
 returns-clause-goes g c = λ keys t are at.
     let stages : List Stage = c.args.stages.now in
     let all : take c.loop-stage.stage-index stages ≡ stages = take_all c.loop-stage.stage-index stages (omega arith) in
     let whole : place_behind (take c.loop-stage.stage-index stages) ≡ length t.list = ap place_behind (all ∙ are) ∙ ap length (lists_have_one_stages t.list).0.joined in
-    subst (λ p. HasCome (night_given c.args.catalog.now keys t) p (kept c.loop-stage.state) c.loop-stage.steps.items) whole (c.loop-stage.invariant.come keys t are at)
+    subst (λ p. HasCome (night_given c.args.means.now.catalog.now keys t) p (kept c.loop-stage.progress.state) c.loop-stage.progress.steps.items) whole (c.loop-stage.invariant.come keys t are at)

@@ -18,7 +18,7 @@ returns-clause-fit g c =
     let fit : c.in_ok-are_all_fit.field-0 ≡ true = search rules in
     if_ok _ _ c.are_all_fit-in-Ok.result
     (λ b h t. fit_through cat list c.args.tables.now (bag_at c.args.changes.now) c.shape.ensures.catalog ok c.requires.tables (c.in_ok-are_all_fit.ensures.fit.0 fit)
-    (λ v l. subst (IsFitTable (kind_in cat v)) (ap (λ ts. bag_at ts v) c.deref.ensures.value ∙ c.in-Ok.ensures.tables v l) (h.0 t v l)))
+    (λ v l. subst (IsFitTable (kind_in cat v)) (ap (λ ts. bag_at ts v) c.deref.ensures.value ∙ c.in-Ok.ensures.carried.tables v l) (h.0 t v l)))
     c.are_all_fit-in-Ok.ensures.fit
 
 pub returns-clause-unfit : goal.returns-clause-unfit
@@ -27,8 +27,8 @@ returns-clause-unfit g c =
     let list : List Expression = c.args.correct.now.list in
     if_ok _ _ c.are_all_fit-in-Ok.result
     (λ b h unfit fits. false≢true (sym unfit ∙ h.1 (λ v l.
-    subst (IsFitTable (kind_in cat v)) (sym (ap (λ ts. bag_at ts v) c.deref.ensures.value ∙ c.in-Ok.ensures.tables v l))
-    (fit_behind cat list c.args.tables.now c.args.changes.now c.requires.tables c.requires.changes c.in-Ok.ensures.allowed c.in-Ok.ensures.passed fits v))))
+    subst (IsFitTable (kind_in cat v)) (sym (ap (λ ts. bag_at ts v) c.deref.ensures.value ∙ c.in-Ok.ensures.carried.tables v l))
+    (fit_behind cat list c.args.tables.now c.args.changes.now c.requires.tables c.requires.changes c.in-Ok.ensures.carried.allowed c.in-Ok.ensures.carried.passed fits v))))
     c.are_all_fit-in-Ok.ensures.fit
 
 pub returns-in_default-clause-fit : goal.returns-in_default-clause-fit

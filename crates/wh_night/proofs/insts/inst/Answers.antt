@@ -8,16 +8,19 @@ use Rattle.wh_store.specs.Operations.{Writes}
 use Rattle.wh_store.specs.Pages.{is_page}
 use Rattle.wh_carry.specs.Kept.{Kept, kept, finished, installed}
 use Rattle.wh_carry.specs.NightList.{pages_of}
+use Rattle.wh_carry.proofs.HandedOn.{handed_on}
 use Rattle.wh_carry.proofs.NewCounts.{new_counts_make_tables}
 use Rattle.wh_night.specs.Tonight.{goes_out}
-use Rattle.wh_night.specs.Inner.Underway.{IsPartly, is_cut, is_refused}
+use Rattle.wh_night.specs.Inner.Underway.{IsInstStopped, IsPartly, is_cut, is_refused}
 use Rattle.wh_night.proofs.insts.inst.Goals as goal
 
 pub change-requires-clause-known : goal.change-requires-clause-known
-change-requires-clause-known g c = ap (λ (k : Kept). k.known c.args.view) c.in_default.ensures.done ∙ or_left (eqb c.args.view c.args.view) ((kept c.args.state.now).known c.args.view) (eq-eqb c.args.view c.args.view refl)
+change-requires-clause-known g c = ap (λ (k : Kept). k.known c.args.view) c.in_ok-install.ensures.done ∙ or_left (eqb c.args.view c.args.view) ((kept c.args.progress.now.state).known c.args.view) (eq-eqb c.args.view c.args.view refl)
 
-pub returns-in-Err-clause-err : goal.returns-in-Err-clause-err
-returns-in-Err-clause-err g c = is_refused refl c.in-Err.ensures.refused
+pub returns-in_err-install-clause-err : goal.returns-in_err-install-clause-err
+returns-in_err-install-clause-err g c =
+    let m = g.P.Publish.kept c.args.writer.now in
+    handed_on (λ fault. IsInstStopped c.args.means.now.catalog.now c.args.keys c.args.view (kept c.args.progress.now.state) fault m m) c.from_residual.result c.in_err-install.field-0.0 c.from_residual.ensures (is_refused refl c.in_err-install.ensures.refused)
 
 -- the pages of the change in the table that has it
 same_pages : (v keys : ℕ) (k installed_now : Kept) (over : Kept) (table change : Bag) → installed_now ≡ installed v over → table ≡ installed_now.tables v → change ≡ installed_now.changes v
@@ -30,26 +33,26 @@ same_pages v keys k installed_now over table change whole t d =
 pub returns-in-Ok-clause-out : goal.returns-in-Ok-clause-out
 returns-in-Ok-clause-out g c =
     let v : ℕ = c.args.view in
-    let k : Kept = kept c.args.state.now in
-    let over : Kept = finished c.args.catalog.now (λ u. eqb v u) k in
+    let k : Kept = kept c.args.progress.now.state in
+    let over : Kept = finished c.args.means.now.catalog.now (λ u. eqb v u) k in
     subst (λ pages. g.P.Publish.kept c.publish_change.new.writer ≡ goes_out (g.P.Publish.kept c.args.writer.now) (map (Writes v) pages) None)
-    (same_pages v c.args.keys k (kept c.install.new.state) over c.table.result.now c.change.result.now c.in_default.ensures.done c.table.ensures c.change.ensures)
+    (same_pages v c.args.keys k (kept c.install.new.progress.state) over c.table.result.now c.change.result.now c.in_ok-install.ensures.done c.table.ensures c.change.ensures)
     c.in-Ok.ensures.out
 
-pub returns-in-Err-publish_change-clause-err : goal.returns-in-Err-publish_change-clause-err
-returns-in-Err-publish_change-clause-err g c =
+pub returns-in-Err-clause-err : goal.returns-in-Err-clause-err
+returns-in-Err-clause-err g c =
     let v : ℕ = c.args.view in
-    let k : Kept = kept c.args.state.now in
-    let over : Kept = finished c.args.catalog.now (λ u. eqb v u) k in
-    is_cut refl c.in_default.ensures.passed
+    let k : Kept = kept c.args.progress.now.state in
+    let over : Kept = finished c.args.means.now.catalog.now (λ u. eqb v u) k in
+    is_cut refl c.in_ok-install.ensures.passed
     (subst (λ pages. IsPartly (g.P.Publish.kept c.args.writer.now) (map (Writes v) pages) (g.P.Publish.kept c.publish_change.new.writer))
-    (same_pages v c.args.keys k (kept c.install.new.state) over c.table.result.now c.change.result.now c.in_default.ensures.done c.table.ensures c.change.ensures)
-    c.in-Err-publish_change.ensures.err)
+    (same_pages v c.args.keys k (kept c.install.new.progress.state) over c.table.result.now c.change.result.now c.in_ok-install.ensures.done c.table.ensures c.change.ensures)
+    c.in-Err.ensures.err)
 
 pub publish_change-requires-clause-good : goal.publish_change-requires-clause-good
 publish_change-requires-clause-good g c =
     let v : ℕ = c.args.view in
-    let k : Kept = kept c.args.state.now in
-    let over : Kept = finished c.args.catalog.now (λ u. eqb v u) k in
-    subst (All (λ page. is_page page ≡ true)) (sym (same_pages v c.args.keys k (kept c.install.new.state) over c.table.result.now c.change.result.now c.in_default.ensures.done c.table.ensures c.change.ensures))
-    ((new_counts_make_tables c.args.keys (over.tables v) (over.changes v) c.requires.some).good c.requires.few (c.requires.table c.in_default.ensures.passed))
+    let k : Kept = kept c.args.progress.now.state in
+    let over : Kept = finished c.args.means.now.catalog.now (λ u. eqb v u) k in
+    subst (All (λ page. is_page page ≡ true)) (sym (same_pages v c.args.keys k (kept c.install.new.progress.state) over c.table.result.now c.change.result.now c.in_ok-install.ensures.done c.table.ensures c.change.ensures))
+    ((new_counts_make_tables c.args.keys (over.tables v) (over.changes v) c.requires.some).good c.requires.few (c.requires.table c.in_ok-install.ensures.passed))

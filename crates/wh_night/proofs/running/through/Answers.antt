@@ -3,6 +3,7 @@ use Rattle.std.specs.Prelude.{slice_get}
 use Rattle.std.proofs.lemmas.Option.{slice_get_read}
 use Rattle.wh_carry.specs.declared.stages.Stage.{Stage}
 use Rattle.wh_carry.specs.Kept.{kept}
+use Rattle.wh_carry.proofs.HandedOn.{handed_on}
 use Rattle.wh_carry.proofs.StageLaws.{lists_have_one_stages}
 use Rattle.wh_carry.specs.Standing.{place_behind}
 use Rattle.wh_carry.proofs.CourseWaves.{split_at, take_all, take_next}
@@ -13,10 +14,9 @@ use Rattle.wh_night.proofs.running.through.Goals as goal
 pub loop-stage-init : goal.loop-stage-init
 loop-stage-init g c = record {
   home = refl;
-  held = c.requires.held;
   parts = c.requires.parts;
   fit = c.requires.fit;
-  come = λ t are here. subst (λ steps. IsAt (night_given c.args.catalog.now c.args.keys t) t.before 0 (kept c.args.state.now) steps (g.P.Publish.kept c.args.writer.now)) (sym c.new-steps.ensures.items) here;
+  come = λ t are here. here;
 }
 
 pub stage_of-requires-clause-stage : goal.stage_of-requires-clause-stage
@@ -35,7 +35,7 @@ stage_of-requires-clause-publishes g c κs within =
     let x : Stage = c.stage-item.result in
     let here : slice_get stages i ≡ Some x = slice_get_read stages (length stages) i x refl (omega arith) c.stage-item.is in
     let r = c.requires.begun in
-    can_publish c.args.catalog.now c.args.keys r.given stages r.fit c.requires.some (take i stages) (drop (i + 1) stages) (kept c.loop-stage.state) c.loop-stage.steps.items (g.P.Publish.kept c.loop-stage.writer)
+    can_publish c.args.means.now.catalog.now c.args.keys r.given stages r.fit c.requires.some (take i stages) (drop (i + 1) stages) (kept c.loop-stage.progress.state) c.loop-stage.progress.steps.items (g.P.Publish.kept c.loop-stage.writer)
     (c.loop-stage.invariant.come r.given r.fit.are r.at) x (split_here stages i x here)
 
 pub loop-stage-preserved : goal.loop-stage-preserved
@@ -46,25 +46,24 @@ loop-stage-preserved g c =
     let here : slice_get stages i ≡ Some x = slice_get_read stages (length stages) i x refl (omega arith) c.stage-item.is in
     let next : take (i + 1) stages ≡ take i stages ++ x ∷ [] = take_next stages i x here in
     record {
-      home = c.in_default.ensures.home ∙ c.loop-stage.invariant.home;
-      held = c.in_default.ensures.held;
-      parts = c.in_default.ensures.parts;
-      fit = c.in_default.ensures.fit;
-      come = λ t are at. subst (λ ts. IsAt (night_given c.args.catalog.now c.args.keys t) t.before (place_behind ts) (kept c.stage_of.new.state) c.stage_of.new.steps.items (g.P.Publish.kept c.stage_of.new.writer)) (sym next)
-          (c.in_default.ensures.goes t (take i stages) (drop (i + 1) stages) (sym are ∙ split_here stages i x here) (c.loop-stage.invariant.come t are at));
+      home = c.in_ok-stage_of.ensures.home ∙ c.loop-stage.invariant.home;
+      parts = c.in_ok-stage_of.ensures.parts;
+      fit = c.in_ok-stage_of.ensures.fit;
+      come = λ t are at. subst (λ ts. IsAt (night_given c.args.means.now.catalog.now c.args.keys t) t.before (place_behind ts) (kept c.stage_of.new.progress.state) c.stage_of.new.progress.steps.items (g.P.Publish.kept c.stage_of.new.writer)) (sym next)
+          (c.in_ok-stage_of.ensures.goes t (take i stages) (drop (i + 1) stages) (sym are ∙ split_here stages i x here) (c.loop-stage.invariant.come t are at));
     }
 
-pub returns-in-Err-clause-stops : goal.returns-in-Err-clause-stops
-returns-in-Err-clause-stops g c = λ t are at.
+pub returns-in_err-stage_of-clause-stops : goal.returns-in_err-stage_of-clause-stops
+returns-in_err-stage_of-clause-stops g c = handed_on _ c.from_residual.result c.in_err-stage_of.field-0.0 c.from_residual.ensures (λ t are at.
     let stages : List Stage = c.args.stages.now in
     let i : ℕ = c.loop-stage.stage-index in
     let x : Stage = c.stage-item.result in
     let here : slice_get stages i ≡ Some x = slice_get_read stages (length stages) i x refl (omega arith) c.stage-item.is in
-    c.in-Err.ensures.stops t (take i stages) (drop (i + 1) stages) (sym are ∙ split_here stages i x here) (c.loop-stage.invariant.come t are at)
+    c.in_err-stage_of.ensures.stops t (take i stages) (drop (i + 1) stages) (sym are ∙ split_here stages i x here) (c.loop-stage.invariant.come t are at))
 
 pub returns-clause-goes : goal.returns-clause-goes
 returns-clause-goes g c = λ t are at.
     let stages : List Stage = c.args.stages.now in
     let all : take c.loop-stage.stage-index stages ≡ stages = take_all c.loop-stage.stage-index stages (omega arith) in
     let whole : place_behind (take c.loop-stage.stage-index stages) ≡ length t.list = ap place_behind (all ∙ are) ∙ ap length (lists_have_one_stages t.list).0.joined in
-    subst (λ p. IsAt (night_given c.args.catalog.now c.args.keys t) t.before p (kept c.loop-stage.state) c.loop-stage.steps.items (g.P.Publish.kept c.loop-stage.writer)) whole (c.loop-stage.invariant.come t are at)
+    subst (λ p. IsAt (night_given c.args.means.now.catalog.now c.args.keys t) t.before p (kept c.loop-stage.progress.state) c.loop-stage.progress.steps.items (g.P.Publish.kept c.loop-stage.writer)) whole (c.loop-stage.invariant.come t are at)

@@ -1,4 +1,4 @@
-use Rattle.std.proofs.Common.{◌≡◌, [], take, None}
+use Rattle.std.proofs.Common.{◌≡◌, take}
 use Rattle.wh_carry.specs.Kept.{kept, HaveParts, CanFinish}
 use Rattle.wh_carry.specs.Waves.{stages_of}
 use Rattle.wh_carry.specs.Standing.{place_behind}
@@ -9,9 +9,8 @@ abbrev pub invariant-loop-stage : goal.invariant-loop-stage
 invariant-loop-stage g l =
     record {
       home : g.P.Publish.home l.writer ≡ g.P.Publish.home l.fn.writer;
-      held : (g.P.Publish.kept l.writer).held ≡ None;
-      parts : HaveParts l.catalog l.state;
-      fit : CanFinish l.catalog (kept l.state);
-      come : (t : Given) → l.stages ≡ stages_of t.list → IsAt (night_given l.catalog l.keys t) t.before 0 (kept l.fn.state) [] (g.P.Publish.kept l.fn.writer)
-          → IsAt (night_given l.catalog l.keys t) t.before (place_behind (take l.stage-index l.stages)) (kept l.state) l.steps.items (g.P.Publish.kept l.writer);
+      parts : HaveParts l.means.catalog.now l.progress.state;
+      fit : CanFinish l.means.catalog.now (kept l.progress.state);
+      come : (t : Given) → l.stages ≡ stages_of t.list → IsAt (night_given l.means.catalog.now l.keys t) t.before 0 (kept l.fn.progress.state) l.fn.progress.steps.items (g.P.Publish.kept l.fn.writer)
+          → IsAt (night_given l.means.catalog.now l.keys t) t.before (place_behind (take l.stage-index l.stages)) (kept l.progress.state) l.progress.steps.items (g.P.Publish.kept l.writer);
     }

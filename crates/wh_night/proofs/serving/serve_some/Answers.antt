@@ -1,9 +1,8 @@
 use Rattle.std.proofs.Common.{◌≡◌, ◌∙◌, [], None, ap, length, subst, sym}
 use Rattle.std.specs.List.{All}
-use Rattle.wh_dag.specs.Shape.{Views}
-use Rattle.wh_store.specs.Windows.{current}
 use Rattle.wh_store.specs.Ledgers.{Ledger, ledger}
 use Rattle.wh_desk.specs.Desks.{Sitting}
+use Rattle.wh_night.specs.Tonight.{newest_in}
 use Rattle.wh_night.specs.Inner.Serving.{CanRun, IsRun, newly}
 use Rattle.wh_night.proofs.Serves.{seated_ready, seated_same, served_of}
 use Rattle.wh_night.proofs.serving.serve_some.Goals as goal
@@ -12,11 +11,10 @@ use Rattle.wh_night.proofs.serving.serve_some.Goals as goal
 pub beside_readers-rows-requires-clause-seated : goal.beside_readers-rows-requires-clause-seated
 beside_readers-rows-requires-clause-seated g c κs within =
     let w : Ledger = c.in-Ok.writer.ledger in
-    let same : w ≡ newly (current c.args.store) = c.in-Ok.ensures.writer ∙ (λ i. ledger (record { limit = c.requires.limit i; opening = current c.args.store }) [] None) in
+    let same : w ≡ newly c.args.tables.items = c.in-Ok.ensures.writer ∙ (λ i. ledger (record { limit = c.requires.limit i; opening = c.requires.current i }) [] None) in
     let alike : All (λ (d : Sitting). d.of ≡ w.of) c.in-Ok.desks.items = λ k d l. ap (λ (s : Sitting). s.of) (c.in-Ok.ensures.alike k d l) in
-    let views : c.len-views.result ≡ length w.of.opening =
-    c.len-views.ensures.len ∙ ap (λ (v : Views). length v.children) c.shape.ensures.views ∙ sym c.requires.ready.wide.each ∙ ap (λ (l : Ledger). length l.of.opening) (sym same) in
-    seated_ready w.of c.len-views.result c.sit_down.new.desks.items views (c.sit_down.ensures.seated c.if-not-sit_down.false w.of alike)
+    let views : length c.args.tables.items ≡ length w.of.opening = ap (λ (l : Ledger). length l.of.opening) (sym same) in
+    seated_ready w.of (length c.args.tables.items) c.sit_down.new.desks.items views (c.sit_down.ensures.seated c.if-not-sit_down.false w.of alike)
 
 pub beside_readers-rows-requires-clause-same : goal.beside_readers-rows-requires-clause-same
 beside_readers-rows-requires-clause-same g c κs within =
@@ -24,16 +22,22 @@ beside_readers-rows-requires-clause-same g c κs within =
     let alike : All (λ (d : Sitting). d.of ≡ w.of) c.in-Ok.desks.items = λ k d l. ap (λ (s : Sitting). s.of) (c.in-Ok.ensures.alike k d l) in
     seated_same w.of c.sit_down.new.desks.items (c.sit_down.ensures.seated c.if-not-sit_down.false w.of alike)
 
+pub beside_readers-rows-requires-clause-current : goal.beside_readers-rows-requires-clause-current
+beside_readers-rows-requires-clause-current g c κs within =
+    let w : Ledger = c.in-Ok.writer.ledger in
+    let same : w ≡ newly c.args.tables.items = c.in-Ok.ensures.writer ∙ (λ i. ledger (record { limit = c.requires.limit i; opening = c.requires.current i }) [] None) in
+    ap newest_in (sym same)
+
 pub beside_readers-rows-requires-clause-ready : goal.beside_readers-rows-requires-clause-ready
 beside_readers-rows-requires-clause-ready g c κs within =
     let w : Ledger = c.in-Ok.writer.ledger in
-    let same : w ≡ newly (current c.args.store) = c.in-Ok.ensures.writer ∙ (λ i. ledger (record { limit = c.requires.limit i; opening = current c.args.store }) [] None) in
-    subst (λ (l : Ledger). CanRun c.args.catalog.now c.args.correct.now l c.args.changes.now c.args.options) (sym same) c.requires.ready
+    let same : w ≡ newly c.args.tables.items = c.in-Ok.ensures.writer ∙ (λ i. ledger (record { limit = c.requires.limit i; opening = c.requires.current i }) [] None) in
+    subst (λ (l : Ledger). CanRun c.args.asked.now.catalog.now c.args.asked.now.correct.now l c.args.asked.now.changes.now c.args.asked.now.options) (sym same) c.requires.ready
 
 pub returns-clause-run : goal.returns-clause-run
 returns-clause-run g c =
     let w : Ledger = c.in-Ok.writer.ledger in
-    let same : w ≡ newly (current c.args.store) = c.in-Ok.ensures.writer ∙ (λ i. ledger (record { limit = c.requires.limit i; opening = current c.args.store }) [] None) in
+    let same : w ≡ newly c.args.tables.items = c.in-Ok.ensures.writer ∙ (λ i. ledger (record { limit = c.requires.limit i; opening = c.requires.current i }) [] None) in
     let m : Ledger = c.beside_readers-rows.new.writer.ledger in
-    let run = subst (λ (l : Ledger). IsRun c.args.catalog.now c.args.correct.now.list l c.args.changes.now c.args.options.page_keys c.beside_readers-rows.result.1 m) same c.beside_readers-rows.ensures.night in
-    served_of c.args.catalog.now c.args.correct.now.list (newly (current c.args.store)) m c.args.changes.now c.args.options.page_keys c.answer_of-answer.result c.beside_readers-rows.result.1 c.beside_readers-rows.result.0 c.answer_of-answer.ensures.ok run
+    let run = subst (λ (l : Ledger). IsRun c.args.asked.now.catalog.now c.args.asked.now.correct.now.list l c.args.asked.now.changes.now c.args.asked.now.options.page_keys c.beside_readers-rows.result.1 m) same c.beside_readers-rows.ensures.night in
+    served_of c.args.asked.now.catalog.now c.args.asked.now.correct.now.list (newly c.args.tables.items) m c.args.asked.now.changes.now c.args.asked.now.options.page_keys c.answer_of.result c.beside_readers-rows.result.1 c.beside_readers-rows.result.0 c.answer_of.ensures.ok run

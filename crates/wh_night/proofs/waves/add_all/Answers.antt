@@ -7,6 +7,7 @@ use Rattle.wh_maint.specs.Comp.{PendingOf}
 use Rattle.wh_carry.specs.declared.stages.Job.{Job}
 use Rattle.wh_carry.specs.Kept.{Kept, kept}
 use Rattle.wh_carry.proofs.CourseWaves.{source_among}
+use Rattle.wh_carry.proofs.HandedOn.{handed_on}
 use Rattle.wh_night.specs.Underway.{IsAdded}
 use Rattle.wh_night.specs.Inner.Underway.{HasCome, night_given}
 use Rattle.wh_night.proofs.Comes.{all_computable, job_comes, not_added}
@@ -39,8 +40,8 @@ add_one-requires-clause-added g c κs within =
     stays_added c.args.catalog.now (kept c.args.state.now) (kept c.loop-number.state) c.index-jobs-number.result c.index-added-number.result c.loop-number.invariant.tables c.loop-number.invariant.changes
     (c.requires.added.are i c.index-jobs-number.result c.index-added-number.result here there)
 
-pub returns-in-Err-clause-refused : goal.returns-in-Err-clause-refused
-returns-in-Err-clause-refused g c = λ keys place t wave come all.
+pub returns-in_err-add_one-clause-refused : goal.returns-in_err-add_one-clause-refused
+returns-in_err-add_one-clause-refused g c = handed_on _ c.from_residual.result c.in_err-add_one.field-0.0 c.from_residual.ensures (λ keys place t wave come all.
     let n = night_given c.args.catalog.now keys t in
     let jobs : List Job = c.args.jobs.now in
     let i : ℕ = c.loop-number.number in
@@ -53,8 +54,8 @@ returns-in-Err-clause-refused g c = λ keys place t wave come all.
     ⊎_elim (λ m. inl m)
     (λ f. not_added n place jobs wave i c.index-jobs-number.result here (kept c.loop-number.state) c.loop-number.steps.items (c.loop-number.invariant.come keys place t wave come)
     (λ u m. ap (λ (f : ℕ → Bool). f u) c.loop-number.invariant.known ∙ c.requires.known u (source_among jobs i c.index-jobs-number.result here u m))
-    all (all_computable n place jobs wave (kept c.args.state.now) come.stands c.requires.known c.args.added.now c.requires.added) own.can c.in-Err.fault f)
-    c.in-Err.ensures.refused
+    all (all_computable n place jobs wave (kept c.args.state.now) come.stands c.requires.known c.args.added.now c.requires.added) own.can c.in_err-add_one.field-0.0 f)
+    c.in_err-add_one.ensures.refused)
 
 pub loop-number-preserved : goal.loop-number-preserved
 loop-number-preserved g c =
@@ -67,16 +68,16 @@ loop-number-preserved g c =
     let own = stays_added c.args.catalog.now (kept c.args.state.now) (kept c.loop-number.state) c.index-jobs-number.result c.index-added-number.result c.loop-number.invariant.tables c.loop-number.invariant.changes
     (c.requires.added.are i c.index-jobs-number.result c.index-added-number.result here there) in
     record {
-      parts = c.in_default.ensures.parts;
-      fit = c.in_default.ensures.fit;
-      known = ap (λ (k : Kept). k.known) c.in_default.ensures.done ∙ c.loop-number.invariant.known;
-      tables = ap (λ (k : Kept). k.tables) c.in_default.ensures.done ∙ c.loop-number.invariant.tables;
-      changes = ap (λ (k : Kept). k.changes) c.in_default.ensures.done ∙ c.loop-number.invariant.changes;
+      parts = c.in_ok-add_one.ensures.parts;
+      fit = c.in_ok-add_one.ensures.fit;
+      known = ap (λ (k : Kept). k.known) c.in_ok-add_one.ensures.done ∙ c.loop-number.invariant.known;
+      tables = ap (λ (k : Kept). k.tables) c.in_ok-add_one.ensures.done ∙ c.loop-number.invariant.tables;
+      changes = ap (λ (k : Kept). k.changes) c.in_ok-add_one.ensures.done ∙ c.loop-number.invariant.changes;
       come = λ keys place t wave come.
           let n = night_given c.args.catalog.now keys t in
           job_comes n place jobs wave i c.index-jobs-number.result here (kept c.loop-number.state) c.loop-number.steps.items (c.loop-number.invariant.come keys place t wave come)
           (λ u m. ap (λ (f : ℕ → Bool). f u) c.loop-number.invariant.known ∙ c.requires.known u (source_among jobs i c.index-jobs-number.result here u m))
-          own.can c.in_default.ensures.fits (kept c.add_one.new.state) c.in_default.ensures.done c.add_one.new.steps.items c.in_default.ensures.reported;
+          own.can c.in_ok-add_one.ensures.fits (kept c.add_one.new.state) c.in_ok-add_one.ensures.done c.add_one.new.steps.items c.in_ok-add_one.ensures.reported;
     }
 
 pub returns-clause-goes : goal.returns-clause-goes

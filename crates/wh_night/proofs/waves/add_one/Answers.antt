@@ -14,7 +14,7 @@ returns-in-Ok-clause-fit g c =
     let ys : List ℕ = c.args.job.now.from in
     let added = c.requires.added in
     can_finish_computed cat k (kept c.add.new.self) v ys (λ _. false) c.requires.fit
-    (c.in_default.ensures.sum ∙ added_computes cat k v ys c.args.added.now added.is_in.for_view.of_view added.value)
+    (c.in_ok-add.ensures.sum ∙ added_computes cat k v ys c.args.added.now added.is_in.for_view.of_view added.value)
 
 pub returns-in-Ok-clause-reported : goal.returns-in-Ok-clause-reported
 returns-in-Ok-clause-reported g c =

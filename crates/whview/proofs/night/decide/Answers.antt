@@ -37,11 +37,11 @@ returns-in-Ok-served-clause-decided g c = (
         length_old = c.in-Ok-opening_contents.ensures.bags.each;
         opened = c.in-Ok-opening_contents.ensures.contents;
         valued = c.in-Ok-opening_contents.ensures.valued;
-        allowed = c.in-Ok-served.ensures.allowed;
-        passed = c.in-Ok-served.ensures.passed;
-        carried = c.in-Ok-served.ensures.tables;
-        contents_after = c.in-Ok-served.ensures.contents;
-        reported = c.in-Ok-served.ensures.steps;
+        allowed = c.in-Ok-served.ensures.carried.allowed;
+        passed = c.in-Ok-served.ensures.carried.passed;
+        carried = c.in-Ok-served.ensures.carried.tables;
+        contents_after = c.in-Ok-served.ensures.carried.contents;
+        reported = c.in-Ok-served.ensures.carried.steps;
       })
       c.in-Ok-served.ensures.rows,
 )

@@ -3,33 +3,38 @@ use Rattle.std.proofs.lemmas.Bool.{eq-eqb, or_left}
 use Rattle.wh_row.specs.Bag.{SumFits, size}
 use Rattle.wh_maint.specs.Refused.{IsInstallFault}
 use Rattle.wh_carry.specs.Kept.{Kept, kept, installed}
+use Rattle.wh_strategy.specs.declared.expression.Expression.TheVariants.{Inst}
+use Rattle.wh_carry.specs.Inner.Refused.{IsStepFaultIn}
+use Rattle.wh_carry.proofs.HandedOn.{handed_on}
 use Rattle.wh_carry.proofs.Storing.{can_finish_installed}
 use Rattle.wh_carry.proofs.state.NightState.carry_inst.Goals as goal
 
 pub change-requires-clause-known : goal.change-requires-clause-known
-change-requires-clause-known g c = ap (λ (k : Kept). k.known c.args.view) c.in_default.ensures.done ∙ or_left (eqb c.args.view c.args.view) ((kept c.args.self.now).known c.args.view) (eq-eqb c.args.view c.args.view refl)
+change-requires-clause-known g c = ap (λ (k : Kept). k.known c.args.view) c.in_ok-finish_one.ensures.done ∙ or_left (eqb c.args.view c.args.view) ((kept c.args.self.now).known c.args.view) (eq-eqb c.args.view c.args.view refl)
 
 pub install-requires-clause-known : goal.install-requires-clause-known
-install-requires-clause-known g c = ap (λ (k : Kept). k.known c.args.view) c.in_default.ensures.done ∙ or_left (eqb c.args.view c.args.view) ((kept c.args.self.now).known c.args.view) (eq-eqb c.args.view c.args.view refl)
+install-requires-clause-known g c = ap (λ (k : Kept). k.known c.args.view) c.in_ok-finish_one.ensures.done ∙ or_left (eqb c.args.view c.args.view) ((kept c.args.self.now).known c.args.view) (eq-eqb c.args.view c.args.view refl)
 
-pub returns-in-Ok-clause-done : goal.returns-in-Ok-clause-done
-returns-in-Ok-clause-done g c = c.in-Ok.ensures.done ∙ ap (installed c.args.view) c.in_default.ensures.done
+pub returns-clause-done : goal.returns-clause-done
+returns-clause-done g c = c.in_ok-install.ensures.done ∙ ap (installed c.args.view) c.in_ok-finish_one.ensures.done
 
-pub returns-in-Ok-clause-fit : goal.returns-in-Ok-clause-fit
-returns-in-Ok-clause-fit g c =
-    can_finish_installed c.args.catalog.now (kept c.args.self.now) (kept c.install.new.self) c.args.view c.requires.fit (c.in-Ok.ensures.done ∙ ap (installed c.args.view) c.in_default.ensures.done)
+pub returns-clause-fit : goal.returns-clause-fit
+returns-clause-fit g c =
+    can_finish_installed c.args.catalog.now (kept c.args.self.now) (kept c.install.new.self) c.args.view c.requires.fit (c.in_ok-install.ensures.done ∙ ap (installed c.args.view) c.in_ok-finish_one.ensures.done)
 
-pub returns-in-Ok-clause-rows : goal.returns-in-Ok-clause-rows
-returns-in-Ok-clause-rows g c =
+pub returns-clause-rows : goal.returns-clause-rows
+returns-clause-rows g c =
     let v = c.args.view in
-    c.total-rows.ensures ∙ ap size c.change.ensures ∙ ap (λ (k : Kept). size (k.changes v)) c.in_default.ensures.done
+    c.total-rows.ensures ∙ ap size c.change.ensures ∙ ap (λ (k : Kept). size (k.changes v)) c.in_ok-finish_one.ensures.done
 
-pub returns-in-Err-install-clause-refused : goal.returns-in-Err-install-clause-refused
-returns-in-Err-install-clause-refused g c =
+pub returns-in_err-install-clause-refused : goal.returns-in_err-install-clause-refused
+returns-in_err-install-clause-refused g c =
     let v = c.args.view in
-    inr (c.in_default.ensures.passed, subst (λ (k : Kept). IsInstallFault v (k.tables v) (k.changes v) c.in-Err-install.fault) c.in_default.ensures.done c.in-Err-install.ensures.refused)
+    let fault = c.in_err-install.field-0.0 in
+    handed_on (IsStepFaultIn c.args.catalog.now (kept c.args.self.now) (Inst v)) c.from_residual-in_err-install.result fault c.from_residual-in_err-install.ensures
+    (inr (c.in_ok-finish_one.ensures.passed, subst (λ (k : Kept). IsInstallFault v (k.tables v) (k.changes v) fault) c.in_ok-finish_one.ensures.done c.in_err-install.ensures.refused))
 
-pub returns-in-Ok-clause-passed : goal.returns-in-Ok-clause-passed
-returns-in-Ok-clause-passed g c =
+pub returns-clause-passed : goal.returns-clause-passed
+returns-clause-passed g c =
     let v = c.args.view in
-    (c.in_default.ensures.passed, subst (λ (k : Kept). SumFits (k.tables v) (k.changes v)) c.in_default.ensures.done c.in-Ok.ensures.fits)
+    (c.in_ok-finish_one.ensures.passed, subst (λ (k : Kept). SumFits (k.tables v) (k.changes v)) c.in_ok-finish_one.ensures.done c.in_ok-install.ensures.fits)
