@@ -75,11 +75,11 @@ limit_stays w Commits = refl
 limit_stays w Gives_up = refl
 
 shows : (x : Kept) → IsCopy x → Shows x.store x.front.of.opening x.front.list
-shows x copy = copy.1.0
+shows x copy = copy.1
 
 -- a list that is shown, with an operation that is not refused
 pub story_next : WellFormedGoesOn → (x : Kept) (op : Operation) → IsCopy x → refusal x.store op ≡ None → IsStory (known x.front.book x.front.of (x.front.list ++ op ∷ []))
-story_next goes_on x op copy free = (copy.1.1.0, goes_on x.store x.front.of.opening x.front.list op copy.1.1.1 (shows x copy) free)
+story_next goes_on x op copy free = (copy.2.0, goes_on x.store x.front.of.opening x.front.list op copy.2.1 (shows x copy) free)
 
 -- a copy that takes in an operation that is not refused is a copy
 pub copy_next : WindowsFollow → WellFormedGoesOn → (x : Kept) (p : Publication) → IsCopy x → p.front ≡ known x.front.book x.front.of (x.front.list ++ (operation p.op) ∷ [])
@@ -88,7 +88,7 @@ copy_next follow goes_on x p copy next free =
     let opening = x.front.of.opening in
     let op = operation p.op in
     let limit : x.store.limit ≡ x.front.of.limit = copy.0 in
-    let enough : 2 ≤ x.store.limit = subst (λ n. 2 ≤ n) (sym limit) copy.1.1.0 in
+    let enough : 2 ≤ x.store.limit = subst (λ n. 2 ≤ n) (sym limit) copy.2.0 in
     let is = follow x.store opening x.front.list op enough (shows x copy) free in (
       limit_stays x.store op ∙ limit ∙ ap (λ (k : Known). k.of.limit) (sym next),
       subst (λ (k : Known). Shows (applied x.store op) k.of.opening k.list) (sym next) is,

@@ -8,5 +8,5 @@ returns-in-Ok-clause-desk c =
     let front = c.in-Ok.front in
     let seen = c.in-Ok.ensures in (
       (front, c.leave.ensures.1 ∙ seen.3, (refl, refl, ([], append-nil front.list))),
-      subst IsStory (sym seen.1) seen.0.1,
+      subst IsStory (sym seen.1) seen.0.2,
     )
