@@ -55,12 +55,12 @@ AreParts n from (leg ∷ legs) (p ∷ parts) stop =
     ArePassedAt n (places_from from (start_of leg)) × IsPart n leg p × (is_passed p ≡ true → AreParts n (end_of leg) legs parts stop)
 
 -- some expression of the night is refused
-pub record IsRefused (n : Night) : Type 0 where
+pub record HasRefusal (n : Night) : Type 0 where
   pub place : ℕ
   pub fault : MaintFault
   pub refused : IsFaultAt n place fault
 
--- these are the tables that the whole night ends with; there are none where some expression of it is refused
+-- these are the tables that the whole night ends with; there are none only where some expression of it is refused
 abbrev pub IsEnd : Night → Option (Vec Bag) → Type 0
-IsEnd n None = IsRefused n
+IsEnd n None = HasRefusal n
 IsEnd n (Some tables) = HaveTables tables.items (length n.catalog.views.children) (tables_after (graph_of n.catalog) n.changes n.list n.tables)

@@ -11,7 +11,7 @@ ghost use Rattle.wh_carry.specs.declared.stages.Stage.{Stage as StageOf};
 ghost use Rattle.wh_carry.specs.declared.stages.Stage.TheVariants as stage;
 ghost use Rattle.wh_carry.specs.Night.{Night};
 ghost use Rattle.wh_carry.specs.Legs.{legs_of};
-ghost use Rattle.wh_carry.specs.Course.{AreParts, IsEnd, IsRefused};
+ghost use Rattle.wh_carry.specs.Course.{AreParts, IsEnd, HasRefusal};
 ghost use Rattle.wh_carry.specs.Standing.{IsStageIn, place_behind};
 ghost use Rattle.wh_carry.specs.Inner.Standing.{GoesPast, StandsAt};
 
@@ -96,7 +96,7 @@ fn through<F: RowTest, G: RowValue>(
     ensures parts { IfOk result (λ made. (n : Night) → n.catalog ≡ catalog.now → n.keys ≡ keys → stages.now ≡ stages_of n.list → StandsAt n 0 (kept state.old)
         → AreParts n 0 (legs_of n) made.0.parts.items made.0.stop) }
     ensures ends { IfOk result (λ made. (n : Night) → n.catalog ≡ catalog.now → n.keys ≡ keys → stages.now ≡ stages_of n.list → StandsAt n 0 (kept state.old)
-        → cond made.1 (StandsAt n (place_behind stages.now) (kept state.new)) (IsRefused n)) }
+        → cond made.1 (StandsAt n (place_behind stages.now) (kept state.new)) (HasRefusal n)) }
 {
     let mut course = Course {
         parts: Vec::new(alloc),

@@ -18,8 +18,7 @@ use Rattle.wh_core.specs.Laws.{IsSetup}
 use Rattle.wh_core.specs.Log.{Log, Committed, Paged_in, is_open}
 use Rattle.wh_core.specs.Nights.{Setup, night, published, turn, versions}
 use Rattle.wh_core.specs.Replies.{IsLegalLog}
-use Rattle.wh_core.specs.Standing.{Stands}
-use Rattle.wh_core.specs.Inner.Tables.{KeepsTables}
+use Rattle.wh_core.specs.Standing.{KeepsTables, Stands}
 use Rattle.wh_core.proofs.Sound.{commits_end}
 use Rattle.wh_core.proofs.Underway.{night-paged}
 

@@ -1,5 +1,5 @@
 -- Where a machine stands after what was done.
-use Rattle.std.specs.Prelude.{◌≡◌, ℕ, ◌<◌, ◌≤◌, Vec, List, [], ◌∷◌, length, map, drop, slice_get, Option, Some, None, option_map, true}
+use Rattle.std.specs.Prelude.{◌≡◌, ℕ, ◌<◌, ◌≤◌, Vec, List, [], ◌∷◌, length, map, drop, slice_get, Option, Some, None, option_map, true, false}
 use Rattle.wh_dag.specs.Catalog.{CatalogOf}
 use Rattle.wh_strategy.specs.Rules.{Judged}
 use Rattle.wh_row.specs.Bag.{Bag}
@@ -8,17 +8,16 @@ use Rattle.wh_store.specs.Windows.{Shows}
 use Rattle.wh_carry.specs.declared.course.Part.{Part}
 use Rattle.wh_carry.specs.Night.{Night}
 use Rattle.wh_carry.specs.Legs.{Leg, Wave, Page, Remaining}
-use Rattle.wh_carry.specs.Course.{AreParts}
+use Rattle.wh_carry.specs.Course.{AreParts, IsEnd}
 use Rattle.wh_core.specs.declared.session.Mark.{Mark}
 use Rattle.wh_core.specs.declared.session.Seat.{Seat}
 use Rattle.wh_core.specs.declared.machine.Machine.{Machine}
 use Rattle.wh_core.specs.declared.warehouse.Core.{Core}
 use Rattle.wh_core.specs.Log.{Bookmark, Log, SessionOf, holding, is_open, nights_begun, session}
-use Rattle.wh_core.specs.Nights.{GivenNight, Setup, night, published, remaining}
+use Rattle.wh_core.specs.Nights.{GivenNight, Setup, night, published, remaining, versions}
 use Rattle.wh_core.specs.Replies.{IsLegalLog}
 use Rattle.std.specs.declared.alloc.Global.{Global}
 use Rattle.wh_core.specs.Laws.{IsSetup}
-use Rattle.wh_core.specs.Inner.Tables.{KeepsTables}
 
 abbrev pub bookmark_of : Mark → Bookmark
 bookmark_of m = record { view = m.view; row = m.row.items }
@@ -47,6 +46,11 @@ pub record AreLeft (n : Night) (r : Remaining) (parts : List Part) (stop : Optio
   pub some : HaveJobs legs
   pub are : AreParts n from legs parts stop
   pub over : parts ≡ [] → stop ≡ None
+
+-- the tables that are kept, if some are: those of the current version, or while a night is open those that it ends with
+abbrev pub KeepsTables : Setup → Log → Option (Vec Bag) → Type 0
+KeepsTables s log None = Unit {0}
+KeepsTables s log (Some tables) = (is_open log ≡ false → tables.items ≡ (versions s log).newest) × (is_open log ≡ true → IsEnd (night s log) (Some tables))
 
 -- what a machine keeps is what a legal run leaves
 pub record Stands (s : Setup) (log : Log) (m : Machine) : Type 0 where

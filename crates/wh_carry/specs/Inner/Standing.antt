@@ -16,7 +16,7 @@ use Rattle.wh_carry.specs.NightList.{pages_of}
 use Rattle.wh_carry.specs.declared.stages.Stage.{Stage}
 use Rattle.wh_carry.specs.declared.stages.Stage.TheVariants as stage
 use Rattle.wh_carry.specs.declared.course.Course.{Course}
-use Rattle.wh_carry.specs.Course.{AreParts, IsRefused}
+use Rattle.wh_carry.specs.Course.{AreParts, HasRefusal}
 use Rattle.wh_carry.specs.Legs.{Leg, legs_after}
 use Rattle.wh_carry.specs.declared.course.Part.{Part}
 use Rattle.wh_carry.specs.declared.course.Part.TheVariants as part
@@ -104,4 +104,4 @@ pub record GoesPast (n : Night) (before : List Stage) (stage : Stage) (after : L
   pub going : StandsAt n (place_behind before) old → goes ≡ true → (rest : List Part) (stop : Option MaintFault)
       → AreParts n (place_behind (before ++ stage ∷ [])) (legs_at n (place_behind (before ++ stage ∷ [])) after) rest stop → AreParts n (place_behind before) (legs_at n (place_behind before) (stage ∷ after)) (added ++ rest) stop
   pub ending : StandsAt n (place_behind before) old → goes ≡ false → AreParts n (place_behind before) (legs_at n (place_behind before) (stage ∷ after)) added is.stop
-  pub refused : StandsAt n (place_behind before) old → goes ≡ false → IsRefused n
+  pub refused : StandsAt n (place_behind before) old → goes ≡ false → HasRefusal n

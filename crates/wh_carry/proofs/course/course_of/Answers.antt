@@ -3,7 +3,7 @@ use Rattle.wh_strategy.specs.Rules.{IsCorrect}
 use Rattle.wh_strategy.specs.declared.expression.Expression.{Expression}
 use Rattle.wh_maint.specs.Comp.{bag_at}
 use Rattle.wh_carry.specs.Kept.{kept}
-use Rattle.wh_carry.specs.Course.{IsRefused}
+use Rattle.wh_carry.specs.Course.{HasRefusal}
 use Rattle.wh_carry.specs.Night.{Night}
 use Rattle.wh_carry.specs.Standing.{place_behind}
 use Rattle.wh_carry.specs.Inner.Standing.{StandsAt}
@@ -34,7 +34,7 @@ returns-then-not-ended-clause-ends g c =
     let n : Night = record { catalog = cat; list = list; tables = bag_at c.args.tables.items; changes = bag_at c.args.changes.now; keys = c.args.keys } in
     let ok : IsCorrect cat.views.children list = subst (λ shape. IsCorrect shape list) c.requires.judged c.strategy.ensures.rules in
     let no : c.in_ok-course.ended ≡ false = search rules in
-    subst (λ b. cond b (StandsAt n (place_behind c.as_slice.result.now) (kept c.through.new.state)) (IsRefused n)) no
+    subst (λ b. cond b (StandsAt n (place_behind c.as_slice.result.now) (kept c.through.new.state)) (HasRefusal n)) no
     (c.in_ok-course.ensures.ends n refl refl (c.as_slice.ensures.value ∙ c.in_ok-stages.ensures.stages)
     (stands_first cat list (bag_at c.args.tables.items) (bag_at c.args.changes.now) c.args.keys (kept c.in_ok-state.state) c.in_ok-state.ensures.parts.catalogue ok c.in_ok-state.ensures.first))
 
@@ -56,7 +56,7 @@ returns-clause-ends g c =
     let yes : c.in_ok-course.ended ≡ true = search rules in
     let whole = c.as_slice.ensures.value ∙ c.in_ok-stages.ensures.stages in
     let stands : StandsAt n (place_behind c.as_slice.result.now) (kept c.through.new.state) =
-    subst (λ b. cond b (StandsAt n (place_behind c.as_slice.result.now) (kept c.through.new.state)) (IsRefused n)) yes
+    subst (λ b. cond b (StandsAt n (place_behind c.as_slice.result.now) (kept c.through.new.state)) (HasRefusal n)) yes
     (c.in_ok-course.ensures.ends n refl refl whole
     (stands_first cat list (bag_at c.args.tables.items) (bag_at c.args.changes.now) c.args.keys (kept c.in_ok-state.state) c.in_ok-state.ensures.parts.catalogue ok c.in_ok-state.ensures.first)) in
     let same = c.into_tables.ensures in

@@ -20,8 +20,7 @@ use Rattle.wh_core.specs.Nights.{Setup, versions}
 use Rattle.wh_core.specs.declared.event.Event.TheVariants as event
 use Rattle.wh_core.specs.declared.reply.Reply.TheVariants as reply
 use Rattle.wh_core.specs.Replies.{IsLegalLog, IsReply}
-use Rattle.wh_core.specs.Standing.{given_of, nights_of}
-use Rattle.wh_core.specs.Inner.Tables.{KeepsTables}
+use Rattle.wh_core.specs.Standing.{KeepsTables, given_of, nights_of}
 use Rattle.wh_core.proofs.Moves.{not_equal, number_here, open_here}
 use Rattle.wh_core.proofs.Seats.{map_length}
 use Rattle.wh_core.proofs.Tables.{keeps_newest, stands_with, taken_newest}
