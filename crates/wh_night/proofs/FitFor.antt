@@ -1,5 +1,5 @@
 -- Tables that are fit for a night.
-use Rattle.std.proofs.Common.{◌≡◌, ◌≢◌, refl, sym, subst, ◌∙◌, eqb, ℕ, ℤ, pos, zero, suc, ◌<◌, ◌≤◌, List, [], ◌∷◌, length, take, cond, Bool, true, false, None, ◌⊎◌, ⊎_elim, arith}
+use Rattle.std.proofs.Common.{◌≡◌, ◌≢◌, refl, sym, subst, ◌∙◌, eqb, ℕ, pos, zero, suc, ◌<◌, ◌≤◌, List, [], ◌∷◌, length, take, cond, Bool, true, false, None, ◌⊎◌, ⊎_elim, arith}
 use Rattle.std.specs.Prelude.{◌≤ℤ◌}
 use Rattle.std.proofs.lemmas.Bool.{cases_lt, eqb-true, false_from_ne_true}
 use Rattle.std.proofs.lemmas.Int.{ints}

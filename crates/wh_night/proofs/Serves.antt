@@ -1,6 +1,6 @@
 -- What a night made while readers were served, from what the night answered.
 use Rattle.std.proofs.Common.{◌≡◌, ◌∙◌, ◌<◌, ◌≤◌, ℕ, suc, List, [], ◌∷◌, length, Option, Some, Result, Ok, Err, ap, arith, subst, sym}
-use Rattle.std.specs.Prelude.{IfOk, OnOk}
+use Rattle.std.specs.Prelude.{IfOk}
 use Rattle.std.specs.Global.{Vec}
 use Rattle.std.specs.List.{All}
 use Rattle.wh_row.specs.Bag.{Bag, IsTable}
@@ -21,7 +21,6 @@ use Rattle.wh_carry.specs.declared.report.Report.{Report}
 use Rattle.wh_desk.specs.Desks.{Sitting}
 use Rattle.wh_night.specs.declared.left.NightFault.{NightFault}
 use Rattle.wh_night.proofs.Soundness.{done_number}
-use Rattle.wh_night.specs.Tonight.{newest_in}
 use Rattle.wh_night.specs.Published.{IsPublished}
 use Rattle.wh_night.specs.Inner.Serving.{IsReady, IsRun, IsSeated, IsServed, newly}
 use Rattle.wh_night.specs.declared.serving.Served.{Served}

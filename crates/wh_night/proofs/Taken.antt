@@ -1,5 +1,5 @@
 -- What a night publishes may come where it stands.
-use Rattle.std.proofs.Common.{◌≡◌, ◌≢◌, refl, sym, ap, subst, ◌∙◌, eqb, ℕ, zero, suc, ◌+◌, ◌≤◌, List, [], ◌∷◌, ◌++◌, map, length, cond, true, Some, None, arith}
+use Rattle.std.proofs.Common.{◌≡◌, ◌≢◌, refl, sym, ap, subst, ◌∙◌, eqb, ℕ, zero, suc, ◌≤◌, List, [], ◌∷◌, ◌++◌, map, length, cond, true, Some, None, arith}
 use Rattle.std.specs.Prelude.{is_some, option_map, slice_set, if◌then◌else◌}
 use Rattle.std.specs.List.{All}
 use Rattle.std.proofs.lemmas.Bool.{eq-eqb, lt-ltb}

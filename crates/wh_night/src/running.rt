@@ -311,13 +311,7 @@ pub fn night<P: Publish, F: RowTest, G: RowValue, T: Gate + Sync, R: Threads + W
 
 /// As [`night`], from these tables, which are those of the current version: whoever has them need not copy them out of what is
 /// published. They are changed where they lie; answers them as they stand after the night, with its report.
-pub fn night_from<
-    P: Publish,
-    F: RowTest,
-    G: RowValue,
-    T: Gate + Sync,
-    R: Threads + Wait + Sync,
->(
+pub fn night_from<P: Publish, F: RowTest, G: RowValue, T: Gate + Sync, R: Threads + Wait + Sync>(
     rt: &R,
     alloc: Global,
     writer: &mut P,

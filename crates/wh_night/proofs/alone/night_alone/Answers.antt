@@ -1,4 +1,4 @@
-use Rattle.std.proofs.Common.{rules, ◌≡◌, refl, sym, ap, subst, ◌∙◌, ℕ, List, [], length, None, ◌⊎◌, inl, inr, ⊎_elim}
+use Rattle.std.proofs.Common.{rules, ◌≡◌, refl, sym, ap, subst, ◌∙◌, ℕ, [], length, None, ◌⊎◌, inl, inr, ⊎_elim}
 use Rattle.wh_strategy.specs.Rules.{IsCorrect}
 use Rattle.wh_maint.specs.Asked.{AreBags}
 use Rattle.wh_maint.specs.Comp.{bag_at}
@@ -46,7 +46,7 @@ returns-in-Ok-through-clause-carried g c =
     let t = given_over list c.args.tables.items c.args.changes.now nothing in
     let ok : IsCorrect cat.views.children list = subst (λ shape. IsCorrect shape list) c.requires.judged c.strategy.ensures.rules in
     let come = c.in-Ok-through.ensures.goes 1 t (c.as_slice.ensures.value ∙ c.in-Ok-waves.ensures.stages)
-        (begins cat list c.args.tables.items c.args.changes.now nothing 1 (kept c.in-Ok.state) _ c.new.ensures.items c.in-Ok.ensures.parts.catalogue ok c.in-Ok.ensures.first) in
+    (begins cat list c.args.tables.items c.args.changes.now nothing 1 (kept c.in-Ok.state) _ c.new.ensures.items c.in-Ok.ensures.parts.catalogue ok c.in-Ok.ensures.first) in
     let no_fault : AreAllowedBelow cat old changes (length cat.views.children) = search rules in
     let new = c.through.new.progress in
     let become = λ (v : ℕ). tables_end cat list old changes come.stands.catalogue come.stands.correct (length list) (kept new.state) refl come.stands.agrees v in
@@ -65,13 +65,13 @@ returns-in-Ok-through-clause-carried g c =
 pub returns-in-Err-clause-refused : goal.returns-in-Err-clause-refused
 returns-in-Err-clause-refused g c = inr (λ keys. subst (λ ts. IsBaseFault c.args.catalog.now (bag_at ts) (bag_at c.args.changes.now) c.in-Err.fault) c.deref.ensures.value c.in-Err.ensures.refused)
 
-pub returns-in-Err-through-clause-refused : goal.returns-in-Err-through-clause-refused
-returns-in-Err-through-clause-refused g c =
+pub returns-clause-refused : goal.returns-clause-refused
+returns-clause-refused g c =
     let cat = c.args.catalog.now in
     let list = c.args.correct.now.list in
     let ok : IsCorrect cat.views.children list = subst (λ shape. IsCorrect shape list) c.requires.judged c.strategy.ensures.rules in
     let allowed : AreAllowedBelow cat (bag_at c.args.tables.items) (bag_at c.args.changes.now) (length cat.views.children) = search rules in
     let t = given_over list c.args.tables.items c.args.changes.now nothing in
     let stops = λ (keys : ℕ). c.in-Err-through.ensures.stops keys (given_over list c.args.tables.items c.args.changes.now nothing) (c.as_slice.ensures.value ∙ c.in-Ok-waves.ensures.stages)
-        (begins cat list c.args.tables.items c.args.changes.now nothing keys (kept c.in-Ok.state) _ c.new.ensures.items c.in-Ok.ensures.parts.catalogue ok c.in-Ok.ensures.first) in
+    (begins cat list c.args.tables.items c.args.changes.now nothing keys (kept c.in-Ok.state) _ c.new.ensures.items c.in-Ok.ensures.parts.catalogue ok c.in-Ok.ensures.first) in
     memory_or c.in-Err-through.fault (λ keys. AreAllowed (night_given cat keys t) × IsFirstStageFault (night_given cat keys t) c.in-Err-through.fault) (λ keys. ⊎_elim (λ m. inl m) (λ f. inr (allowed, f)) (stops keys))

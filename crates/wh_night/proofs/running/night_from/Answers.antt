@@ -17,8 +17,8 @@ use Rattle.wh_carry.specs.Night.{Night, AreAllowed}
 use Rattle.wh_carry.proofs.NewValues.{ends_in_contents}
 use Rattle.wh_carry.proofs.Parts.{stages_in}
 use Rattle.wh_night.specs.Refusals.{IsRefused}
-use Rattle.wh_night.specs.Tonight.{IsDone, made_by, newest_in, tonight}
-use Rattle.wh_night.specs.Inner.Underway.{Given, HasCome, night_given}
+use Rattle.wh_night.specs.Tonight.{newest_in, tonight}
+use Rattle.wh_night.specs.Inner.Underway.{Given, HasCome}
 use Rattle.wh_night.proofs.Beginnings.{begins, given_over, later_so, none_refuses, none_then}
 use Rattle.wh_night.proofs.FitFor.{allowed_for}
 use Rattle.wh_night.proofs.Outs.{if_err, if_ok_on, if_ok_three, if_ok_two}

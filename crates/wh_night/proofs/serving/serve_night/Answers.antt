@@ -1,4 +1,4 @@
-use Rattle.std.proofs.Common.{◌≡◌, ◌∙◌, List, [], ap, refl, subst, sym}
+use Rattle.std.proofs.Common.{◌∙◌, List, [], ap, refl, subst, sym}
 use Rattle.wh_row.specs.Bag.{Bag}
 use Rattle.wh_dag.specs.Catalog.{CatalogOf}
 use Rattle.wh_strategy.specs.Rules.{IsCorrect}

@@ -1,4 +1,4 @@
-use Rattle.std.proofs.Common.{◌≡◌, inl, sym, subst, ⊎_elim}
+use Rattle.std.proofs.Common.{inl, sym, subst, ⊎_elim}
 use Rattle.wh_carry.specs.Kept.{KeptLists, kept}
 use Rattle.wh_carry.specs.Inner.Standing.{StandsAt}
 use Rattle.wh_night.specs.declared.waves.WaveFault.TheVariants.{Maint}
