@@ -22,7 +22,7 @@ has_pair e = are_some e.1
 abbrev pub with_pairs : Paired → Paired
 with_pairs rows = filter has_pair rows
 
--- those of which a session of the n - 1 versions before m reads something: the others go as night m begins
+-- those of which a session of the n - 1 versions before m reads something: the others go as night m begins. The test tells what `IsUnread` says (`UnreadIsTested`)
 abbrev pub still_read : ℕ → ℕ → Paired → Paired
 still_read n m rows = filter (λ e. not (is_unread (n - 1) m e.1)) rows
 
