@@ -31,7 +31,7 @@ use wh_desk::{Desk, Writer, open_warehouse};
 use wh_formula::{RowTest, RowValue};
 use wh_maint::MaintFault;
 use wh_row::Bag;
-use wh_store::Store;
+use wh_store::{MIN_VERSIONS, Store};
 use wh_strategy::Correct;
 
 /// Who reads beside a night.
@@ -288,7 +288,7 @@ pub fn serve_night<F: RowTest, G: RowValue, W: Watch + Sync, R: Threads + Wait +
     if count == 0 {
         return serve_none(rt, &asked, tables);
     }
-    let Ok(store) = Store::new(alloc, &tables, 2) else {
+    let Ok(store) = Store::new(alloc, &tables, MIN_VERSIONS) else {
         return Err(want_of_memory());
     };
     serve_some(rt, &asked, store, tables, count)
