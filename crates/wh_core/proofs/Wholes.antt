@@ -15,10 +15,10 @@ use Rattle.wh_maint.specs.Contents.{AreContents}
 use Rattle.wh_maint.specs.Definition.{graph_of}
 use Rattle.wh_maint.specs.declared.fault.MaintFault.{MaintFault}
 use Rattle.wh_maint.specs.declared.fault.MaintFault.TheVariants as fault
-use Rattle.wh_carry.specs.Refused.{AreAllowedBelow, IsBaseFault}
+use Rattle.wh_carry.specs.Refused.{IsBaseFault}
 use Rattle.wh_store.specs.Pages.{Contents}
 use Rattle.wh_store.specs.Versions.{number, version, versions_of}
-use Rattle.wh_carry.specs.Night.{Night, AreAllowed, places_from}
+use Rattle.wh_carry.specs.Night.{places_from}
 use Rattle.wh_carry.specs.Legs.{carried_up_to, legs_of, turn_of, untouched}
 use Rattle.wh_core.specs.declared.event.Event.TheVariants as event
 use Rattle.wh_core.specs.declared.machine.Machine.{Machine}
@@ -32,7 +32,7 @@ use Rattle.wh_core.specs.Replies.{IsLegalLog, IsReply, IsRuled, Starts, cause_of
 use Rattle.wh_core.specs.Standing.{Stands, given_of, nights_of}
 use Rattle.wh_core.proofs.Allowed.{allowed_or_memory}
 use Rattle.wh_core.proofs.Steps.{le_false, le_true, onward, refuse}
-use Rattle.wh_core.proofs.Moves.{not_equal, number_here, open_here}
+use Rattle.wh_core.proofs.Moves.{not_equal}
 
 equal : (a b : ℕ) → a ≡ b → (a == b) ≡ true
 equal a b e = grind arith

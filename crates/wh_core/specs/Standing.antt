@@ -48,7 +48,7 @@ pub record AreLeft (n : Night) (r : Remaining) (parts : List Part) (stop : Optio
   pub over : parts ≡ [] → stop ≡ None
 
 -- the tables that are kept, if some are: those of the current version, or while a night is open those that it ends with
-abbrev pub KeepsTables : Setup → Log → Option (Vec Bag) → Type 0
+abbrev pub KeepsTables : Setup → Log → Option (Vec Bag Global) → Type 0
 KeepsTables s log None = Unit {0}
 KeepsTables s log (Some tables) = (is_open log ≡ false → tables.items ≡ (versions s log).newest) × (is_open log ≡ true → IsEnd (night s log) (Some tables))
 

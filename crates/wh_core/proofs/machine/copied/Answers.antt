@@ -1,4 +1,4 @@
-use Rattle.std.proofs.Common.{◌≡◌, refl, sym, ap, ◌∙◌, ℕ, ◌+◌, ◌<◌, List, [], ◌∷◌, ◌++◌, length, take, arith}
+use Rattle.std.proofs.Common.{sym, ◌∙◌, ℕ, ◌+◌, ◌<◌, List, [], ◌∷◌, ◌++◌, length, arith}
 use Rattle.wh_row.specs.Bag.{Bag, empty}
 use Rattle.wh_store.specs.Versions.{table_in, versions_of}
 use Rattle.wh_carry.proofs.CourseWaves.{take_all, take_next}

@@ -1,4 +1,4 @@
-use Rattle.std.proofs.Common.{rules, ◌≡◌, ◌≢◌, refl, sym, ap, subst, ◌∙◌, ℕ, ◌+◌, ◌<◌, ◌≤◌, ◌^◌, List, Vec, length, Bool, true, false, Option, Some, None, arith}
+use Rattle.std.proofs.Common.{rules, ◌≡◌, sym, ap, subst, ◌∙◌, ℕ, ◌+◌, ◌<◌, ◌^◌, List, Vec, length, true, false, Some, None, arith}
 use Rattle.std.specs.Prelude.{◌==◌, is_some, if◌then◌else◌, slice_get, slice_index_or}
 use Rattle.std.specs.declared.alloc.Global.{Global}
 use Rattle.wh_strategy.specs.Rules.{Judged}
@@ -15,7 +15,7 @@ use Rattle.wh_carry.specs.Legs.{legs_of}
 use Rattle.wh_carry.specs.Course.{AreParts, IsEnd}
 use Rattle.wh_carry.specs.Refused.{IsBaseFault}
 use Rattle.wh_core.specs.Laws.{IsGivenNight, IsSetup, VersionsAreContents}
-use Rattle.wh_core.specs.Log.{Log, is_open, nights_begun}
+use Rattle.wh_core.specs.Log.{Log, is_open}
 use Rattle.wh_core.specs.Nights.{Setup, versions}
 use Rattle.wh_core.specs.declared.event.Event.TheVariants as event
 use Rattle.wh_core.specs.declared.reply.Reply.TheVariants as reply
@@ -76,8 +76,8 @@ base_changes-requires-clause-tables g c κs within =
     let m = c.args.self.now.machine in
     let idle : is_some m.store.draft ≡ false = search rules in
     let newest = taken_newest r.setup r.log m r.stands.stands (sym (open_here r.setup r.log m r.stands.stands) ∙ idle) c.in-Ok.tables c.in-Ok.ensures.tables in
-    subst (λ catalog. AreBags catalog c.as_slice-tables.result.now) (sym r.stands.catalog)
-    (subst (AreBags r.setup.catalog) (sym (c.as_slice-tables.ensures.value ∙ newest)) (newest_are r.setup r.log c.versions_are_contents.ensures r.is_setup r.stands.stands.legal).1)
+    subst (λ catalog. AreBags catalog c.as_slice.result.now) (sym r.stands.catalog)
+    (subst (AreBags r.setup.catalog) (sym (c.as_slice.ensures.value ∙ newest)) (newest_are r.setup r.log c.versions_are_contents.ensures r.is_setup r.stands.stands.legal).1)
 
 pub base_changes-requires-clause-changes : goal.base_changes-requires-clause-changes
 base_changes-requires-clause-changes g c κs within =
@@ -127,8 +127,8 @@ start-requires-clause-free g c =
 
 -- ---- want of memory
 
-pub returns-in_default-taken : goal.returns-in_default-taken
-returns-in_default-taken g c = record {
+pub returns-in_default : goal.returns-in_default
+returns-in_default g c = record {
   reply = λ s log is h.
       let core = c.args.self.now in
       let m = core.machine in
@@ -177,8 +177,8 @@ returns-in-Err g c = record {
       let n = number_here s log m h.stands in
       let newest = taken_newest s log m h.stands closed c.in-Ok.tables c.in-Ok.ensures.tables in
       let given = there s log core.nights.items m.begun c.index.result.now is h.nights (omega arith) c.index.ensures in
-      let same = same_night s log core.catalog (given_of c.index.result.now) c.as_slice-tables.result.now c.as_slice-changes.result.now core.keys h.catalog h.keys
-      (c.as_slice-tables.ensures.value ∙ newest) c.as_slice-changes.ensures.value (ap (slice_get s.nights) (sym b) ∙ given) in (
+      let same = same_night s log core.catalog (given_of c.index.result.now) c.as_slice.result.now c.as_slice-changes.result.now core.keys h.catalog h.keys
+      (c.as_slice.ensures.value ∙ newest) c.as_slice-changes.ensures.value (ap (slice_get s.nights) (sym b) ∙ given) in (
         record { catalog = h.catalog; nights = h.nights; judged = h.judged; keys = h.keys; stands = stands_with s log m (Some c.in-Ok.tables) h.stands (keeps_newest s log c.in-Ok.tables closed newest) },
         subst (λ w. IsReply s log event.Begin (reply.Refused w)) (sym c.cause_of.ensures)
             (not_begun s log m h.stands closed (omega (arith, e, b)) (λ f. omega (arith, f, k, no, n)) c.in-Err.fault
@@ -202,14 +202,14 @@ returns g c = record {
       let n = number_here s log m h.stands in
       let newest = taken_newest s log m h.stands closed c.in-Ok.tables c.in-Ok.ensures.tables in
       let given = there s log core.nights.items m.begun c.index.result.now is h.nights (omega arith) c.index.ensures in
-      let lent = same_night s log core.catalog (given_of c.index.result.now) c.as_slice-tables.result.now c.as_slice-changes.result.now core.keys h.catalog h.keys
-      (c.as_slice-tables.ensures.value ∙ newest) c.as_slice-changes.ensures.value (ap (slice_get s.nights) (sym b) ∙ given) in
+      let lent = same_night s log core.catalog (given_of c.index.result.now) c.as_slice.result.now c.as_slice-changes.result.now core.keys h.catalog h.keys
+      (c.as_slice.ensures.value ∙ newest) c.as_slice-changes.ensures.value (ap (slice_get s.nights) (sym b) ∙ given) in
       let same = same_night s log core.catalog (given_of c.index.result.now) c.in-Ok.tables.items c.as_slice-changes.result.now core.keys h.catalog h.keys
       newest c.as_slice-changes.ensures.value (ap (slice_get s.nights) (sym b) ∙ given) in
       let made = c.in-Ok-course_of in
       let both = c.start.ensures s log (stands_with s log m c.taken.new.kept h.stands (subst (KeepsTables s log) (sym c.taken.ensures.none) tt)) closed (omega (arith, e, b)) (λ f. omega (arith, f, k, no, n))
-      (subst AreAllowed lent c.base_changes.ensures.allowed)
-      (subst (λ night. AreParts night 0 (legs_of night) made.field-0.parts.items made.field-0.stop) same made.ensures.parts)
-      (subst (λ night. IsEnd night made.field-1) same made.ensures.ends) in
+      (subst AreAllowed lent c.in_default-base_changes.ensures.allowed)
+      (subst (λ night. AreParts night 0 (legs_of night) made.course.parts.items made.course.stop) same made.ensures.parts)
+      (subst (λ night. IsEnd night made.last) same made.ensures.ends) in
       (record { catalog = h.catalog; nights = h.nights; judged = h.judged; keys = h.keys; stands = both.0 }, both.1);
 }
