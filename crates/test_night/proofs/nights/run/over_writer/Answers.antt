@@ -1,12 +1,13 @@
-use Rattle.std.proofs.Common.{rules, ◌≡◌, subst, true}
+use Rattle.std.proofs.Common.{rules, ◌≡◌, subst, sym, true}
 use Rattle.wh_maint.specs.Asked.{AreBags}
+use Rattle.wh_store.specs.Kept.{AreTables}
 use Rattle.wh_carry.specs.Fit.{AreFitTables}
 use Rattle.wh_carry.proofs.Fitted.{fit_tables}
 use Rattle.test_night.proofs.nights.run.over_writer.Goals as goal
 
-pub new-requires : goal.new-requires
-new-requires g c =
+pub new-requires-clause-tables : goal.new-requires-clause-tables
+new-requires-clause-tables g c =
     let bags : c.are_bags.result ≡ true = search rules in
     let fit : c.in_ok-are_fit.field-0 ≡ true = search rules in
-    fit_tables c.args.catalog.now c.args.tables.items (subst (AreBags c.args.catalog.now) c.deref.ensures.value (c.are_bags.ensures.0 bags))
-    (subst (AreFitTables c.args.catalog.now) c.deref-else-not-are_bags.ensures.value (c.in_ok-are_fit.ensures.fit.0 fit))
+    subst AreTables (sym c.deref-2.ensures.value) (fit_tables c.args.catalog.now c.args.tables.items (subst (AreBags c.args.catalog.now) c.deref.ensures.value (c.are_bags.ensures.0 bags))
+    (subst (AreFitTables c.args.catalog.now) c.deref-else-not-are_bags.ensures.value (c.in_ok-are_fit.ensures.fit.0 fit)))
