@@ -30,12 +30,12 @@ opening_rows tables = map (λ table. opening (written table)) tables
 abbrev pub still_read : ℕ → ℕ → Paired → Paired
 still_read n m rows = filter (λ e. not (is_unread (n - 1) m e.1)) rows
 
--- the rows once night m has written these counts, one after another
+-- the rows once night m has written these counts, one after another: `written` of wh_versions says it of one row, this of the whole list
 abbrev pub put_in : ℕ → ℕ → Counted → Paired → Paired
 put_in n m [] rows = rows
 put_in n m (e ∷ es) rows = put_in n m es (with_entry rows e.0 (with_pair n m e.1 (pairs_in (found e.0 rows))))
 
--- the rows once night m is given up
+-- the rows once night m is given up: `given_up` of wh_versions says it of one row, this of the whole list
 abbrev pub taken_back : ℕ → Paired → Paired
 taken_back m rows = with_pairs (map (λ e. (e.0, without_pair m e.1)) rows)
 
