@@ -7,11 +7,21 @@ use test_given::tables::bag as bag_of;
 use wh_row::Row;
 use wh_store::{Op, Store, StoreFault};
 
-/// A store of one view with these rows.
-fn store_of(rt: &impl Abort, alloc: Global, rows: &[(&[i64], i64)]) -> Result<Store, Fail> {
+/// A store of one view with these rows, which keeps so many versions.
+fn store_keeping(
+    rt: &impl Abort,
+    alloc: Global,
+    rows: &[(&[i64], i64)],
+    versions: usize,
+) -> Result<Store, Fail> {
     let table = bag_of(alloc, rows)?;
-    assert!(rt; table.is_table());
-    Ok(Store::new(alloc, &[table], 2)?)
+    assert!(rt; table.is_table() && versions >= 2 && versions <= 4);
+    Ok(Store::new(alloc, &[table], versions)?)
+}
+
+/// A store of one view with these rows, which keeps two versions.
+fn store_of(rt: &impl Abort, alloc: Global, rows: &[(&[i64], i64)]) -> Result<Store, Fail> {
+    store_keeping(rt, alloc, rows, 2)
 }
 
 /// New counts of some rows of view 0.
@@ -108,6 +118,51 @@ fn a_row_of_a_night_that_is_given_up_goes(rt: HostRuntime) -> Result<(), Fail> {
     store.apply(&Op::Begin)?;
     assert!(rt; store.slots(0, &[2]).is_none());
     assert_slots(&rt, &store, &[1], &[(0, 2)]);
+    Ok(())
+}
+
+/// A store of one view that keeps so many versions, in its third night. One row counts 2 and, by these nights, 3, 4 and 5; the first put
+/// another to 0.
+fn third_night(rt: &impl Abort, alloc: Global, versions: usize) -> Result<Store, Fail> {
+    let mut store = store_keeping(rt, alloc, &[(&[1], 2), (&[2], 1)], versions)?;
+    store.apply(&Op::Begin)?;
+    store.apply(&put(alloc, &[(&[1], 3), (&[2], 0)])?)?;
+    store.apply(&Op::Commit)?;
+    store.apply(&Op::Begin)?;
+    store.apply(&put(alloc, &[(&[1], 4)])?)?;
+    store.apply(&Op::Commit)?;
+    assert_slots(rt, &store, &[1], &[(2, 4), (1, 3), (0, 2)]);
+    assert_slots(rt, &store, &[2], &[(1, 0), (0, 1)]);
+    store.apply(&Op::Begin)?;
+    store.apply(&put(alloc, &[(&[1], 5)])?)?;
+    Ok(store)
+}
+
+#[test]
+fn of_three_versions_a_row_keeps_three_pairs(rt: HostRuntime) -> Result<(), Fail> {
+    let mut store = third_night(&rt, rt.alloc(), 3)?;
+    assert_slots(&rt, &store, &[1], &[(3, 5), (2, 4), (1, 3)]);
+    assert!(rt; store.slots(0, &[2]).is_none() && !store.unexpired(0));
+    assert_alone(&rt, &store, 1, &[1], 3)?;
+    assert_alone(&rt, &store, 2, &[1], 4)?;
+    store.apply(&Op::GiveUp)?;
+    assert_slots(&rt, &store, &[1], &[(2, 4), (1, 3)]);
+    assert_alone(&rt, &store, 3, &[1], 4)?;
+    Ok(())
+}
+
+#[test]
+fn of_four_versions_a_row_keeps_four_pairs(rt: HostRuntime) -> Result<(), Fail> {
+    let mut store = third_night(&rt, rt.alloc(), 4)?;
+    assert_slots(&rt, &store, &[1], &[(3, 5), (2, 4), (1, 3), (0, 2)]);
+    assert_slots(&rt, &store, &[2], &[(1, 0), (0, 1)]);
+    store.apply(&Op::Commit)?;
+    assert!(rt; store.unexpired(0));
+    assert_alone(&rt, &store, 1, &[1], 3)?;
+    store.apply(&Op::Begin)?;
+    assert!(rt; store.slots(0, &[2]).is_none() && !store.unexpired(0));
+    store.apply(&put(rt.alloc(), &[(&[1], 6)])?)?;
+    assert_slots(&rt, &store, &[1], &[(4, 6), (3, 5), (2, 4), (1, 3)]);
     Ok(())
 }
 

@@ -15,12 +15,12 @@ use Rattle.wh_row.specs.Weigh.{Counted, count_in}
 use Rattle.wh_row.proofs.BagLaws.{same_bag, same_row, written_lists}
 use Rattle.wh_versions.specs.Laws.{GivesBack, PutsAreShown, BeginKeeps}
 use Rattle.wh_versions.specs.Rows.{read}
-use Rattle.wh_versions.specs.Tables.{Slots, opening, pairs_in, shown, table_at}
+use Rattle.wh_versions.specs.Tables.{ViewRows, opening, pairs_in, shown, table_at}
 use Rattle.wh_versions.proofs.OpeningLaws.{opening_rises}
 use Rattle.wh_versions.proofs.ShownLaws.{count_shown}
 use Rattle.wh_store.specs.Operations.{Opens, Writes, Commits, Gives_up}
 use Rattle.wh_store.specs.Pages.{Contents}
-use Rattle.wh_store.specs.Slots.{Paired, put_in, rows_in, still_read, taken_back, with_pairs}
+use Rattle.wh_store.specs.Slots.{Paired, opening_rows, put_in, rows_in, still_read, taken_back, with_pairs}
 use Rattle.wh_store.specs.Versions.{kept_count, table_in, written_over}
 use Rattle.wh_store.specs.Windows.{Window, Shows, applied, current, kept_version, unexpired}
 use Rattle.wh_store.specs.Inner.Kept.{Begins, IsHeld, IsPut, IsUnseen, Returns, back_rows, begun_rows, contents_at, draft_at, kept_down, opened_rows, rows_of, window_held}
@@ -28,28 +28,28 @@ use Rattle.wh_store.proofs.SlotLaws.{back_pairs, begun_pairs}
 
 -- ---- the kept versions
 
-same_kept : (k s : ℕ) (new old : List Slots) → ((r : ℕ) → r ≤ s → s < r + k → contents_at new r ≡ contents_at old r) → kept_down k s new ≡ kept_down k s old
+same_kept : (k s : ℕ) (new old : List ViewRows) → ((r : ℕ) → r ≤ s → s < r + k → contents_at new r ≡ contents_at old r) → kept_down k s new ≡ kept_down k s old
 same_kept zero s new old h = refl
 same_kept (suc k) zero new old h = ap (λ c. c ∷ []) (h 0 (omega arith) (omega arith))
 same_kept (suc k) (suc s) new old h =
     λ i. h (suc s) (omega arith) (omega arith) i ∷ same_kept k s new old (λ r low near. h r (omega (arith, low)) (omega (arith, near))) i
 
-first_of : (k s : ℕ) (ts : List Slots) → slice_index_or (kept_down (suc k) s ts) 0 [] ≡ contents_at ts s
+first_of : (k s : ℕ) (ts : List ViewRows) → slice_index_or (kept_down (suc k) s ts) 0 [] ≡ contents_at ts s
 first_of k zero ts = refl
 first_of k (suc s) ts = refl
 
 -- the first of them are the newest
-first_kept : (k s : ℕ) (ts : List Slots) → 1 ≤ k → slice_index_or (kept_down k s ts) 0 [] ≡ contents_at ts s
+first_kept : (k s : ℕ) (ts : List ViewRows) → 1 ≤ k → slice_index_or (kept_down k s ts) 0 [] ≡ contents_at ts s
 first_kept zero s ts h = absurd (omega arith)
 first_kept (suc k) s ts h = first_of k s ts
 
-taken_kept : (k s : ℕ) (ts : List Slots) → take k (kept_down (suc k) s ts) ≡ kept_down k s ts
+taken_kept : (k s : ℕ) (ts : List ViewRows) → take k (kept_down (suc k) s ts) ≡ kept_down k s ts
 taken_kept zero s ts = refl
 taken_kept (suc k) zero ts = ap (λ cs. contents_at ts 0 ∷ cs) (take-nil k)
 taken_kept (suc k) (suc s) ts = ap (λ cs. contents_at ts (suc s) ∷ cs) (taken_kept k s ts)
 
 -- one more version
-next_kept : (n s : ℕ) (ts : List Slots) → 1 ≤ n → kept_down n (s + 1) ts ≡ contents_at ts (s + 1) ∷ kept_down (n - 1) s ts
+next_kept : (n s : ℕ) (ts : List ViewRows) → 1 ≤ n → kept_down n (s + 1) ts ≡ contents_at ts (s + 1) ∷ kept_down (n - 1) s ts
 next_kept n s ts h =
     let one : n ≡ suc (n - 1) = omega arith in
     ap (λ k. kept_down k (s + 1) ts) one ∙ ap (λ m. kept_down (suc (n - 1)) m ts) (add-one s) ∙ ap (λ m. contents_at ts m ∷ kept_down (n - 1) s ts) (sym (add-one s))
@@ -60,7 +60,7 @@ within a b h = grind (arith, nat_tests)
 beyond : (a b : ℕ) → nat_le a b ≡ false → b < a
 beyond a b h = grind (arith, nat_tests)
 
-kept_at : (k n s : ℕ) (ts : List Slots) → s ≤ n → n < s + k → slice_index_or (kept_down k n ts) (n - s) [] ≡ contents_at ts s
+kept_at : (k n s : ℕ) (ts : List ViewRows) → s ≤ n → n < s + k → slice_index_or (kept_down k n ts) (n - s) [] ≡ contents_at ts s
 kept_at zero n s ts low near = absurd (omega arith)
 kept_at (suc k) zero s ts low near =
     let none : s ≡ 0 = omega arith in
@@ -78,7 +78,7 @@ kept_at (suc k) (suc n) s ts low near = elim (nat_le s n) as (λ t. nat_le s n �
       ap (λ i. slice_index_or (contents_at ts (suc n) ∷ kept_down k n ts) i []) at ∙ ap (contents_at ts) (sym same)
 ] refl
 
-is_active : (active : Bool) (number : ℕ) (ts : List Slots) → is_some (draft_at active number ts) ≡ active
+is_active : (active : Bool) (number : ℕ) (ts : List ViewRows) → is_some (draft_at active number ts) ≡ active
 is_active true number ts = refl
 is_active false number ts = refl
 
@@ -86,7 +86,7 @@ near : (n s k : ℕ) → IsTrue (nat_le s n && nat_lt n (s + k)) → (s ≤ n) �
 near n s k h = (grind (arith, nat_tests), grind (arith, nat_tests))
 
 -- the contents of a version that can be read
-pub kept_contents : (n number : ℕ) (active : Bool) (ts : List Slots) (s : ℕ) → IsTrue (unexpired (window_held n number active ts) s) → kept_version (window_held n number active ts) s ≡ contents_at ts s
+pub kept_contents : (n number : ℕ) (active : Bool) (ts : List ViewRows) (s : ℕ) → IsTrue (unexpired (window_held n number active ts) s) → kept_version (window_held n number active ts) s ≡ contents_at ts s
 kept_contents n number active ts s h =
     let P : Bool → Type 0 = λ b. IsTrue (nat_le s number && nat_lt number (s + kept_count n b)) in
     let by = near number s (kept_count n active) (subst P (is_active active number ts) h) in
@@ -96,65 +96,65 @@ some_kept : (n : ℕ) (active : Bool) → 2 ≤ n → 1 ≤ kept_count n active
 some_kept n true h = omega arith
 some_kept n false h = omega arith
 
-pub current_contents : (n number : ℕ) (active : Bool) (ts : List Slots) → 2 ≤ n → current (window_held n number active ts) ≡ contents_at ts number
+pub current_contents : (n number : ℕ) (active : Bool) (ts : List ViewRows) → 2 ≤ n → current (window_held n number active ts) ≡ contents_at ts number
 current_contents n number active ts h = first_kept (kept_count n active) number ts (some_kept n active h)
 
-pub contents_length : (ts : List Slots) (s : ℕ) → length (contents_at ts s) ≡ length ts
-contents_length ts s = length-map ts (λ (t : Slots). table_at t s)
+pub contents_length : (ts : List ViewRows) (s : ℕ) → length (contents_at ts s) ≡ length ts
+contents_length ts s = length-map ts (λ (t : ViewRows). table_at t s)
 
 -- ---- one view of all
 
-pub at_map : {B : Type 0} (h : Slots → B) (d : B) (ts : List Slots) (view : ℕ) (t : Slots) → view < length ts → t ≡ slice_index_or ts view t → slice_index_or (map h ts) view d ≡ h t
+pub at_map : {B : Type 0} (h : ViewRows → B) (d : B) (ts : List ViewRows) (view : ℕ) (t : ViewRows) → view < length ts → t ≡ slice_index_or ts view t → slice_index_or (map h ts) view d ≡ h t
 at_map h d [] view t l e = absurd (omega arith)
 at_map h d (x ∷ ts) zero t l e = ap h (sym e)
 at_map h d (x ∷ ts) (suc view) t l e = at_map h d ts view t (omega arith) e
 
-set_map : {B : Type 0} (h : Slots → B) (ts : List Slots) (view : ℕ) (new : Slots) → map h (slice_set ts view new) ≡ slice_set (map h ts) view (h new)
+set_map : {B : Type 0} (h : ViewRows → B) (ts : List ViewRows) (view : ℕ) (new : ViewRows) → map h (slice_set ts view new) ≡ slice_set (map h ts) view (h new)
 set_map h [] view new = refl
 set_map h (x ∷ ts) zero new = refl
 set_map h (x ∷ ts) (suc view) new = ap (λ xs. h x ∷ xs) (set_map h ts view new)
 
-same_map : {B : Type 0} (h : Slots → B) (ts : List Slots) (view : ℕ) (t new : Slots) → view < length ts → t ≡ slice_index_or ts view t → h new ≡ h t → map h (slice_set ts view new) ≡ map h ts
+same_map : {B : Type 0} (h : ViewRows → B) (ts : List ViewRows) (view : ℕ) (t new : ViewRows) → view < length ts → t ≡ slice_index_or ts view t → h new ≡ h t → map h (slice_set ts view new) ≡ map h ts
 same_map h [] view t new l e s = absurd (omega arith)
 same_map h (x ∷ ts) zero t new l e s = ap (λ y. y ∷ map h ts) (s ∙ ap h e)
 same_map h (x ∷ ts) (suc view) t new l e s = ap (λ xs. h x ∷ xs) (same_map h ts view t new (omega arith) e s)
 
-each_map : {B : Type 0} (P : Slots → Type 0) (f : Slots → Slots) (h r : Slots → B) (ts : List Slots) → ((t : Slots) → P t → h (f t) ≡ r t) → AllByRecursion P ts → map h (map f ts) ≡ map r ts
+each_map : {B : Type 0} (P : ViewRows → Type 0) (f : ViewRows → ViewRows) (h r : ViewRows → B) (ts : List ViewRows) → ((t : ViewRows) → P t → h (f t) ≡ r t) → AllByRecursion P ts → map h (map f ts) ≡ map r ts
 each_map P f h r [] e all = refl
 each_map P f h r (t ∷ ts) e all = λ i. e t all.0 i ∷ each_map P f h r ts e all.1 i
 
-map_map : (g : Paired → Paired) (ts : List Slots) → map g (rows_of ts) ≡ map (λ (t : Slots). g (with_pairs t.rows)) ts
+map_map : (g : Paired → Paired) (ts : List ViewRows) → map g (rows_of ts) ≡ map (λ (t : ViewRows). g (with_pairs t.rows)) ts
 map_map g [] = refl
 map_map g (t ∷ ts) = ap (λ xs. g (with_pairs t.rows) ∷ xs) (map_map g ts)
 
 -- ---- what holds of each
 
-both : (P Q : Slots → Type 0) (ts : List Slots) → AllByRecursion P ts → AllByRecursion Q ts → AllByRecursion (λ t. P t × Q t) ts
+both : (P Q : ViewRows → Type 0) (ts : List ViewRows) → AllByRecursion P ts → AllByRecursion Q ts → AllByRecursion (λ t. P t × Q t) ts
 both P Q [] p q = tt
 both P Q (t ∷ ts) p q = ((p.0, q.0), both P Q ts p.1 q.1)
 
-pub all_of : (P Q : Slots → Type 0) (ts : List Slots) → ((t : Slots) → P t → Q t) → AllByRecursion P ts → AllByRecursion Q ts
+pub all_of : (P Q : ViewRows → Type 0) (ts : List ViewRows) → ((t : ViewRows) → P t → Q t) → AllByRecursion P ts → AllByRecursion Q ts
 all_of P Q [] f p = tt
 all_of P Q (t ∷ ts) f p = (f t p.0, all_of P Q ts f p.1)
 
-all_map : (P Q : Slots → Type 0) (f : Slots → Slots) (ts : List Slots) → ((t : Slots) → P t → Q (f t)) → AllByRecursion P ts → AllByRecursion Q (map f ts)
+all_map : (P Q : ViewRows → Type 0) (f : ViewRows → ViewRows) (ts : List ViewRows) → ((t : ViewRows) → P t → Q (f t)) → AllByRecursion P ts → AllByRecursion Q (map f ts)
 all_map P Q f [] e p = tt
 all_map P Q f (t ∷ ts) e p = (e t p.0, all_map P Q f ts e p.1)
 
-pub all_at : (P : Slots → Type 0) (ts : List Slots) (view : ℕ) (t : Slots) → view < length ts → t ≡ slice_index_or ts view t → AllByRecursion P ts → P t
+pub all_at : (P : ViewRows → Type 0) (ts : List ViewRows) (view : ℕ) (t : ViewRows) → view < length ts → t ≡ slice_index_or ts view t → AllByRecursion P ts → P t
 all_at P [] view t l e p = absurd (omega arith)
 all_at P (x ∷ ts) zero t l e p = subst P (sym e) p.0
 all_at P (x ∷ ts) (suc view) t l e p = all_at P ts view t (omega arith) e p.1
 
-all_set : (P : Slots → Type 0) (ts : List Slots) (view : ℕ) (new : Slots) → P new → AllByRecursion P ts → AllByRecursion P (slice_set ts view new)
+all_set : (P : ViewRows → Type 0) (ts : List ViewRows) (view : ℕ) (new : ViewRows) → P new → AllByRecursion P ts → AllByRecursion P (slice_set ts view new)
 all_set P [] view new n p = tt
 all_set P (x ∷ ts) zero new n p = (n, p.1)
 all_set P (x ∷ ts) (suc view) new n p = (p.0, all_set P ts view new n p.1)
 
 -- ---- a night begins
 
-module _ (n number : ℕ) (ts : List Slots) (held : IsHeld n number false ts) (keeps : AllByRecursion (Begins n) ts) where
-  abbrev Stands : Slots → Type 0
+module _ (n number : ℕ) (ts : List ViewRows) (held : IsHeld n number false ts) (keeps : AllByRecursion (Begins n) ts) where
+  abbrev Stands : ViewRows → Type 0
   Stands t = (t.night ≡ number + 0) × Begins n t
 
   stand : AllByRecursion Stands ts
@@ -196,14 +196,14 @@ module _ (n number : ℕ) (ts : List Slots) (held : IsHeld n number false ts) (k
 
 -- ---- a night is given up
 
-module _ (n number : ℕ) (ts : List Slots) (held : IsHeld n number true ts) (returns : AllByRecursion Returns ts) where
-  abbrev Stood : Slots → Type 0
+module _ (n number : ℕ) (ts : List ViewRows) (held : IsHeld n number true ts) (returns : AllByRecursion Returns ts) where
+  abbrev Stood : ViewRows → Type 0
   Stood t = (t.night ≡ number + 1) × Returns t
 
   stood : AllByRecursion Stood ts
   stood = both (λ t. t.night ≡ number + 1) Returns ts held.nights returns
 
-  back : (t : Slots) → Stood t → GivesBack number t (back_rows t)
+  back : (t : ViewRows) → Stood t → GivesBack number t (back_rows t)
   back t s = s.1 number (s.0 ∙ add-one number)
 
   back_before : (r : ℕ) → r ≤ number → contents_at (map back_rows ts) r ≡ contents_at ts r
@@ -234,10 +234,10 @@ module _ (n number : ℕ) (ts : List Slots) (held : IsHeld n number true ts) (re
 
 -- ---- a commit
 
-pub committed_window : (n number : ℕ) (ts : List Slots) → 2 ≤ n → window_held n (number + 1) false ts ≡ applied (window_held n number true ts) Commits
+pub committed_window : (n number : ℕ) (ts : List ViewRows) → 2 ≤ n → window_held n (number + 1) false ts ≡ applied (window_held n number true ts) Commits
 committed_window n number ts enough = ap (λ ks. record { limit = n; number = number + 1; kept = ks; draft = None; rows = rows_of ts }) (next_kept n number ts (omega arith))
 
-pub committed_held : (n number : ℕ) (ts : List Slots) → IsHeld n number true ts → IsHeld n (number + 1) false ts
+pub committed_held : (n number : ℕ) (ts : List ViewRows) → IsHeld n number true ts → IsHeld n (number + 1) false ts
 committed_held n number ts held = record {
   enough = held.enough;
   few = held.few;
@@ -247,7 +247,7 @@ committed_held n number ts held = record {
 
 -- ---- counts are written
 
-module _ (n number : ℕ) (ts : List Slots) (held : IsHeld n number true ts) (view : ℕ) (t new : Slots) (l : view < length ts) (is : t ≡ slice_index_or ts view t) where
+module _ (n number : ℕ) (ts : List ViewRows) (held : IsHeld n number true ts) (view : ℕ) (t new : ViewRows) (l : view < length ts) (is : t ≡ slice_index_or ts view t) where
   pub own_night : t.night ≡ number + 1
   own_night = all_at (λ x. x.night ≡ number + 1) ts view t l is held.nights
 
@@ -326,9 +326,17 @@ opened_shows n tables h =
     ∙ ap (λ k. take k (tables ∷ [])) (sym one) in
     ap (λ ks. record { limit = n; number = 0; kept = ks; draft = None; rows = rows_of (map opened_rows tables) }) kept
 
+pairs_opened : (es : Counted) → with_pairs (opening es) ≡ opening es
+pairs_opened [] = refl
+pairs_opened (e ∷ es) = ap (λ xs. (e.0, (0, e.1) ∷ []) ∷ xs) (pairs_opened es)
+
+pub rows_opened : (tables : Contents) → rows_of (map opened_rows tables) ≡ opening_rows tables
+rows_opened [] = refl
+rows_opened (b ∷ tables) = λ i. pairs_opened (written_out b) i ∷ rows_opened tables i
+
 pub opened_held : (n : ℕ) (tables : Contents) → 2 ≤ n → n ≤ 4 → IsHeld n 0 false (map opened_rows tables)
 opened_held n tables two few = record { enough = two; few = few; next = omega arith; nights = zero_nights tables }
   where
-    zero_nights : (bs : Contents) → AllByRecursion (λ (t : Slots). t.night ≡ 0 + 0) (map opened_rows bs)
+    zero_nights : (bs : Contents) → AllByRecursion (λ (t : ViewRows). t.night ≡ 0 + 0) (map opened_rows bs)
     zero_nights [] = tt
     zero_nights (b ∷ bs) = (refl, zero_nights bs)

@@ -4,6 +4,7 @@ mod Lists
 mod RowLaws
 mod SlotLaws
 mod KeptLaws
+mod ReadLaws
 mod Pages
 mod PageLaws
 mod VersionLaws

@@ -8,10 +8,9 @@ use Rattle.wh_pieces.proofs.PieceLaws.{rising-with}
 use Rattle.wh_row.specs.Row.{Row, is_row}
 use Rattle.wh_row.specs.Weigh.{Counted}
 use Rattle.wh_row.proofs.BagLaws.{same_row}
-use Rattle.wh_versions.specs.Inner.Rows.{is_unread}
 use Rattle.wh_versions.specs.Inner.Tables.{begun}
-use Rattle.wh_versions.specs.Rows.{Pairs, with_pair, without_pair}
-use Rattle.wh_versions.specs.Tables.{Slots, AreInForm, IsBegun, IsNewToNight, MayBeAdded, added, begins_with, given_up, is_given, pairs_in, slots, written}
+use Rattle.wh_versions.specs.Rows.{Pairs, with_pair, without_pair, is_unread}
+use Rattle.wh_versions.specs.Tables.{ViewRows, AreInForm, IsBegun, IsNewToNight, MayBeAdded, added, begins_with, given_up, is_given, pairs_in, slots, written}
 use Rattle.wh_versions.proofs.ShownLaws.{each_added_is_unseen, each_put_is_shown}
 use Rattle.wh_versions.proofs.TableLaws.{begun_of}
 use Rattle.wh_store.specs.Slots.{Paired, are_some, with_pairs, still_read, put_in, taken_back}
@@ -30,10 +29,10 @@ left_begun n m (Some ps) = elim (is_unread (n - 1) m ps) as (λ t. cond t None (
   | false ↦ refl
 ]
 
-same_slots : (s t : Slots) → s.night ≡ t.night → s.rows ≡ t.rows → s ≡ t
+same_slots : (s t : ViewRows) → s.night ≡ t.night → s.rows ≡ t.rows → s ≡ t
 same_slots s t e f = λ i. record { night = e i; rows = f i }
 
-pub begun_exactly : (n : ℕ) (old new : Slots) → AreRisingRows old.rows → AreRisingRows new.rows → new.night ≡ old.night + 1 → ((row : Row) → IsBegun n (old.night + 1) (slots old row) (slots new row)) → new ≡ begun_rows n old
+pub begun_exactly : (n : ℕ) (old new : ViewRows) → AreRisingRows old.rows → AreRisingRows new.rows → new.night ≡ old.night + 1 → ((row : Row) → IsBegun n (old.night + 1) (slots old row) (slots new row)) → new ≡ begun_rows n old
 begun_exactly n old new rises rising night is = same_slots new (begun_rows n old) night
     (same_found new.rows (still_read n (old.night + 1) old.rows) rising (rising_those (is_read n (old.night + 1)) old.rows rises) (λ q.
     let at : slots new q ≡ begun n (old.night + 1) (slots old q) =
@@ -46,7 +45,7 @@ begun_pairs n m rows = those_turned are_some (is_read n m) rows
 
 -- ---- a night that is given up
 
-pub back_exactly : (old new : Slots) → AreRisingRows old.rows → AreRisingRows new.rows → new.night ≡ old.night → ((row : Row) → slots new row ≡ given_up old.night (slots old row)) → new ≡ back_rows old
+pub back_exactly : (old new : ViewRows) → AreRisingRows old.rows → AreRisingRows new.rows → new.night ≡ old.night → ((row : Row) → slots new row ≡ given_up old.night (slots old row)) → new ≡ back_rows old
 back_exactly old new rises rising night is = same_slots new (back_rows old) night
     (same_found new.rows (changed (without_pair old.night) old.rows) rising (rising_changed (without_pair old.night) old.rows rises) (λ q.
     is q ∙ sym (found_changed (without_pair old.night) old.rows q)))
@@ -98,7 +97,7 @@ rising_put : (n m : ℕ) (es : Counted) (rows : Paired) → AreRisingRows rows �
 rising_put n m [] rows h = h
 rising_put n m (e ∷ es) rows h = rising_put n m es _ (rising-with e.0 (with_pair n m e.1 (pairs_in (found e.0 rows))) rows h)
 
-pub put_exactly : (n : ℕ) (given : Counted) (old new : Slots) → 2 ≤ n → AreInForm n old → AreRisingRows old.rows → AreRisingRows new.rows → new.night ≡ old.night
+pub put_exactly : (n : ℕ) (given : Counted) (old new : ViewRows) → 2 ≤ n → AreInForm n old → AreRisingRows old.rows → AreRisingRows new.rows → new.night ≡ old.night
     → ((row : Row) → slots new row ≡ written n old.night given row (slots old row)) → IsPut n given old new
 put_exactly n given old new two form rises rising night is = record {
   night = night;
@@ -116,7 +115,7 @@ cut_added true None = refl
 cut_added true (Some ps) = refl
 cut_added false o = refl
 
-pub refused_exactly : (given : Counted) (old new : Slots) → AreRisingRows old.rows → AreRisingRows new.rows → new.night ≡ old.night
+pub refused_exactly : (given : Counted) (old new : ViewRows) → AreRisingRows old.rows → AreRisingRows new.rows → new.night ≡ old.night
     → ((row : Row) → MayBeAdded given row (slots old row) (slots new row)) → IsUnseen old new
 refused_exactly given old new rises rising night may = record {
   night = night;
@@ -132,5 +131,5 @@ refused_exactly given old new rises rising night may = record {
 pub pairs_kept : (rows : Paired) (q : Row) → AreRisingRows rows → pairs_in (found q (with_pairs rows)) ≡ pairs_in (found q rows)
 pairs_kept rows q rises = ap pairs_in (found_those are_some rows q rises) ∙ cut_pairs (found q rows)
 
-pub new_paired : (given : Counted) (t : Slots) → AreRisingRows t.rows → IsNewToNight given t → IsNewToNight given (paired t)
+pub new_paired : (given : Counted) (t : ViewRows) → AreRisingRows t.rows → IsNewToNight given t → IsNewToNight given (paired t)
 new_paired given t rises new = record { row = new.row; is_one = new.is_one; lacks = ap (begins_with t.night) (pairs_kept t.rows new.row rises) ∙ new.lacks }

@@ -1,15 +1,15 @@
 //! The rows of all views with the last N versions, and what is done to them.
 
-ghost use Rattle.std.specs.Prelude.{◌≡◌, ◌≢◌, ◌≤◌, ◌<◌, ◌++◌, [], ◌∷◌, ℕ, List, Err, IfOk, OnOk, OnErr, IsOk, IsOkUnless, IsTrue, MatchOption, is_some, length, option_map};
+ghost use Rattle.std.specs.Prelude.{◌≡◌, ◌≢◌, ◌≤◌, ◌<◌, ◌++◌, [], ◌∷◌, ◌+◌, ℕ, List, Some, Err, IfOk, OnOk, OnErr, IsOk, IsOkUnless, IsTrue, MatchOption, is_some, length, option_map};
 ghost use Rattle.wh_row.specs.Bag.{empty};
 ghost use Rattle.wh_row.specs.Stored.{plain};
 ghost use Rattle.wh_store.specs.Kept.{AreTables};
 ghost use Rattle.wh_store.specs.Operations.{Operation, operation, Opens, Writes, Commits, Gives_up};
 ghost use Rattle.wh_store.specs.Pages.{Contents, page_of};
 ghost use Rattle.wh_store.specs.Refusals.{refusal};
-ghost use Rattle.wh_store.specs.Slots.{pairs_at};
+ghost use Rattle.wh_store.specs.Slots.{opening_rows, pairs_at};
 ghost use Rattle.wh_store.specs.Versions.{table_in};
-ghost use Rattle.wh_store.specs.Windows.{Shows, TakesMemory, applied, current, kept_version, unexpired};
+ghost use Rattle.wh_store.specs.Windows.{CountsAreRead, Shows, TakesMemory, applied, current, kept_version, unexpired};
 ghost use Rattle.wh_versions.specs.Tables.{pairs_in};
 
 use crate::fault::StoreFault;
@@ -53,6 +53,7 @@ impl<const N: usize> Held<N> {
         ensures shows { IfOk result (λ held. Shows held tables.now []) }
         ensures limit { IfOk result (λ held. held.limit ≡ N) }
         ensures current { IfOk result (λ held. current held ≡ tables.now) }
+        ensures rows { IfOk result (λ held. held.rows ≡ opening_rows tables.now) }
     {
         let tables = first_tables(alloc, tables)?;
         Ok(Held {
@@ -265,6 +266,17 @@ impl<const N: usize> Held<N> {
         let table = &self.tables[view];
         table.are_in_form();
         table.slots(row)
+    }
+
+    /// In each version that sessions can be read of, and in the one that a night is writing, each row of a view counts what a session of that
+    /// version reads of its pairs. For proofs: it does nothing.
+    pub(crate) fn slots_are_read(&self, view: usize)
+        requires { view < length (current self.now) }
+        ensures kept { (version : ℕ) → IsTrue (unexpired self.now version) → CountsAreRead self.now view version (kept_version self.now version) }
+        ensures night { (contents : Contents) → self.now.draft ≡ Some contents → CountsAreRead self.now view (self.now.number + 1) contents }
+    {
+        let table = &self.tables[view];
+        table.are_in_form();
     }
 
     /// What shows the same.

@@ -1,14 +1,14 @@
 //! The store.
 
-ghost use Rattle.std.specs.Prelude.{◌≡◌, ◌≢◌, ◌≤◌, ◌<◌, ◌++◌, [], ◌∷◌, ℕ, List, Err, IfOk, OnOk, OnErr, IsOkUnless, IsTrue, MatchOption, is_some, length, option_map};
+ghost use Rattle.std.specs.Prelude.{◌≡◌, ◌≢◌, ◌≤◌, ◌<◌, ◌++◌, [], ◌∷◌, ◌+◌, ℕ, List, Some, Err, IfOk, OnOk, OnErr, IsOkUnless, IsTrue, MatchOption, is_some, length, option_map};
 ghost use Rattle.wh_row.specs.Bag.{empty};
 ghost use Rattle.wh_store.specs.Kept.{AreTables};
 ghost use Rattle.wh_store.specs.Operations.{Operation, operation};
 ghost use Rattle.wh_store.specs.Pages.{Contents, page_of};
 ghost use Rattle.wh_store.specs.Refusals.{refusal};
-ghost use Rattle.wh_store.specs.Slots.{pairs_at};
+ghost use Rattle.wh_store.specs.Slots.{opening_rows, pairs_at};
 ghost use Rattle.wh_store.specs.Versions.{table_in, table_of, version as version_of, versions_of};
-ghost use Rattle.wh_store.specs.Windows.{Shows, TakesMemory, applied, current, kept_version, unexpired};
+ghost use Rattle.wh_store.specs.Windows.{CountsAreRead, Shows, TakesMemory, applied, current, kept_version, unexpired};
 ghost use Rattle.wh_versions.specs.Tables.{pairs_in};
 
 use crate::fault::StoreFault;
@@ -65,6 +65,7 @@ impl Store {
         ensures shows { IfOk result (λ store. Shows store tables.now []) }
         ensures limit { IfOk result (λ store. store.limit ≡ versions) }
         ensures current { IfOk result (λ store. current store ≡ tables.now) }
+        ensures rows { IfOk result (λ store. store.rows ≡ opening_rows tables.now) }
     {
         let held = match versions {
             2 => Depth::Two(Held::new(alloc, tables)?),
@@ -260,6 +261,20 @@ impl Store {
             Depth::Four(held) => Places::Four(held.slots(view, row)?),
         };
         Some(Slots { places })
+    }
+
+    /// What sessions read is what rows have: in each version that sessions can be read of, and in the one that a night is writing, each row of
+    /// a view counts what a session of that version reads of the row's pairs. For proofs: it does nothing.
+    pub fn slots_are_read(&self, view: usize)
+        requires { view < length (current self.now) }
+        ensures kept { (version : ℕ) → IsTrue (unexpired self.now version) → CountsAreRead self.now view version (kept_version self.now version) }
+        ensures night { (contents : Contents) → self.now.draft ≡ Some contents → CountsAreRead self.now view (self.now.number + 1) contents }
+    {
+        match &self.held {
+            Depth::Two(held) => held.slots_are_read(view),
+            Depth::Three(held) => held.slots_are_read(view),
+            Depth::Four(held) => held.slots_are_read(view),
+        }
     }
 
     /// A store that shows the same.

@@ -5,7 +5,7 @@ ghost use Rattle.std.specs.List.{AllByRecursion};
 ghost use Rattle.wh_row.specs.Stored.{plain};
 ghost use Rattle.wh_store.specs.Inner.Kept.{Begins, IsPut, IsUnseen, Returns, back_rows, begun_rows, opened_rows, paired};
 ghost use Rattle.wh_store.specs.Kept.{AreTables};
-ghost use Rattle.wh_versions.specs.Tables.{HaveCounts, IsNewToNight, Slots};
+ghost use Rattle.wh_versions.specs.Tables.{HaveCounts, IsNewToNight, ViewRows};
 
 use std::alloc::{AllocError, Global};
 use wh_row::{Bag, Row};
@@ -43,7 +43,7 @@ fn begin_one<const N: usize>(table: &mut VersionTable<N>)
 /// Begins the next night of each view.
 pub(crate) fn begin_each<const N: usize>(tables: &mut [VersionTable<N>])
     requires enough { 2 ≤ N }
-    requires numbers { AllByRecursion (λ (t : Slots). t.night + 1 < 2 ^ 64) tables.old }
+    requires numbers { AllByRecursion (λ (t : ViewRows). t.night + 1 < 2 ^ 64) tables.old }
     ensures rows { tables.new ≡ map (begun_rows N) tables.old }
     ensures keeps { AllByRecursion (Begins N) tables.old }
 {
@@ -65,7 +65,7 @@ fn give_up_one<const N: usize>(table: &mut VersionTable<N>)
 
 /// Takes away what the night of each view wrote.
 pub(crate) fn give_up_each<const N: usize>(tables: &mut [VersionTable<N>])
-    requires { AllByRecursion (λ (t : Slots). 0 < t.night) tables.old }
+    requires { AllByRecursion (λ (t : ViewRows). 0 < t.night) tables.old }
     ensures rows { tables.new ≡ map back_rows tables.old }
     ensures returns { AllByRecursion Returns tables.old }
 {

@@ -2,8 +2,7 @@
 use Rattle.std.proofs.Common.{◌≡◌, refl, suc, ◌-◌, ℕ, Option, Some, None, true, false, arith, cond}
 use Rattle.wh_versions.specs.Laws.{EachPutIsRead, EachReadsBack, DroppedAreUnread}
 use Rattle.wh_versions.proofs.ReadLaws.{read_put, read_put_new, put_pairs, read_back, read_older, back_pairs}
-use Rattle.wh_versions.specs.Rows.{Pairs, IsUnread}
-use Rattle.wh_versions.specs.Inner.Rows.{is_unread}
+use Rattle.wh_versions.specs.Rows.{Pairs, IsUnread, is_unread}
 use Rattle.wh_versions.proofs.TableLaws.{unread_reads, begun_of}
 
 pub each_put_is_read : EachPutIsRead

@@ -6,10 +6,9 @@ use Rattle.wh_row.specs.Bag.{Bag, count, number, set_count}
 use Rattle.wh_row.specs.Row.{Row, row_cmp, is_row}
 use Rattle.wh_row.specs.Weigh.{Counted}
 use Rattle.wh_row.proofs.CountLaws.{count-set_count, same_bag}
-use Rattle.wh_versions.specs.Inner.Rows.{is_unread}
 use Rattle.wh_versions.specs.Inner.Tables.{begun}
 use Rattle.wh_versions.specs.Laws.{TablesCount, EachPutIsShown, EachGivesUp, EachBeginKeeps, EachAddedIsUnseen}
-use Rattle.wh_versions.specs.Rows.{Pairs, read, with_pair, without_pair, AreFalling, ArePairs}
+use Rattle.wh_versions.specs.Rows.{Pairs, read, with_pair, without_pair, AreFalling, ArePairs, is_unread}
 use Rattle.wh_versions.specs.Tables.{pairs_in, shown, table_at, is_given, added, written, given_up, IsBegun, MayBeAdded, with_counts}
 use Rattle.wh_versions.proofs.ReadLaws.{read_put, read_put_new, put_pairs, read_back, read_older, read_same}
 use Rattle.wh_versions.proofs.TableLaws.{unread_reads, begun_of}

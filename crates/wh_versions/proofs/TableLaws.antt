@@ -8,9 +8,8 @@ use Rattle.wh_pieces.specs.Row.{Row}
 use Rattle.wh_pieces.specs.Pieces.{found}
 use Rattle.wh_row.specs.Weigh.{Counted}
 use Rattle.wh_row.specs.Row.{is_row}
-use Rattle.wh_versions.specs.Rows.{Pairs, read, with_pair, without_pair, IsUnread, ArePairs}
+use Rattle.wh_versions.specs.Rows.{Pairs, read, with_pair, without_pair, IsUnread, ArePairs, is_unread}
 use Rattle.wh_versions.specs.Tables.{pairs_in, is_given, added, written, given_up, IsBegun, MayBeAdded, begins_with, IsNewToNight}
-use Rattle.wh_versions.specs.Inner.Rows.{is_unread}
 use Rattle.wh_versions.specs.Laws.{UnreadIsTested}
 use Rattle.wh_versions.specs.Inner.Tables.{Touched, begun, is_in, set_at, for_touched, HasNumber, IsRead, IsListed, AreKept, AreAdded, AreSafe, IsNew}
 use Rattle.wh_versions.proofs.ReadLaws.{falling_below, put_pairs, put_number, back_pairs, back_number, back_none, number_below, read_step}

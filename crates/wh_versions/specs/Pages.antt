@@ -4,7 +4,7 @@ use Rattle.std.specs.Ordering.{int_eq}
 use Rattle.wh_row.specs.Row.{Row}
 use Rattle.wh_row.specs.Weigh.{Counted, above}
 use Rattle.wh_versions.specs.Rows.{Pairs, read}
-use Rattle.wh_versions.specs.Tables.{Slots}
+use Rattle.wh_versions.specs.Tables.{ViewRows}
 
 -- what a session of version s reads of a row
 abbrev pub read_of : ℕ → Row × Pairs → Row × ℤ
@@ -19,7 +19,7 @@ abbrev pub shown_of : ℕ → List (Row × Pairs) → Counted
 shown_of s rows = filter is_counted (map (read_of s) rows)
 
 -- the rows that version s shows, in rising order, each with its count
-abbrev pub shown_at : Slots → ℕ → Counted
+abbrev pub shown_at : ViewRows → ℕ → Counted
 shown_at t s = shown_of s t.rows
 
 -- those after this row; each row stands after none

@@ -1,5 +1,6 @@
 -- What a row counts in the last versions.
-use Rattle.std.specs.Prelude.{◌≡◌, ℕ, suc, ◌+◌, ◌<◌, ◌≤◌, ◌==◌, ℤ, pos, nat_le, cond, List, [], ◌∷◌, take, length}
+use Rattle.std.specs.Prelude.{◌≡◌, ℕ, zero, suc, ◌+◌, ◌-◌, ◌<◌, ◌≤◌, ◌==◌, ℤ, pos, nat_le, Bool, true, ◌&&◌, cond, List, [], ◌∷◌, take, length}
+use Rattle.std.specs.Ordering.{int_eq}
 
 -- numbers of versions, each with what the row counts from that version on, the newest first
 abbrev pub Pairs : Type 0
@@ -23,6 +24,11 @@ without_pair m (p ∷ ps) = cond (p.0 == m) ps (p ∷ ps)
 -- no session of the k versions before m reads anything
 abbrev pub IsUnread : ℕ → ℕ → Pairs → Type 0
 IsUnread k m ps = (s : ℕ) → s < m → m ≤ s + k → read s ps ≡ pos 0
+
+-- that as a test, version by version: where m is above 0, it tells the same (UnreadIsTested of Laws)
+abbrev pub is_unread : ℕ → ℕ → Pairs → Bool
+is_unread zero m ps = true
+is_unread (suc k) m ps = int_eq (read (m - suc k) ps) (pos 0) && is_unread k m ps
 
 -- the numbers fall, from below this one
 abbrev pub AreFalling : ℕ → Pairs → Type 0

@@ -8,12 +8,12 @@ use Rattle.wh_row.specs.Weigh.{Counted}
 use Rattle.wh_versions.specs.Rows.{Pairs, read, with_pair, without_pair, IsUnread, ArePairs}
 
 -- rows in rising order, each with its pairs, and the number of the last night that was begun: it writes the version of this number
-pub record Slots : Type 0 where
+pub record ViewRows : Type 0 where
   pub night : ℕ
   pub rows : List (Row × Pairs)
 
 -- a row's pairs, where it is there
-abbrev pub slots : Slots → Row → Option Pairs
+abbrev pub slots : ViewRows → Row → Option Pairs
 slots t row = found row t.rows
 
 -- a row that is not there has no pairs
@@ -22,7 +22,7 @@ pairs_in None = []
 pairs_in (Some ps) = ps
 
 -- what a row counts in version s
-abbrev pub count_at : Slots → ℕ → Row → ℤ
+abbrev pub count_at : ViewRows → ℕ → Row → ℤ
 count_at t s row = read s (pairs_in (slots t row))
 
 -- the table that version s shows
@@ -30,7 +30,7 @@ abbrev pub shown : ℕ → List (Row × Pairs) → Bag
 shown s [] = empty
 shown s (e ∷ es) = set_count (shown s es) e.0 (read s e.1)
 
-abbrev pub table_at : Slots → ℕ → Bag
+abbrev pub table_at : ViewRows → ℕ → Bag
 table_at t s = shown s t.rows
 
 -- the row is one of these
@@ -52,7 +52,7 @@ begins_with m [] = false
 begins_with m (p ∷ ps) = p.0 == m
 
 -- one of these rows has no pair of the night that was begun last
-pub record IsNewToNight (given : Counted) (t : Slots) : Type 0 where
+pub record IsNewToNight (given : Counted) (t : ViewRows) : Type 0 where
   pub row : Row
   pub is_one : is_given row given ≡ true
   pub lacks : begins_with t.night (pairs_in (slots t row)) ≡ false
@@ -85,5 +85,5 @@ with_counts table [] = table
 with_counts table (e ∷ es) = with_counts (set_count table e.0 e.1) es
 
 -- each row's pairs are kept in form
-abbrev pub AreInForm : ℕ → Slots → Type 0
+abbrev pub AreInForm : ℕ → ViewRows → Type 0
 AreInForm n t = (row : Row) → ArePairs n t.night (pairs_in (slots t row))

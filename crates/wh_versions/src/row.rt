@@ -1,8 +1,8 @@
 //! What a row counts in the last versions.
 
 ghost use Rattle.std.specs.Prelude.{◌≡◌, ◌-◌, ◌≤ℤ◌, pos, [], length, slice_get};
-ghost use Rattle.wh_versions.specs.Rows.{read, with_pair, without_pair};
-ghost use Rattle.wh_versions.specs.Inner.Rows.{BeginsWith, is_unread, pairs_of};
+ghost use Rattle.wh_versions.specs.Rows.{read, with_pair, without_pair, is_unread};
+ghost use Rattle.wh_versions.specs.Inner.Rows.{BeginsWith, pairs_of};
 
 use std::marker::Model;
 

@@ -28,12 +28,12 @@ pub struct VersionTable<const N: usize> {
 }
 
 impl<const N: usize> Model for VersionTable<N> {
-    ghost use Rattle.wh_versions.specs.Tables.{Slots};
-    ghost use Rattle.wh_versions.specs.Inner.Tables.{AreKept, coded_slots};
+    ghost use Rattle.wh_versions.specs.Tables.{ViewRows};
+    ghost use Rattle.wh_versions.specs.Inner.Tables.{AreKept, coded_view_rows};
 
-    ghost Value = { Slots };
+    ghost Value = { ViewRows };
 
-    ghost coded = { coded_slots };
+    ghost coded = { coded_view_rows };
 
     ghost view = { λ t. record { night = t.night; rows = t.rows } };
 

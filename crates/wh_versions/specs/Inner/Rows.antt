@@ -1,9 +1,8 @@
 -- What only proofs and private contracts use. Pairs as they are stored, in places side by side.
-use Rattle.std.specs.Prelude.{◌≡◌, ℕ, zero, suc, ◌-◌, ℤ, pos, negsuc, ◌≤ℤ◌, int_le, ◌&&◌, ◌==◌, Bool, true, false, cond, List, [], ◌∷◌}
+use Rattle.std.specs.Prelude.{◌≡◌, ℕ, zero, suc, ℤ, pos, negsuc, ◌≤ℤ◌, int_le, ◌&&◌, ◌==◌, Bool, true, false, cond, List, [], ◌∷◌}
 use Rattle.std.specs.Coded.{Coded, coded×, coded_ℕ, coded_ℤ, coded_list}
 use Rattle.std.specs.List.{AllByRecursion}
-use Rattle.std.specs.Ordering.{int_eq}
-use Rattle.wh_versions.specs.Rows.{Pairs, read}
+use Rattle.wh_versions.specs.Rows.{Pairs}
 
 -- the pairs in places, up to the first whose count is below zero
 abbrev pub pairs_of : List ℕ → List ℤ → Pairs
@@ -39,8 +38,3 @@ abbrev pub BeginsWith : ℕ → List ℕ → List ℤ → Bool → Type 0
 BeginsWith m [] cs b = b ≡ false
 BeginsWith m (n ∷ ns) [] b = b ≡ false
 BeginsWith m (n ∷ ns) (c ∷ cs) b = b ≡ (int_le (pos 0) c && n == m)
-
--- no session of the k versions before m reads anything, asked version by version
-abbrev pub is_unread : ℕ → ℕ → Pairs → Bool
-is_unread zero m ps = true
-is_unread (suc k) m ps = int_eq (read (m - suc k) ps) (pos 0) && is_unread k m ps

@@ -3,10 +3,10 @@ use Rattle.std.specs.Prelude.{◌≡◌, ◌≢◌, ◌⊎◌, ℕ, ◌+◌, ◌
 use Rattle.std.specs.Coded.{Coded, code_by, coded×, coded_ℕ, coded_ℤ, coded_list}
 use Rattle.wh_pieces.specs.Row.{Row}
 use Rattle.wh_pieces.specs.Pieces.{found}
-use Rattle.wh_versions.specs.Rows.{Pairs, read, ArePairs}
-use Rattle.wh_versions.specs.Inner.Rows.{coded_pairs, is_unread}
+use Rattle.wh_versions.specs.Rows.{Pairs, read, ArePairs, is_unread}
+use Rattle.wh_versions.specs.Inner.Rows.{coded_pairs}
 use Rattle.wh_row.specs.Weigh.{Counted}
-use Rattle.wh_versions.specs.Tables.{Slots, MayBeAdded, added, is_given}
+use Rattle.wh_versions.specs.Tables.{ViewRows, MayBeAdded, added, is_given}
 
 -- a set of rows
 abbrev pub Touched : Type 0
@@ -69,5 +69,5 @@ pub record IsNew (given : Counted) (rows : List (Row × Pairs)) (set : Touched) 
   pub is_one : is_given row given ≡ true
   pub lacks : (found row rows ≡ None) ⊎ (is_in row set ≡ false)
 
-abbrev pub coded_slots : Coded Slots
-coded_slots = code_by (ℕ × List (Row × Pairs)) (coded× coded_ℕ (coded_list (coded× (coded_list coded_ℤ) coded_pairs))) (λ t. (t.night, t.rows)) (λ p. record { night = p.0; rows = p.1 }) (λ _. refl)
+abbrev pub coded_view_rows : Coded ViewRows
+coded_view_rows = code_by (ℕ × List (Row × Pairs)) (coded× coded_ℕ (coded_list (coded× (coded_list coded_ℤ) coded_pairs))) (λ t. (t.night, t.rows)) (λ p. record { night = p.0; rows = p.1 }) (λ _. refl)

@@ -1,6 +1,6 @@
 use Rattle.std.proofs.Common.{◌≡◌, ◌-◌, ap, sym, refl, rules, None, Some, cond, true, false}
 use Rattle.wh_pieces.specs.Pieces.{found}
-use Rattle.wh_versions.specs.Inner.Rows.{is_unread}
+use Rattle.wh_versions.specs.Rows.{is_unread}
 use Rattle.wh_versions.specs.Inner.Tables.{begun}
 use Rattle.wh_versions.proofs.TouchLaws.{dropped, unchanged}
 use Rattle.wh_versions.proofs.writing.drop_row.Goals as goal

@@ -1,7 +1,7 @@
 use Rattle.std.proofs.Common.{◌≡◌, ◌∙◌, ◌+◌, ◌<◌, ℕ, Bool, true, ap, sym, subst, List, [], length, lit<, arith, rules}
 use Rattle.std.specs.Prelude.{slice_set, IsTrue}
 use Rattle.wh_row.specs.Stored.{plain}
-use Rattle.wh_versions.specs.Tables.{HaveCounts, IsNewToNight, Slots}
+use Rattle.wh_versions.specs.Tables.{HaveCounts, IsNewToNight, ViewRows}
 use Rattle.wh_versions.proofs.PageLaws.{told}
 use Rattle.wh_store.specs.Operations.{Writes}
 use Rattle.wh_store.specs.Pages.{is_page}
@@ -63,8 +63,8 @@ returns-in_err-put_one-clause-memory g c _ =
     let held = subst (λ (b : Bool). IsHeld g.row.N number b items) nightly c.self.invariant in
     let here : c.args.view < length items = search rules in
     let night = own_night g.row.N number items held c.args.view c.index_mut.result.now c.index_mut.result.now here c.index_mut.ensures.value in
-    let rows = sym (at_map (λ (x : Slots). with_pairs x.rows) [] items c.args.view c.index_mut.result.now here c.index_mut.ensures.value) in
-    let same = subst (λ (t : Slots). IsNewToNight (plain c.args.rows.now) t) (λ i. record { night = night i; rows = rows i }) c.in_err-put_one.ensures.memory in
+    let rows = sym (at_map (λ (x : ViewRows). with_pairs x.rows) [] items c.args.view c.index_mut.result.now here c.index_mut.ensures.value) in
+    let same = subst (λ (t : ViewRows). IsNewToNight (plain c.args.rows.now) t) (λ i. record { night = night i; rows = rows i }) c.in_err-put_one.ensures.memory in
     subst (λ (w : Window). IsNewToNight (plain c.args.rows.now) (record { night = w.number + 1; rows = rows_in w.rows c.args.view })) c.self.view_is same
 
 pub returns-clause-ok : goal.returns-clause-ok

@@ -1,5 +1,5 @@
 use Rattle.std.proofs.Common.{◌≡◌, ◌-◌, true}
-use Rattle.wh_versions.specs.Inner.Rows.{is_unread}
+use Rattle.wh_versions.specs.Rows.{is_unread}
 use Rattle.wh_versions.proofs.row.VersionRow.is_unread.Given as goal
 
 abbrev pub invariant-loop-back : goal.invariant-loop-back

@@ -1,5 +1,5 @@
 use Rattle.std.proofs.Common.{◌∙◌, ap, arith, rules, ◌<◌, ◌-◌}
-use Rattle.wh_versions.specs.Tables.{Slots, given_up, slots}
+use Rattle.wh_versions.specs.Tables.{ViewRows, given_up, slots}
 use Rattle.wh_versions.proofs.TableLaws.{gives_up, last_of}
 use Rattle.wh_versions.proofs.table.VersionTable.give_up.Goals as goal
 
@@ -16,4 +16,4 @@ returns-clause-rows g c row =
     let some : 0 < c.self.inside.night = search rules in
     let last = last_of g.row.N c.self.inside.night (c.len-last.result - 1) c.self.inside.rows c.self.inside.touched.items c.index.result.now k (omega arith) c.index.ensures in
     (gives_up g.row.N c.self.inside.night c.self.inside.rows c.take_back.new.rows c.self.inside.touched.items c.index.result.now k some last c.take_back.ensures).exact row
-    ∙ ap (λ (t : Slots). given_up t.night (slots t row)) c.self.view_is
+    ∙ ap (λ (t : ViewRows). given_up t.night (slots t row)) c.self.view_is

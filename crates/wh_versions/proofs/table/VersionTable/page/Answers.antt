@@ -1,7 +1,7 @@
 use Rattle.std.proofs.Common.{◌≡◌, ◌≢◌, ◌∙◌, ap, sym, subst, Bor, IfOk, OnErr, List, ℤ, [], Option, length, nat_le, option_map, take}
 use Rattle.wh_row.specs.Weigh.{Counted, above}
 use Rattle.wh_versions.specs.Pages.{rows_after, shown_at, shown_of}
-use Rattle.wh_versions.specs.Tables.{Slots}
+use Rattle.wh_versions.specs.Tables.{ViewRows}
 use Rattle.wh_versions.proofs.PageLaws.{above_shown}
 use Rattle.wh_versions.proofs.table.VersionTable.page.Goals as goal
 
@@ -14,7 +14,7 @@ returns-in-Some g c =
     let rows : shown_of s c.entries_after.result ≡ after c.args.after =
     ap (shown_of s) c.entries_after.ensures.entries
     ∙ above_shown row s c.self.inside.rows
-    ∙ ap (λ (t : Slots). above row (shown_at t s)) c.self.view_is
+    ∙ ap (λ (t : ViewRows). above row (shown_at t s)) c.self.view_is
     ∙ ap after (sym c.in-Some.is) in
     record {
       rows = subst (λ (es : Counted). IfOk c.first_shown.result (λ page. page.0 ≡ take limit es)) rows c.first_shown.ensures.rows;
