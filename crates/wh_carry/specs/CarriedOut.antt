@@ -21,7 +21,7 @@ use Rattle.wh_carry.specs.declared.report.Report.{Report}
 --   steps     the report has each expression with its rows;
 --   allowed   no base change is refused;
 --   passed    each expression is passed.
-pub record IsCarried (catalog : CatalogOf) (list : List Expression) (old changes new : List Bag) (report : Report) : Type 0 where
+pub record IsNightCarried (catalog : CatalogOf) (list : List Expression) (old changes new : List Bag) (report : Report) : Type 0 where
   pub bags : AreBags catalog new
   pub tables : (v : ℕ) → v < length catalog.views.children → bag_at new v ≡ tables_after (graph_of catalog) (bag_at changes) list (bag_at old) v
   pub contents : AreContents (graph_of catalog) (bag_at old) → AreContentsOf (graph_of catalog) (changed (bag_at old) (bag_at changes)) (bag_at new)

@@ -9,7 +9,7 @@ ghost use Rattle.wh_maint.specs.Comp.{bag_at};
 ghost use Rattle.wh_maint.specs.Contents.{AreValues, contents};
 ghost use Rattle.wh_maint.specs.Definition.{graph_of};
 ghost use Rattle.wh_maint.specs.Laws.{changed};
-ghost use Rattle.wh_carry.specs.CarriedOut.{IsCarried};
+ghost use Rattle.wh_carry.specs.CarriedOut.{IsNightCarried};
 ghost use Rattle.wh_carry.specs.Carry.{tables_after};
 ghost use Rattle.wh_carry.specs.Fit.{AreFitTables};
 ghost use Rattle.wh_carry.specs.Kept.{kept, HaveParts, CanFinish, IsFirst};
@@ -45,7 +45,7 @@ pub fn carry<F: RowTest, G: RowValue>(
     requires tables { AreBags catalog.now tables.now }
     requires changes { AreBags catalog.now changes.now }
     requires fit { AreFitTables catalog.now tables.now }
-    ensures carried { IfOk result (λ c. IsCarried catalog.now correct.now.list tables.now changes.now c.tables.items c.report) }
+    ensures carried { IfOk result (λ c. IsNightCarried catalog.now correct.now.list tables.now changes.now c.tables.items c.report) }
     ensures views { IfOk result (λ c. AreValues (graph_of catalog.now) (bag_at tables.now) → (v : ℕ) → v < length catalog.now.views.children
         → bag_at c.tables.items v ≡ contents (graph_of catalog.now) (changed (bag_at tables.now) (bag_at changes.now)) v) }
     ensures refused { IfErr result (IsNightFault catalog.now correct.now.list (bag_at tables.now) (bag_at changes.now)) }

@@ -3,7 +3,7 @@
 ghost use Rattle.std.specs.Prelude.{◌≡◌, ◌⊎◌, ◌≤◌, ◌++◌, ◌∷◌, [], ℕ, List, Some, false, length, slice_get, OnOk, IfOk, IfErr};
 ghost use Rattle.wh_maint.specs.Asked.{AreBags};
 ghost use Rattle.wh_maint.specs.declared.fault.MaintFault.TheVariants.{Memory};
-ghost use Rattle.wh_carry.specs.CarriedOut.{IsCarried};
+ghost use Rattle.wh_carry.specs.CarriedOut.{IsNightCarried};
 ghost use Rattle.wh_carry.specs.Kept.{kept, HaveParts, CanFinish};
 ghost use Rattle.wh_carry.specs.Waves.{stages_of};
 ghost use Rattle.wh_carry.specs.declared.stages.Stage.{Stage as StageOf};
@@ -125,7 +125,7 @@ pub fn night_alone<F: RowTest, G: RowValue, T: Gate + Sync, R: Threads + Sync>(
     requires fit { AreFitTables catalog.now tables.items }
     requires one { 1 ≤ workers }
     requires sixteen { workers ≤ 16 }
-    ensures carried { IfOk result (λ c. IsCarried catalog.now correct.now.list tables.items changes.now c.tables.items c.report) }
+    ensures carried { IfOk result (λ c. IsNightCarried catalog.now correct.now.list tables.items changes.now c.tables.items c.report) }
     ensures refused { IfErr result (λ f. (f.fault ≡ Memory)
         ⊎ ((keys : ℕ) → IsRefusedSo (night_over catalog.now correct.now.list tables.items changes.now keys) (left_of f.started) f.fault)) }
 {

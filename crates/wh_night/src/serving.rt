@@ -6,7 +6,7 @@ ghost use Rattle.std.specs.Thread.{IsSync};
 ghost use Rattle.wh_maint.specs.Asked.{AreBags};
 ghost use Rattle.wh_maint.specs.Comp.{bag_at};
 ghost use Rattle.wh_maint.specs.declared.fault.MaintFault.TheVariants.{Memory};
-ghost use Rattle.wh_carry.specs.CarriedOut.{IsCarried};
+ghost use Rattle.wh_carry.specs.CarriedOut.{IsNightCarried};
 ghost use Rattle.wh_carry.specs.Fit.{AreFitFor, AreFitTables};
 ghost use Rattle.wh_carry.specs.Night.{Night};
 ghost use Rattle.wh_store.specs.Ledgers.{Warehouse};
@@ -188,7 +188,7 @@ fn serve_none<F: RowTest, G: RowValue, W: Watch + Sync, R: Threads + Sync>(
     requires fit { AreFitTables asked.now.catalog.now tables.items }
     requires some { 1 ≤ asked.now.options.workers }
     requires few { asked.now.options.workers ≤ 16 }
-    ensures carried { IfOk result (λ s. IsCarried asked.now.catalog.now asked.now.correct.now.list tables.items asked.now.changes.now s.tables.items s.report) }
+    ensures carried { IfOk result (λ s. IsNightCarried asked.now.catalog.now asked.now.correct.now.list tables.items asked.now.changes.now s.tables.items s.report) }
     ensures rows { IfOk result (λ s. s.rows.items ≡ []) }
     ensures refused { IfErr result (λ f. (f.fault ≡ Memory)
         ⊎ ((keys : ℕ) → IsRefusedSo (night_over asked.now.catalog.now asked.now.correct.now.list tables.items asked.now.changes.now keys) (left_of f.started) f.fault)) }
@@ -269,7 +269,7 @@ pub fn serve_night<F: RowTest, G: RowValue, W: Watch + Sync, R: Threads + Wait +
     requires least { 1 ≤ options.page_keys }
     requires most { options.page_keys ≤ 256 }
     requires readers { readers.count ≤ 16 }
-    ensures carried { IfOk result (λ s. IsCarried catalog.now correct.now.list tables.items changes.now s.tables.items s.report) }
+    ensures carried { IfOk result (λ s. IsNightCarried catalog.now correct.now.list tables.items changes.now s.tables.items s.report) }
     ensures rows { IfOk result (λ s. s.rows.items ≡ replicate readers.entry.count (rows_of tables.items)) }
     ensures refused { IfErr result (λ f. (f.fault ≡ Memory)
         ⊎ IsRefusedSo (night_over catalog.now correct.now.list tables.items changes.now options.page_keys) (left_of f.started) f.fault) }

@@ -23,8 +23,8 @@ pub(crate) struct Journal {
 impl Model for Journal {
     ghost use Rattle.std.specs.Prelude.{◌≡◌, ◌≤◌, None, IsTrue, length, map};
     ghost use Rattle.wh_store.specs.Operations.{operation};
-    ghost use Rattle.wh_store.specs.Versions.{is_well_formed, versions_of};
-    ghost use Rattle.wh_store.specs.Windows.{current, window};
+    ghost use Rattle.wh_store.specs.Versions.{is_well_formed};
+    ghost use Rattle.wh_store.specs.Windows.{Shows, current};
     ghost use Rattle.wh_store.specs.Ledgers.{Ledger, ledger};
     ghost use Rattle.wh_store.specs.Inner.Codes.{coded_ledger};
 
@@ -34,7 +34,7 @@ impl Model for Journal {
 
     ghost view = { λ j. ledger (record { limit = j.first.limit; opening = current j.first }) (map operation j.done.items) None };
 
-    ghost invariant = { λ j. (2 ≤ j.first.limit) × (j.store ≡ window j.first.limit (versions_of (current j.first) (map operation j.done.items)))
+    ghost invariant = { λ j. (2 ≤ j.first.limit) × (j.store.limit ≡ j.first.limit) × Shows j.store (current j.first) (map operation j.done.items)
         × IsTrue (is_well_formed (length (current j.first)) (map operation j.done.items)) };
 }
 

@@ -9,7 +9,7 @@ use Rattle.wh_maint.specs.Definition.{graph_of}
 use Rattle.wh_maint.specs.Laws.{changed}
 use Rattle.wh_store.specs.Kept.{AreTables}
 use Rattle.wh_store.specs.Windows.{Shows}
-use Rattle.wh_carry.specs.CarriedOut.{IsCarried}
+use Rattle.wh_carry.specs.CarriedOut.{IsNightCarried}
 use Rattle.wh_night.specs.Inner.Serving.{newly}
 use Rattle.wh_night.proofs.Serves.{first_number, fit_are_tables, if_served}
 use Rattle.wh_night.proofs.serving.serve_night.Goals as goal
@@ -47,7 +47,7 @@ returns-clause-carried g c =
     let gr = graph_of cat in
     let base = changed (bag_at ts) (bag_at c.args.changes.now) in
     let ok : IsCorrect cat.views.children list = subst (λ shape. IsCorrect shape list) c.requires.judged c.strategy.ensures.rules in
-    if_served (λ s. IsCarried cat list ts c.args.changes.now s.tables.items s.report) cat list (newly ts) c.args.changes.now c.args.options.page_keys c.serve_some.result c.serve_some.ensures.run
+    if_served (λ s. IsNightCarried cat list ts c.args.changes.now s.tables.items s.report) cat list (newly ts) c.args.changes.now c.args.options.page_keys c.serve_some.result c.serve_some.ensures.run
     (λ s h. record {
       bags = subst (AreBags cat) (sym h.tables) h.published.bags;
       tables = λ v m. ap (λ us. bag_at us v) h.tables ∙ h.published.tables.are v m;
