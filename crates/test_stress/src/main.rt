@@ -2,7 +2,8 @@
 //! version's, or that are timed.
 //!
 //! Its words are `check`, `busy` or `idle`, and then, each with a default: how many readers (1 to 16), for how many
-//! seconds, of how many blocks of 256 rows the table is, and how many rows a page has (1 to 256).
+//! seconds, of how many blocks of 256 rows the table is, how many rows a page has (1 to 256), and how many versions are kept
+//! (2 to 4).
 #![tactic(auto)]
 
 mod block;
@@ -65,7 +66,9 @@ fn main(rt: HostRuntime) -> ExitCode {
         return ExitCode::from(2);
     };
     let Some(plan) = Plan::of(&words) else {
-        let _ = println!(rt; "check, busy or idle, and then readers, seconds, blocks and rows");
+        let _ = println!(rt;
+            "check, busy or idle, and then readers, seconds, blocks, rows and versions"
+        );
         return ExitCode::from(2);
     };
     match run(&rt, rt.alloc(), &plan) {

@@ -25,6 +25,8 @@ pub struct Plan {
     pub blocks: u32,
     /// How many rows a page has, 1 to 256.
     pub rows: usize,
+    /// How many versions the store keeps, 2 to 4.
+    pub versions: usize,
 }
 
 /// The number in a word between these two, or the default where there is no word.
@@ -57,12 +59,14 @@ impl Plan {
         let seconds = number(words, 2, 1, 86_400, 60)?;
         let blocks = number(words, 3, 1, 65_536, 391)?;
         let rows = number(words, 4, 1, 256, 256)?;
+        let versions = number(words, 5, 2, 4, 2)?;
         Some(Plan {
             kind,
             readers: readers as usize,
             length: Duration::from_secs(seconds),
             blocks: u32::try_from(blocks).ok()?,
             rows: rows as usize,
+            versions: versions as usize,
         })
     }
 }

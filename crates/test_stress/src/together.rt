@@ -10,7 +10,7 @@ use std::sync::Wait;
 use std::thread;
 use std::thread::Threads;
 use wh_desk::{Desk, Writer, open_warehouse};
-use wh_store::{MIN_VERSIONS, Store};
+use wh_store::{MAX_VERSIONS, MIN_VERSIONS, Store};
 
 /// What stands in the way of a run.
 #[derive(Clone, Copy)]
@@ -104,7 +104,8 @@ fn warehouse<R: Wait>(rt: &R, alloc: Global, plan: &Plan) -> Result<(Writer, Vec
     if !table.is_table() {
         return Err(Fault::Warehouse);
     }
-    let Ok(store) = Store::new(alloc, &[table], MIN_VERSIONS) else {
+    let versions = plan.versions.clamp(MIN_VERSIONS, MAX_VERSIONS);
+    let Ok(store) = Store::new(alloc, &[table], versions) else {
         return Err(Fault::Refused);
     };
     match open_warehouse(rt, alloc, store, plan.readers.clamp(1, 16)) {

@@ -171,6 +171,13 @@ static AFTER_A_GIVE_UP: [(Event, Said); 29] = [
     (Event::Read(3, 1, 10), Said::End(&[1])),
 ];
 
+static CHANGES: [Lists<'static>; 4] = [
+    &[&[(&[1], -1), (&[2], 1)], &[]],
+    &[&[(&[3], 1)], &[]],
+    &[&[(&[3], -1)], &[]],
+    &[&[(&[2], -1)], &[]],
+];
+
 /// A night that brings -(1) +(2) is given up; the nights behind it bring +(3), then -(3), and then -(2), which is not there.
 #[test]
 fn nights_go_on_after_one_that_was_given_up(rt: HostRuntime) -> Result<(), Fail> {
@@ -180,13 +187,7 @@ fn nights_go_on_after_one_that_was_given_up(rt: HostRuntime) -> Result<(), Fail>
         keys: 256,
         versions: 4,
     };
-    let changes: [Lists<'_>; 4] = [
-        &[&[(&[1], -1), (&[2], 1)], &[]],
-        &[&[(&[3], 1)], &[]],
-        &[&[(&[3], -1)], &[]],
-        &[&[(&[2], -1)], &[]],
-    ];
-    let mut core = machine(&rt, rt.alloc(), &[&[(&[1], 1)], &[]], &changes, places)?;
+    let mut core = machine(&rt, rt.alloc(), &[&[(&[1], 1)], &[]], &CHANGES, places)?;
     assert_run(&rt, rt.alloc(), &mut core, &AFTER_A_GIVE_UP)
 }
 
