@@ -1,10 +1,11 @@
-"""Nights that `whview replay` goes through against `whview night`, on star joins of 10,000 and 100,000 rows.
+"""Nights that `whview replay` goes through against `whview night`, on star joins of 10,000, 100,000 and 1,000,000 rows.
 
 Each night takes 500 rows out of the fact table and puts 500 others in, or these back, so that all tables keep their sizes. A
 replay of so many nights has every part of them in its bundle, whatever its events are: with none it reads the bundle and works
 the opening contents out, and what the events of a night add is what a replayed night costs beside tables that stand. What is
 printed is the best time of all rounds in turn, since other work on the machine only adds time, and the ratios to `night`, which
-reads one night, works the same contents out, carries the night out and prints the views.
+reads one night, works the same contents out, carries the night out and prints the views, and how many times longer a replayed
+night takes beside a hundred times as many rows.
 """
 
 import sys
@@ -46,12 +47,12 @@ def replay(rows, gone):
 def measure(asked):
     started = program(asked.program)
     with TemporaryDirectory() as room:
-        for rows in (10000, 100000):
-            show(started, rows, Path(room), asked.rounds)
+        times = [show(started, rows, Path(room), asked.rounds) for rows in (10_000, 100_000, 1_000_000)]
+    print(f"a replayed night beside a hundred times as many rows: {times[-1] / times[0]:.1f} times as long")
 
 
 def show(started, rows, room, rounds):
-    """Prints the times of a star of so many rows, and their ratios."""
+    """Prints the times of a star of so many rows, and their ratios; answers what a replayed night takes."""
     bundles = {"night": ("night", data(rows) + night(rows, False)), "replay, no event": ("replay", replay(rows, 0))}
     bundles |= {"replay, one night": ("replay", replay(rows, 1)), f"replay, {NIGHTS} nights": ("replay", replay(rows, NIGHTS))}
     commands = {}
@@ -63,6 +64,7 @@ def show(started, rows, room, rounds):
     if through[-1].text.count("version") != NIGHTS:
         sys.exit(f"a replay of {NIGHTS} nights printed\n{through[-1].text}")
     for name, each in runs.items():
-        print(f"{rows:6} rows, {name:17} {best(each) * 1000:8.1f} ms, {best(each) / best(carried):.2f} times the night")
+        print(f"{rows:7} rows, {name:17} {best(each) * 1000:8.1f} ms, {best(each) / best(carried):.2f} times the night")
     each = (best(through) - best(none)) / NIGHTS
-    print(f"{rows:6} rows, a replayed night {each * 1000:8.1f} ms, {each / best(carried):.2f} times the night")
+    print(f"{rows:7} rows, a replayed night {each * 1000:8.1f} ms, {each / best(carried):.2f} times the night")
+    return each
