@@ -34,6 +34,17 @@ class Beginnings(unittest.TestCase):
         })  # fmt: skip
         self.assertEqual(given.expected(given.given.replace(",12,4", ",12,1")), ("fault sizes A\n", 3))
 
+    def test_sizes_with_weights(self):
+        given = Checked("a check", CHECKED.replace("change", "change,weight").replace(",12,4", ",12,4,10"), ["A"], "correct\nwork 40\n")
+        self.told(given, {
+            "post,change": ("fault sizes A\n", 3), "change,": ("fault header\n", 3), "change,weigh": ("fault header\n", 3),
+            "weight\n": ("fault sizes A\n", 3), "A,10,12,4": ("fault csv 2\n", 3), "A,10,12,4,": ("fault number 2\n", 3),
+            "A,10,12,4,10": ("correct\nwork 40\n", 0),
+        })  # fmt: skip
+        for wrong in ("0", "1001", "-1"):
+            with self.subTest(wrong=wrong):
+                self.assertEqual(given.expected(given.given.replace(",4,10", f",4,{wrong}")), ("fault sizes A\n", 3))
+
     def test_a_plan_that_is_certified(self):
         given = Certified("a plan", PLANNED, ["A"], [[]], [(10, 12, 4)], [])
         self.told(given, {

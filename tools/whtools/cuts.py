@@ -9,6 +9,7 @@ import csv
 from whtools import machine, nights, plans
 from whtools.bundle import parts_of
 from whtools.given import Given
+from whtools.sizes import BadSizes, sizes_in
 from whtools.strategies import broken
 from whtools.views import Place, View
 
@@ -107,25 +108,11 @@ class Checked(Input):
         self.names, self.whole = names, whole
 
     def verdict(self, _, once, each):
-        header, records = once["sizes"][:1], once["sizes"][1:]
-        if header != ["view,pre,post,change"]:
-            raise Told("fault header", 3)
-        given = [self.sized(number, record.split(",")) for number, record in enumerate(records, 2)]
-        for name in self.names:
-            if name not in given:
-                raise Told(f"fault sizes {name}", 3)
+        try:
+            sizes_in(once["sizes"], self.names)
+        except BadSizes as fault:
+            raise Told(str(fault), 3) from fault
         return self.whole, 0
-
-    def sized(self, number, cells):
-        """The view that a record has the sizes of."""
-        if len(cells) != 4:
-            raise Told(f"fault csv {number}", 3)
-        if not all(cell.isdecimal() for cell in cells[1:]):
-            raise Told(f"fault number {number}", 3)
-        pre, post, change = map(int, cells[1:])
-        if abs(post - pre) > change:
-            raise Told(f"fault sizes {cells[0]}", 3)
-        return cells[0]
 
 
 class Planned(Checked):

@@ -1,26 +1,30 @@
 """Plans: catalogues with sizes and costs, the least work over them found by searches, and trees of decisions with a judge of these."""
 
 from functools import lru_cache
-from itertools import combinations
+from itertools import combinations, zip_longest
 
 from whtools.evaluator import terms
+from whtools.sizes import MOST_ROWS, MOST_WEIGHT, part_of
 from whtools.strategies import Rules
 
 CHANGED_NODES = 5
 COSTS = [1, 1, 2, 3, 1000000]
+WEIGHTS = [1, 1, 2, 3, 10, MOST_WEIGHT]
 
 
 class Catalogue(Rules):
-    """Views, each over the numbers of earlier ones, with their sizes and the costs of a row."""
+    """Views, each over the numbers of earlier ones, with their sizes and the costs of a row. A view's sizes are its rows before and
+    after and how many change and, where weights are told, its weight."""
 
     def __init__(self, over, sizes, comp, inst):
         super().__init__(over)
-        self.pre, self.post, self.change = zip(*sizes)
+        self.sizes = sizes
+        self.pre, self.post, self.change = zip(*(self.counts(*size) for size in sizes))
         self.comp = comp
         self.inst = inst
         self.views = range(len(over))
-        self.pairs = [(u, w) for v in self.derived for u, w in combinations(sorted(over[v]), 2)]
-        self.couples = sorted(set(self.pairs))
+        self.pairs = [(v, u, w) for v in self.derived for u, w in combinations(sorted(over[v]), 2)]
+        self.couples = sorted({(u, w) for _, u, w in self.pairs})
         self.nodes = [("comp", v, u) for v in self.derived for u in sorted(over[v])] + [("inst", v) for v in self.views]
 
     def bundle(self):
@@ -29,9 +33,20 @@ class Catalogue(Rules):
             lines += ["[[view]]", f'name = "v{v}"']
             if self.over[v]:
                 lines.append("over = [" + ", ".join(f'"v{u}"' for u in self.over[v]) + "]")
-        lines += ["@sizes", "view,pre,post,change"]
-        lines += [f"v{v},{self.pre[v]},{self.post[v]},{self.change[v]}" for v in self.views]
-        return "\n".join(lines) + "\n"
+        return "\n".join(lines) + "\n" + part_of([f"v{v}" for v in self.views], self.sizes)
+
+    # ---- what a view counts as
+
+    def counts(self, pre, post, change, weight=1):
+        """What a view counts as wherever work is reckoned: its rows before and after and those that change, each times the weight."""
+        return pre * weight, post * weight, change * weight
+
+    def growth(self, view):
+        """By how much a view grows, which the desired order goes by."""
+        return self.post[view] - self.pre[view]
+
+    def inst_cost(self, view):
+        return self.inst * self.change[view]
 
     # ---- strategies
 
@@ -48,7 +63,7 @@ class Catalogue(Rules):
                 if not self.may_inst(view, installed, done):
                     return None
                 installed.add(view)
-                work += self.inst * self.change[view]
+                work += self.inst_cost(view)
             else:
                 if not self.may_comp(view, sources, installed, done):
                     return None
@@ -67,7 +82,7 @@ class Catalogue(Rules):
             found = []
             for v in self.views:
                 if self.may_inst(v, installed, done):
-                    found.append(self.inst * self.change[v] + rest(installed | {v}, done))
+                    found.append(self.inst_cost(v) + rest(installed | {v}, done))
             for v in self.derived:
                 ready = [u for u in self.over[v] if self.may_comp(v, (u,), installed, done)]
                 seen = installed & frozenset(self.over[v])
@@ -84,7 +99,7 @@ class Catalogue(Rules):
     def bound(self, decided):
         """The pair bound, with each decided couple at the value of its decision."""
         rows = sum(self.change[u] for v in self.derived for u in self.over[v])
-        for u, w in self.pairs:
+        for _, u, w in self.pairs:
             lower_first, higher_first = self.pre[w] + self.post[u], self.pre[u] + self.post[w]
             if (u, w) in decided:
                 rows += lower_first
@@ -92,7 +107,12 @@ class Catalogue(Rules):
                 rows += higher_first
             else:
                 rows += min(lower_first, higher_first)
-        return self.comp * rows + self.inst * sum(self.change)
+        return self.comp * rows + sum(map(self.inst_cost, self.views))
+
+    def as_desired(self):
+        """The couples, decided by the desired order."""
+        rank = {v: (self.growth(v), v) for v in self.views}
+        return frozenset((u, w) if rank[u] < rank[w] else (w, u) for u, w in self.couples)
 
     def has_edge(self, first, second, decided):
         """Whether the first expression has to stand before the second."""
@@ -105,40 +125,68 @@ class Catalogue(Rules):
                 return source == view  # S6
         return False
 
-    def has_cycle(self, decided):
-        """Whether the graph of these decisions has a cycle: nodes without an edge from one that is left go, until none does."""
-        left = set(self.nodes)
+    def without_a_cycle(self, decided):
+        """The nodes as they go where one goes as soon as no edge to it is from one that is left. Those of a cycle never go."""
+        left, gone = self.nodes, []
         while True:
-            ready = {node for node in left if not any(self.has_edge(other, node, decided) for other in left)}
+            ready = [node for node in left if not any(self.has_edge(other, node, decided) for other in left)]
             if not ready:
-                return bool(left)
-            left -= ready
+                return gone
+            gone += ready
+            left = [node for node in left if node not in ready]
+
+    def has_cycle(self, decided):
+        """Whether the graph of these decisions has a cycle."""
+        return len(self.without_a_cycle(decided)) < len(self.nodes)
 
     def has_cyclic_order(self):
         """Whether the ordered graph has a cycle."""
-        rank = {v: (self.post[v] - self.pre[v], v) for v in self.views}
-        return self.has_cycle({(u, w) if rank[u] < rank[w] else (w, u) for u, w in self.couples})
+        return self.has_cycle(self.as_desired())
 
     # ---- the full tree
 
     def full_tree_least(self):
-        """The least bound over all ways to decide the couples that leave no cycle. What is below a cycle has it too, and what
-        decides more costs no less, so neither is gone through."""
-        least = self.bound(frozenset(self.couples))
+        """The least bound over all ways to decide the couples that leave no cycle, and one that has it. What is below a cycle has it
+        too, and what decides more costs no less, so neither is gone through."""
+        best = frozenset(self.couples)
+        least = self.bound(best)
 
         def below(decided, rest):
-            nonlocal least
+            nonlocal best, least
             if self.bound(decided) >= least or self.has_cycle(decided):
                 return
             if not rest:
-                least = self.bound(decided)
+                best, least = decided, self.bound(decided)
                 return
             (u, w), *later = rest
             below(decided | {(u, w)}, later)
             below(decided | {(w, u)}, later)
 
         below(frozenset(), self.couples)
-        return least
+        return least, best
+
+    # ---- certificates
+
+    def pair_lines(self):
+        """The right lines of a plan of scope all: of each sibling pair its parent, its views in the desired order, and its minimum."""
+        desired, found = self.as_desired(), []
+        for v, u, w in self.pairs:
+            first, second = (u, w) if (u, w) in desired else (w, u)
+            least = min(self.pre[w] + self.post[u], self.pre[u] + self.post[w])
+            found.append(f"pair v{v} v{first} v{second} {least}\n")
+        return found
+
+    def verdict(self, plan):
+        """What `certify` has to answer of a plan whose list is correct and whose certificate is whole."""
+        if self.work_of(plan.steps) != plan.work:
+            return "rejected work\n", 1
+        if plan.scope == "all":
+            right, given = self.pair_lines(), plan.lines[plan.head :]
+            numbered = enumerate(zip_longest(right, given), 1)
+            bad = [number for number, (line, other) in numbered if line != other] or [0] * (plan.work != self.bound(frozenset()))
+        else:
+            bad = list(filter(None, [self.judge_tree(plan.tree(), plan.work)]))
+        return (f"rejected at {bad[0]}\n", 1) if bad else (f"certified {plan.scope} work {plan.work}\n", 0)
 
     # ---- trees, as lists of nodes in preorder
 
@@ -216,19 +264,36 @@ def changed_trees(source, catalogue, nodes):
 # ---- what is drawn
 
 
+def drawn_sizes(source, count):
+    """Sizes of so many views: small ones, so that many tie, or large ones; without weights or with them, which may all be 1."""
+    top, weights = source.choice([2, 6, 30, MOST_ROWS]), source.choice([None, None, [1], WEIGHTS, WEIGHTS])
+    sizes = []
+    for _ in range(count):
+        pre, post = (source.choice([top, source.randint(0, top), source.randint(0, top)]) for _ in range(2))
+        change = min(abs(post - pre) + source.choice([0, 0, 1, 5]), MOST_ROWS)
+        sizes.append((pre, post, change, *([source.choice(weights)] if weights else [])))
+    return sizes
+
+
+def with_drawn_sizes(source, over):
+    return Catalogue(over, drawn_sizes(source, len(over)), source.choice(COSTS), source.choice(COSTS))
+
+
+def with_other_weights(source, catalogue):
+    """A catalogue with other weights, or with none."""
+    weights = source.choice([None, WEIGHTS, WEIGHTS])
+    sizes = [(*size[:3], *([source.choice(weights)] if weights else [])) for size in catalogue.sizes]
+    return Catalogue(catalogue.over, sizes, catalogue.comp, catalogue.inst)
+
+
 def drawn(source, couples):
     """A catalogue of 1 to 3 base views and 1 to 4 derived views over 1 to 3 views each, now and then up to 4, with at most so
-    many couples and small sizes, so that many tie."""
+    many couples."""
     bases = source.randint(1, 3)
     children = [[] for _ in range(bases)]
     for v in range(bases, bases + source.randint(1, 4)):
         children.append(source.sample(range(v), min(v, source.choice([1, 2, 2, 2, 3, 3, 4]))))
-    top = source.choice([2, 6, 30])
-    sizes = []
-    for _ in children:
-        pre, post = source.randint(0, top), source.randint(0, top)
-        sizes.append((pre, post, abs(post - pre) + source.choice([0, 0, 1, 5])))
-    catalogue = Catalogue(children, sizes, source.choice(COSTS), source.choice(COSTS))
+    catalogue = with_drawn_sizes(source, children)
     return catalogue if len(catalogue.couples) <= couples else drawn(source, couples)
 
 

@@ -3,7 +3,7 @@ use Rattle.std.specs.Prelude.{◌≡◌, ℕ, List, length, slice_get, Some}
 use Rattle.wh_strategy.specs.declared.expression.Expression.{Expression}
 use Rattle.wh_strategy.specs.Expression.{At}
 use Rattle.wh_strategy.specs.Prices.{Prices}
-use Rattle.wh_strategy.specs.Sizes.{Size}
+use Rattle.wh_strategy.specs.declared.sizes.Size.{Size}
 use Rattle.wh_strategy.specs.Work.{cost_at}
 use Rattle.wh_row.specs.Bag.{Bag, size, difference_of}
 use Rattle.wh_maint.specs.Size.{capped}

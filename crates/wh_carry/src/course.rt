@@ -45,10 +45,11 @@ pub struct Course {
     pub stop: Option<MaintFault>,
 }
 
-/// What becomes of a night whose base changes are allowed, as [`base_changes`](crate::base_changes) tests them, and the tables that
-/// the whole night ends with: none where some expression of it is refused. The tables are changed in place, and none is copied. There is
-/// a table and a change for each view; the changes of derived views are not read. The strategy was judged over this catalogue's shape
-/// (`is_of` tests it), each table is fit, as the contents of a base are, and a page has 1 to 256 rows.
+/// What becomes of a night from its first expression on, and the tables that the whole night ends with: none where some expression of it
+/// is refused. Base changes are taken as they are: whether they are allowed, [`base_changes`](crate::base_changes) tells before. The
+/// tables are changed in place, and none is copied. There is a table and a change for each view; the changes of derived views are not
+/// read. The strategy was judged over this catalogue's shape (`is_of` tests it), each table is fit, as the contents of a base are, and a
+/// page has 1 to 256 rows.
 pub fn course_of<F: RowTest, G: RowValue>(
     alloc: Global,
     catalog: &Catalog<F, G>,

@@ -6,7 +6,7 @@ use Rattle.std.proofs.lemmas.List.Elements.{All-append}
 use Rattle.std.proofs.lemmas.Option.{slice_get-get_or}
 use Rattle.std.proofs.lemmas.Bool.{and_parts, cases_Bool, cond-true, cond-false, le-ltb, ltb-true}
 use Rattle.wh_strategy.specs.Prices.{Prices}
-use Rattle.wh_strategy.specs.Sizes.{Size}
+use Rattle.wh_strategy.specs.declared.sizes.Size.{Size}
 use Rattle.wh_cert.specs.Inner.Descent.{turned, past}
 use Rattle.wh_cert.specs.Search.{Placed, IsGood, IsGoodNode, IsFirstBad, lower_first, higher_first, nodes_below, nodes_of}
 use Rattle.wh_cert.specs.Tree.{CaseTree, Bound, Cycle, Branch, preorder, depth, IsTreeOf}

@@ -1,7 +1,7 @@
 -- The desired order: its two cases, of two views one comes first, and the order that a pair's minimum is of.
 use Rattle.std.proofs.Common.{◌≡◌, ℕ, ◌+◌, ◌<◌, sym, ◌⊎◌, inl, inr, ⊎_elim, arith}
 use Rattle.std.proofs.lemmas.Bool.{or_left, or_right, or_cases, cases_order, eqb-true, eq-eqb, ltb-true, lt-ltb, and_parts, and_from}
-use Rattle.wh_strategy.specs.Sizes.{Size}
+use Rattle.wh_strategy.specs.declared.sizes.Size.{Size}
 use Rattle.wh_cert.specs.Bound.{in_order, pair_min}
 use Rattle.wh_cert.specs.Order.{comes_first, ComesFirst}
 

@@ -8,7 +8,7 @@ use Rattle.std.proofs.lemmas.Option.{none-some, same_Some, slice_get_past, slice
 use Rattle.wh_dag.specs.Siblings.{is_sibling_pair, each_below}
 use Rattle.wh_dag.specs.declared.siblings.SiblingPair.{SiblingPair}
 use Rattle.wh_dag.proofs.SiblingLists.{kept_none, kept_more, added_one, skipped_one}
-use Rattle.wh_strategy.specs.Sizes.{Size}
+use Rattle.wh_strategy.specs.declared.sizes.Size.{Size}
 use Rattle.wh_cert.specs.Certificate.{DifferFirst, line_of}
 use Rattle.wh_cert.specs.declared.certificate.PairMin.{PairMin}
 use Rattle.wh_cert.specs.declared.lines.Followed.{Followed}

@@ -3,17 +3,15 @@ use Rattle.std.proofs.Common.{◌≡◌, ℕ, ◌+◌, ◌*◌, ◌<◌, ◌≤�
 use Rattle.std.specs.Prelude.{slice_get}
 use Rattle.std.specs.List.{sum_by}
 use Rattle.std.proofs.Math.Nat.{mul-le-mul_left}
-use Rattle.std.proofs.lemmas.List.{get_or_past}
-use Rattle.std.proofs.lemmas.Option.{slice_get_within, slice_get_cases, get_or_from_slice_get}
+use Rattle.std.proofs.lemmas.Option.{slice_get_within}
 use Rattle.std.proofs.lemmas.Bool.{cases_order, eq-eqb, ne_eqb, false≢true, cond-true, cond-false}
 use Rattle.wh_dag.specs.Shape.{has, Distinct, IsShape, children_of}
 use Rattle.wh_strategy.specs.declared.expression.Expression.{Expression}
 use Rattle.wh_strategy.specs.declared.expression.Expression.TheVariants.{Comp, Inst}
-use Rattle.wh_strategy.specs.declared.sizes.SizeRow.{SizeRow}
 use Rattle.wh_strategy.specs.Expression.{At, is_new}
 use Rattle.wh_strategy.specs.Prices.{Prices}
 use Rattle.wh_strategy.specs.Rules.{IsCorrect}
-use Rattle.wh_strategy.specs.Sizes.{Size, AreSizes, sizes_of}
+use Rattle.wh_strategy.specs.declared.sizes.Size.{Size}
 use Rattle.wh_strategy.specs.Sums.{sum_below, parts}
 use Rattle.wh_strategy.specs.Work.{state, comp_rows, inst_rows, work_of}
 use Rattle.wh_dag.proofs.PartSums.{charge, charged}
@@ -23,19 +21,7 @@ use Rattle.wh_cert.specs.Bound.{in_order, pair_min, rows_by, sum_pairs, pair_bou
 use Rattle.wh_cert.proofs.Dues.{due, due_to}
 use Rattle.wh_cert.proofs.Duties.{members_within, pairs_within}
 use Rattle.wh_cert.proofs.Sums.{sum_below-le, sum_below-at, sum_below-zero, sum_below-only, sum_below-add, sum_below-mul, sum_below-swap, sum_below-by, sum_by-zero_at, sum_by-le_at}
-
--- the only thing that is asked of sizes: no view grows by more than its change
-abbrev pub GrowWithin : (ℕ → Size) → Type 0
-GrowWithin sizes = (u : ℕ) → (sizes u).post ≤ (sizes u).pre + (sizes u).change
-
-pub sizes_grow_within : (rows : List SizeRow) → AreSizes rows → GrowWithin (sizes_of rows)
-unfolding sizes_of
-sizes_grow_within rows are u =
-    let none : SizeRow = record { pre = 0; post = 0; change = 0 } in
-    ⊎_elim
-    (λ there. subst (λ row. row.post ≤ row.pre + row.change) (sym (get_or_from_slice_get rows u there.0 none there.2)) (are u there.0 there.2).grows_within)
-    (λ past. subst (λ row. row.post ≤ row.pre + row.change) (sym (get_or_past rows u none past.0)) (omega arith))
-    (slice_get_cases rows u).1
+use Rattle.wh_cert.proofs.WeighedSizes.{GrowWithin}
 
 -- what the expression at this place pays of what u is to be charged for w in the Comps of v
 abbrev pub pay : (ℕ → Size) → List Expression → ℕ → ℕ → ℕ → Option Expression → ℕ → ℕ

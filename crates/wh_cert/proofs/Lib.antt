@@ -13,3 +13,4 @@ pub mod Raising
 pub mod Sums
 pub mod Tables
 pub mod Trees
+pub mod WeighedSizes

@@ -5,7 +5,7 @@ use Rattle.std.specs.List.{All as Each}
 use Rattle.std.proofs.lemmas.Bool.{cases_order}
 use Rattle.std.proofs.lemmas.Option.{get_or_from_slice_get, slice_get_within}
 use Rattle.wh_strategy.specs.Prices.{Prices}
-use Rattle.wh_strategy.specs.Sizes.{Size}
+use Rattle.wh_strategy.specs.declared.sizes.Size.{Size}
 use Rattle.wh_cert.specs.Bound.{pair_bound_of}
 use Rattle.wh_cert.specs.Search.{Placed, IsGoodNode, IsAcceptedTree, IsFirstBad, nodes_of}
 use Rattle.wh_cert.specs.Tree.{CaseTree, tree_of}

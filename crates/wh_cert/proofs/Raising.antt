@@ -2,23 +2,23 @@
 use Rattle.std.proofs.Common.{◌≡◌, ◌≢◌, ℕ, zero, suc, ◌+◌, ◌*◌, ◌^◌, ◌<◌, ◌≤◌, List, [], ◌∷◌, ◌++◌, Bool, true, false, ◌&&◌, ◌||◌, cond, eqb, refl, sym, ap, ◌∙◌, subst, length, get_or, ⊎_elim, arith}
 use Rattle.std.specs.List.{sum_by}
 use Rattle.std.proofs.lemmas.Bool.{cases_Bool, cases_eq, cond-true, cond-false, eqb-true, eq-eqb, ne_eqb, and_parts, and_from, or_left, or_right, false_from_ne_true}
-use Rattle.std.proofs.lemmas.List.{get_or_past}
 use Rattle.std.proofs.lemmas.List.Folds.{list_any-append}
 use Rattle.std.proofs.lemmas.List.Sums.{sum_by-cons, sum_by-le}
 use Rattle.std.proofs.lemmas.Nat.{mul-le}
-use Rattle.std.proofs.lemmas.Option.{slice_get_cases, get_or_from_slice_get}
 use Rattle.wh_dag.specs.Shape.{has, Distinct, IsShape, children_of}
 use Rattle.wh_dag.proofs.Sums.{sum_by-same, sum_by-plus}
 use Rattle.wh_strategy.specs.declared.costs.Costs.{Costs}
 use Rattle.wh_strategy.specs.declared.sizes.SizeRow.{SizeRow}
 use Rattle.wh_strategy.specs.Prices.{Prices, prices_of}
-use Rattle.wh_strategy.specs.Sizes.{Size, AreSizes, sizes_of}
+use Rattle.wh_strategy.specs.declared.sizes.Size.{Size}
+use Rattle.wh_strategy.specs.Sizes.{AreSizeRows, sizes_of}
 use Rattle.wh_strategy.specs.Sums.{sum_below}
 use Rattle.wh_cert.specs.Bound.{in_order, pair_min, sum_pairs, rows_by, decided_value, decided_bound_of}
 use Rattle.wh_cert.specs.Inner.Bound.{more_under}
 use Rattle.wh_cert.specs.Graph.{decides}
 use Rattle.wh_cert.proofs.DesiredOrder.{pair_min-swap}
 use Rattle.wh_cert.proofs.Sums.{sum_below-add}
+use Rattle.wh_cert.proofs.WeighedSizes.{sizes_are_light}
 
 -- the two are a and b, in one order or the other
 abbrev pub are_the : ℕ → ℕ → ℕ → ℕ → Bool
@@ -213,26 +213,17 @@ bound_more shape sizes prices ds a b e sh n o o' is =
 
 -- ---- sums of sizes stay small
 
-size_small : (rows : List SizeRow) → AreSizes rows → (u : ℕ) → ((sizes_of rows u).pre ≤ 2 ^ 40) × ((sizes_of rows u).post ≤ 2 ^ 40) × ((sizes_of rows u).change ≤ 2 ^ 40)
-unfolding sizes_of
-size_small rows are u =
-    let none : SizeRow = record { pre = 0; post = 0; change = 0 } in
-    ⊎_elim
-    (λ there. subst (λ (row : SizeRow). (row.pre ≤ 2 ^ 40) × (row.post ≤ 2 ^ 40) × (row.change ≤ 2 ^ 40)) (sym (get_or_from_slice_get rows u there.0 none there.2)) (let s = are u there.0 there.2 in (s.few_before, s.few_after, s.small_change)))
-    (λ past. subst (λ (row : SizeRow). (row.pre ≤ 2 ^ 40) × (row.post ≤ 2 ^ 40) × (row.change ≤ 2 ^ 40)) (sym (get_or_past rows u none past.0)) (omega arith, omega arith, omega arith))
-    (slice_get_cases rows u).1
-
-value_small : (rows : List SizeRow) → AreSizes rows → (ds : List (ℕ × ℕ)) (u w : ℕ) → decided_value (sizes_of rows) ds u w ≤ 2 ^ 41
+value_small : (rows : List SizeRow) → AreSizeRows rows → (ds : List (ℕ × ℕ)) (u w : ℕ) → decided_value (sizes_of rows) ds u w ≤ 2 ^ 51
 value_small rows are ds u w =
-    let a = size_small rows are u in
-    let b = size_small rows are w in
-    let pu : (sizes_of rows u).pre ≤ 2 ^ 40 = a.0 in
-    let qu : (sizes_of rows u).post ≤ 2 ^ 40 = a.1 in
-    let pw : (sizes_of rows w).pre ≤ 2 ^ 40 = b.0 in
-    let qw : (sizes_of rows w).post ≤ 2 ^ 40 = b.1 in
+    let a = sizes_are_light rows are u in
+    let b = sizes_are_light rows are w in
+    let pu : (sizes_of rows u).pre ≤ 2 ^ 50 = a.light_before in
+    let qu : (sizes_of rows u).post ≤ 2 ^ 50 = a.light_after in
+    let pw : (sizes_of rows w).pre ≤ 2 ^ 50 = b.light_before in
+    let qw : (sizes_of rows w).post ≤ 2 ^ 50 = b.light_after in
     by (decides ds u w) (decides ds w u) (in_order (sizes_of rows) u w) (in_order (sizes_of rows) w u) (pair_min (sizes_of rows) u w) (omega arith) (omega arith) (omega arith)
   where
-    by : (s t : Bool) (x y z : ℕ) → x ≤ 2 ^ 41 → y ≤ 2 ^ 41 → z ≤ 2 ^ 41 → cond {A = ℕ} s x (cond t y z) ≤ 2 ^ 41
+    by : (s t : Bool) (x y z : ℕ) → x ≤ 2 ^ 51 → y ≤ 2 ^ 51 → z ≤ 2 ^ 51 → cond {A = ℕ} s x (cond t y z) ≤ 2 ^ 51
     by true t x y z lx ly lz = lx
     by false true x y z lx ly lz = ly
     by false false x y z lx ly lz = lz
@@ -255,19 +246,19 @@ below_small f m (suc n) h =
     grind arith
 
 -- a bound is far below what a number of 128 bits can hold
-pub bound_small : (shape : List (List ℕ)) (rows : List SizeRow) (costs : Costs) (ds : List (ℕ × ℕ)) → IsShape shape → AreSizes rows → decided_bound_of shape (sizes_of rows) (prices_of costs) ds < 2 ^ 128
+pub bound_small : (shape : List (List ℕ)) (rows : List SizeRow) (costs : Costs) (ds : List (ℕ × ℕ)) → IsShape shape → AreSizeRows rows → decided_bound_of shape (sizes_of rows) (prices_of costs) ds < 2 ^ 128
 bound_small shape rows costs ds sh are =
     let sizes : ℕ → Size = sizes_of rows in
     let few : length shape ≤ 64 = sh.few_views in
-    let r : sum_below (λ v. rows_by (decided_value sizes ds) sizes (children_of shape v)) (length shape) ≤ length shape * 2 ^ 50 = below_small (λ v. rows_by (decided_value sizes ds) sizes (children_of shape v)) (2 ^ 50) (length shape) (λ v. under v) in
-    let s : sum_below (λ v. (sizes v).change) (length shape) ≤ length shape * 2 ^ 50 = below_small (λ v. (sizes v).change) (2 ^ 50) (length shape) (λ v. let k : (sizes v).change ≤ 2 ^ 40 = (size_small rows are v).2 in omega arith) in
-    let x = mul-le costs.comp (sum_below (λ v. rows_by (decided_value sizes ds) sizes (children_of shape v)) (length shape)) 1000000 (64 * 2 ^ 50) costs.comp_most (omega arith) in
-    let y = mul-le costs.inst (sum_below (λ v. (sizes v).change) (length shape)) 1000000 (64 * 2 ^ 50) costs.inst_most (omega arith) in
+    let r : sum_below (λ v. rows_by (decided_value sizes ds) sizes (children_of shape v)) (length shape) ≤ length shape * 2 ^ 60 = below_small (λ v. rows_by (decided_value sizes ds) sizes (children_of shape v)) (2 ^ 60) (length shape) (λ v. under v) in
+    let s : sum_below (λ v. (sizes v).change) (length shape) ≤ length shape * 2 ^ 60 = below_small (λ v. (sizes v).change) (2 ^ 60) (length shape) (λ v. let k : (sizes v).change ≤ 2 ^ 50 = (sizes_are_light rows are v).light_change in omega arith) in
+    let x = mul-le costs.comp (sum_below (λ v. rows_by (decided_value sizes ds) sizes (children_of shape v)) (length shape)) 1000000 (64 * 2 ^ 60) costs.comp_most (omega arith) in
+    let y = mul-le costs.inst (sum_below (λ v. (sizes v).change) (length shape)) 1000000 (64 * 2 ^ 60) costs.inst_most (omega arith) in
     omega arith
   where
-    under : (v : ℕ) → rows_by (decided_value (sizes_of rows) ds) (sizes_of rows) (children_of shape v) ≤ 2 ^ 50
+    under : (v : ℕ) → rows_by (decided_value (sizes_of rows) ds) (sizes_of rows) (children_of shape v) ≤ 2 ^ 60
     under v =
         let few : length (children_of shape v) ≤ 6 = sh.few_children v in
-        let p : sum_pairs (decided_value (sizes_of rows) ds) (children_of shape v) ≤ length (children_of shape v) * (6 * 2 ^ 41) = pairs_small (decided_value (sizes_of rows) ds) (2 ^ 41) (children_of shape v) 6 (value_small rows are ds) few in
-        let s : sum_by (λ u. (sizes_of rows u).change) (children_of shape v) ≤ length (children_of shape v) * 2 ^ 40 = sum_by-le (λ u. (sizes_of rows u).change) (2 ^ 40) (children_of shape v) (λ k d l. (size_small rows are (get_or (children_of shape v) k d)).2) in
+        let p : sum_pairs (decided_value (sizes_of rows) ds) (children_of shape v) ≤ length (children_of shape v) * (6 * 2 ^ 51) = pairs_small (decided_value (sizes_of rows) ds) (2 ^ 51) (children_of shape v) 6 (value_small rows are ds) few in
+        let s : sum_by (λ u. (sizes_of rows u).change) (children_of shape v) ≤ length (children_of shape v) * 2 ^ 50 = sum_by-le (λ u. (sizes_of rows u).change) (2 ^ 50) (children_of shape v) (λ k d l. (sizes_are_light rows are (get_or (children_of shape v) k d)).light_change) in
         omega arith

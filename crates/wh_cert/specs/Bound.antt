@@ -3,7 +3,7 @@ use Rattle.std.specs.Prelude.{ℕ, ◌+◌, ◌*◌, List, [], ◌∷◌, length
 use Rattle.std.specs.List.{sum_by}
 use Rattle.wh_dag.specs.Shape.{children_of}
 use Rattle.wh_strategy.specs.Prices.{Prices}
-use Rattle.wh_strategy.specs.Sizes.{Size}
+use Rattle.wh_strategy.specs.declared.sizes.Size.{Size}
 use Rattle.wh_strategy.specs.Sums.{sum_below}
 use Rattle.wh_cert.specs.Graph.{decides}
 

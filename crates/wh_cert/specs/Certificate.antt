@@ -3,7 +3,7 @@ use Rattle.std.specs.Prelude.{◌≡◌, ◌≢◌, ℕ, ◌+◌, List, map, tak
 use Rattle.wh_dag.specs.Siblings.{sibling_pairs_of}
 use Rattle.wh_dag.specs.declared.siblings.SiblingPair.{SiblingPair}
 use Rattle.wh_strategy.specs.Prices.{Prices}
-use Rattle.wh_strategy.specs.Sizes.{Size}
+use Rattle.wh_strategy.specs.declared.sizes.Size.{Size}
 use Rattle.wh_cert.specs.Bound.{pair_min, pair_bound_of}
 use Rattle.wh_cert.specs.Order.{comes_first}
 use Rattle.wh_cert.specs.Search.{IsAcceptedTree, IsFirstBad}

@@ -5,7 +5,7 @@ use Rattle.wh_dag.specs.Shape.{has, children_of}
 use Rattle.wh_dag.specs.Siblings.{IsCouple}
 use Rattle.wh_strategy.specs.declared.expression.Expression.{Expression}
 use Rattle.wh_strategy.specs.declared.expression.Expression.TheVariants.{Comp, Inst}
-use Rattle.wh_strategy.specs.Sizes.{Size}
+use Rattle.wh_strategy.specs.declared.sizes.Size.{Size}
 use Rattle.wh_cert.specs.Order.{ComesFirst}
 
 -- Decided couples are a list of pairs, the view that is installed first standing first.

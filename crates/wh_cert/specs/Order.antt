@@ -1,7 +1,7 @@
 -- The desired order of views: by net growth, ties by number. Net growth is post - pre, which can be below zero, so it is
 -- compared by sums.
 use Rattle.std.specs.Prelude.{◌≡◌, ℕ, ◌+◌, Bool, true, ◌&&◌, ◌||◌, ◌==◌, nat_lt}
-use Rattle.wh_strategy.specs.Sizes.{Size}
+use Rattle.wh_strategy.specs.declared.sizes.Size.{Size}
 
 -- the net growth of u is less than that of w
 abbrev pub grows_less : (ℕ → Size) → ℕ → ℕ → Bool

@@ -4,7 +4,7 @@ use Rattle.std.specs.List.{All}
 use Rattle.wh_dag.specs.Siblings.{is_couple}
 use Rattle.wh_dag.specs.declared.siblings.Couple.{Couple}
 use Rattle.wh_strategy.specs.Prices.{Prices}
-use Rattle.wh_strategy.specs.Sizes.{Size}
+use Rattle.wh_strategy.specs.declared.sizes.Size.{Size}
 use Rattle.wh_cert.specs.Bound.{decided_bound_of}
 use Rattle.wh_cert.specs.Graph.{decides, IsCycle}
 use Rattle.wh_cert.specs.Tree.{CaseTree, Bound, Cycle, Branch}

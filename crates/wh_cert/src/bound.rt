@@ -7,7 +7,7 @@ ghost use Rattle.wh_strategy.specs.declared.expression.Expression.{Expression};
 ghost use Rattle.wh_strategy.specs.declared.sizes.SizeRow.{SizeRow};
 ghost use Rattle.wh_strategy.specs.Prices.{Prices, prices_of};
 ghost use Rattle.wh_strategy.specs.Rules.{IsCorrect};
-ghost use Rattle.wh_strategy.specs.Sizes.{AreSizes, sizes_of};
+ghost use Rattle.wh_strategy.specs.Sizes.{AreSizeRows, sizes_of};
 ghost use Rattle.wh_strategy.specs.Work.{work_of};
 ghost use Rattle.wh_strategy.specs.Sums.{sum_below};
 ghost use Rattle.wh_cert.specs.Graph.{decides};
@@ -18,46 +18,43 @@ use crate::decisions::Decisions;
 use wh_dag::{ChildLists, Shape};
 use wh_strategy::{Costs, Sizes};
 
-#[tactic(auto, unfolding(wh_strategy::specs::Sizes::sizes_of))]
 fn changed_rows(sizes: &Sizes, view: usize) -> u128
     requires { view < length sizes.now }
     ensures value { result ≡ (sizes_of sizes.now view).change }
-    ensures small { result ≤ 2 ^ 40 }
+    ensures small { result ≤ 2 ^ 50 }
 {
-    sizes.row(view).change as u128
+    sizes.size(view).change as u128
 }
 
-/// What two views that have a common parent cost in rows where the first of them is installed first.
-#[tactic(auto, unfolding(wh_strategy::specs::Sizes::sizes_of))]
+/// What two views that have a common parent cost, in rows by weight, where the first of them is installed first.
 fn in_order(sizes: &Sizes, first: usize, second: usize) -> u128
     requires first { first < length sizes.now }
     requires second { second < length sizes.now }
     ensures value { result ≡ in_order (sizes_of sizes.now) first second }
-    ensures small { result ≤ 2 ^ 41 }
+    ensures small { result ≤ 2 ^ 51 }
 {
-    sizes.row(second).pre as u128 + sizes.row(first).post as u128
+    sizes.size(second).pre as u128 + sizes.size(first).post as u128
 }
 
-/// The minimum of two views that have a common parent, in rows.
+/// The minimum of two views that have a common parent, in rows by weight.
 pub(crate) fn pair_min(sizes: &Sizes, first: usize, second: usize) -> u128
     requires first { first < length sizes.now }
     requires second { second < length sizes.now }
     ensures value { result ≡ pair_min (sizes_of sizes.now) first second }
-    ensures small { result ≤ 2 ^ 41 }
+    ensures small { result ≤ 2 ^ 51 }
 {
     let kept = in_order(sizes, first, second);
     let turned = in_order(sizes, second, first);
     kept.min(turned)
 }
 
-/// What two views that have a common parent cost in rows by these decisions: that of the decided order, or the minimum
+/// What two views that have a common parent cost, in rows by weight, by these decisions: that of the decided order, or the minimum
 /// where neither is decided.
-#[tactic(auto, unfolding(wh_strategy::specs::Sizes::sizes_of))]
 fn decided_value(sizes: &Sizes, decided: &Decisions<'_>, first: usize, second: usize) -> u128
     requires first { first < length sizes.now }
     requires second { second < length sizes.now }
     ensures value { result ≡ decided_value (sizes_of sizes.now) decided.now first second }
-    ensures small { result ≤ 2 ^ 41 }
+    ensures small { result ≤ 2 ^ 51 }
 {
     if decided.decides(first, second) {
         in_order(sizes, first, second)
@@ -74,7 +71,7 @@ fn values_with(sizes: &Sizes, decided: &Decisions<'_>, view: usize, others: &[us
     requires others { All (λ w. w < length sizes.now) others.now }
     requires few { length others.now ≤ 6 }
     ensures value { result ≡ sum_by (decided_value (sizes_of sizes.now) decided.now view) others.now }
-    ensures small { result ≤ 2 ^ 44 }
+    ensures small { result ≤ 2 ^ 54 }
 {
     let mut total = 0;
     for other in others {
@@ -89,7 +86,7 @@ fn least_rows(sizes: &Sizes, decided: &Decisions<'_>, children: &[usize]) -> u12
     requires views { All (λ w. w < length sizes.now) children.now }
     requires few { length children.now ≤ 6 }
     ensures value { result ≡ rows_by (decided_value (sizes_of sizes.now) decided.now) (sizes_of sizes.now) children.now }
-    ensures small { result ≤ 2 ^ 48 }
+    ensures small { result ≤ 2 ^ 58 }
 {
     let mut changes = 0;
     let mut values = 0;
@@ -100,7 +97,7 @@ fn least_rows(sizes: &Sizes, decided: &Decisions<'_>, children: &[usize]) -> u12
     changes + values
 }
 
-/// The decided bound at these sizes and costs, in cost times rows: the pair bound with each decided couple at the value
+/// The decided bound at these sizes and costs, in cost times rows by weight: the pair bound with each decided couple at the value
 /// of its decision, the view that is installed first standing first. A couple that is decided both ways counts by the
 /// order in which its parent names the two. Takes no memory: the decisions are looked up in a table on the stack, made first.
 pub fn decided_bound(shape: &Shape, sizes: &Sizes, costs: Costs, decided: &[(usize, usize)]) -> u128
@@ -133,9 +130,9 @@ fn more_at(children: &ChildLists, view: usize, first: usize, second: usize, more
 
 /// What the Comps of all views that are over both of these read more at least, where each reads so much more.
 fn more_rows(children: &ChildLists, first: usize, second: usize, more: u128) -> u128
-    requires { more ≤ 2 ^ 42 }
+    requires { more ≤ 2 ^ 52 }
     ensures value { result ≡ sum_below (more_under children.now first second more) (length children.now) }
-    ensures small { result ≤ length children.now * 2 ^ 42 }
+    ensures small { result ≤ length children.now * 2 ^ 52 }
 {
     let mut rows = 0;
     for view in 0..children.len() {
@@ -176,14 +173,14 @@ fn bound_of(shape: &Shape, sizes: &Sizes, costs: Costs) -> u128
     requires { length sizes.now ≡ length shape.now.children }
     ensures value { result ≡ pair_bound_of shape.now.children (sizes_of sizes.now) (prices_of costs) }
     ensures shape { IsShape shape.now.children }
-    ensures sizes { AreSizes sizes.now }
+    ensures sizes { AreSizeRows sizes.now }
 {
     // The proof needs what the lists of a shape and the rows of sizes keep to.
     let (_lists, _views) = (shape.child_lists(), sizes.len());
     decided_bound(shape, sizes, costs, &[])
 }
 
-/// The pair bound at these sizes and costs, in cost times rows: every correct strategy of the shape, with Comps from any
+/// The pair bound at these sizes and costs, in cost times rows by weight: every correct strategy of the shape, with Comps from any
 /// number of views, costs at least as much. Takes no memory.
 pub fn pair_bound(shape: &Shape, sizes: &Sizes, costs: Costs) -> u128
     requires { length sizes.now ≡ length shape.now.children }
@@ -195,5 +192,5 @@ pub fn pair_bound(shape: &Shape, sizes: &Sizes, costs: Costs) -> u128
 
 /// A law: over every shape, sizes and costs, every correct strategy costs at least the pair bound.
 pub fn no_strategy_is_below_the_bound()
-    ensures { (shape : List (List ℕ)) (rows : List SizeRow) (prices : Prices) (list : List Expression) → IsShape shape → AreSizes rows → IsCorrect shape list → pair_bound_of shape (sizes_of rows) prices ≤ work_of shape (sizes_of rows) prices list }
+    ensures { (shape : List (List ℕ)) (rows : List SizeRow) (prices : Prices) (list : List Expression) → IsShape shape → AreSizeRows rows → IsCorrect shape list → pair_bound_of shape (sizes_of rows) prices ≤ work_of shape (sizes_of rows) prices list }
 {}

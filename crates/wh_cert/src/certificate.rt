@@ -24,7 +24,7 @@ pub struct PairMin {
     pub first: usize,
     /// The other one.
     pub second: usize,
-    /// The rows that the Comps read of one of the two while the other one changes, in the better order.
+    /// The rows by weight that the Comps read of one of the two while the other one changes, in the better order.
     pub least: u128,
 }
 
@@ -93,7 +93,7 @@ pub enum Verdict {
 pub struct Planned {
     /// The strategy.
     pub correct: Correct,
-    /// Its work, in cost times rows.
+    /// Its work, in cost times rows by weight.
     pub work: u128,
     /// The strategies that it is least among.
     pub scope: Scope,

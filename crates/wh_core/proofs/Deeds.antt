@@ -15,7 +15,7 @@ use Rattle.wh_core.specs.declared.reply.Reply.{Reply}
 use Rattle.wh_core.specs.declared.reply.Reply.TheVariants as reply
 use Rattle.wh_core.specs.Log.{Deed, Log, Began, Drew, Finished, Paged_in, Committed, Gave_up, Sat_down, Turned, Left, SessionOf, logged, nights_begun, is_open, holding, session}
 use Rattle.wh_core.specs.Nights.{Setup, next_night, night, remaining, turn, versions}
-use Rattle.wh_core.specs.Replies.{IsCarried, IsLegalLog, IsReply, IsRuled, Ruling, Says, Takes, Carries, Starts, nothing, more, unless, carried_by_done, goes_on, read_ruling, take_ruling, done_by, done_ruling, page_ruling, commit_ruling, ruling}
+use Rattle.wh_core.specs.Replies.{IsCarried, IsLegalLog, IsReply, IsRuled, Ruling, Says, Takes, Puts, Starts, nothing, more, unless, carried_by_done, goes_on, read_ruling, take_ruling, done_by, done_ruling, page_ruling, commit_ruling, ruling}
 
 -- what was known when a deed was done
 abbrev pub IsDeed : Setup → Log → Deed → Type 0
@@ -51,15 +51,18 @@ pub through : (b : Bool) (c : Cause) (rest : Ruling) (r : Reply) → ((other : C
 through true c rest r accepted h = absurd (accepted c h)
 through false c rest r accepted h = (refl, h)
 
-carried : (n : Night) (places : List ℕ) (said r : Reply) → ((other : Cause) → r ≢ reply.Refused other) → IsRuled (Carries n places said) r → ArePassedAt n places × (r ≡ said)
-carried n places said r accepted h = ⊎_elim (λ k. ⊎_elim (λ p. p) (λ f. absurd (accepted _ f.2)) k) (λ m. absurd (accepted _ m)) h
+carried : (n : Night) (places : List ℕ) (said r : Reply) → ((other : Cause) → r ≢ reply.Refused other) → IsCarried n places said r → ArePassedAt n places × (r ≡ said)
+carried n places said r accepted h = ⊎_elim (λ p. p) (λ f. absurd (accepted _ f.2)) h
+
+put : (n : Night) (places : List ℕ) (said r : Reply) → ((other : Cause) → r ≢ reply.Refused other) → IsRuled (Puts n places said) r → ArePassedAt n places × (r ≡ said)
+put n places said r accepted h = ⊎_elim (λ k. carried n places said r accepted k) (λ m. absurd (accepted _ m)) h
 
 started : (n : Night) (places : List ℕ) (said r : Reply) → ((other : Cause) → r ≢ reply.Refused other) → IsRuled (Starts n places said) r → AreAllowed n × ArePassedAt n places
 started n places said r accepted h =
     ⊎_elim (λ k. ⊎_elim (λ c. ⊎_elim (λ p. (k.0, p.0)) (λ f. absurd (accepted _ f.2)) c) (λ e. absurd (accepted _ e)) k.1) (λ f. ⊎_elim (λ e. absurd (accepted _ e)) (λ m. absurd (accepted _ m.1)) f.2) h
 
-taken : (said r : Reply) → ((other : Cause) → r ≢ reply.Refused other) → IsRuled (Takes said) r → r ≡ said
-taken said r accepted h = ⊎_elim (λ e. e) (λ m. absurd (accepted _ m)) h
+taken : (page : Shown) (r : Reply) → ((other : Cause) → r ≢ reply.Refused other) → IsRuled (Takes page) r → r ≡ reply.Page page
+taken page r accepted h = ⊎_elim (λ e. e) (λ m. absurd (accepted _ m.1)) h
 
 pub not_false : (b : Bool) → not b ≡ false → b ≡ true
 not_false true e = refl
@@ -121,7 +124,7 @@ done_leaves s log w r h = inl refl
 page_turn : (n : Night) (now next : Turn) (k : ℕ) → IsRuled (page_ruling n now next) (reply.Paged k)
     → (place : ℕ) × (view : ℕ) × (rows : Counted) × (now ≡ At_page place view rows) × ArePassedAt n (places_from (place + 1) (carried_up_to n next))
 page_turn n (At_page place view rows) next k h =
-    let a = carried n _ (reply.Paged (length rows)) (reply.Paged k) (λ c e. cc) h in (place, view, rows, refl, a.0)
+    let a = put n _ (reply.Paged (length rows)) (reply.Paged k) (λ c e. cc) h in (place, view, rows, refl, a.0)
 page_turn n (In_wave place jobs drawn) next k h = cc
 page_turn n Over next k h = cc
 

@@ -1,5 +1,5 @@
 -- What a legal run comes to.
-use Rattle.std.proofs.Common.{◌≡◌, refl, sym, ap, ◌∙◌, subst, ℕ, zero, suc, ◌+◌, ◌-◌, ◌<◌, ◌≤◌, ◌^◌, List, [], ◌∷◌, ◌++◌, length, Bool, true, false, not, arith, Option, Some, None, ◌⊎◌, ⊎_elim, inl, inr}
+use Rattle.std.proofs.Common.{◌≡◌, ◌≢◌, refl, sym, ap, ◌∙◌, subst, ℕ, zero, suc, ◌+◌, ◌-◌, ◌<◌, ◌≤◌, ◌^◌, List, [], ◌∷◌, ◌++◌, length, Bool, true, false, not, arith, Option, Some, None, ◌⊎◌, ⊎_elim, inl, inr}
 use Rattle.std.specs.Prelude.{◌==◌, ◌&&◌, ◌||◌, is_none, is_some, nat_le, nat_lt, reverse, slice_get, slice_index_or, take}
 use Rattle.std.specs.List.{flat_map}
 use Rattle.std.proofs.lemmas.List.{append_assoc}
@@ -27,7 +27,7 @@ use Rattle.wh_core.specs.Headline.{CarriesOver, ComesTrue, IsAnswered, IsBegun, 
 use Rattle.wh_core.specs.Laws.{IsSetup, log_after}
 use Rattle.wh_core.specs.Log.{Log, Began, Drew, Finished, Paged_in, Committed, Gave_up, Sat_down, Turned, Left, SessionOf, holding, is_open, last_begun, logged, nights_begun, nights_ended, session}
 use Rattle.wh_core.specs.Nights.{GivenNight, Setup, next_night, night, page_in_turn, published, turn, versions}
-use Rattle.wh_core.specs.Replies.{IsCarried, IsLegalLog, IsLegalRun, IsMemory, IsReply, IsRuled, IsRunFrom, Ruling, Says, Takes, Carries, Starts, cause_of, commit_ruling, done_by, goes_on, more, nothing, page_ruling, read_ruling, ruling, take_ruling, unless}
+use Rattle.wh_core.specs.Replies.{IsCarried, IsLegalLog, IsLegalRun, IsMemory, IsReply, IsRuled, IsRunFrom, Ruling, Says, Takes, Carries, Puts, Starts, cause_of, commit_ruling, done_by, goes_on, more, nothing, page_ruling, read_ruling, ruling, take_ruling, unless}
 use Rattle.wh_core.proofs.Deeds.{below, deeds_of, leaves, not_false, not_some, through}
 use Rattle.wh_core.proofs.Moves.{active-open, eq_true}
 use Rattle.wh_core.proofs.Runs.{leave_legal}
@@ -146,8 +146,8 @@ commit_so next k (At_page place view rows) h = cc
 said_version : (next k : ℕ) → IsRuled (Says (reply.Version next)) (reply.Version k) → k ≡ next
 said_version next k h = cc
 
-taken_page : (next page : Shown) → IsRuled (Takes (reply.Page next)) (reply.Page page) → page ≡ next
-taken_page next page h = ⊎_elim (λ e. (let same : page ≡ next = cc in same)) (λ m. cc) h
+taken_page : (next page : Shown) → IsRuled (Takes next) (reply.Page page) → page ≡ next
+taken_page next page h = ⊎_elim (λ e. (let same : page ≡ next = cc in same)) (λ m. let e = m.1 in cc) h
 
 both_true : (a b : Bool) → (a && b) ≡ true → (a ≡ true) × (b ≡ true)
 both_true true b e = (refl, e)
@@ -223,8 +223,9 @@ read_so s log view limit page (Some of) h =
 -- a refusal has this, and so has what a ruling says
 abbrev AllSay : (Reply → Type 0) → Ruling → Type 0
 AllSay P (Says said) = P said
-AllSay P (Takes said) = P said
+AllSay P (Takes page) = P (reply.Page page)
 AllSay P (Carries n places said) = P said
+AllSay P (Puts n places said) = P said
 AllSay P (Starts n places said) = P said
 
 module _ (P : Reply → Type 0) (refused : (c : Cause) → P (reply.Refused c)) where
@@ -237,8 +238,9 @@ module _ (P : Reply → Type 0) (refused : (c : Cause) → P (reply.Refused c)) 
 
   ruled_say : (ruling : Ruling) (r : Reply) → AllSay P ruling → IsRuled ruling r → P r
   ruled_say (Says said) r p h = subst P (sym h) p
-  ruled_say (Takes said) r p h = ⊎_elim (λ e. subst P (sym e) p) (λ m. subst P (sym m) (refused cause.Memory)) h
-  ruled_say (Carries n places said) r p h = carried_say n places said r p h
+  ruled_say (Takes page) r p h = ⊎_elim (λ e. subst P (sym e) p) (λ m. subst P (sym m.1) (refused cause.Memory)) h
+  ruled_say (Carries n places said) r p h = carried_say n places said r p (inl h)
+  ruled_say (Puts n places said) r p h = carried_say n places said r p h
   ruled_say (Starts n places said) r p h =
       ⊎_elim
       (λ k. carried_say n places said r p k.1)
@@ -478,7 +480,8 @@ module _ (join : PagesJoin) (stay : VersionsStay) (s : Setup) (events : List Eve
       b ∙ ap reply.Session (sym (ended_is s (at i)))
 
   is_shown : (i desk view limit : ℕ) (of : SessionOf) (r : Reply) → IsAnswered events replies i (Read desk view limit) r → desk < s.desks → session (at i) desk ≡ Some of
-      → IsReadable s (at i) of.version → view < length s.catalog.views.children → 1 ≤ limit → limit ≤ 256 → (r ≡ reply.Page (next_page made of view limit)) ⊎ IsMemory r
+      → IsReadable s (at i) of.version → view < length s.catalog.views.children → 1 ≤ limit → limit ≤ 256
+      → (r ≡ reply.Page (next_page made of view limit)) ⊎ (((next_page made of view limit).rows ≢ []) × IsMemory r)
   is_shown i desk view limit of r there l sits kept in_view some few =
       let step = step_at s [] events replies run i (Read desk view limit) r there.0 there.1 in
       let a = skip (nat_le s.desks desk) cause.NoDesk _ r (le_false s.desks desk l) step.ruled in
@@ -488,7 +491,8 @@ module _ (join : PagesJoin) (stay : VersionsStay) (s : Setup) (events : List Eve
       let there : nat_le (length (version (versions s (at i)) of.version)) view ≡ false = le_false (length (version (versions s (at i)) of.version)) view in_version in
       let d = skip (nat_le (length (version (versions s (at i)) of.version)) view) cause.NoView _ r there c in
       let e = skip ((limit == 0) || nat_lt 256 limit) cause.Limit _ r (right_limit limit some few) d in
-      ⊎_elim (λ page. inl (page ∙ ap reply.Page (shown_made i of view limit kept.0))) (λ memory. inr memory) e
+      let same = shown_made i of view limit kept.0 in
+      ⊎_elim (λ page. inl (page ∙ ap reply.Page same)) (λ memory. inr ((λ none. memory.0 (ap (λ (page : Shown). page.rows) same ∙ none)), memory.1)) e
 
   pub comes_true : ComesTrue s events replies
   comes_true = record {

@@ -23,7 +23,7 @@ use Rattle.wh_core.specs.declared.reply.Reply.{Reply}
 use Rattle.wh_core.specs.declared.reply.Reply.TheVariants as reply
 use Rattle.wh_core.specs.Log.{Log, Began, Drew, Finished, Paged_in, Committed, Gave_up, Sat_down, Turned, Left, holding, is_open, logged, nights_begun}
 use Rattle.wh_core.specs.Nights.{Setup, night, next_night, page_in_turn, published, remaining, turn, turn_in, versions, last_night}
-use Rattle.wh_core.specs.Replies.{IsCarried, IsLegalLog, IsMemory, IsReply, IsRuled, Ruling, Says, Takes, Carries, Starts, carried_by_done, cause_of, commit_ruling, done_by, done_ruling, more, page_ruling, take_ruling, unless}
+use Rattle.wh_core.specs.Replies.{IsCarried, IsLegalLog, IsMemory, IsReply, IsRuled, Ruling, Says, Takes, Carries, Puts, Starts, carried_by_done, cause_of, commit_ruling, done_by, done_ruling, more, page_ruling, take_ruling, unless}
 use Rattle.wh_core.specs.Standing.{AreLeft, Stands}
 use Rattle.wh_core.specs.Inner.Standing.{page_in, wave_in}
 use Rattle.wh_core.proofs.Legs.{have_jobs}
@@ -76,13 +76,13 @@ module _ (s : Setup) (log : Log) (m : Machine) (h : Stands s log m) where
   take_here w r l o k =
       onward (nat_le s.workers w) cause.NoWorker _ r (le_false s.workers w (let f = h.workers in omega (arith, f, l))) (onward (not (is_open log)) cause.NoNight _ r (ap not (sym open_here ∙ o)) k)
 
-  pub goes_here : is_some m.store.draft ≡ true → AreLeft (night s log) (remaining s log) (drop m.place m.course.parts.items) m.course.stop m.drawn m.ended
+  pub goes_here : is_some m.store.draft ≡ true → AreLeft (night s log) (remaining s log) (drop m.place m.course.parts.items) m.course.stop m.drawn m.done
   goes_here o = h.night (sym open_here ∙ o)
 
 -- no wave is in turn
-pub no_wave : (n : Night) (r : Remaining) (parts : List Part) (stop : Option MaintFault) (drawn ended : ℕ) → AreLeft n r parts stop drawn ended → wave_in parts ≡ None
+pub no_wave : (n : Night) (r : Remaining) (parts : List Part) (stop : Option MaintFault) (drawn done : ℕ) → AreLeft n r parts stop drawn done → wave_in parts ≡ None
     → IsRuled (take_ruling (turn_of r)) (reply.Refused cause.NoJob)
-no_wave n r parts stop drawn ended g none = by_kind (kind_here n r parts stop drawn ended g)
+no_wave n r parts stop drawn done g none = by_kind (kind_here n r parts stop drawn done g)
   where
     by_kind : IsKind n r parts drawn → IsRuled (take_ruling (turn_of r)) (reply.Refused cause.NoJob)
     by_kind (wave place jobs os w t) = let f : Some os ≡ None = sym w ∙ none in cc
@@ -154,11 +154,11 @@ module _ (s : Setup) (log : Log) (m : Machine) (h : Stands s log m) (w : ℕ) (l
       (subst (λ held. IsRuled (done_by (night s log) (turn s log) (is_last (remaining s log)) (turn_of (after_done (remaining s log))) held) r) (sym e) k))
 
   module _ (active : is_some m.store.draft ≡ true) where
-    abbrev goes : AreLeft (night s log) (remaining s log) (drop m.place m.course.parts.items) m.course.stop m.drawn m.ended
+    abbrev goes : AreLeft (night s log) (remaining s log) (drop m.place m.course.parts.items) m.course.stop m.drawn m.done
     goes = goes_here s log m h active
 
     pub no_wave_to_do : (job : ℕ) → wave_in (drop m.place m.course.parts.items) ≡ None → holding log w ≡ Some job → IsReply s log (event.Done w) (reply.Refused cause.Idle)
-    no_wave_to_do job none held = done_here (reply.Refused cause.Idle) (Some job) active held (by_kind (kind_here (night s log) (remaining s log) (drop m.place m.course.parts.items) m.course.stop m.drawn m.ended goes))
+    no_wave_to_do job none held = done_here (reply.Refused cause.Idle) (Some job) active held (by_kind (kind_here (night s log) (remaining s log) (drop m.place m.course.parts.items) m.course.stop m.drawn m.done goes))
       where
         by_kind : IsKind (night s log) (remaining s log) (drop m.place m.course.parts.items) m.drawn
             → IsRuled (done_ruling (night s log) (turn s log) (is_last (remaining s log)) (turn_of (after_done (remaining s log))) job) (reply.Refused cause.Idle)
@@ -167,11 +167,11 @@ module _ (s : Setup) (log : Log) (m : Machine) (h : Stands s log m) (w : ℕ) (l
         by_kind (over w t) = subst (λ t. IsRuled (done_ruling (night s log) t (is_last (remaining s log)) (turn_of (after_done (remaining s log))) job) (reply.Refused cause.Idle)) (sym t) refl
 
     module _ (os : List (Option MaintFault)) (first : wave_in (drop m.place m.course.parts.items) ≡ Some os) (job : ℕ) (held : holding log w ≡ Some job) where
-      abbrev pub here : InWave (night s log) (goes_here s log m h active).legs (drop m.place m.course.parts.items) os m.course.stop m.drawn m.ended
-      here = wave_here (night s log) (remaining s log) (drop m.place m.course.parts.items) m.course.stop m.drawn m.ended (goes_here s log m h active) os first
+      abbrev pub here : InWave (night s log) (goes_here s log m h active).legs (drop m.place m.course.parts.items) os m.course.stop m.drawn m.done
+      here = wave_here (night s log) (remaining s log) (drop m.place m.course.parts.items) m.course.stop m.drawn m.done (goes_here s log m h active) os first
 
       in_turn : turn s log ≡ In_wave here.place (length os) m.drawn
-      in_turn = wave_turn_here (night s log) (remaining s log) (drop m.place m.course.parts.items) m.course.stop m.drawn m.ended (goes_here s log m h active) os first
+      in_turn = wave_turn_here (night s log) (remaining s log) (drop m.place m.course.parts.items) m.course.stop m.drawn m.done (goes_here s log m h active) os first
 
       -- what is answered by the wave in turn
       by_wave : (r : Reply) → IsRuled (Carries (night s log) (carried_by_done (night s log) here.place (length os) job (is_last (remaining s log)) (turn_of (after_done (remaining s log)))) reply.Done) r
@@ -183,52 +183,52 @@ module _ (s : Setup) (log : Log) (m : Machine) (h : Stands s log m) (w : ℕ) (l
       within_wave past = let k = held_within s log w job here.place (length os) m.drawn h.legal (sym (open_here s log m h) ∙ active) held in_turn in let f = here.few in omega (arith, k, f, past)
 
       pub job_refused : (fault : MaintFault) → slice_get os job ≡ Some (Some fault) → IsReply s log (event.Done w) (reply.Refused (cause_of fault))
-      job_refused fault own = by_wave (reply.Refused (cause_of fault)) (inl (inr (fault, own_fault (night s log) here.place (length os) job (is_last (remaining s log)) (turn_of (after_done (remaining s log))) fault (here.outcomes job (Some fault) own), refl)))
+      job_refused fault own = by_wave (reply.Refused (cause_of fault)) (inr (fault, own_fault (night s log) here.place (length os) job (is_last (remaining s log)) (turn_of (after_done (remaining s log))) fault (here.outcomes job (Some fault) own), refl))
 
       module _ (own : slice_get os job ≡ Some None) where
         passed_own : IsPassedAt (night s log) (here.place + job)
         passed_own = here.outcomes job None own
 
-        pub job_done : m.ended + 1 < length os → IsReply s log (event.Done w) reply.Done
+        pub job_done : m.done + 1 < length os → IsReply s log (event.Done w) reply.Done
         job_done k =
-            let goes_on : is_last (remaining s log) ≡ false = one_of_more (night s log) (remaining s log) (drop m.place m.course.parts.items) m.course.stop m.drawn m.ended (goes_here s log m h active) os first k in
-            by_wave reply.Done (inl (inl (
+            let goes_on : is_last (remaining s log) ≡ false = one_of_more (night s log) (remaining s log) (drop m.place m.course.parts.items) m.course.stop m.drawn m.done (goes_here s log m h active) os first k in
+            by_wave reply.Done (inl (
               subst (λ b. ArePassedAt (night s log) (carried_by_done (night s log) here.place (length os) job b (turn_of (after_done (remaining s log))))) (sym goes_on)
                   (All-cons (IsPassedAt (night s log)) (here.place + job) [] passed_own (All-nil (IsPassedAt (night s log)))),
               refl,
-            )))
+            ))
 
-        module _ (lasts : m.ended + 1 ≡ length os) where
+        module _ (lasts : m.done + 1 ≡ length os) where
           last : AreLast (night s log) here.place (length os) job
-          last = last_done s log (drop m.place m.course.parts.items) m.course.stop m.drawn m.ended w job os h.legal (sym (open_here s log m h) ∙ active) (goes_here s log m h active) first held lasts
+          last = last_done s log (drop m.place m.course.parts.items) m.course.stop m.drawn m.done w job os h.legal (sym (open_here s log m h) ∙ active) (goes_here s log m h active) first held lasts
 
           pub all_passed : list_all is_none os ≡ true
           all_passed = all_are_passed (night s log) here.place job os here.outcomes own last
 
           tail_at : carried_up_to (night s log) (turn_of (after_done (remaining s log))) ≡ come_to (length (night s log).list) here.later
-          tail_at = reach_after_wave (night s log) (remaining s log) (drop m.place m.course.parts.items) m.course.stop m.drawn m.ended (goes_here s log m h active) os first lasts
+          tail_at = reach_after_wave (night s log) (remaining s log) (drop m.place m.course.parts.items) m.course.stop m.drawn m.done (goes_here s log m h active) os first lasts
 
           ends_it : is_last (remaining s log) ≡ true
-          ends_it = last_of_all (night s log) (remaining s log) (drop m.place m.course.parts.items) m.course.stop m.drawn m.ended (goes_here s log m h active) os first lasts
+          ends_it = last_of_all (night s log) (remaining s log) (drop m.place m.course.parts.items) m.course.stop m.drawn m.done (goes_here s log m h active) os first lasts
 
           pub wave_done : (drop 1 (drop m.place m.course.parts.items) ≢ []) ⊎ (m.course.stop ≡ None) → IsReply s log (event.Done w) reply.Done
           wave_done on =
-              by_wave reply.Done (inl (inl (
+              by_wave reply.Done (inl (
                 subst (λ b. ArePassedAt (night s log) (carried_by_done (night s log) here.place (length os) job b (turn_of (after_done (remaining s log))))) (sym ends_it)
                     (All-cons (IsPassedAt (night s log)) (here.place + job) _ passed_own
                     (subst (λ k. ArePassedAt (night s log) (places_from (here.place + length os) k)) (sym tail_at) (comes_on (night s log) (here.place + length os) here.later _ m.course.stop (here.next all_passed) on))),
                 refl,
-              )))
+              ))
 
           pub wave_stopped : (fault : MaintFault) → drop 1 (drop m.place m.course.parts.items) ≡ [] → m.course.stop ≡ Some fault → IsReply s log (event.Done w) (reply.Refused (cause_of fault))
           wave_stopped fault none stop =
-              by_wave (reply.Refused (cause_of fault)) (inl (inr (
+              by_wave (reply.Refused (cause_of fault)) (inr (
                 fault,
                 subst (λ b. IsFirstFaultOf (night s log) (carried_by_done (night s log) here.place (length os) job b (turn_of (after_done (remaining s log)))) fault) (sym ends_it)
                     (later_fault (night s log) (here.place + job) _ fault passed_own
                     (subst (λ k. IsFirstFaultOf (night s log) (places_from (here.place + length os) k) fault) (sym tail_at) (is_stopped (night s log) (here.place + length os) here.later _ m.course.stop fault (here.next all_passed) none stop))),
                 refl,
-              )))
+              ))
 
 -- ---- pages
 
@@ -238,7 +238,7 @@ module _ (s : Setup) (log : Log) (m : Machine) (h : Stands s log m) (active : is
   paged_here r k = onward (not (is_open log)) cause.NoNight _ r (ap not (sym (open_here s log m h) ∙ active)) k
 
   pub no_page : page_in (drop m.place m.course.parts.items) ≡ None → IsReply s log event.PageIn (reply.Refused cause.NotReady)
-  no_page none = paged_here (reply.Refused cause.NotReady) (by_kind (kind_here (night s log) (remaining s log) (drop m.place m.course.parts.items) m.course.stop m.drawn m.ended (goes_here s log m h active)))
+  no_page none = paged_here (reply.Refused cause.NotReady) (by_kind (kind_here (night s log) (remaining s log) (drop m.place m.course.parts.items) m.course.stop m.drawn m.done (goes_here s log m h active)))
     where
       by_kind : IsKind (night s log) (remaining s log) (drop m.place m.course.parts.items) m.drawn
           → IsRuled (page_ruling (night s log) (turn s log) (turn_of (after_page (remaining s log)))) (reply.Refused cause.NotReady)
@@ -247,18 +247,18 @@ module _ (s : Setup) (log : Log) (m : Machine) (h : Stands s log m) (active : is
       by_kind (over w t) = subst (λ t. IsRuled (page_ruling (night s log) t (turn_of (after_page (remaining s log)))) (reply.Refused cause.NotReady)) (sym t) refl
 
   module _ (op : Op) (first : page_in (drop m.place m.course.parts.items) ≡ Some op) where
-    abbrev pub page_there : AtPage (night s log) (goes_here s log m h active).legs (drop m.place m.course.parts.items) op m.course.stop m.drawn m.ended
-    page_there = page_here (night s log) (remaining s log) (drop m.place m.course.parts.items) m.course.stop m.drawn m.ended (goes_here s log m h active) op first
+    abbrev pub page_there : AtPage (night s log) (goes_here s log m h active).legs (drop m.place m.course.parts.items) op m.course.stop m.drawn m.done
+    page_there = page_here (night s log) (remaining s log) (drop m.place m.course.parts.items) m.course.stop m.drawn m.done (goes_here s log m h active) op first
 
     pub page_in_turn_there : turn s log ≡ At_page page_there.place page_there.view page_there.rows
-    page_in_turn_there = page_turn_here (night s log) (remaining s log) (drop m.place m.course.parts.items) m.course.stop m.drawn m.ended (goes_here s log m h active) op first
+    page_in_turn_there = page_turn_here (night s log) (remaining s log) (drop m.place m.course.parts.items) m.course.stop m.drawn m.done (goes_here s log m h active) op first
 
-    by_page : (r : Reply) → IsRuled (Carries (night s log) (places_from (page_there.place + 1) (carried_up_to (night s log) (turn_of (after_page (remaining s log))))) (reply.Paged (length page_there.rows))) r
+    by_page : (r : Reply) → IsRuled (Puts (night s log) (places_from (page_there.place + 1) (carried_up_to (night s log) (turn_of (after_page (remaining s log))))) (reply.Paged (length page_there.rows))) r
         → IsReply s log event.PageIn r
     by_page r k = paged_here r (subst (λ t. IsRuled (page_ruling (night s log) t (turn_of (after_page (remaining s log)))) r) (sym page_in_turn_there) k)
 
     tail_there : carried_up_to (night s log) (turn_of (after_page (remaining s log))) ≡ come_to (length (night s log).list) page_there.later
-    tail_there = reach_after_page (night s log) (remaining s log) (drop m.place m.course.parts.items) m.course.stop m.drawn m.ended (goes_here s log m h active) op first
+    tail_there = reach_after_page (night s log) (remaining s log) (drop m.place m.course.parts.items) m.course.stop m.drawn m.done (goes_here s log m h active) op first
 
     pub no_memory_to_page : IsReply s log event.PageIn (reply.Refused cause.Memory)
     no_memory_to_page = by_page (reply.Refused cause.Memory) (inr refl)
@@ -286,7 +286,7 @@ module _ (s : Setup) (log : Log) (m : Machine) (h : Stands s log m) (active : is
   ends_here r k = onward (not (is_open log)) cause.NoNight _ r (ap not (sym (open_here s log m h) ∙ active)) k
 
   pub not_over : drop m.place m.course.parts.items ≢ [] → IsReply s log event.Commit (reply.Refused cause.NotReady)
-  not_over some = ends_here (reply.Refused cause.NotReady) (by_kind (kind_here (night s log) (remaining s log) (drop m.place m.course.parts.items) m.course.stop m.drawn m.ended (goes_here s log m h active)))
+  not_over some = ends_here (reply.Refused cause.NotReady) (by_kind (kind_here (night s log) (remaining s log) (drop m.place m.course.parts.items) m.course.stop m.drawn m.done (goes_here s log m h active)))
     where
       by_kind : IsKind (night s log) (remaining s log) (drop m.place m.course.parts.items) m.drawn → IsRuled (commit_ruling (number (versions s log) + 1) (turn s log)) (reply.Refused cause.NotReady)
       by_kind (wave place jobs os w t) = subst (λ t. IsRuled (commit_ruling (number (versions s log) + 1) t) (reply.Refused cause.NotReady)) (sym t) refl
@@ -295,7 +295,7 @@ module _ (s : Setup) (log : Log) (m : Machine) (h : Stands s log m) (active : is
 
   pub commits : drop m.place m.course.parts.items ≡ [] → IsReply s log event.Commit (reply.Version (number (versions s log) + 1))
   commits none = ends_here _ (subst (λ t. IsRuled (commit_ruling (number (versions s log) + 1) t) (reply.Version (number (versions s log) + 1)))
-      (sym (end_turn_here (night s log) (remaining s log) (drop m.place m.course.parts.items) m.course.stop m.drawn m.ended (goes_here s log m h active) none)) refl)
+      (sym (end_turn_here (night s log) (remaining s log) (drop m.place m.course.parts.items) m.course.stop m.drawn m.done (goes_here s log m h active) none)) refl)
 
   pub gives_up : IsReply s log event.GiveUp (reply.Version (number (versions s log) + 1))
   gives_up = onward (not (is_open log)) cause.NoNight _ (reply.Version (number (versions s log) + 1)) (ap not (sym (open_here s log m h) ∙ active)) refl

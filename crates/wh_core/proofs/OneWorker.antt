@@ -56,7 +56,7 @@ module _ (s : Setup) (some : 1 ≤ s.workers) (n : Night) (passed : (p : ℕ) �
         let said : IsReply s next (event.Done 0) reply.Done =
         onward (nat_le s.workers 0) cause.NoWorker _ reply.Done (le_false s.workers 0 (omega (arith, some)))
         (onward (not (is_open next)) cause.NoNight _ reply.Done (ap not u.opened)
-        (subst (λ t. IsRuled (done_by (night s next) t last after (Some k)) reply.Done) (sym now) (inl (inl (all_passed log u.is (carried_by_done (night s next) place jobs k last after), refl))))) in
+        (subst (λ t. IsRuled (done_by (night s next) t last after (Some k)) reply.Done) (sym now) (inl (all_passed log u.is (carried_by_done (night s next) place jobs k last after), refl)))) in
         more next (event.Done 0) reply.Done (drawn k log l u) said
 
     job_done : (k : ℕ) (log : Log) → k + 1 < jobs → IsUpTo s n from (Wave place jobs ∷ legs) k log → IsUpTo s n from (Wave place jobs ∷ legs) (k + 1) (Finished 0 ∷ Drew 0 k ∷ log)

@@ -17,7 +17,7 @@ use Rattle.wh_core.specs.declared.reply.Cause.TheVariants as cause
 use Rattle.wh_core.specs.declared.reply.Reply.{Reply}
 use Rattle.wh_core.specs.declared.reply.Reply.TheVariants as reply
 use Rattle.wh_core.specs.Laws.{AreOne, RepliesAreOne}
-use Rattle.wh_core.specs.Replies.{IsCarried, IsLarge, IsMemory, IsRuled, Ruling, Says, Takes, Carries, Starts, cause_of, ruling}
+use Rattle.wh_core.specs.Replies.{IsCarried, IsLarge, IsMemory, IsRuled, Ruling, Says, Takes, Carries, Puts, Starts, cause_of, ruling}
 
 -- ---- reasons
 
@@ -125,16 +125,17 @@ carried_one n places said r o a b =
         let same = one_place n x.earlier x.place x.later y.earlier y.place y.later f g (sym x.split ∙ y.split) x.passed y.passed x.refused y.refused in
         one_there n y.place f g (subst (λ p. IsFaultAt n p f) same x.refused) y.refused
 
-carries_one : (n : Night) (places : List ℕ) (said r o : Reply) → IsRuled (Carries n places said) r → IsRuled (Carries n places said) o → AreOne r o
-carries_one n places said r o a b = ⊎_elim (λ c. ⊎_elim (λ d. carried_one n places said r o c d) (λ m. inr (inr m)) b) (λ m. inr (inl m)) a
+puts_one : (n : Night) (places : List ℕ) (said r o : Reply) → IsRuled (Puts n places said) r → IsRuled (Puts n places said) o → AreOne r o
+puts_one n places said r o a b = ⊎_elim (λ c. ⊎_elim (λ d. carried_one n places said r o c d) (λ m. inr (inr m)) b) (λ m. inr (inl m)) a
 
 ruled_one : (ruling : Ruling) (r o : Reply) → IsRuled ruling r → IsRuled ruling o → AreOne r o
 ruled_one (Says said) r o a b = inl (a ∙ sym b)
-ruled_one (Takes said) r o a b = ⊎_elim (λ e. ⊎_elim (λ f. inl (e ∙ sym f)) (λ m. inr (inr m)) b) (λ m. inr (inl m)) a
-ruled_one (Carries n places said) r o a b = carries_one n places said r o a b
+ruled_one (Takes page) r o a b = ⊎_elim (λ e. ⊎_elim (λ f. inl (e ∙ sym f)) (λ m. inr (inr m.1)) b) (λ m. inr (inl m.1)) a
+ruled_one (Carries n places said) r o a b = carried_one n places said r o a b
+ruled_one (Puts n places said) r o a b = puts_one n places said r o a b
 ruled_one (Starts n places said) r o a b =
     ⊎_elim
-    (λ c. ⊎_elim (λ d. carries_one n places said r o c.1 d.1) (λ g. absurd (lacking g.0 c.0 g.1)) b)
+    (λ c. ⊎_elim (λ d. puts_one n places said r o c.1 d.1) (λ g. absurd (lacking g.0 c.0 g.1)) b)
     (λ f. ⊎_elim
     (λ d. absurd (lacking f.0 d.0 f.1))
     (λ g. told f.0 g.0 f.1 g.1 f.2 g.2) b)

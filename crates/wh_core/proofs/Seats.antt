@@ -1,5 +1,5 @@
 -- The sessions of the desks.
-use Rattle.std.proofs.Common.{◌≡◌, refl, sym, ap, subst, ◌∙◌, ℕ, zero, suc, ◌+◌, ◌<◌, ◌≤◌, List, [], ◌∷◌, length, map, Bool, true, false, not, Option, Some, None, ◌⊎◌, inl, inr, arith}
+use Rattle.std.proofs.Common.{◌≡◌, ◌≢◌, refl, sym, ap, subst, ◌∙◌, ℕ, zero, suc, ◌+◌, ◌<◌, ◌≤◌, List, [], ◌∷◌, length, map, Bool, true, false, not, Option, Some, None, ◌⊎◌, inl, inr, arith}
 use Rattle.std.specs.Prelude.{is_some, is_none, slice_get, slice_set, slice_index_or, option_map, nat_le, nat_lt, ◌||◌, ◌==◌, if◌then◌else◌}
 use Rattle.std.proofs.lemmas.Option.{same_Some, slice_get-map, slice_get_read}
 use Rattle.wh_row.specs.Row.{Row}
@@ -69,7 +69,7 @@ module _ (s : Setup) (log : Log) (m : Machine) (h : Stands s log m) where
 
   module _ (d view limit : ℕ) (of : SessionOf) (l : d < length m.seats.items) (seat : session log d ≡ Some of) (alive : unexpired m.store of.version ≡ true) (there : view < length (version (versions s log) of.version)) where
     -- a page is read, but for its size
-    sized : (r : Reply) → IsRuled (unless ((limit == 0) || nat_lt 256 limit) cause.Limit (Takes (reply.Page (page_of (table_of (versions s log) of.version view) (goes_on view of.bookmark) limit)))) r
+    sized : (r : Reply) → IsRuled (unless ((limit == 0) || nat_lt 256 limit) cause.Limit (Takes (page_of (table_of (versions s log) of.version view) (goes_on view of.bookmark) limit))) r
         → IsReply s log (event.Read d view limit) r
     sized r k = reads s log m h d l view limit r (Some of) seat
         (onward (not (is_unexpired s.versions (versions s log) of.version)) (cause.Expired of.version (number (versions s log)) (is_active (versions s log))) _ r (ap not (sym (unexpired_here of.version) ∙ alive))
@@ -78,6 +78,6 @@ module _ (s : Setup) (log : Log) (m : Machine) (h : Stands s log m) where
     pub wrong_limit : (limit == 0) || nat_lt 256 limit ≡ true → IsReply s log (event.Read d view limit) (reply.Refused cause.Limit)
     wrong_limit e = sized (reply.Refused cause.Limit) (refuse ((limit == 0) || nat_lt 256 limit) cause.Limit _ e)
 
-    pub shown : (r : Reply) → (limit == 0) || nat_lt 256 limit ≡ false → (r ≡ reply.Page (page_of (table_of (versions s log) of.version view) (goes_on view of.bookmark) limit)) ⊎ (r ≡ reply.Refused cause.Memory)
+    pub shown : (r : Reply) → (limit == 0) || nat_lt 256 limit ≡ false → (r ≡ reply.Page (page_of (table_of (versions s log) of.version view) (goes_on view of.bookmark) limit)) ⊎ (((page_of (table_of (versions s log) of.version view) (goes_on view of.bookmark) limit).rows ≢ []) × (r ≡ reply.Refused cause.Memory))
         → IsReply s log (event.Read d view limit) r
     shown r e k = sized r (onward ((limit == 0) || nat_lt 256 limit) cause.Limit _ r e k)

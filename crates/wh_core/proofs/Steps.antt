@@ -65,23 +65,23 @@ some_left (suc n) [] l e = absurd (omega arith)
 some_left (suc n) (x ∷ xs) l e = some_left n xs (omega arith) e
 
 -- the first part is a wave
-pub record InWave (n : Night) (legs : List Leg) (parts : List Part) (os : List (Option MaintFault)) (stop : Option MaintFault) (drawn ended : ℕ) : Type 0 where
+pub record InWave (n : Night) (legs : List Leg) (parts : List Part) (os : List (Option MaintFault)) (stop : Option MaintFault) (drawn done : ℕ) : Type 0 where
   pub place : ℕ
   pub later : List Leg
   pub is : legs ≡ Wave place (length os) ∷ later
   pub few : drawn ≤ length os
-  pub some : ended < length os
+  pub some : done < length os
   pub outcomes : (j : ℕ) (o : Option MaintFault) → slice_get os j ≡ Some o → IsOutcome n (place + j) o
   pub next : list_all is_none os ≡ true → AreParts n (place + length os) later (drop 1 parts) stop
 
-pub in_wave : (n : Night) (from : ℕ) (legs : List Leg) (parts : List Part) (os : List (Option MaintFault)) (stop : Option MaintFault) (drawn ended : ℕ)
-    → AreParts n from legs parts stop → wave_in parts ≡ Some os → IsWithin legs drawn ended → InWave n legs parts os stop drawn ended
+pub in_wave : (n : Night) (from : ℕ) (legs : List Leg) (parts : List Part) (os : List (Option MaintFault)) (stop : Option MaintFault) (drawn done : ℕ)
+    → AreParts n from legs parts stop → wave_in parts ≡ Some os → IsWithin legs drawn done → InWave n legs parts os stop drawn done
 unfolding AreParts
-in_wave n from legs [] os stop drawn ended are e w = cc
-in_wave n from legs (part.Page op ∷ parts) os stop drawn ended are e w = cc
-in_wave n from [] (part.Wave v ∷ parts) os stop drawn ended are e w = absurd are
-in_wave n from (Page place view rows ∷ legs) (part.Wave v ∷ parts) os stop drawn ended are e w = absurd are.1
-in_wave n from (Wave place jobs ∷ legs) (part.Wave v ∷ parts) os stop drawn ended are e w =
+in_wave n from legs [] os stop drawn done are e w = cc
+in_wave n from legs (part.Page op ∷ parts) os stop drawn done are e w = cc
+in_wave n from [] (part.Wave v ∷ parts) os stop drawn done are e w = absurd are
+in_wave n from (Page place view rows ∷ legs) (part.Wave v ∷ parts) os stop drawn done are e w = absurd are.1
+in_wave n from (Wave place jobs ∷ legs) (part.Wave v ∷ parts) os stop drawn done are e w =
     let s : v.items ≡ os = same_Some v.items os e in
     let m : jobs ≡ length os = sym are.1.0 ∙ ap length s in
     record {
@@ -89,38 +89,38 @@ in_wave n from (Wave place jobs ∷ legs) (part.Wave v ∷ parts) os stop drawn 
       later = legs;
       is = (λ i. Wave place (m i) ∷ legs);
       few = subst (λ k. drawn ≤ k) m w.0;
-      some = subst (λ k. ended < k) m w.1;
+      some = subst (λ k. done < k) m w.1;
       outcomes = subst (λ xs. (j : ℕ) (o : Option MaintFault) → slice_get xs j ≡ Some o → IsOutcome n (place + j) o) s are.1.1;
       next = λ t. subst (λ k. AreParts n (place + k) legs parts stop) m (are.2 (ap (list_all is_none) s ∙ t));
     }
 
 -- it is a page
-pub record AtPage (n : Night) (legs : List Leg) (parts : List Part) (op : Op) (stop : Option MaintFault) (drawn ended : ℕ) : Type 0 where
+pub record AtPage (n : Night) (legs : List Leg) (parts : List Part) (op : Op) (stop : Option MaintFault) (drawn done : ℕ) : Type 0 where
   pub place : ℕ
   pub view : ℕ
   pub rows : Counted
   pub later : List Leg
   pub is : legs ≡ Page place view rows ∷ later
   pub none_drawn : drawn ≡ 0
-  pub none_ended : ended ≡ 0
+  pub none_done : done ≡ 0
   pub writes : operation op ≡ Writes view rows
   pub next : AreParts n (place + 1) later (drop 1 parts) stop
 
-pub at_page : (n : Night) (from : ℕ) (legs : List Leg) (parts : List Part) (op : Op) (stop : Option MaintFault) (drawn ended : ℕ)
-    → AreParts n from legs parts stop → page_in parts ≡ Some op → IsWithin legs drawn ended → AtPage n legs parts op stop drawn ended
+pub at_page : (n : Night) (from : ℕ) (legs : List Leg) (parts : List Part) (op : Op) (stop : Option MaintFault) (drawn done : ℕ)
+    → AreParts n from legs parts stop → page_in parts ≡ Some op → IsWithin legs drawn done → AtPage n legs parts op stop drawn done
 unfolding AreParts
-at_page n from legs [] op stop drawn ended are e w = cc
-at_page n from legs (part.Wave v ∷ parts) op stop drawn ended are e w = cc
-at_page n from [] (part.Page o ∷ parts) op stop drawn ended are e w = absurd are
-at_page n from (Wave place jobs ∷ legs) (part.Page o ∷ parts) op stop drawn ended are e w = absurd are.1
-at_page n from (Page place view rows ∷ legs) (part.Page o ∷ parts) op stop drawn ended are e w = record {
+at_page n from legs [] op stop drawn done are e w = cc
+at_page n from legs (part.Wave v ∷ parts) op stop drawn done are e w = cc
+at_page n from [] (part.Page o ∷ parts) op stop drawn done are e w = absurd are
+at_page n from (Wave place jobs ∷ legs) (part.Page o ∷ parts) op stop drawn done are e w = absurd are.1
+at_page n from (Page place view rows ∷ legs) (part.Page o ∷ parts) op stop drawn done are e w = record {
   place = place;
   view = view;
   rows = rows;
   later = legs;
   is = refl;
   none_drawn = w.0;
-  none_ended = w.1;
+  none_done = w.1;
   writes = ap operation (sym (same_Some o op e)) ∙ are.1;
   next = are.2 refl;
 }
@@ -153,27 +153,27 @@ is_stopped n from legs parts stop fault are e s = none_first legs (subst (λ ps.
 
 -- ---- turns
 
-pub turn_here : (n : Night) (r : Remaining) (parts : List Part) (stop : Option MaintFault) (drawn ended : ℕ) (g : AreLeft n r parts stop drawn ended) → turn_of r ≡ turn_at g.legs drawn
-turn_here n r parts stop drawn ended g = ap turn_of g.is
+pub turn_here : (n : Night) (r : Remaining) (parts : List Part) (stop : Option MaintFault) (drawn done : ℕ) (g : AreLeft n r parts stop drawn done) → turn_of r ≡ turn_at g.legs drawn
+turn_here n r parts stop drawn done g = ap turn_of g.is
 
-module _ (n : Night) (r : Remaining) (parts : List Part) (stop : Option MaintFault) (drawn ended : ℕ) (g : AreLeft n r parts stop drawn ended) where
-  pub wave_here : (os : List (Option MaintFault)) → wave_in parts ≡ Some os → InWave n g.legs parts os stop drawn ended
-  wave_here os w = in_wave n g.from g.legs parts os stop drawn ended g.are w g.within
+module _ (n : Night) (r : Remaining) (parts : List Part) (stop : Option MaintFault) (drawn done : ℕ) (g : AreLeft n r parts stop drawn done) where
+  pub wave_here : (os : List (Option MaintFault)) → wave_in parts ≡ Some os → InWave n g.legs parts os stop drawn done
+  wave_here os w = in_wave n g.from g.legs parts os stop drawn done g.are w g.within
 
   pub wave_turn_here : (os : List (Option MaintFault)) (w : wave_in parts ≡ Some os) → turn_of r ≡ In_wave (wave_here os w).place (length os) drawn
   wave_turn_here os w =
       let v = wave_here os w in
-      turn_here n r parts stop drawn ended g ∙ ap (λ legs. turn_at legs drawn) v.is
+      turn_here n r parts stop drawn done g ∙ ap (λ legs. turn_at legs drawn) v.is
 
-  pub page_here : (op : Op) → page_in parts ≡ Some op → AtPage n g.legs parts op stop drawn ended
-  page_here op w = at_page n g.from g.legs parts op stop drawn ended g.are w g.within
+  pub page_here : (op : Op) → page_in parts ≡ Some op → AtPage n g.legs parts op stop drawn done
+  page_here op w = at_page n g.from g.legs parts op stop drawn done g.are w g.within
 
   pub page_turn_here : (op : Op) (w : page_in parts ≡ Some op) → turn_of r ≡ At_page (page_here op w).place (page_here op w).view (page_here op w).rows
-  page_turn_here op w = let v = page_here op w in turn_here n r parts stop drawn ended g ∙ ap (λ legs. turn_at legs drawn) v.is
+  page_turn_here op w = let v = page_here op w in turn_here n r parts stop drawn done g ∙ ap (λ legs. turn_at legs drawn) v.is
 
   pub end_turn_here : parts ≡ [] → turn_of r ≡ Over
   end_turn_here w =
-      turn_here n r parts stop drawn ended g
+      turn_here n r parts stop drawn done g
       ∙ ap (λ legs. turn_at legs drawn) (at_end n g.from g.legs stop (subst (λ ps. AreParts n g.from g.legs ps stop) w g.are) (g.over w))
 
 -- of three turns one is in turn
@@ -182,25 +182,25 @@ pub data IsKind (n : Night) (r : Remaining) (parts : List Part) (drawn : ℕ) : 
   page : (place view : ℕ) (rows : Counted) (op : Op) → page_in parts ≡ Some op → turn_of r ≡ At_page place view rows → IsKind n r parts drawn
   over : parts ≡ [] → turn_of r ≡ Over → IsKind n r parts drawn
 
-pub kind_here : (n : Night) (r : Remaining) (parts : List Part) (stop : Option MaintFault) (drawn ended : ℕ) → AreLeft n r parts stop drawn ended → IsKind n r parts drawn
-kind_here n r [] stop drawn ended g = over refl (end_turn_here n r [] stop drawn ended g refl)
-kind_here n r (part.Wave v ∷ parts) stop drawn ended g =
-    wave (wave_here n r (part.Wave v ∷ parts) stop drawn ended g v.items refl).place (length v.items) v.items refl (wave_turn_here n r (part.Wave v ∷ parts) stop drawn ended g v.items refl)
-kind_here n r (part.Page op ∷ parts) stop drawn ended g =
-    let v = page_here n r (part.Page op ∷ parts) stop drawn ended g op refl in
-    page v.place v.view v.rows op refl (page_turn_here n r (part.Page op ∷ parts) stop drawn ended g op refl)
+pub kind_here : (n : Night) (r : Remaining) (parts : List Part) (stop : Option MaintFault) (drawn done : ℕ) → AreLeft n r parts stop drawn done → IsKind n r parts drawn
+kind_here n r [] stop drawn done g = over refl (end_turn_here n r [] stop drawn done g refl)
+kind_here n r (part.Wave v ∷ parts) stop drawn done g =
+    wave (wave_here n r (part.Wave v ∷ parts) stop drawn done g v.items refl).place (length v.items) v.items refl (wave_turn_here n r (part.Wave v ∷ parts) stop drawn done g v.items refl)
+kind_here n r (part.Page op ∷ parts) stop drawn done g =
+    let v = page_here n r (part.Page op ∷ parts) stop drawn done g op refl in
+    page v.place v.view v.rows op refl (page_turn_here n r (part.Page op ∷ parts) stop drawn done g op refl)
 
 -- ---- one deed more
 
-module _ (n : Night) (r : Remaining) (parts : List Part) (stop : Option MaintFault) (drawn ended : ℕ) (g : AreLeft n r parts stop drawn ended) where
-  pub drew : (os : List (Option MaintFault)) → wave_in parts ≡ Some os → drawn < length os → AreLeft n (after_draw r) parts stop (drawn + 1) ended
+module _ (n : Night) (r : Remaining) (parts : List Part) (stop : Option MaintFault) (drawn done : ℕ) (g : AreLeft n r parts stop drawn done) where
+  pub drew : (os : List (Option MaintFault)) → wave_in parts ≡ Some os → drawn < length os → AreLeft n (after_draw r) parts stop (drawn + 1) done
   drew os w l =
-      let v = wave_here n r parts stop drawn ended g os w in
+      let v = wave_here n r parts stop drawn done g os w in
       record {
         from = g.from;
         legs = g.legs;
         is = ap after_draw g.is;
-        within = subst (λ legs. IsWithin legs (drawn + 1) ended) (sym v.is) (omega arith, v.some);
+        within = subst (λ legs. IsWithin legs (drawn + 1) done) (sym v.is) (omega arith, v.some);
         some = g.some;
         are = g.are;
         over = g.over;
@@ -208,44 +208,44 @@ module _ (n : Night) (r : Remaining) (parts : List Part) (stop : Option MaintFau
 
   -- of the wave in turn
   waves : (os : List (Option MaintFault)) (w : wave_in parts ≡ Some os)
-      → r ≡ of_legs drawn ended (Wave (wave_here n r parts stop drawn ended g os w).place (length os) ∷ (wave_here n r parts stop drawn ended g os w).later)
-  waves os w = g.is ∙ ap (of_legs drawn ended) (wave_here n r parts stop drawn ended g os w).is
+      → r ≡ of_legs drawn done (Wave (wave_here n r parts stop drawn done g os w).place (length os) ∷ (wave_here n r parts stop drawn done g os w).later)
+  waves os w = g.is ∙ ap (of_legs drawn done) (wave_here n r parts stop drawn done g os w).is
 
-  pub one_of_more : (os : List (Option MaintFault)) → wave_in parts ≡ Some os → ended + 1 < length os → is_last r ≡ false
+  pub one_of_more : (os : List (Option MaintFault)) → wave_in parts ≡ Some os → done + 1 < length os → is_last r ≡ false
   one_of_more os w l =
-      let v = wave_here n r parts stop drawn ended g os w in
-      ap is_last (waves os w) ∙ not_last_of v.place (length os) ended v.later l
+      let v = wave_here n r parts stop drawn done g os w in
+      ap is_last (waves os w) ∙ not_last_of v.place (length os) done v.later l
 
-  pub ended_one : (os : List (Option MaintFault)) → wave_in parts ≡ Some os → ended + 1 < length os → AreLeft n (after_done r) parts stop drawn (ended + 1)
+  pub ended_one : (os : List (Option MaintFault)) → wave_in parts ≡ Some os → done + 1 < length os → AreLeft n (after_done r) parts stop drawn (done + 1)
   ended_one os w l =
-      let v = wave_here n r parts stop drawn ended g os w in
+      let v = wave_here n r parts stop drawn done g os w in
       record {
         from = g.from;
         legs = g.legs;
-        is = ap after_done (waves os w) ∙ on_the_list v.place (length os) drawn ended v.later l ∙ ap (of_legs drawn (ended + 1)) (sym v.is);
-        within = subst (λ legs. IsWithin legs drawn (ended + 1)) (sym v.is) (v.few, l);
+        is = ap after_done (waves os w) ∙ on_the_list v.place (length os) drawn done v.later l ∙ ap (of_legs drawn (done + 1)) (sym v.is);
+        within = subst (λ legs. IsWithin legs drawn (done + 1)) (sym v.is) (v.few, l);
         some = g.some;
         are = g.are;
         over = g.over;
       }
 
   -- when the wave is over
-  pub last_of_all : (os : List (Option MaintFault)) → wave_in parts ≡ Some os → ended + 1 ≡ length os → is_last r ≡ true
+  pub last_of_all : (os : List (Option MaintFault)) → wave_in parts ≡ Some os → done + 1 ≡ length os → is_last r ≡ true
   last_of_all os w l =
-      let v = wave_here n r parts stop drawn ended g os w in
-      ap is_last (waves os w) ∙ last_of v.place (length os) ended v.later l
+      let v = wave_here n r parts stop drawn done g os w in
+      ap is_last (waves os w) ∙ last_of v.place (length os) done v.later l
 
-  after_wave : (os : List (Option MaintFault)) (w : wave_in parts ≡ Some os) → ended + 1 ≡ length os → after_done r ≡ untouched (wave_here n r parts stop drawn ended g os w).later
+  after_wave : (os : List (Option MaintFault)) (w : wave_in parts ≡ Some os) → done + 1 ≡ length os → after_done r ≡ untouched (wave_here n r parts stop drawn done g os w).later
   after_wave os w l =
-      let v = wave_here n r parts stop drawn ended g os w in
-      ap after_done (waves os w) ∙ off_the_list v.place (length os) drawn ended v.later l
+      let v = wave_here n r parts stop drawn done g os w in
+      ap after_done (waves os w) ∙ off_the_list v.place (length os) drawn done v.later l
 
-  later_jobs : (os : List (Option MaintFault)) (w : wave_in parts ≡ Some os) → HaveJobs (wave_here n r parts stop drawn ended g os w).later
-  later_jobs os w = (subst HaveJobs (wave_here n r parts stop drawn ended g os w).is g.some).1
+  later_jobs : (os : List (Option MaintFault)) (w : wave_in parts ≡ Some os) → HaveJobs (wave_here n r parts stop drawn done g os w).later
+  later_jobs os w = (subst HaveJobs (wave_here n r parts stop drawn done g os w).is g.some).1
 
-  pub wave_over : (os : List (Option MaintFault)) → wave_in parts ≡ Some os → ended + 1 ≡ length os → list_all is_none os ≡ true → (drop 1 parts ≢ []) ⊎ (stop ≡ None) → AreLeft n (after_done r) (drop 1 parts) stop 0 0
+  pub wave_over : (os : List (Option MaintFault)) → wave_in parts ≡ Some os → done + 1 ≡ length os → list_all is_none os ≡ true → (drop 1 parts ≢ []) ⊎ (stop ≡ None) → AreLeft n (after_done r) (drop 1 parts) stop 0 0
   wave_over os w l all on =
-      let v = wave_here n r parts stop drawn ended g os w in
+      let v = wave_here n r parts stop drawn done g os w in
       record {
         from = v.place + length os;
         legs = v.later;
@@ -256,20 +256,20 @@ module _ (n : Night) (r : Remaining) (parts : List Part) (stop : Option MaintFau
         over = λ none. ⊎_elim (λ no. absurd (no none)) (λ e. e) on;
       }
 
-  pub reach_after_wave : (os : List (Option MaintFault)) (w : wave_in parts ≡ Some os) → ended + 1 ≡ length os
-      → carried_up_to n (turn_of (after_done r)) ≡ come_to (length n.list) (wave_here n r parts stop drawn ended g os w).later
-  reach_after_wave os w l = ap (λ left. carried_up_to n (turn_of left)) (after_wave os w l) ∙ reach_is n (wave_here n r parts stop drawn ended g os w).later 0
+  pub reach_after_wave : (os : List (Option MaintFault)) (w : wave_in parts ≡ Some os) → done + 1 ≡ length os
+      → carried_up_to n (turn_of (after_done r)) ≡ come_to (length n.list) (wave_here n r parts stop drawn done g os w).later
+  reach_after_wave os w l = ap (λ left. carried_up_to n (turn_of left)) (after_wave os w l) ∙ reach_is n (wave_here n r parts stop drawn done g os w).later 0
 
   -- and when the page is put
-  after_paged : (op : Op) (w : page_in parts ≡ Some op) → after_page r ≡ untouched (page_here n r parts stop drawn ended g op w).later
-  after_paged op w = ap after_page g.is ∙ ap (λ legs. untouched (drop 1 legs)) (page_here n r parts stop drawn ended g op w).is
+  after_paged : (op : Op) (w : page_in parts ≡ Some op) → after_page r ≡ untouched (page_here n r parts stop drawn done g op w).later
+  after_paged op w = ap after_page g.is ∙ ap (λ legs. untouched (drop 1 legs)) (page_here n r parts stop drawn done g op w).is
 
-  page_jobs : (op : Op) (w : page_in parts ≡ Some op) → HaveJobs (page_here n r parts stop drawn ended g op w).later
-  page_jobs op w = subst HaveJobs (page_here n r parts stop drawn ended g op w).is g.some
+  page_jobs : (op : Op) (w : page_in parts ≡ Some op) → HaveJobs (page_here n r parts stop drawn done g op w).later
+  page_jobs op w = subst HaveJobs (page_here n r parts stop drawn done g op w).is g.some
 
   pub page_over : (op : Op) → page_in parts ≡ Some op → (drop 1 parts ≢ []) ⊎ (stop ≡ None) → AreLeft n (after_page r) (drop 1 parts) stop 0 0
   page_over op w on =
-      let v = page_here n r parts stop drawn ended g op w in
+      let v = page_here n r parts stop drawn done g op w in
       record {
         from = v.place + 1;
         legs = v.later;
@@ -280,8 +280,8 @@ module _ (n : Night) (r : Remaining) (parts : List Part) (stop : Option MaintFau
         over = λ none. ⊎_elim (λ no. absurd (no none)) (λ e. e) on;
       }
 
-  pub reach_after_page : (op : Op) (w : page_in parts ≡ Some op) → carried_up_to n (turn_of (after_page r)) ≡ come_to (length n.list) (page_here n r parts stop drawn ended g op w).later
-  reach_after_page op w = ap (λ left. carried_up_to n (turn_of left)) (after_paged op w) ∙ reach_is n (page_here n r parts stop drawn ended g op w).later 0
+  pub reach_after_page : (op : Op) (w : page_in parts ≡ Some op) → carried_up_to n (turn_of (after_page r)) ≡ come_to (length n.list) (page_here n r parts stop drawn done g op w).later
+  reach_after_page op w = ap (λ left. carried_up_to n (turn_of left)) (after_paged op w) ∙ reach_is n (page_here n r parts stop drawn done g op w).later 0
 
 -- ---- the last job of a wave
 
@@ -308,18 +308,18 @@ held_within s log w job place jobs drawn legal o h t =
     let v = wave_legs a.rest a.drawn place jobs drawn (sym (now _ _ _ _ _ _ _ _ a) ∙ t) in
     subst (λ k. job < k) v.2 (a.held w job h).0
 
-pub last_done : (s : Setup) (log : Log) (parts : List Part) (stop : Option MaintFault) (drawn ended w job : ℕ) (os : List (Option MaintFault)) → IsLegalLog s log → is_open log ≡ true
-    → (g : AreLeft (night s log) (remaining s log) parts stop drawn ended) (first : wave_in parts ≡ Some os) → holding log w ≡ Some job → ended + 1 ≡ length os
-    → AreLast (night s log) (wave_here (night s log) (remaining s log) parts stop drawn ended g os first).place (length os) job
+pub last_done : (s : Setup) (log : Log) (parts : List Part) (stop : Option MaintFault) (drawn done w job : ℕ) (os : List (Option MaintFault)) → IsLegalLog s log → is_open log ≡ true
+    → (g : AreLeft (night s log) (remaining s log) parts stop drawn done) (first : wave_in parts ≡ Some os) → holding log w ≡ Some job → done + 1 ≡ length os
+    → AreLast (night s log) (wave_here (night s log) (remaining s log) parts stop drawn done g os first).place (length os) job
 unfolding Distinct
-last_done s log parts stop drawn ended w job os legal o g first h l =
+last_done s log parts stop drawn done w job os legal o g first h l =
     let n : Night = night s log in
     let a = underway s log (deeds_of s log legal) o in
-    let here = wave_here n (remaining s log) parts stop drawn ended g os first in
+    let here = wave_here n (remaining s log) parts stop drawn done g os first in
     let jobs : ℕ = length os in
-    let same : of_legs a.drawn a.ended a.rest ≡ of_legs drawn ended g.legs = sym a.is ∙ g.is in
+    let same : of_legs a.drawn a.ended a.rest ≡ of_legs drawn done g.legs = sym a.is ∙ g.is in
     let rest : a.rest ≡ Wave here.place jobs ∷ here.later = ap (λ (r : Remaining). r.legs) same ∙ here.is in
-    let each : a.ended ≡ ended = ap (λ (r : Remaining). r.done) same in
+    let each : a.ended ≡ done = ap (λ (r : Remaining). r.done) same in
     let inside : (a.drawn ≤ jobs) × (a.ended < jobs) = subst (λ legs. IsWithin legs a.drawn a.ended) rest a.within in
     let held = a.held w job h in
     let apart : Distinct (job ∷ a.done) = (held.1, a.distinct) in

@@ -5,7 +5,7 @@ use Rattle.std.specs.List.{All, range_with_len}
 use Rattle.std.proofs.lemmas.Bool.{cases_lt, eqb-true, false≢true}
 use Rattle.wh_dag.specs.Shape.{Distinct, has}
 use Rattle.wh_maint.specs.declared.fault.MaintFault.{MaintFault}
-use Rattle.wh_store.specs.Pages.{page_of}
+use Rattle.wh_store.specs.Pages.{Shown, page_of}
 use Rattle.wh_store.specs.Versions.{is_active, is_unexpired, number, table_of, version}
 use Rattle.wh_carry.specs.Night.{Night, ArePassedAt, IsFaultAt, IsFirstFaultOf, IsPassedAt, places_from, AreAllowed}
 use Rattle.wh_carry.specs.Legs.{Leg, Wave, Turn, In_wave, At_page, Over, after_done, after_page, carried_up_to, is_last, legs_of, turn_at, turn_of, untouched}
@@ -19,7 +19,7 @@ use Rattle.wh_core.specs.declared.reply.Reply.TheVariants as reply
 use Rattle.wh_core.specs.Laws.{IsBefore, IsToldInTurn, RefusalsAreToldInTurn, after_inst, after_wave, before_first, is_of_rows, of_base, of_job}
 use Rattle.wh_core.specs.Log.{Log, SessionOf, holding, is_open, nights_begun, pages, session}
 use Rattle.wh_core.specs.Nights.{Setup, next_night, night, published, remaining, remaining_in, turn, versions}
-use Rattle.wh_core.specs.Replies.{IsCarried, IsLegalLog, IsReply, IsRuled, Ruling, Says, Takes, Carries, carried_by_done, cause_of, commit_ruling, done_by, goes_on, page_ruling, read_ruling, take_ruling, unless}
+use Rattle.wh_core.specs.Replies.{IsCarried, IsLegalLog, IsReply, IsRuled, Ruling, Says, Takes, Puts, carried_by_done, cause_of, commit_ruling, done_by, goes_on, page_ruling, read_ruling, take_ruling, unless}
 use Rattle.wh_core.specs.Standing.{IsWithin}
 use Rattle.wh_core.proofs.Deeds.{deeds_of, not_false}
 use Rattle.wh_core.proofs.Underway.{Underway, all-head, all-tail, all_below, head_or, night-began, night-paged, now, of_legs, start_of, underway, wave_legs, wave_place}
@@ -130,9 +130,9 @@ carried_fault n places said why apart h =
     named : (c : Cause) → reply.Refused why ≡ reply.Refused c → c ≡ why
     named c e = cc
 
-carries_fault : (n : Night) (places : List ℕ) (said : Reply) (why : Cause) → is_of_rows why ≡ true → ¬ (reply.Refused why ≡ said) → IsRuled (Carries n places said) (reply.Refused why)
+puts_fault : (n : Night) (places : List ℕ) (said : Reply) (why : Cause) → is_of_rows why ≡ true → ¬ (reply.Refused why ≡ said) → IsRuled (Puts n places said) (reply.Refused why)
     → (f : MaintFault) × IsFirstFaultOf n places f × (cause_of f ≡ why)
-carries_fault n places said why is apart h = ⊎_elim (λ c. carried_fault n places said why apart c) (λ m. absurd (not_other why cause.Memory is refl m)) h
+puts_fault n places said why is apart h = ⊎_elim (λ c. carried_fault n places said why apart c) (λ m. absurd (not_other why cause.Memory is refl m)) h
 
 -- what the law says of one refusal
 abbrev Told : Setup → Log → Event → Cause → Type 0
@@ -242,7 +242,7 @@ module _ (s : Setup) (log : Log) (why : Cause) (is : is_of_rows why ≡ true) wh
     done_by_told w (Some job) e (At_page place view rows) at h = absurd (not_other why cause.Idle is refl h)
     done_by_told w (Some job) e Over at h = absurd (not_other why cause.Idle is refl h)
     done_by_told w (Some job) e (In_wave first jobs drawn) at h =
-        let f = carries_fault n _ reply.Done why is (λ e. cc) h in
+        let f = carried_fault n _ reply.Done why (λ e. cc) h in
         (f.0, f.2, own_or_after w job first jobs drawn at e f.0 f.1)
 
     page_told_at : (t : Turn) → turn s log ≡ t → IsRuled (page_ruling n t (turn_of (after_page (remaining s log)))) (reply.Refused why) → Told s log PageIn why
@@ -250,7 +250,7 @@ module _ (s : Setup) (log : Log) (why : Cause) (is : is_of_rows why ≡ true) wh
     page_told_at Over at h = absurd (not_other why cause.NotReady is refl h)
     page_told_at (At_page inst view rows) at h =
         let after : Turn = turn_of (after_page (remaining s log)) in
-        let f = carries_fault n _ (reply.Paged (length rows)) why is (λ e. cc) h in
+        let f = puts_fault n _ (reply.Paged (length rows)) why is (λ e. cc) h in
         let stop = stop_of n (inst + 1) (carried_up_to n after) f.0 f.1 in
         let least = stop.least in
         let passed : (q : ℕ) → q < stop.place → IsPassedAt n q =
@@ -283,8 +283,8 @@ module _ (s : Setup) (log : Log) (why : Cause) (is : is_of_rows why ≡ true) wh
       let b = onwards (not (is_open log)) cause.NoNight _ why is refl h in
       absurd (no_commit (number (versions s log) + 1) (turn s log) b.1)
 
-  no_taking : (said : Reply) → ¬ (reply.Refused why ≡ said) → ¬ (IsRuled (Takes said) (reply.Refused why))
-  no_taking said apart h = ⊎_elim apart (λ m. not_other why cause.Memory is refl m) h
+  no_taking : (page : Shown) → ¬ (IsRuled (Takes page) (reply.Refused why))
+  no_taking page h = ⊎_elim (λ e. cc) (λ m. not_other why cause.Memory is refl m.1) h
 
   give_up_told : IsReply s log GiveUp (reply.Refused why) → Told s log GiveUp why
   give_up_told h =
@@ -304,7 +304,7 @@ module _ (s : Setup) (log : Log) (why : Cause) (is : is_of_rows why ≡ true) wh
       let a = onwards (not (is_unexpired s.versions v of.version)) (cause.Expired of.version (number v) (is_active v)) _ why is refl h in
       let b = onwards (nat_le (length (version v of.version)) view) cause.NoView _ why is refl a.1 in
       let c = onwards ((limit == 0) || nat_lt 256 limit) cause.Limit _ why is refl b.1 in
-      no_taking (reply.Page (page_of (table_of v of.version view) (goes_on view of.bookmark) limit)) (λ e. cc) c.1
+      no_taking (page_of (table_of v of.version view) (goes_on view of.bookmark) limit) c.1
 
   read_told : (d view limit : ℕ) → IsReply s log (Read d view limit) (reply.Refused why) → Told s log (Read d view limit) why
   read_told d view limit h =

@@ -1,6 +1,6 @@
 -- What a list of events comes to with its replies, whatever the order of workers', readers' and the writer's steps: which contents each
 -- version has, and what readers see of them.
-use Rattle.std.specs.Prelude.{◌≡◌, ◌⊎◌, ℕ, ◌+◌, ◌^◌, ◌<◌, ◌≤◌, List, [], ◌∷◌, length, reverse, slice_get, take, Some, None, Bool, true, false}
+use Rattle.std.specs.Prelude.{◌≡◌, ◌≢◌, ◌⊎◌, ℕ, ◌+◌, ◌^◌, ◌<◌, ◌≤◌, List, [], ◌∷◌, length, reverse, slice_get, take, Some, None, Bool, true, false}
 use Rattle.std.specs.List.{flat_map}
 use Rattle.wh_row.specs.Bag.{written}
 use Rattle.wh_maint.specs.Comp.{bag_at}
@@ -116,10 +116,11 @@ pub record ComesTrue (s : Setup) (events : List Event) (replies : List Reply) : 
   -- no reader is refused a session, or waits for it
   pub opened : (place desk : ℕ) (r : Reply) → IsAnswered events replies place (Open desk) r → desk < s.desks
       → session (done_before events replies place) desk ≡ None → r ≡ reply.Session (nights_ended (done_before events replies place))
-  -- nor a page of a view that is there, of a version that can be read, but for want of memory
+  -- nor a page of a view that is there, of a version that can be read, but for want of memory for its rows
   pub unexpired : (place desk view limit : ℕ) (of : SessionOf) (r : Reply) → IsAnswered events replies place (Read desk view limit) r → desk < s.desks
       → session (done_before events replies place) desk ≡ Some of → IsReadable s (done_before events replies place) of.version
-      → view < length s.catalog.views.children → 1 ≤ limit → limit ≤ 256 → (r ≡ reply.Page (next_page made of view limit)) ⊎ IsMemory r
+      → view < length s.catalog.views.children → 1 ≤ limit → limit ≤ 256
+      → (r ≡ reply.Page (next_page made of view limit)) ⊎ (((next_page made of view limit).rows ≢ []) × IsMemory r)
   -- the pages that a session has read of a view, up to a last page, are the view's whole table in the session's version
   pub whole : (place desk view : ℕ) (of : SessionOf) (page : Shown) (pages : List Shown) → session (done_before events replies place) desk ≡ Some of
       → pages_read (done_before events replies place) desk view ≡ page ∷ pages → page.last ≡ true

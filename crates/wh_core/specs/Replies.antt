@@ -1,5 +1,5 @@
 -- The reply to an event, looked up in what was done before and in the list published so far; and legal runs.
-use Rattle.std.specs.Prelude.{◌≡◌, ◌⊎◌, ℕ, ◌+◌, ◌^◌, ◌==◌, List, [], ◌∷◌, length, Option, Some, None, is_some, is_none, Bool, true, false, not, ◌||◌, nat_le, nat_lt, if◌then◌else◌}
+use Rattle.std.specs.Prelude.{◌≡◌, ◌≢◌, ◌⊎◌, ℕ, ◌+◌, ◌^◌, ◌==◌, List, [], ◌∷◌, length, Option, Some, None, is_some, is_none, Bool, true, false, not, ◌||◌, nat_le, nat_lt, if◌then◌else◌}
 use Rattle.wh_dag.specs.Catalog.{CatalogOf}
 use Rattle.wh_row.specs.Row.{Row}
 use Rattle.wh_maint.specs.declared.fault.MaintFault.{MaintFault}
@@ -18,12 +18,14 @@ use Rattle.wh_core.specs.declared.reply.Reply.TheVariants as reply
 use Rattle.wh_core.specs.Log.{Bookmark, Log, SessionOf, holding, is_open, logged, nights_begun, session}
 use Rattle.wh_core.specs.Nights.{Setup, next_night, night, remaining, turn, versions}
 
--- How an event is answered: by this reply and no other; by it, unless memory is refused; or the event carries out the expressions of a
--- night at these places, in this order, and is answered so where each of them is passed; a Begin tests the night's base changes first
+-- How an event is answered: by this reply and no other; by this page, unless memory is refused for its rows; or the event carries out the
+-- expressions of a night at these places, in this order, and is answered so where each of them is passed: a job's takes no memory, a page's
+-- does, and a Begin tests the night's base changes first
 pub data Ruling : Type 0 where
   Says : Reply → Ruling
-  Takes : Reply → Ruling
+  Takes : Shown → Ruling
   Carries : Night → List ℕ → Reply → Ruling
+  Puts : Night → List ℕ → Reply → Ruling
   Starts : Night → List ℕ → Reply → Ruling
 
 -- refused for this cause where that holds, else ruled so
@@ -43,7 +45,7 @@ read_ruling kept v view limit (Some s) =
     unless (not (is_unexpired kept v s.version)) (cause.Expired s.version (number v) (is_active v))
     (unless (nat_le (length (version v s.version)) view) cause.NoView
     (unless ((limit == 0) || nat_lt 256 limit) cause.Limit
-    (Takes (reply.Page (page_of (table_of v s.version view) (goes_on view s.bookmark) limit)))))
+    (Takes (page_of (table_of v s.version view) (goes_on view s.bookmark) limit))))
 
 -- ---- workers
 
@@ -71,7 +73,7 @@ done_by n now last next (Some job) = done_ruling n now last next job
 
 -- the next page, and with it the expressions behind its Inst up to the next turn: none, where that is one more page of the Inst
 abbrev pub page_ruling : Night → Turn → Turn → Ruling
-page_ruling n (At_page place view rows) next = Carries n (places_from (place + 1) (carried_up_to n next)) (reply.Paged (length rows))
+page_ruling n (At_page place view rows) next = Puts n (places_from (place + 1) (carried_up_to n next)) (reply.Paged (length rows))
 page_ruling n (In_wave place jobs drawn) next = Says (reply.Refused cause.NotReady)
 page_ruling n Over next = Says (reply.Refused cause.NotReady)
 
@@ -138,12 +140,14 @@ IsLarge f = (v : ℕ) × (f ≡ fault.Large v)
 abbrev pub IsCarried : Night → List ℕ → Reply → Reply → Type 0
 IsCarried n places said r = (ArePassedAt n places × (r ≡ said)) ⊎ ((f : MaintFault) × IsFirstFaultOf n places f × (r ≡ reply.Refused (cause_of f)))
 
--- The reply is as it is ruled. A Begin is refused for memory where the base changes are allowed; where one of them is too large, since to
--- find that out may take memory; and in place of the row that one of them lacks, since to answer it takes memory
+-- The reply is as it is ruled. A page without rows is shown without memory. A Begin is refused for memory where the base changes are
+-- allowed; where one of them is too large, since to find that out may take memory; and in place of the row that one of them lacks, since
+-- to answer it takes memory
 abbrev pub IsRuled : Ruling → Reply → Type 0
 IsRuled (Says said) r = r ≡ said
-IsRuled (Takes said) r = (r ≡ said) ⊎ IsMemory r
-IsRuled (Carries n places said) r = IsCarried n places said r ⊎ IsMemory r
+IsRuled (Takes page) r = (r ≡ reply.Page page) ⊎ ((page.rows ≢ []) × IsMemory r)
+IsRuled (Carries n places said) r = IsCarried n places said r
+IsRuled (Puts n places said) r = IsCarried n places said r ⊎ IsMemory r
 IsRuled (Starts n places said) r =
     (AreAllowed n × (IsCarried n places said r ⊎ IsMemory r))
     ⊎ ((f : MaintFault) × IsBaseFault n.catalog n.tables n.changes f × ((r ≡ reply.Refused (cause_of f)) ⊎ (IsLarge f × IsMemory r)))

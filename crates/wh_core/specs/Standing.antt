@@ -27,9 +27,9 @@ session_of s = record { version = s.version; bookmark = option_map bookmark_of s
 
 -- in a wave no more jobs are drawn than there are, and some are not done; outside of one none are
 abbrev pub IsWithin : List Leg → ℕ → ℕ → Type 0
-IsWithin [] drawn ended = (drawn ≡ 0) × (ended ≡ 0)
-IsWithin (Wave place jobs ∷ legs) drawn ended = (drawn ≤ jobs) × (ended < jobs)
-IsWithin (Page place view rows ∷ legs) drawn ended = (drawn ≡ 0) × (ended ≡ 0)
+IsWithin [] drawn done = (drawn ≡ 0) × (done ≡ 0)
+IsWithin (Wave place jobs ∷ legs) drawn done = (drawn ≤ jobs) × (done < jobs)
+IsWithin (Page place view rows ∷ legs) drawn done = (drawn ≡ 0) × (done ≡ 0)
 
 -- each wave has a job
 abbrev pub HaveJobs : List Leg → Type 0
@@ -38,11 +38,11 @@ HaveJobs (Wave place jobs ∷ legs) = (1 ≤ jobs) × HaveJobs legs
 HaveJobs (Page place view rows ∷ legs) = HaveJobs legs
 
 -- what is left of a night has these parts, and of the first so many jobs are drawn and done
-pub record AreLeft (n : Night) (r : Remaining) (parts : List Part) (stop : Option MaintFault) (drawn ended : ℕ) : Type 0 where
+pub record AreLeft (n : Night) (r : Remaining) (parts : List Part) (stop : Option MaintFault) (drawn done : ℕ) : Type 0 where
   pub from : ℕ
   pub legs : List Leg
-  pub is : r ≡ record { legs = legs; drawn = drawn; done = ended }
-  pub within : IsWithin legs drawn ended
+  pub is : r ≡ record { legs = legs; drawn = drawn; done = done }
+  pub within : IsWithin legs drawn done
   pub some : HaveJobs legs
   pub are : AreParts n from legs parts stop
   pub over : parts ≡ [] → stop ≡ None
@@ -63,7 +63,7 @@ pub record Stands (s : Setup) (log : Log) (m : Machine) : Type 0 where
   pub sessions : (d : ℕ) → d < s.desks → slice_get (map (option_map session_of) m.seats.items) d ≡ Some (session log d)
   pub workers : length m.holders.items ≡ s.workers
   pub holders : (w : ℕ) → w < s.workers → slice_get m.holders.items w ≡ Some (holding log w)
-  pub night : is_open log ≡ true → AreLeft (night s log) (remaining s log) (drop m.place m.course.parts.items) m.course.stop m.drawn m.ended
+  pub night : is_open log ≡ true → AreLeft (night s log) (remaining s log) (drop m.place m.course.parts.items) m.course.stop m.drawn m.done
 
 -- a night as it is given in code
 abbrev pub given_of : Vec Bag Global × Judged → GivenNight

@@ -26,7 +26,7 @@ use std::alloc::{AllocError, Global};
 use wh_carry::{Course, Part};
 use wh_maint::MaintFault;
 use wh_row::Bag;
-use wh_store::{MAX_KEYS, Op, Store, StoreFault, versions_stay_law, well_formed_law};
+use wh_store::{MAX_KEYS, Op, Store, StoreFault, told_law, versions_stay_law, well_formed_law};
 
 /// The versions, the tables that the next night begins from, the sessions of the desks, the jobs of the workers, how many
 /// nights have begun, and of the night that began last what becomes of it, which part of it is in turn, and how many jobs of
@@ -43,7 +43,7 @@ pub(crate) struct Machine {
     pub(crate) course: Course,
     pub(crate) place: usize,
     pub(crate) drawn: usize,
-    pub(crate) ended: usize,
+    pub(crate) done: usize,
 }
 
 fn no_seats(alloc: Global, desks: usize) -> Result<Vec<Option<Seat>>, AllocError>
@@ -156,7 +156,7 @@ impl Machine {
             },
             place: 0,
             drawn: 0,
-            ended: 0,
+            done: 0,
         })
     }
 
@@ -198,6 +198,7 @@ impl Machine {
         if !is_limit(limit) {
             return Reply::Refused(Cause::Limit);
         }
+        told_law();
         let after = goes_on(view, &seat.mark);
         let Ok(page) = self.store.visible(version, view, after, limit) else {
             return Reply::Refused(Cause::Memory);
@@ -268,9 +269,9 @@ impl Machine {
         if let Some(fault) = &outcomes[job] {
             return Reply::Refused(cause_of(fault));
         }
-        if self.ended < outcomes.len() - 1 {
+        if self.done < outcomes.len() - 1 {
             self.holders[worker] = None;
-            self.ended += 1;
+            self.done += 1;
             return Reply::Done;
         }
         if let Some(fault) = hindrance(&self.course, self.place + 1) {
@@ -284,11 +285,11 @@ impl Machine {
     /// The part in turn is over.
     fn turn_over(&mut self)
         requires { self.old.place < length self.old.course.parts.items }
-        ensures { self.new ≡ record { alloc = self.old.alloc; store = self.old.store; tables = self.old.tables; seats = self.old.seats; holders = self.old.holders; begun = self.old.begun; course = self.old.course; place = self.old.place + 1; drawn = 0; ended = 0 } }
+        ensures { self.new ≡ record { alloc = self.old.alloc; store = self.old.store; tables = self.old.tables; seats = self.old.seats; holders = self.old.holders; begun = self.old.begun; course = self.old.course; place = self.old.place + 1; drawn = 0; done = 0 } }
     {
         self.place += 1;
         self.drawn = 0;
-        self.ended = 0;
+        self.done = 0;
     }
 
     pub(crate) fn page_in(&mut self) -> Reply
@@ -368,7 +369,7 @@ impl Machine {
         self.course = course;
         self.place = 0;
         self.drawn = 0;
-        self.ended = 0;
+        self.done = 0;
         Reply::Begun
     }
 }

@@ -1,6 +1,6 @@
 //! The session of a desk.
 
-ghost use Rattle.std.specs.Prelude.{◌≡◌, option_map, IfOk};
+ghost use Rattle.std.specs.Prelude.{◌≡◌, ◌≢◌, [], option_map, IfOk, OnErr};
 ghost use Rattle.wh_core.specs.Log.{bookmark_after};
 ghost use Rattle.wh_core.specs.Replies.{goes_on};
 ghost use Rattle.wh_core.specs.Standing.{bookmark_of};
@@ -33,13 +33,14 @@ pub(crate) fn goes_on(view: usize, mark: &Option<Mark>) -> Option<&[i64]>
     }
 }
 
-/// The mark that a page of the view leaves.
+/// The mark that a page of the view leaves. Memory is wanted for its last row alone.
 pub(crate) fn mark_after(
     alloc: Global,
     view: usize,
     page: &Page,
 ) -> Result<Option<Mark>, AllocError>
-    ensures { IfOk result (λ mark. option_map bookmark_of mark ≡ bookmark_after view page.now) }
+    ensures mark { IfOk result (λ mark. option_map bookmark_of mark ≡ bookmark_after view page.now) }
+    ensures memory { OnErr result (page.now.rows ≢ []) }
 {
     if page.last {
         return Ok(None);

@@ -1,6 +1,6 @@
 //! The machine over events.
 
-ghost use Rattle.std.specs.Prelude.{◌≡◌, ◌≤◌, length, slice_get, Some, [], List, IfOk, OnErr};
+ghost use Rattle.std.specs.Prelude.{◌≡◌, ◌≢◌, ◌≤◌, length, slice_get, Some, [], List, IfOk, OnErr};
 ghost use Rattle.wh_dag.specs.Catalog.{IsCatalog};
 ghost use Rattle.wh_maint.specs.Asked.{AreBags};
 ghost use Rattle.wh_core.specs.Headline.{ComesTrue};
@@ -124,12 +124,13 @@ impl<F: RowTest + Drop, G: RowValue + Drop> Core<F, G> {
         self.machine.start(course, last)
     }
 
-    /// Answers events, one after another, from a machine that has done nothing yet. Memory comes before the first.
+    /// Answers events, one after another, from a machine that has done nothing yet. Memory comes before the first, where there is one.
     pub fn run(&mut self, events: &[Event]) -> Result<Vec<Reply>, AllocError>
         requires { IsFresh self.old }
         ensures replies { IfOk result (λ replies. (s : Setup) → IsSetup s → StandsWith s [] self.old → IsLegalRun s events.now replies.items × StandsWith s (log_after [] events.now replies.items) self.new) }
         ensures comes_true { IfOk result (λ replies. (s : Setup) → IsSetup s → StandsWith s [] self.old → ComesTrue s events.now replies.items) }
         ensures err { OnErr result (self.new ≡ self.old) }
+        ensures memory { OnErr result (events.now ≢ []) }
     {
         let mut replies = Vec::new(self.alloc);
         replies.reserve(events.len())?;

@@ -7,6 +7,7 @@ pub mod FitRest
 pub mod Levels
 pub mod Lists
 pub mod Made
+pub mod Marked
 pub mod Members
 pub mod PartSums
 pub mod Remaining

@@ -1,2 +1,3 @@
 pub mod CatalogCode
 pub mod Kept
+pub mod Taken

@@ -2,6 +2,7 @@ pub mod Catalog
 pub mod CatalogParts
 pub mod Fault
 pub mod FirstFault
+pub mod Kinds
 pub mod Level
 pub mod Lists
 pub mod Output

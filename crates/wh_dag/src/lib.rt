@@ -12,6 +12,7 @@ mod dealt;
 mod definition;
 mod fault;
 mod fitting;
+mod kinds;
 mod level;
 mod limits;
 mod name;

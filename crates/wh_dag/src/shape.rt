@@ -1,6 +1,7 @@
 // A shape: the names of the views, and which views each is over.
-ghost use Rattle.std.specs.Prelude.{◌≡◌, ◌≢◌, ◌<◌, ◌⊎◌, ◌==◌, [], length, map, IfOk, IfErr, OnOk, OnErr, Some, None, vec_len};
+ghost use Rattle.std.specs.Prelude.{◌≡◌, ◌≢◌, ◌<◌, ◌⊎◌, ◌==◌, ◌↔◌, [], length, map, IfOk, IfErr, OnOk, OnErr, IsTrue, Some, None, vec_len};
 ghost use Rattle.wh_dag.specs.Shape.{IsShape, children_of};
+ghost use Rattle.wh_dag.specs.Kinds.{IsTree, IsUniform};
 ghost use Rattle.wh_dag.specs.Level.{level_of, level_over};
 ghost use Rattle.wh_dag.specs.Parents.{parents_of};
 ghost use Rattle.wh_dag.specs.Siblings.{couples_of, sibling_pairs_of};
@@ -11,7 +12,7 @@ ghost use Rattle.wh_dag.specs.WellFormed.{IsWellFormed};
 use crate::child_lists::ChildLists;
 use crate::fault::ShapeFault;
 use crate::siblings::{Couple, SiblingPair};
-use crate::{level, parents, siblings, written};
+use crate::{kinds, level, parents, siblings, written};
 use std::alloc::{AllocError, Global};
 use std::marker::Model;
 
@@ -146,5 +147,19 @@ impl Shape {
             ≡ level_over (map (level_of self.now.children) (children_of self.now.children view)) }
     {
         self.levels[view]
+    }
+
+    /// Whether no view has two parents. Takes no memory.
+    pub fn is_tree(&self) -> bool
+        ensures { IsTrue result ↔ IsTree self.now.children }
+    {
+        kinds::is_tree(&self.children)
+    }
+
+    /// Whether each view of level 1 or more is over views of the level below it only. Takes no memory.
+    pub fn is_uniform(&self) -> bool
+        ensures { IsTrue result ↔ IsUniform self.now.children }
+    {
+        kinds::is_uniform(&self.children, &self.levels)
     }
 }

@@ -89,9 +89,10 @@ NotRead s t view (Expired of current active) = (v : ℕ) × Stays s t v × NoPag
 NotRead s t view NoView = (v : ℕ) × Stays s t v × NoPage t v view NoView
 NotRead s t view Memory = (v : ℕ) × Stays s t v
 
--- the page of a view in the session's version has a row
+-- the session's version can be read, and the page of a view in it has a row
 abbrev pub ShowsRows : Sitting → ℕ → Option Row → ℕ → Type 0
-ShowsRows t view after limit = (v : ℕ) × (t.session ≡ Some v) × ((page_of (table_of (versions_seen t) v view) after limit).rows ≢ [])
+ShowsRows t view after limit =
+    (v : ℕ) × (t.session ≡ Some v) × IsTrue (is_readable t v) × ((page_of (table_of (versions_seen t) v view) after limit).rows ≢ [])
 
 -- a version of a list that a desk saw has the same contents in each list that goes on from it
 abbrev pub SeenVersionsStay : Type 0

@@ -61,7 +61,7 @@ pages kept vs view limit v (Some x) page some few e readable there is =
     (not_false _ (subst (λ n. is_unexpired kept vs n ≡ true) same readable))
     (passed (nat_le (length (version vs x.version)) view) cause.NoView _ (reply.Page page)
     (lt-leb (length (version vs x.version)) view (subst (λ n. view < length (version vs n)) same there))
-    (passed ((limit == 0) || nat_lt 256 limit) cause.Limit (Takes (reply.Page (page_of (table_of vs x.version view) (goes_on view x.bookmark) limit))) (reply.Page page)
+    (passed ((limit == 0) || nat_lt 256 limit) cause.Limit (Takes (page_of (table_of vs x.version view) (goes_on view x.bookmark) limit)) (reply.Page page)
     (within limit some few)
     (inl (ap reply.Page (is ∙ ap (λ n. page_of (table_of vs n view) (goes_on view x.bookmark) limit) same)))))
 

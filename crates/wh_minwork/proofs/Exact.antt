@@ -11,7 +11,7 @@ use Rattle.wh_strategy.specs.declared.expression.Expression.TheVariants.{Comp, I
 use Rattle.wh_strategy.specs.Expression.{At, is_new}
 use Rattle.wh_strategy.specs.Prices.{Prices}
 use Rattle.wh_strategy.specs.Rules.{IsCorrect, IsOneWay}
-use Rattle.wh_strategy.specs.Sizes.{Size}
+use Rattle.wh_strategy.specs.declared.sizes.Size.{Size}
 use Rattle.wh_strategy.specs.Sums.{sum_below, parts}
 use Rattle.wh_strategy.specs.Work.{state, comp_rows, inst_rows, work_of}
 use Rattle.wh_strategy.proofs.Found.{has-head, has-tail, new_after, old_before}

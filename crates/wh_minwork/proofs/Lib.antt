@@ -12,6 +12,7 @@ pub mod OpenAlong
 pub mod Opening
 pub mod Ordering
 pub mod Placing
+pub mod Ranks
 pub mod Rounds
 pub mod SiblingViews
 pub mod Sorting

@@ -6,7 +6,7 @@ use Rattle.wh_dag.specs.Siblings.{have_parent}
 use Rattle.wh_dag.proofs.CommonParents.{parent_of_both, both_have_parent}
 use Rattle.wh_strategy.specs.declared.expression.Expression.{Expression}
 use Rattle.wh_strategy.specs.declared.expression.Expression.TheVariants.{Comp, Inst}
-use Rattle.wh_strategy.specs.Sizes.{Size}
+use Rattle.wh_strategy.specs.declared.sizes.Size.{Size}
 use Rattle.wh_strategy.proofs.Found.{has_within}
 use Rattle.wh_cert.specs.Graph.{decides, HasEdge, Leads, IsCycle, IsOrdered}
 use Rattle.wh_cert.specs.Order.{comes_first, ComesFirst}

@@ -8,7 +8,7 @@ use Rattle.wh_strategy.specs.declared.expression.Expression.TheVariants.{Comp, I
 use Rattle.wh_strategy.specs.Expression.{At}
 use Rattle.wh_strategy.specs.Prices.{Prices}
 use Rattle.wh_strategy.specs.Rules.{IsCorrect, IsOneWay}
-use Rattle.wh_strategy.specs.Sizes.{Size}
+use Rattle.wh_strategy.specs.declared.sizes.Size.{Size}
 use Rattle.wh_strategy.specs.Work.{work_of}
 use Rattle.wh_strategy.proofs.Found.{has_within}
 use Rattle.wh_cert.specs.Bound.{in_order, pair_min, pair_bound_of, decided_value, decided_bound_of}

@@ -1,7 +1,7 @@
 -- What MinWork answers.
 use Rattle.std.specs.Prelude.{ℕ, List}
 use Rattle.wh_strategy.specs.declared.expression.Expression.{Expression}
-use Rattle.wh_strategy.specs.Sizes.{Size}
+use Rattle.wh_strategy.specs.declared.sizes.Size.{Size}
 use Rattle.wh_cert.specs.Graph.{IsOrdered}
 use Rattle.wh_minwork.specs.Sorted.{IsSorted, IsAcyclic, IsSimpleCycle}
 use Rattle.wh_minwork.specs.declared.minwork.MinFault.{MinFault}

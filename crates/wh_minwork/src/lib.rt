@@ -1,6 +1,7 @@
 //! MinWork: the order of least work, the graph that it gives, and a plan that no correct strategy undercuts.
 #![tactic(auto)]
 
+mod acyclic;
 mod cycle;
 mod decided;
 mod desired;
@@ -15,6 +16,7 @@ mod sets;
 mod unplaced;
 mod walk;
 
+pub use acyclic::trees_and_uniform_shapes_are_acyclic;
 pub use decided::Decided;
 pub use desired::desired_order;
 pub use draft::{Draft, Found};

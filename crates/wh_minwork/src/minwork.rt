@@ -1,11 +1,13 @@
 //! MinWork: a plan of least work, where the ordered graph has no cycle.
 
-ghost use Rattle.std.specs.Prelude.{◌≡◌, ◌<◌, length, IfOk, IfErr, OnOk, OnErr, List, ℕ};
+ghost use Rattle.std.specs.Prelude.{◌≡◌, ◌<◌, ◌⊎◌, length, IfOk, IfErr, OnOk, OnErr, List, ℕ};
+ghost use Rattle.wh_dag.specs.Kinds.{IsTree, IsUniform};
 ghost use Rattle.wh_dag.specs.Shape.{IsShape};
 ghost use Rattle.wh_strategy.specs.declared.expression.Expression.{Expression};
 ghost use Rattle.wh_strategy.specs.Prices.{Prices, prices_of};
 ghost use Rattle.wh_strategy.specs.Rules.{IsCorrect, IsOneWay};
-ghost use Rattle.wh_strategy.specs.Sizes.{Size, sizes_of};
+ghost use Rattle.wh_strategy.specs.declared.sizes.Size.{Size};
+ghost use Rattle.wh_strategy.specs.Sizes.{sizes_of};
 ghost use Rattle.wh_strategy.specs.Work.{work_of};
 ghost use Rattle.wh_cert.specs.Bound.{pair_bound_of, decided_bound_of};
 ghost use Rattle.wh_cert.specs.Certificate.{IsJudged};
@@ -59,6 +61,7 @@ fn ordered_strategy(alloc: Global, shape: &Shape, sizes: &Sizes) -> Result<Strat
     ensures sorted { IfOk result (IsSortedAsDesired shape.now.children (sizes_of sizes.now)) }
     ensures shape { OnOk result (IsShape shape.now.children) }
     ensures err { IfErr result (IsMinReason shape.now.children (sizes_of sizes.now)) }
+    ensures never_cyclic { IfErr result (λ fault. (IsTree shape.now.children ⊎ IsUniform shape.now.children) → fault ≡ MinFault.Memory) }
     ensures some { OnErr result (0 < length shape.now.children) }
 {
     let decided = Decided::by_desired_order(alloc, shape, sizes)?;
@@ -69,8 +72,9 @@ fn ordered_strategy(alloc: Global, shape: &Shape, sizes: &Sizes) -> Result<Strat
     }
 }
 
-/// A plan of least work among all correct strategies, from the ordered graph alone, wherever that has no cycle. Its list
-/// is the order in which [`Graph::sorted`] places the nodes of that graph.
+/// A plan of least work among all correct strategies, from the ordered graph alone, wherever that has no cycle: so for each
+/// tree and each uniform shape, whatever the sizes. Its list is the order in which [`Graph::sorted`] places the nodes of that
+/// graph.
 pub fn min_work(
     alloc: Global,
     shape: &Shape,
@@ -87,6 +91,7 @@ pub fn min_work(
     ensures scope { IfOk result (λ p. p.scope ≡ Scope.All) }
     ensures accepted { IfOk result (λ p. IsJudged shape.now.children (sizes_of sizes.now) (prices_of costs) p.work p.certificate Verdict.All) }
     ensures err { IfErr result (IsMinReason shape.now.children (sizes_of sizes.now)) }
+    ensures never_cyclic { IfErr result (λ fault. (IsTree shape.now.children ⊎ IsUniform shape.now.children) → fault ≡ MinFault.Memory) }
 
     // Without a view nothing is refused: the plan has no expression, and takes no memory.
     ensures some { OnErr result (0 < length shape.now.children) }

@@ -21,12 +21,12 @@ use Rattle.wh_night.specs.Refusals.{IsFirstStageFault, IsRefused, IsRefusedSo}
 use Rattle.wh_night.specs.Inner.Underway.{Given, HasCome, IsRefusedLater, night_given}
 use Rattle.wh_night.proofs.StageByStage.{comes_first}
 
--- a night over these tables, behind what is published
-abbrev pub given_over : List Expression → List Bag → List Bag → Ledger → Given
+-- a night over these tables, behind what is published, if it is published
+abbrev pub given_over : List Expression → List Bag → List Bag → Option Ledger → Given
 given_over list tables changes l = record { list = list; tables = bag_at tables; changes = bag_at changes; before = l }
 
 -- it stands before its first expression, and nothing is reported
-pub begins : (cat : CatalogOf) (list : List Expression) (tables changes : List Bag) (l : Ledger) (keys : ℕ) (k : Kept) (steps : List (Expression × ℕ)) → steps ≡ [] → IsCatalog cat → IsCorrect cat.views.children list
+pub begins : (cat : CatalogOf) (list : List Expression) (tables changes : List Bag) (l : Option Ledger) (keys : ℕ) (k : Kept) (steps : List (Expression × ℕ)) → steps ≡ [] → IsCatalog cat → IsCorrect cat.views.children list
     → IsFirst cat (bag_at tables) (bag_at changes) k → HasCome (night_given cat keys (given_over list tables changes l)) 0 k steps
 begins cat list tables changes l keys k steps none is ok first =
     subst (HasCome (night_given cat keys (given_over list tables changes l)) 0 k) (sym none)

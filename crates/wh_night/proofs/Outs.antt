@@ -9,13 +9,18 @@ use Rattle.wh_store.specs.Faults.{refused}
 use Rattle.wh_store.specs.declared.publish_fault.PublishFault.{PublishFault}
 use Rattle.wh_store.specs.declared.publish_fault.PublishFault.TheVariants.{NightOpen, NoNight, NoView, BadPage, LastVersion, Held, Memory}
 use Rattle.wh_night.specs.Tonight.{goes_out}
-use Rattle.wh_night.specs.Inner.Underway.{IsPartly}
+use Rattle.wh_night.specs.Inner.Underway.{IsPartly, behind}
 
 pub nothing_out : (l : Ledger) → l.held ≡ None → l ≡ goes_out l [] None
 nothing_out l e = λ i. ledger l.of (sym (append-nil l.list) i) (e i)
 
 pub out_more : (l m o : Ledger) (a b : List Operation) (held : Option Operation) → m ≡ goes_out l a None → o ≡ goes_out m b held → o ≡ goes_out l (a ++ b) held
 out_more l m o a b held e f = f ∙ (λ i. goes_out (e i) b held) ∙ (λ i. ledger l.of (append_assoc l.list a b i) held)
+
+-- the same where perhaps nothing is published
+pub behind_more : (l m o : Option Ledger) (a b : List Operation) → m ≡ behind l a → o ≡ behind m b → o ≡ behind l (a ++ b)
+behind_more None m o a b e f = f ∙ ap (λ x. behind x b) e
+behind_more (Some l) m o a b e f = f ∙ ap (λ x. behind x b) e ∙ (λ i. Some (ledger l.of (append_assoc l.list a b i) None))
 
 pub partly_none : (l : Ledger) (ops : List Operation) → l.held ≡ None → IsPartly l ops l
 partly_none l ops e = record { out = []; held = None; rest = ops; now = nothing_out l e; split = refl }

@@ -1,5 +1,5 @@
 -- A stage of a night: what it carries out and publishes, or why it is refused.
-use Rattle.std.proofs.Common.{◌≡◌, refl, sym, ap, subst, ◌∙◌, ℕ, ◌+◌, eqb, List, [], ◌∷◌, ◌++◌, map, length, None, ◌⊎◌, inl, inr, ⊎_elim, arith}
+use Rattle.std.proofs.Common.{◌≡◌, refl, sym, ap, subst, ◌∙◌, ℕ, ◌+◌, eqb, List, [], ◌∷◌, ◌++◌, map, length, Option, Some, None, ◌⊎◌, inl, inr, ⊎_elim, arith}
 use Rattle.std.proofs.lemmas.Bool.{cases_Bool}
 use Rattle.std.proofs.lemmas.List.{append-nil, append_assoc, length-map}
 use Rattle.wh_dag.specs.Catalog.{CatalogOf}
@@ -36,8 +36,8 @@ use Rattle.wh_carry.specs.Inner.Standing.{IsWaveAt, StandsAt}
 use Rattle.wh_carry.proofs.Parts.{fits_behind, inst_at, place_next, wave_at}
 use Rattle.wh_night.specs.Refusals.{IsFirstStageFault, IsStageFault, IsWaveFault}
 use Rattle.wh_night.specs.Tonight.{IsRefusedThere, goes_out, made_by, out_below}
-use Rattle.wh_night.specs.Inner.Underway.{HasCome, IsAt, IsInstStopped, IsPartly, IsStopped, Reports, is_cut, is_refused, puts_in}
-use Rattle.wh_night.proofs.Outs.{held_behind, out_more}
+use Rattle.wh_night.specs.Inner.Underway.{ArePartlyOut, Given, HasCome, IsAt, IsHalted, IsInstStopped, IsStopped, Reports, behind, is_cut, is_refused, night_given, puts_in}
+use Rattle.wh_night.proofs.Outs.{behind_more, held_behind, out_more}
 use Rattle.wh_night.proofs.Puts.{out_next, wave_out}
 
 -- before the first expression
@@ -49,24 +49,28 @@ comes_first catalog list tables changes keys k stands = record {
   reported = record { each = refl; rows = λ q e l at. absurd (omega arith) };
 }
 
-module _ (n : Night) (l m : Ledger) (before after : List Stage) (k : Kept) (steps : List (Expression × ℕ)) (here : IsAt n l (place_behind before) k steps m) where
+module _ (n : Night) (l m : Option Ledger) (before after : List Stage) (k : Kept) (steps : List (Expression × ℕ)) (here : IsAt n l (place_behind before) k steps m) where
   abbrev p : ℕ
   p = place_behind before
 
   -- where it has come to it can stop
-  stopped : (x : Stage) → stages_of n.list ≡ before ++ x ∷ after → (fault : MaintFault) → (fault ≡ Memory) ⊎ IsStageFault n p x fault → IsStopped n l fault m
-  stopped x split fault f = record {
-    ops = out_below n p;
-    held = None;
-    now = here.out;
-    begun = λ e. cc;
-    place = p;
-    within = let f = fits_behind n before after x split in omega (arith, f);
-    passed = here.come.passed;
-    rest = [];
-    begins = sym (append-nil (out_below n p));
-    why = ⊎_elim (λ e. inl e) (λ w. inr (refl, refl, record { before = before; refused = x; after = after; split = split; here = refl; is = w })) f;
-  }
+  stopped : (x : Stage) → stages_of n.list ≡ before ++ x ∷ after → (fault : MaintFault) → (fault ≡ Memory) ⊎ IsStageFault n p x fault → IsHalted n l fault m
+  stopped x split fault f = subst (IsHalted n l fault) (sym here.out) (behind_it l)
+    where
+      behind_it : (o : Option Ledger) → IsHalted n o fault (behind o (out_below n p))
+      behind_it None = ⊎_elim (λ e. inl e) (λ w. inr (record { before = before; refused = x; after = after; split = split; passed = here.come.passed; is = w })) f
+      behind_it (Some o) = record {
+        ops = out_below n p;
+        held = None;
+        now = refl;
+        begun = λ e. cc;
+        place = p;
+        within = let g = fits_behind n before after x split in omega (arith, g);
+        passed = here.come.passed;
+        rest = [];
+        begins = sym (append-nil (out_below n p));
+        why = ⊎_elim (λ e. inl e) (λ w. inr (refl, refl, record { before = before; refused = x; after = after; split = split; here = refl; is = w })) f;
+      }
 
   -- ---- a wave
 
@@ -77,9 +81,9 @@ module _ (n : Night) (l m : Ledger) (before after : List Stage) (k : Kept) (step
     pub wave_goes : (next : Kept) (more : List (Expression × ℕ)) → HasCome n (p + length jobs) next more → IsAt n l (place_behind (before ++ stage.Wave jobs ∷ [])) next more m
     wave_goes next more come =
         let e : p + length jobs ≡ place_behind (before ++ stage.Wave jobs ∷ []) = sym (place_next before (stage.Wave jobs) ∙ ap (λ j. p + j) (length-map jobs comp_of)) in
-        subst (λ q. IsAt n l q next more m) e (record { come = come; out = here.out ∙ ap (λ ops. goes_out l ops None) (sym (wave_out n p jobs its_wave (length jobs) (omega arith))) })
+        subst (λ q. IsAt n l q next more m) e (record { come = come; out = here.out ∙ ap (behind l) (sym (wave_out n p jobs its_wave (length jobs) (omega arith))) })
 
-    pub wave_stops : (fault : MaintFault) → (fault ≡ Memory) ⊎ IsWaveFault n p jobs fault → IsStopped n l fault m
+    pub wave_stops : (fault : MaintFault) → (fault ≡ Memory) ⊎ IsWaveFault n p jobs fault → IsHalted n l fault m
     wave_stops fault f = stopped (stage.Wave jobs) split fault f
 
   -- ---- an Inst
@@ -115,12 +119,12 @@ module _ (n : Night) (l m : Ledger) (before after : List Stage) (k : Kept) (step
               (rows_right n.catalog n.list n.tables n.changes s.catalogue s.correct p (Inst v) k report.told at s.agrees report.is report.few));
         }
 
-    pub inst_goes : (next : Kept) (more : List (Expression × ℕ)) (o : Ledger) → IsPassedIn n.catalog k (Inst v) → next ≡ installed v (finished n.catalog (λ u. eqb v u) k)
-        → Reports (rows_in n.catalog (Inst v) k) (Inst v) steps more → o ≡ goes_out m (puts_in n.catalog n.keys v k) None → IsAt n l (place_behind (before ++ stage.Inst v ∷ [])) next more o
+    pub inst_goes : (next : Kept) (more : List (Expression × ℕ)) (o : Option Ledger) → IsPassedIn n.catalog k (Inst v) → next ≡ installed v (finished n.catalog (λ u. eqb v u) k)
+        → Reports (rows_in n.catalog (Inst v) k) (Inst v) steps more → o ≡ behind m (puts_in n.catalog n.keys v k) → IsAt n l (place_behind (before ++ stage.Inst v ∷ [])) next more o
     inst_goes next more o passed done report out =
         subst (λ q. IsAt n l q next more o) (sym (place_next before (stage.Inst v))) (record {
           come = inst_comes next more passed done report;
-          out = out_more l m o (out_below n p) (puts_in n.catalog n.keys v k) None here.out out ∙ ap (λ ops. goes_out l ops None) (sym out_behind);
+          out = behind_more l m o (out_below n p) (puts_in n.catalog n.keys v k) here.out out ∙ ap (behind l) (sym out_behind);
         })
 
     fault_is : (fault : MaintFault) → IsStepFaultIn n.catalog k (Inst v) fault → (fault ≡ Memory) ⊎ IsStepFault n.catalog n.changes (state_at n p) (Inst v) fault
@@ -142,26 +146,31 @@ module _ (n : Night) (l m : Ledger) (before after : List Stage) (k : Kept) (step
         h)
 
     -- some of its pages have gone out
-    cut_stopped : (o : Ledger) (fault : MaintFault) → fault ≡ Memory → IsPassedIn n.catalog k (Inst v) → IsPartly m (puts_in n.catalog n.keys v k) o → IsStopped n l fault o
-    cut_stopped o fault memory passed part =
-        let s = here.come.stands in
-        let f = fits_behind n before after (stage.Inst v) split in
-        let behind = held_behind (out_below n p) part.out part.held in
-        record {
-          ops = out_below n p ++ part.out;
-          held = part.held;
-          now = out_more l m o (out_below n p) part.out part.held here.out part.now;
-          begun = λ e. let g : out_below n p ++ with_held part.out part.held ≡ [] = sym behind ∙ e in cc;
-          place = p + 1;
-          within = omega (arith, f);
-          passed = passed_next n.catalog n.list n.tables n.changes s.catalogue s.correct p (Inst v) k at s.agrees s.told here.come.passed passed;
-          rest = part.rest;
-          begins = out_behind ∙ ap (λ ops. out_below n p ++ ops) part.split ∙ sym (append_assoc (out_below n p) (with_held part.out part.held) part.rest) ∙ ap (λ ops. ops ++ part.rest) (sym behind);
-          why = inl memory;
-        }
+    cut_stopped : (o : Option Ledger) (fault : MaintFault) → fault ≡ Memory → IsPassedIn n.catalog k (Inst v) → ArePartlyOut m (puts_in n.catalog n.keys v k) o → IsHalted n l fault o
+    cut_stopped o fault memory passed part = cut l o (subst (λ x. ArePartlyOut x (puts_in n.catalog n.keys v k) o) here.out part)
+      where
+        cut : (l o : Option Ledger) → ArePartlyOut (behind l (out_below n p)) (puts_in n.catalog n.keys v k) o → IsHalted n l fault o
+        cut None o part = absurd part
+        cut (Some l) None part = absurd part
+        cut (Some l) (Some o) part =
+            let s = here.come.stands in
+            let f = fits_behind n before after (stage.Inst v) split in
+            let all = held_behind (out_below n p) part.out part.held in
+            record {
+              ops = out_below n p ++ part.out;
+              held = part.held;
+              now = out_more l (goes_out l (out_below n p) None) o (out_below n p) part.out part.held refl part.now;
+              begun = λ e. let g : out_below n p ++ with_held part.out part.held ≡ [] = sym all ∙ e in cc;
+              place = p + 1;
+              within = omega (arith, f);
+              passed = passed_next n.catalog n.list n.tables n.changes s.catalogue s.correct p (Inst v) k at s.agrees s.told here.come.passed passed;
+              rest = part.rest;
+              begins = out_behind ∙ ap (λ ops. out_below n p ++ ops) part.split ∙ sym (append_assoc (out_below n p) (with_held part.out part.held) part.rest) ∙ ap (λ ops. ops ++ part.rest) (sym all);
+              why = inl memory;
+            }
 
-    pub inst_stops : (fault : MaintFault) (o : Ledger) → IsInstStopped n.catalog n.keys v k fault m o → IsStopped n l fault o
-    inst_stops fault o (is_refused same h) = subst (IsStopped n l fault) (sym same) (stopped (stage.Inst v) split fault (fault_is fault h))
+    pub inst_stops : (fault : MaintFault) (o : Option Ledger) → IsInstStopped n.catalog n.keys v k fault m o → IsHalted n l fault o
+    inst_stops fault o (is_refused same h) = subst (IsHalted n l fault) (sym same) (stopped (stage.Inst v) split fault (fault_is fault h))
     inst_stops fault o (is_cut memory passed part) = cut_stopped o fault memory passed part
 
 -- what stops it is the first stage that is refused, if not want of memory
@@ -178,32 +187,18 @@ stopped_so n l m fault u = ⊎_elim (λ e. inl e) (λ r. inr (first r.2)) u.why
       is = subst (λ q. IsStageFault n q r.refused fault) r.here r.is;
     }
 
--- ---- where nothing is published
+-- ---- where nothing is published, pages have any size
 
--- a night that has come to a place, seen as one that has published what it would have
-module _ (n : Night) (l : Ledger) (before after : List Stage) (k : Kept) (steps : List (Expression × ℕ)) (come : HasCome n (place_behind before) k steps) where
-  abbrev so_far : Ledger
-  so_far = goes_out l (out_below n (place_behind before)) None
+stage_fault : (catalog : CatalogOf) (t : Given) (keys other place : ℕ) (x : Stage) (fault : MaintFault) → IsStageFault (night_given catalog keys t) place x fault → IsStageFault (night_given catalog other t) place x fault
+stage_fault catalog t keys other place (stage.Wave jobs) fault w = record { reason = w.reason; first = w.first; answer = w.answer }
+stage_fault catalog t keys other place (stage.Inst v) fault w = w
 
-  here : IsAt n l (place_behind before) k steps so_far
-  here = record { come = come; out = refl }
-
-  pub wave_here : (jobs : List Job) → stages_of n.list ≡ before ++ stage.Wave jobs ∷ after → IsWaveAt n.catalog jobs n (place_behind before)
-  wave_here jobs split = its_wave n l so_far before after k steps here jobs split
-
-  pub wave_comes : (jobs : List Job) → stages_of n.list ≡ before ++ stage.Wave jobs ∷ after → (next : Kept) (more : List (Expression × ℕ)) → HasCome n (place_behind before + length jobs) next more
-      → HasCome n (place_behind (before ++ stage.Wave jobs ∷ [])) next more
-  wave_comes jobs split next more come = (wave_goes n l so_far before after k steps here jobs split next more come).come
-
-  pub wave_is_refused : (jobs : List Job) → stages_of n.list ≡ before ++ stage.Wave jobs ∷ after → (fault : MaintFault) → (fault ≡ Memory) ⊎ IsWaveFault n (place_behind before) jobs fault
-      → (fault ≡ Memory) ⊎ IsFirstStageFault n fault
-  wave_is_refused jobs split fault f = stopped_so n l so_far fault (wave_stops n l so_far before after k steps here jobs split fault f)
-
-  pub inst_has_come : (v : ℕ) → stages_of n.list ≡ before ++ stage.Inst v ∷ after → (next : Kept) (more : List (Expression × ℕ)) → IsPassedIn n.catalog k (Inst v)
-      → next ≡ installed v (finished n.catalog (λ u. eqb v u) k) → Reports (rows_in n.catalog (Inst v) k) (Inst v) steps more → HasCome n (place_behind (before ++ stage.Inst v ∷ [])) next more
-  inst_has_come v split next more passed done report =
-      (inst_goes n l so_far before after k steps here v split next more (goes_out so_far (puts_in n.catalog n.keys v k) None) passed done report refl).come
-
-  pub inst_is_refused : (v : ℕ) → stages_of n.list ≡ before ++ stage.Inst v ∷ after → (fault : MaintFault) → IsStepFaultIn n.catalog k (Inst v) fault
-      → (fault ≡ Memory) ⊎ IsFirstStageFault n fault
-  inst_is_refused v split fault f = stopped_so n l so_far fault (inst_stops n l so_far before after k steps here v split fault so_far (is_refused refl f))
+pub first_fault : (catalog : CatalogOf) (t : Given) (keys other : ℕ) (fault : MaintFault) → IsFirstStageFault (night_given catalog keys t) fault → IsFirstStageFault (night_given catalog other t) fault
+first_fault catalog t keys other fault f = record {
+  before = f.before;
+  refused = f.refused;
+  after = f.after;
+  split = f.split;
+  passed = f.passed;
+  is = stage_fault catalog t keys other (place_behind f.before) f.refused fault f.is;
+}

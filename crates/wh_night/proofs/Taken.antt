@@ -1,8 +1,9 @@
 -- What a night publishes may come where it stands.
-use Rattle.std.proofs.Common.{◌≡◌, ◌≢◌, refl, sym, ap, subst, ◌∙◌, eqb, ℕ, zero, suc, ◌≤◌, List, [], ◌∷◌, ◌++◌, map, length, cond, true, Some, None, arith}
-use Rattle.std.specs.Prelude.{is_some, option_map, slice_set, if◌then◌else◌}
+use Rattle.std.proofs.Common.{◌≡◌, ◌≢◌, refl, sym, ap, subst, ◌∙◌, eqb, ℕ, zero, suc, ◌≤◌, List, [], ◌∷◌, ◌++◌, map, length, cond, true, Option, Some, None, arith}
+use Rattle.std.specs.Prelude.{IfSome, is_some, option_map, slice_set, if◌then◌else◌}
 use Rattle.std.specs.List.{All}
 use Rattle.std.proofs.lemmas.Bool.{eq-eqb, lt-ltb}
+use Rattle.std.proofs.lemmas.Option.{same_Some}
 use Rattle.std.proofs.lemmas.List.Elements.{All-head, All-tail}
 use Rattle.wh_dag.specs.Catalog.{CatalogOf}
 use Rattle.wh_row.specs.Bag.{Bag, IsTable, sum_of}
@@ -17,11 +18,11 @@ use Rattle.wh_maint.specs.Fit.{IsFitTable}
 use Rattle.wh_maint.specs.View.{Kind, Joined, Summed, ViewGraph}
 use Rattle.wh_store.specs.Operations.{Writes, Commits}
 use Rattle.wh_store.specs.Pages.{Contents, is_page, with_counts}
-use Rattle.wh_store.specs.Refusals.{page_refusal, refusal}
+use Rattle.wh_store.specs.Refusals.{page_refusal}
 use Rattle.wh_store.specs.Versions.{Versions, after, table_in, versions_from, versions_of, written_over}
 use Rattle.wh_store.specs.declared.fault.StoreFault.TheVariants.{BadPage, NoNight, NoView}
 use Rattle.wh_store.specs.Faults.{fault_of, publish_refusal}
-use Rattle.wh_store.specs.Ledgers.{Ledger, versions_in, window_in}
+use Rattle.wh_store.specs.Ledgers.{Ledger, versions_in}
 use Rattle.wh_store.specs.declared.publish_fault.PublishFault.TheVariants as publish
 use Rattle.wh_carry.specs.Carry.{State, change_in}
 use Rattle.wh_carry.specs.Kept.{Kept, finished}
@@ -39,7 +40,7 @@ use Rattle.wh_carry.specs.Standing.{place_behind}
 use Rattle.wh_carry.proofs.Pages.{full_page, last_page}
 use Rattle.wh_carry.proofs.Parts.{inst_at}
 use Rattle.wh_night.specs.Tonight.{goes_out, out_below}
-use Rattle.wh_night.specs.Inner.Underway.{AreFitStages, AreGoodPages, CanPublish, Given, IsAt, TakesPages, night_given}
+use Rattle.wh_night.specs.Inner.Underway.{AreFitStages, AreGoodPages, CanPublish, Given, IsAt, IsFitBehind, TakesPages, behind, night_given}
 use Rattle.wh_night.proofs.Ends.{versions_append}
 
 -- ---- pages, one after another
@@ -104,23 +105,24 @@ module _ (catalog : CatalogOf) (keys : ℕ) (t : Given) (stages : List Stage) (f
   g = graph_of catalog
 
   -- a night is open, and each view is written
-  draft_at : (place : ℕ) (m : Ledger) → IsCorrect catalog.views.children t.list → m ≡ goes_out t.before (out_below n place) None
-      → (draft : Contents) × ((versions_in m.of m.list).draft ≡ Some draft) × (length draft ≡ length catalog.views.children)
-  draft_at place m ok out =
-      let w = night_lists_write_tables catalog t.list t.tables t.changes keys (versions_in t.before.of t.before.list) ok some fit.tables place in (
+  draft_at : (l : Ledger) (place : ℕ) → IsFitBehind catalog keys t l → IsCorrect catalog.views.children t.list
+      → (draft : Contents) × ((versions_in l.of (l.list ++ out_below n place)).draft ≡ Some draft) × (length draft ≡ length catalog.views.children)
+  draft_at l place f ok =
+      let w = night_lists_write_tables catalog t.list t.tables t.changes keys (versions_in l.of l.list) ok some f.tables place in (
         w.0,
-        ap (λ (x : Ledger). (versions_in x.of x.list).draft) out ∙ ap (λ (v : Versions). v.draft) (versions_append (versions_of t.before.of.opening []) t.before.list (out_below n place) ∙ w.1),
+        ap (λ (v : Versions). v.draft) (versions_append (versions_of l.of.opening []) l.list (out_below n place) ∙ w.1),
         w.2.each,
       )
 
   -- so it may end
-  pub may_commit : (place : ℕ) (k : Kept) (steps : List (Expression × ℕ)) (m : Ledger) → IsAt n t.before place k steps m → publish_refusal m Commits ≡ None
-  may_commit place k steps m at =
-      let d = draft_at place m at.come.stands.correct at.out in
-      (λ i. if is_some (ap (λ (x : Ledger). x.held) at.out i) then Some publish.Held else option_map fault_of (refusal (window_in m.of m.list) Commits))
-      ∙ (λ i. option_map fault_of (if is_some (d.1 i) then None else Some NoNight))
+  pub may_commit : (l m : Ledger) → t.before ≡ Some l → (place : ℕ) (k : Kept) (steps : List (Expression × ℕ)) → IsAt n t.before place k steps (Some m) → publish_refusal m Commits ≡ None
+  may_commit l m is place k steps at =
+      let f : IsFitBehind catalog keys t l = subst (λ b. IfSome b (IsFitBehind catalog keys t)) is fit.fit in
+      let out : m ≡ goes_out l (out_below n place) None = same_Some _ _ (at.out ∙ ap (λ b. behind b (out_below n place)) is) in
+      let d = draft_at l place f at.come.stands.correct in
+      subst (λ m. publish_refusal m Commits ≡ None) (sym out) (λ i. option_map fault_of (if is_some (d.1 i) then None else Some NoNight))
 
-  module _ (before after : List Stage) (k : Kept) (steps : List (Expression × ℕ)) (m : Ledger) (at : IsAt n t.before (place_behind before) k steps m) where
+  module _ (before after : List Stage) (k : Kept) (steps : List (Expression × ℕ)) (m : Option Ledger) (at : IsAt n t.before (place_behind before) k steps m) where
     abbrev p : ℕ
     p = place_behind before
 
@@ -133,17 +135,24 @@ module _ (catalog : CatalogOf) (keys : ℕ) (t : Given) (stages : List Stage) (f
         ∙ sym (ap (λ (s : State). s.tables v) (before_next g t.changes t.list t.tables p (Inst v) there)
         ∙ ap (λ b. cond b (sum_of ((state_at n p).tables v) (change_in g t.changes (state_at n p) v)) ((state_at n p).tables v)) (eq-eqb v v refl))
 
-    pub can_publish : (x : Stage) → stages ≡ before ++ x ∷ after → CanPublish catalog x k m
-    can_publish (stage.Wave jobs) split = tt
-    can_publish (stage.Inst v) split =
+    can_behind : (l : Ledger) → IsFitBehind catalog keys t l → (x : Stage) → stages ≡ before ++ x ∷ after → CanPublish catalog x k (goes_out l (out_below n p) None)
+    can_behind l f (stage.Wave jobs) split = tt
+    can_behind l f (stage.Inst v) split =
         let s = at.come.stands in
         let there : At t.list p (Inst v) = inst_at n before after v k s (sym fit.are ∙ split) in
-        let d = draft_at p m s.correct at.out in
+        let d = draft_at l p f s.correct in
         let inside = s.correct.views p v there in
         let long = d.2 in (
-          record { free = ap (λ (x : Ledger). x.held) at.out; draft = d.0; open_night = d.1; has = omega (arith, inside, long) },
+          record { free = refl; draft = d.0; open_night = d.1; has = omega (arith, inside, long) },
           λ passed.
               let more = passed_next catalog t.list t.tables t.changes s.catalogue s.correct p (Inst v) k there s.agrees s.told at.come.passed passed in
               let values : HaveValuesBelow catalog t.list t.tables t.changes (suc p) = λ q e l r. passed_have_values catalog t.changes (state_at n q) e (more q e (omega (arith, l)) r) in
-              subst IsTable (sym (made_there v there)) (is_table (kind_in catalog v) ((state_at n (suc p)).tables v) (fit.fit (suc p) values v)),
+              subst IsTable (sym (made_there v there)) (is_table (kind_in catalog v) ((state_at n (suc p)).tables v) (f.fit (suc p) values v)),
         )
+
+    pub can_publish : (x : Stage) → stages ≡ before ++ x ∷ after → IfSome m (CanPublish catalog x k)
+    can_publish x split = subst (λ m. IfSome m (CanPublish catalog x k)) (sym at.out) (from t.before fit.fit)
+      where
+        from : (l : Option Ledger) → IfSome l (IsFitBehind catalog keys t) → IfSome (behind l (out_below n p)) (CanPublish catalog x k)
+        from None f = tt
+        from (Some l) f = can_behind l f x split

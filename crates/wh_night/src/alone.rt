@@ -14,70 +14,17 @@ ghost use Rattle.wh_night.specs.Tonight.{night_over};
 ghost use Rattle.wh_night.specs.Inner.Underway.{Given, HasCome, night_given};
 
 use crate::gate::Gate;
-use crate::insts::install;
 use crate::means::{Means, Progress};
-use crate::waves::wave;
+use crate::outlet::Nowhere;
+use crate::stages::through;
 use std::alloc::Global;
 use std::thread::Threads;
-use wh_carry::{Carried, CarryFault, NightState, Report, Stage, base_changes, waves};
+use wh_carry::{Carried, CarryFault, NightState, Report, base_changes, waves};
 use wh_dag::Catalog;
 use wh_formula::{RowTest, RowValue};
 use wh_maint::MaintFault;
 use wh_row::Bag;
 use wh_strategy::Correct;
-
-/// Carries a stage out, and reports its expressions.
-fn stage_of<F: RowTest, G: RowValue, T: Gate + Sync, R: Threads + Sync>(
-    rt: &R,
-    means: &Means<'_, F, G, T>,
-    stage: &Stage,
-    progress: &mut Progress,
-) -> Result<(), MaintFault>
-    requires parts { HaveParts means.now.catalog.now progress.old.state }
-    requires fit { CanFinish means.now.catalog.now (kept progress.old.state) }
-    requires stage { IsStageIn means.now.catalog.now stage.now }
-    requires least { 1 ≤ means.now.workers }
-    requires most { means.now.workers ≤ 16 }
-    ensures parts { OnOk result (HaveParts means.now.catalog.now progress.new.state) }
-    ensures fit { OnOk result (CanFinish means.now.catalog.now (kept progress.new.state)) }
-    ensures goes { OnOk result ((keys : ℕ) (t : Given) (before after : List StageOf) → stages_of t.list ≡ before ++ stage.now ∷ after
-        → HasCome (night_given means.now.catalog.now keys t) (place_behind before) (kept progress.old.state) progress.old.steps.items
-        → HasCome (night_given means.now.catalog.now keys t) (place_behind (before ++ stage.now ∷ [])) (kept progress.new.state) progress.new.steps.items) }
-    ensures stops { IfErr result (λ fault. (keys : ℕ) (t : Given) (before after : List StageOf) → stages_of t.list ≡ before ++ stage.now ∷ after
-        → HasCome (night_given means.now.catalog.now keys t) (place_behind before) (kept progress.old.state) progress.old.steps.items
-        → (fault ≡ Memory) ⊎ IsFirstStageFault (night_given means.now.catalog.now keys t) fault) }
-{
-    match stage {
-        Stage::Wave(jobs) => wave(rt, means, jobs.as_slice(), progress),
-        Stage::Inst(view) => install(means, *view, progress),
-    }
-}
-
-/// Carries the stages out, one after another, and reports their expressions. The first refusal ends it.
-fn through<F: RowTest, G: RowValue, T: Gate + Sync, R: Threads + Sync>(
-    rt: &R,
-    means: &Means<'_, F, G, T>,
-    stages: &[Stage],
-    progress: &mut Progress,
-) -> Result<(), MaintFault>
-    requires parts { HaveParts means.now.catalog.now progress.old.state }
-    requires fit { CanFinish means.now.catalog.now (kept progress.old.state) }
-    requires stages { (i : ℕ) (stage : StageOf) → slice_get stages.now i ≡ Some stage → IsStageIn means.now.catalog.now stage }
-    requires least { 1 ≤ means.now.workers }
-    requires most { means.now.workers ≤ 16 }
-    ensures parts { OnOk result (HaveParts means.now.catalog.now progress.new.state) }
-    ensures goes { OnOk result ((keys : ℕ) (t : Given) → stages.now ≡ stages_of t.list
-        → HasCome (night_given means.now.catalog.now keys t) 0 (kept progress.old.state) progress.old.steps.items
-        → HasCome (night_given means.now.catalog.now keys t) (length t.list) (kept progress.new.state) progress.new.steps.items) }
-    ensures stops { IfErr result (λ fault. (keys : ℕ) (t : Given) → stages.now ≡ stages_of t.list
-        → HasCome (night_given means.now.catalog.now keys t) 0 (kept progress.old.state) progress.old.steps.items
-        → (fault ≡ Memory) ⊎ IsFirstStageFault (night_given means.now.catalog.now keys t) fault) }
-{
-    for stage in stages {
-        stage_of(rt, means, stage, progress)?;
-    }
-    Ok(())
-}
 
 /// Want of memory, before the first expression.
 fn want_of_memory() -> CarryFault
@@ -153,7 +100,14 @@ pub fn night_alone<F: RowTest, G: RowValue, T: Gate + Sync, R: Threads + Sync>(
         state,
         steps: Vec::new(alloc),
     };
-    match through(rt, &means, stages.as_slice(), &mut progress) {
+    match through(
+        rt,
+        &Nowhere,
+        &mut (),
+        &means,
+        stages.as_slice(),
+        &mut progress,
+    ) {
         Ok(()) => Ok(carried(progress)),
         Err(fault) => Err(CarryFault {
             fault,

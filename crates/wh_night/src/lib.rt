@@ -14,9 +14,12 @@ mod laws;
 mod left;
 mod means;
 mod opening;
+mod outlet;
+mod pages;
 mod reading;
 mod running;
 mod serving;
+mod stages;
 mod watch;
 mod waves;
 

@@ -15,19 +15,19 @@ ghost use Rattle.wh_carry.specs.Steps.{AreSteps};
 ghost use Rattle.wh_carry.specs.Waves.{stages_of};
 ghost use Rattle.wh_carry.specs.declared.stages.Stage.{Stage as StageOf};
 ghost use Rattle.wh_carry.specs.Night.{Night, AreAllowed};
-ghost use Rattle.wh_carry.specs.Standing.{IsStageIn, place_behind};
+ghost use Rattle.wh_carry.specs.Standing.{IsStageIn};
 ghost use Rattle.wh_night.specs.Causes.{cause_of, cause_of_begin};
 ghost use Rattle.wh_night.specs.declared.left.Left.TheVariants.{Untouched};
 ghost use Rattle.wh_night.specs.Refusals.{IsRefused};
 ghost use Rattle.wh_night.specs.Tonight.{IsDone, IsSound, Leaves, goes_out, made_by, newest_in, tonight};
 ghost use Rattle.wh_night.specs.Published.{IsPublished};
-ghost use Rattle.wh_night.specs.Inner.Underway.{CanPublish, CanStart, Given, HasBegun, HasCome, IsAt, IsPut, IsRefusedLater, IsStopped, WaitsToCommit, night_given};
+ghost use Rattle.wh_night.specs.Inner.Underway.{CanStart, Given, HasCome, IsPut, IsRefusedLater, IsStopped, WaitsToCommit, night_given};
 
 use crate::gate::Gate;
-use crate::insts::inst;
 use crate::means::{Means, Progress};
 use crate::opening::{current_tables, not_ready};
-use crate::waves::wave;
+use crate::outlet::Pages;
+use crate::stages::through;
 use crate::{Left, NightCause, NightFault};
 use std::alloc::Global;
 use std::sync::Wait;
@@ -149,71 +149,6 @@ fn commit<P: Publish, R: Wait>(
     }
 }
 
-/// Carries a stage out, and reports its expressions.
-fn stage_of<P: Publish, F: RowTest, G: RowValue, T: Gate + Sync, R: Threads + Wait + Sync>(
-    rt: &R,
-    writer: &mut P,
-    means: &Means<'_, F, G, T>,
-    keys: usize,
-    stage: &Stage,
-    progress: &mut Progress,
-) -> Result<(), MaintFault>
-    requires parts { HaveParts means.now.catalog.now progress.old.state }
-    requires fit { CanFinish means.now.catalog.now (kept progress.old.state) }
-    requires stage { IsStageIn means.now.catalog.now stage.now }
-    requires publishes { CanPublish means.now.catalog.now stage.now (kept progress.old.state) (P.kept writer.old) }
-    requires some { 1 ≤ keys }
-    requires few { keys ≤ 256 }
-    requires least { 1 ≤ means.now.workers }
-    requires most { means.now.workers ≤ 16 }
-    ensures home { P.home writer.new ≡ P.home writer.old }
-    ensures parts { OnOk result (HaveParts means.now.catalog.now progress.new.state) }
-    ensures fit { OnOk result (CanFinish means.now.catalog.now (kept progress.new.state)) }
-    ensures goes { OnOk result ((t : Given) (before after : List StageOf) → stages_of t.list ≡ before ++ stage.now ∷ after
-        → IsAt (night_given means.now.catalog.now keys t) t.before (place_behind before) (kept progress.old.state) progress.old.steps.items (P.kept writer.old)
-        → IsAt (night_given means.now.catalog.now keys t) t.before (place_behind (before ++ stage.now ∷ [])) (kept progress.new.state) progress.new.steps.items (P.kept writer.new)) }
-    ensures stops { IfErr result (λ fault. (t : Given) (before after : List StageOf) → stages_of t.list ≡ before ++ stage.now ∷ after
-        → IsAt (night_given means.now.catalog.now keys t) t.before (place_behind before) (kept progress.old.state) progress.old.steps.items (P.kept writer.old)
-        → IsStopped (night_given means.now.catalog.now keys t) t.before fault (P.kept writer.new)) }
-{
-    match stage {
-        Stage::Wave(jobs) => wave(rt, means, jobs.as_slice(), progress),
-        Stage::Inst(view) => inst(rt, writer, means, keys, *view, progress),
-    }
-}
-
-/// Carries the stages out, one after another, and reports their expressions. The first refusal ends it.
-fn through<P: Publish, F: RowTest, G: RowValue, T: Gate + Sync, R: Threads + Wait + Sync>(
-    rt: &R,
-    writer: &mut P,
-    means: &Means<'_, F, G, T>,
-    keys: usize,
-    stages: &[Stage],
-    progress: &mut Progress,
-) -> Result<(), MaintFault>
-    requires parts { HaveParts means.now.catalog.now progress.old.state }
-    requires fit { CanFinish means.now.catalog.now (kept progress.old.state) }
-    requires stages { (i : ℕ) (stage : StageOf) → slice_get stages.now i ≡ Some stage → IsStageIn means.now.catalog.now stage }
-    requires begun { HasBegun means.now.catalog.now keys stages.now (kept progress.old.state) progress.old.steps.items (P.kept writer.old) }
-    requires some { 1 ≤ keys }
-    requires few { keys ≤ 256 }
-    requires least { 1 ≤ means.now.workers }
-    requires most { means.now.workers ≤ 16 }
-    ensures home { P.home writer.new ≡ P.home writer.old }
-    ensures parts { OnOk result (HaveParts means.now.catalog.now progress.new.state) }
-    ensures goes { OnOk result ((t : Given) → stages.now ≡ stages_of t.list
-        → IsAt (night_given means.now.catalog.now keys t) t.before 0 (kept progress.old.state) progress.old.steps.items (P.kept writer.old)
-        → IsAt (night_given means.now.catalog.now keys t) t.before (length t.list) (kept progress.new.state) progress.new.steps.items (P.kept writer.new)) }
-    ensures stops { IfErr result (λ fault. (t : Given) → stages.now ≡ stages_of t.list
-        → IsAt (night_given means.now.catalog.now keys t) t.before 0 (kept progress.old.state) progress.old.steps.items (P.kept writer.old)
-        → IsStopped (night_given means.now.catalog.now keys t) t.before fault (P.kept writer.new)) }
-{
-    for stage in stages {
-        stage_of(rt, writer, means, keys, stage, progress)?;
-    }
-    Ok(())
-}
-
 /// Publishes a night whose stages these are.
 fn run<P: Publish, F: RowTest, G: RowValue, T: Gate + Sync, R: Threads + Wait + Sync>(
     rt: &R,
@@ -235,18 +170,19 @@ fn run<P: Publish, F: RowTest, G: RowValue, T: Gate + Sync, R: Threads + Wait + 
     ensures home { P.home writer.new ≡ P.home writer.old }
     ensures version { IfOk result (λ c. c.report.version ≡ number (versions_in (P.kept writer.new).of (P.kept writer.new).list)) }
     ensures bags { IfOk result (λ c. AreBags means.now.catalog.now c.tables.items) }
-    ensures done { IfOk result (λ c. (t : Given) → t.before ≡ P.kept writer.old → stages.now ≡ stages_of t.list → HasCome (night_given means.now.catalog.now keys t) 0 (kept progress.state) progress.steps.items
-        → IsDone (night_given means.now.catalog.now keys t) t.before (P.kept writer.new)
+    ensures done { IfOk result (λ c. (t : Given) → t.before ≡ Some (P.kept writer.old) → stages.now ≡ stages_of t.list → HasCome (night_given means.now.catalog.now keys t) 0 (kept progress.state) progress.steps.items
+        → IsDone (night_given means.now.catalog.now keys t) (P.kept writer.old) (P.kept writer.new)
         × ArePassedBelow means.now.catalog.now t.list t.tables t.changes (length t.list)
         × AreSteps means.now.catalog.now.views.children t.list t.tables (made_by (night_given means.now.catalog.now keys t)) c.report.steps.items
         × ((v : ℕ) → bag_at c.tables.items v ≡ made_by (night_given means.now.catalog.now keys t) v)) }
-    ensures refused { IfErr result (λ f. (t : Given) → t.before ≡ P.kept writer.old → stages.now ≡ stages_of t.list → HasCome (night_given means.now.catalog.now keys t) 0 (kept progress.state) progress.steps.items
+    ensures refused { IfErr result (λ f. (t : Given) → t.before ≡ Some (P.kept writer.old) → stages.now ≡ stages_of t.list → HasCome (night_given means.now.catalog.now keys t) 0 (kept progress.state) progress.steps.items
         → AreAllowed (night_given means.now.catalog.now keys t)
-        → Leaves (night_given means.now.catalog.now keys t) f.cause t.before f.left (P.kept writer.new) × IsRefusedLater (night_given means.now.catalog.now keys t) f) }
+        → Leaves (night_given means.now.catalog.now keys t) f.cause (P.kept writer.old) f.left (P.kept writer.new) × IsRefusedLater (night_given means.now.catalog.now keys t) f) }
 {
     begin(rt, writer)?;
     let mut progress = progress;
-    if let Err(fault) = through(rt, writer, means, keys, stages, &mut progress) {
+    let pages = Pages { rt, keys };
+    if let Err(fault) = through(rt, &pages, writer, means, stages, &mut progress) {
         return Err(given_up(rt, writer, fault));
     }
     let Progress { state, steps } = progress;

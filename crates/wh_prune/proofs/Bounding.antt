@@ -5,7 +5,7 @@ use Rattle.std.proofs.lemmas.Bool.{cases_Bool, cond-true, cond-false, and_parts,
 use Rattle.wh_dag.specs.Shape.{children_of}
 use Rattle.wh_dag.proofs.Sums.{sum_by-same}
 use Rattle.wh_strategy.specs.Prices.{Prices}
-use Rattle.wh_strategy.specs.Sizes.{Size}
+use Rattle.wh_strategy.specs.declared.sizes.Size.{Size}
 use Rattle.wh_strategy.specs.Sums.{sum_below}
 use Rattle.wh_cert.specs.Bound.{cost_by, decided_bound_of, decided_value, in_order, pair_min, rows_by, sum_pairs}
 use Rattle.wh_cert.specs.Graph.{decides, DecidesAll, DecidesAsDesired}

@@ -1,7 +1,7 @@
 -- Couples of cycles, whichever decision is the nearest.
 use Rattle.std.proofs.Common.{◌≡◌, ℕ, List, not, ◌&&◌, ◌||◌, sym, ap, ◌∙◌, reverse}
 use Rattle.wh_dag.specs.declared.siblings.Couple.{Couple}
-use Rattle.wh_strategy.specs.Sizes.{Size}
+use Rattle.wh_strategy.specs.declared.sizes.Size.{Size}
 use Rattle.wh_cert.specs.Graph.{decides}
 use Rattle.wh_minwork.specs.Draft.{completed, OpensCycle}
 use Rattle.wh_minwork.proofs.Drafting.{completed_decides}

@@ -11,7 +11,7 @@ use Rattle.wh_dag.proofs.FewCouples.{few_couples}
 use Rattle.wh_strategy.specs.declared.expression.Expression.{Expression}
 use Rattle.wh_strategy.specs.Prices.{Prices}
 use Rattle.wh_strategy.specs.Rules.{IsCorrect, IsOneWay}
-use Rattle.wh_strategy.specs.Sizes.{Size}
+use Rattle.wh_strategy.specs.declared.sizes.Size.{Size}
 use Rattle.wh_strategy.specs.Work.{work_of}
 use Rattle.wh_cert.specs.Bound.{decided_bound_of}
 use Rattle.wh_cert.specs.Certificate.{IsJudged}

@@ -5,3 +5,4 @@ pub mod CoupleLists
 pub mod Deciding
 pub mod Exploring
 pub mod LowestFirst
+pub mod PlanReasons

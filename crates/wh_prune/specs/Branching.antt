@@ -1,7 +1,7 @@
 -- The couples on which a search branches.
 use Rattle.std.specs.Prelude.{ℕ, List}
 use Rattle.wh_dag.specs.declared.siblings.Couple.{Couple}
-use Rattle.wh_strategy.specs.Sizes.{Size}
+use Rattle.wh_strategy.specs.declared.sizes.Size.{Size}
 use Rattle.wh_cert.specs.Graph.{IsOrdered}
 use Rattle.wh_cert.specs.Search.{Placed}
 use Rattle.wh_cert.specs.declared.tree.TreeNode.{TreeNode}

@@ -3,7 +3,7 @@ use Rattle.std.specs.Prelude.{ℕ, ◌≤◌, List, length}
 use Rattle.std.specs.List.{All}
 use Rattle.wh_strategy.specs.declared.expression.Expression.{Expression}
 use Rattle.wh_strategy.specs.Prices.{Prices}
-use Rattle.wh_strategy.specs.Sizes.{Size}
+use Rattle.wh_strategy.specs.declared.sizes.Size.{Size}
 use Rattle.wh_cert.specs.Graph.{IsCycle, IsOrdered}
 use Rattle.wh_cert.specs.Search.{nodes_of}
 use Rattle.wh_cert.specs.Tree.{tree_of}

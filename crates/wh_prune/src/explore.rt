@@ -4,7 +4,8 @@ ghost use Rattle.std.specs.Prelude.{◌≡◌, ◌+◌, ◌++◌, ◌∷◌, ◌
 ghost use Rattle.wh_dag.specs.Shape.{IsShape};
 ghost use Rattle.wh_dag.specs.Siblings.{couples_of};
 ghost use Rattle.wh_strategy.specs.Prices.{prices_of};
-ghost use Rattle.wh_strategy.specs.Sizes.{Size, sizes_of};
+ghost use Rattle.wh_strategy.specs.declared.sizes.Size.{Size};
+ghost use Rattle.wh_strategy.specs.Sizes.{sizes_of};
 ghost use Rattle.wh_cert.specs.Bound.{decided_bound_of};
 ghost use Rattle.wh_cert.specs.Graph.{IsOrdered};
 ghost use Rattle.wh_cert.specs.Search.{IsOpen};

@@ -1,6 +1,7 @@
 //! The plan of a night.
 
-ghost use Rattle.std.specs.Prelude.{◌≡◌, ◌↔◌, ◌<◌, ◌≤◌, List, length, IfOk, IfErr, OnErr};
+ghost use Rattle.std.specs.Prelude.{◌≡◌, ◌↔◌, ◌<◌, ◌≤◌, ◌⊎◌, List, length, IfOk, IfErr, OnErr};
+ghost use Rattle.wh_dag.specs.Kinds.{IsTree, IsUniform};
 ghost use Rattle.wh_strategy.specs.declared.expression.Expression.{Expression};
 ghost use Rattle.wh_strategy.specs.Prices.{prices_of};
 ghost use Rattle.wh_strategy.specs.Rules.{IsCorrect, IsOneWay};
@@ -49,7 +50,8 @@ fn certified(shape: &Shape, sizes: &Sizes, costs: Costs, planned: Planned) -> Pl
 }
 
 /// A plan of least work: among all correct strategies wherever the ordered graph has no cycle, or a one-way strategy
-/// reaches the pair bound all the same; otherwise among those whose Comps are each from one view.
+/// reaches the pair bound all the same; otherwise among those whose Comps are each from one view. Of a tree or a
+/// uniform shape the answer is scope All, or Memory, whatever the budget.
 #[tactic(auto, using(crate::proofs::Exploring::all_within, crate::proofs::Exploring::all_branches))]
 pub fn plan(
     alloc: Global,
@@ -72,7 +74,9 @@ pub fn plan(
     ensures acyclic { IfOk result (λ p. IsAcyclicAsDesired shape.now.children (sizes_of sizes.now) → p.scope ≡ Scope.All) }
     ensures cyclic { IfOk result (λ p. p.scope ≡ Scope.OneWay → IsCyclicAsDesired shape.now.children (sizes_of sizes.now)) }
     ensures sorted { IfOk result (λ p. IsAcyclicAsDesired shape.now.children (sizes_of sizes.now) → IsSortedAsDesired shape.now.children (sizes_of sizes.now) p.correct.list) }
+    ensures all_by_shape { IfOk result (λ p. (IsTree shape.now.children ⊎ IsUniform shape.now.children) → p.scope ≡ Scope.All) }
     ensures err { IfErr result (IsPlanReason shape.now.children (sizes_of sizes.now) (prices_of costs) budget) }
+    ensures never_spent { IfErr result (λ fault. (IsTree shape.now.children ⊎ IsUniform shape.now.children) → fault ≡ PruneFault.Memory) }
 
     // Without a view nothing is refused: the plan has no expression, and takes no memory.
     ensures some { OnErr result (0 < length shape.now.children) }

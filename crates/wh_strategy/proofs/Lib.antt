@@ -1,6 +1,7 @@
 pub mod Agreeing
 pub mod CorrectLists
 pub mod Failing
+pub mod FewExpressions
 pub mod Found
 pub mod Lacking
 pub mod Marks

@@ -9,7 +9,7 @@ use Rattle.wh_strategy.specs.declared.expression.Expression.TheVariants.{Comp, I
 use Rattle.wh_strategy.specs.Expression.{At}
 use Rattle.wh_strategy.specs.Prices.{Prices}
 use Rattle.wh_strategy.specs.Rules.{IsCorrect}
-use Rattle.wh_strategy.specs.Sizes.{Size}
+use Rattle.wh_strategy.specs.declared.sizes.Size.{Size}
 use Rattle.wh_strategy.specs.Sums.{parts}
 use Rattle.wh_strategy.specs.Work.{state, term, comp_rows, inst_rows, cost_at}
 use Rattle.wh_strategy.specs.Inner.Work.{read_of}

@@ -19,8 +19,12 @@ use Rattle.wh_strategy.specs.Work.{work_of}
 abbrev v_over_a_b : List (List ℕ)
 v_over_a_b = [] ∷ [] ∷ (0 ∷ 1 ∷ []) ∷ []
 
+-- a view's sizes, each of its rows weighing so much
+abbrev weighing : ℕ → ℕ → ℕ → ℕ → SizeRow
+weighing weight pre post change = record { pre = pre; post = post; change = change; weight = weight }
+
 abbrev row : ℕ → ℕ → ℕ → SizeRow
-row pre post change = record { pre = pre; post = post; change = change }
+row = weighing 1
 
 -- each row costs 1
 abbrev pub ones : Prices
@@ -42,6 +46,11 @@ both_children_at_once = Comp 2 (0 ∷ 1 ∷ []) ∷ Inst 0 ∷ Inst 1 ∷ Inst 2
 pub one_way_check_costs : work_of v_over_a_b (sizes_of three_sizes) ones one_way_check ≡ 154
 unfolding sum_below has parts children_of is_new sizes_of
 one_way_check_costs = refl
+
+-- the same where each row of A weighs 10, so that A counts as 100 rows, then 120, of which 40 change: 130 + 30 + 110 + 40 + 6
+pub weighted_work : work_of v_over_a_b (sizes_of (weighing 10 10 12 4 ∷ row 100 70 30 ∷ row 50 44 6 ∷ [])) ones one_way_check ≡ 316
+unfolding sum_below has parts children_of is_new sizes_of
+weighted_work = refl
 
 -- 104 + 40 + 34 + 40
 pub both_children_at_once_costs : work_of v_over_a_b (sizes_of three_sizes) ones both_children_at_once ≡ 218

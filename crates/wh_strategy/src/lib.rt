@@ -19,5 +19,5 @@ pub use correct::{CheckFault, Correct, check, rules_agree};
 pub use costs::Costs;
 pub use expression::{Expression, Sources, Strategy};
 pub use rule::Rule;
-pub use sizes::{MAX_ROWS, OutOfRange, SizeRow, Sizes};
+pub use sizes::{MAX_ROWS, MAX_WEIGHT, OutOfRange, Size, SizeRow, Sizes};
 pub use terms::work;

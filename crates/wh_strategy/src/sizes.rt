@@ -1,14 +1,17 @@
-//! The sizes of the views.
+//! The sizes of the views, and what each view counts as by the weight of its rows.
 
 ghost use Rattle.std.specs.Prelude.{◌≡◌, ◌↔◌, ◌<◌, length, IfOk, IfErr, IsTrue, slice_get, Some};
-ghost use Rattle.wh_strategy.specs.Sizes.{IsSize, AreSizes, IsFirstOutside};
+ghost use Rattle.wh_strategy.specs.Sizes.{IsSizeRow, IsLight, AreSizeRows, IsFirstOutside, size_of, sizes_of};
 
 use std::marker::Model;
 
-/// The most rows that a size may have: 2^40.
+/// The most rows that a [`SizeRow`] may tell: 2^40.
 pub const MAX_ROWS: u64 = 1 << 40;
 
-/// A view's rows before and after a night, and how many of its rows change, as handed in.
+/// The most that a row may weigh.
+pub const MAX_WEIGHT: u64 = 1_000;
+
+/// A view's rows before and after a night, how many of its rows change, and what one of them weighs, as handed in.
 #[derive(Debug, Clone, Copy, PartialEq, Eq)]
 pub struct SizeRow {
     /// The rows before, at most [`MAX_ROWS`].
@@ -17,22 +20,53 @@ pub struct SizeRow {
     pub post: u64,
     /// The rows that come and go, at most [`MAX_ROWS`].
     pub change: u64,
+    /// How many rows each row counts as wherever work is reckoned, 1 to [`MAX_WEIGHT`]: with 1, rows are counted as they are.
+    pub weight: u64,
+}
+
+/// What a view counts as wherever work is reckoned: its rows before and after a night, and those that change, each as often
+/// as it weighs.
+#[derive(Debug, Clone, Copy, PartialEq, Eq)]
+pub struct Size {
+    /// The rows before times the weight.
+    pub pre: u64,
+    /// The rows after times the weight.
+    pub post: u64,
+    /// The rows that come and go times the weight.
+    pub change: u64,
 }
 
 impl SizeRow {
-    /// Whether no size is above [`MAX_ROWS`], and post no further from pre than the change.
+    /// Whether no number of rows is above [`MAX_ROWS`], post is no further from pre than the change, and the weight is 1 to
+    /// [`MAX_WEIGHT`].
     pub fn is_within(&self) -> bool
-        ensures { IsTrue result ↔ IsSize self.now }
+        ensures { IsTrue result ↔ IsSizeRow self.now }
     {
         self.pre <= MAX_ROWS
             && self.post <= MAX_ROWS
             && self.change <= MAX_ROWS
             && self.post <= self.pre + self.change
             && self.pre <= self.post + self.change
+            && 1 <= self.weight
+            && self.weight <= MAX_WEIGHT
+    }
+
+    /// What the view counts as: each number times the weight.
+    fn weighed(self) -> Size
+        requires { IsSizeRow self }
+        ensures value { result ≡ size_of self }
+        ensures light { IsLight result }
+    {
+        Size {
+            pre: self.pre * self.weight,
+            post: self.post * self.weight,
+            change: self.change * self.weight,
+        }
     }
 }
 
-/// The first view whose sizes are above 2^40, or whose post size is further from pre than the change.
+/// The first view of which a number of rows is above 2^40, or post is further from pre than the change, or the weight is not
+/// 1 to 1,000.
 #[derive(Debug, Clone, Copy, PartialEq, Eq)]
 pub struct OutOfRange(pub usize);
 
@@ -45,19 +79,19 @@ pub struct Sizes {
 impl Model for Sizes {
     ghost use Rattle.std.specs.Prelude.{List};
     ghost use Rattle.wh_strategy.specs.declared.sizes.SizeRow.{SizeRow};
-    ghost use Rattle.wh_strategy.specs.Sizes.{AreSizes};
+    ghost use Rattle.wh_strategy.specs.Sizes.{AreSizeRows};
 
     ghost Value = { List SizeRow };
 
     ghost view = { λ s. s.rows.items };
 
-    ghost invariant = { λ s. AreSizes s.rows.items };
+    ghost invariant = { λ s. AreSizeRows s.rows.items };
 }
 
 impl Sizes {
     /// Takes the rows, one for each view by its number. Takes no memory; rows that are refused are dropped.
     pub fn new(rows: Vec<SizeRow>) -> Result<Sizes, OutOfRange>
-        ensures ok { IfOk result (λ s. (s ≡ rows.items) × AreSizes rows.items) }
+        ensures ok { IfOk result (λ s. (s ≡ rows.items) × AreSizeRows rows.items) }
         ensures err { IfErr result (λ e. IsFirstOutside rows.items e.0) }
     {
         for (view, row) in rows.iter().enumerate() {
@@ -71,7 +105,7 @@ impl Sizes {
     /// How many views have sizes here.
     pub fn len(&self) -> usize
         ensures len { result ≡ length self.now }
-        ensures within { AreSizes self.now }
+        ensures within { AreSizeRows self.now }
     {
         self.rows.len()
     }
@@ -83,12 +117,22 @@ impl Sizes {
         self.rows.is_empty()
     }
 
-    /// The sizes of a view.
+    /// The sizes of a view, as they were handed in.
     pub fn row(&self, view: usize) -> SizeRow
         requires { view < length self.now }
         ensures value { slice_get self.now view ≡ Some result }
-        ensures within { IsSize result }
+        ensures within { IsSizeRow result }
     {
         self.rows[view]
+    }
+
+    /// What a view counts as wherever work is reckoned: its sizes, each times its weight.
+    #[tactic(auto, unfolding(crate::specs::Sizes::sizes_of))]
+    pub fn size(&self, view: usize) -> Size
+        requires { view < length self.now }
+        ensures value { result ≡ sizes_of self.now view }
+        ensures light { IsLight result }
+    {
+        self.row(view).weighed()
     }
 }

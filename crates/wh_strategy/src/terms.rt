@@ -18,7 +18,7 @@ use crate::expression::Expression;
 use crate::sizes::Sizes;
 use wh_dag::{ChildLists, Shape, half_power, has_view};
 
-#[tactic(auto, unfolding(crate::specs::Sizes::sizes_of, crate::specs::Expression::is_new))]
+#[tactic(auto, unfolding(crate::specs::Expression::is_new))]
 fn state_rows(
     sizes: &Sizes,
     installed: &Installed,
@@ -30,23 +30,22 @@ fn state_rows(
     requires there { place ≤ length list.now }
     requires told { TellsInstalled installed.now.flags (take place list.now) }
     ensures value { result ≡ state (sizes_of sizes.now) list.now place view }
-    ensures small { result ≤ 2 ^ 40 }
+    ensures small { result ≤ 2 ^ 50 }
 {
-    let row = sizes.row(view);
+    let size = sizes.size(view);
     if installed.has(&list[..place], view) {
-        row.post
+        size.post
     } else {
-        row.pre
+        size.pre
     }
 }
 
-#[tactic(auto, unfolding(crate::specs::Sizes::sizes_of))]
 fn change_rows(sizes: &Sizes, view: usize) -> u64
     requires { view < length sizes.now }
     ensures value { result ≡ (sizes_of sizes.now view).change }
-    ensures small { result ≤ 2 ^ 40 }
+    ensures small { result ≤ 2 ^ 50 }
 {
-    sizes.row(view).change
+    sizes.size(view).change
 }
 
 /// What all terms of a Comp from `sources` read of one child.
@@ -54,10 +53,10 @@ fn child_rows(change: u64, state: u64, sources: &[usize], child: usize) -> u128
     requires once { Distinct sources.now }
     requires some { 1 ≤ length sources.now }
     requires few { length sources.now ≤ 6 }
-    requires small_change { change ≤ 2 ^ 40 }
-    requires small_state { state ≤ 2 ^ 40 }
+    requires small_change { change ≤ 2 ^ 50 }
+    requires small_state { state ≤ 2 ^ 50 }
     ensures value { result ≡ read_of change state child sources.now }
-    ensures small { result ≤ 2 ^ 46 }
+    ensures small { result ≤ 2 ^ 56 }
 {
     let half = half_power(sources.len());
     let (change, state) = (change as u128, state as u128);
@@ -85,7 +84,7 @@ fn term_rows(
     requires some { 1 ≤ length sources.now }
     requires few { length sources.now ≤ 6 }
     ensures value { result ≡ sum_by (term (sizes_of sizes.now) list.now place children.now) (parts sources.now) }
-    ensures small { result ≤ 2 ^ 49 }
+    ensures small { result ≤ 2 ^ 59 }
 {
     let mut total = 0;
     for child in children {
@@ -110,7 +109,7 @@ fn place_cost(
     requires there { place < length list.now }
     requires told { TellsInstalled installed.now.flags (take place list.now) }
     ensures value { result ≡ cost_at children.now (sizes_of sizes.now) (prices_of costs) list.now place }
-    ensures small { result ≤ 2 ^ 69 }
+    ensures small { result ≤ 2 ^ 79 }
 {
     match &list[place] {
         Expression::Comp(view, sources) => {
@@ -128,7 +127,7 @@ fn place_cost(
     }
 }
 
-/// The work of a correct strategy at these sizes and costs, in cost times rows. Takes no memory.
+/// The work of a correct strategy at these sizes and costs, in cost times rows by weight. Takes no memory.
 #[tactic(auto, using(crate::proofs::SumsBelow::sums))]
 pub fn work(shape: &Shape, sizes: &Sizes, costs: Costs, correct: &Correct) -> u128
     requires same { correct.now.children ≡ shape.now.children }

@@ -28,7 +28,7 @@ use wh_text::{LoadFault, Names};
 pub struct Plan {
     /// The strategies that its own is said to be least among.
     pub scope: Scope,
-    /// The work that it is said to have, in cost times rows.
+    /// The work that it is said to have, in cost times rows by weight.
     pub work: u128,
     /// The list.
     pub strategy: Strategy,

@@ -20,12 +20,14 @@ use Rattle.wh_text_tables.specs.FaultPlaces.{Cells, PartWrong, in_header, in_rec
 use Rattle.wh_text.specs.ValueOrFault.{◌>>=◌, or_fault}
 use Rattle.wh_text_tables.specs.Part.{Below, below_header, part_gives, record_gives, records_give}
 use Rattle.wh_text_tables.specs.Records.{cell, form_fault, records_of}
-use Rattle.wh_text_tables.specs.RowSizes.{counts_of, rows_in, size_of}
+use Rattle.wh_text_tables.specs.RowSizes.{counts_of, rows_in, size_within, weight_in, weight_of}
 use Rattle.wh_text_tables.specs.SizesFaults.{HasNoRow, SizesEndByFirst, SizesWrong, are_apart, in_part, no_row, size_judged, sizes_judging, view_in}
 use Rattle.wh_text_tables.specs.SizesText.{all_sizes, fresh_view, placed, size_written, sizes_of_text, sizes_scheme, view_without}
 use Rattle.wh_text_tables.specs.declared.sizes.Counts.{Counts}
+use Rattle.wh_text_tables.specs.declared.sizes.header.Columns.{Columns}
 use Rattle.wh_text_tables.proofs.PartFaults.{Judges, header-tells, part-ends}
 use Rattle.wh_text_tables.proofs.PassingPlaces.{any-at, none-at, position-any}
+use Rattle.wh_text_tables.proofs.SizeLimits.{weighing}
 use Rattle.wh_text_tables.proofs.PartReads.{from_step, or_fault-ok, records_give-first, records_give-none, same_Ok}
 
 -- The views that have sizes.
@@ -94,11 +96,11 @@ marked (o ∷ given) (suc view) zero size below = by (is_some o)
 marked (o ∷ given) (suc view) (suc v) size below = marked given view v size (omega arith)
 
 -- what a row that is taken says of its view
-placed-marks : (names : List (List ℕ)) (given after : List (Option SizeRow)) (number : ℕ) (row : Cells) → placed names tt given number row ≡ Ok after
+placed-marks : (names : List (List ℕ)) (columns : Columns) (given after : List (Option SizeRow)) (number : ℕ) (row : Cells) → placed names columns given number row ≡ Ok after
     → (view : ℕ) × (size : SizeRow) × (number_of names (view_in row) ≡ Some view) × (after ≡ set given view (Some size))
-placed-marks names given after number row e =
+placed-marks names columns given after number row e =
     let view = from_step (fresh_view names given (cell row 0)) _ after e in
-    let size = from_step (size_written number row) _ after view.2 in
+    let size = from_step (size_written columns number row) _ after view.2 in
     (view.0, size.0, found (number_of names (cell row 0)) view.0 view.1, same_Ok _ _ _ refl (sym size.2))
   where
     chosen : (b : Bool) (number view : ℕ) → (if b then Err (Sizes (cell row 0)) else Ok number) ≡ Ok view → Some number ≡ Some view
@@ -125,18 +127,18 @@ unfolding is_view
 of-view view number o e = rw e refl
 
 -- a view has sizes after some rows where it had some before, or one of them writes it
-marks : (names : List (List ℕ)) (width number : ℕ) (given after : List (Option SizeRow)) (rows : List Cells) (view : ℕ) → length given ≡ length names
-    → records_give (sizes_scheme names) width tt number given rows ≡ Ok after
+marks : (names : List (List ℕ)) (columns : Columns) (width number : ℕ) (given after : List (Option SizeRow)) (rows : List Cells) (view : ℕ) → length given ≡ length names
+    → records_give (sizes_scheme names) width columns number given rows ≡ Ok after
     → (length after ≡ length names) × (is_some (get_or after view None) ≡ (is_some (get_or given view None) || list_any (is_row names view) rows))
-marks names width number given after [] view long e =
-    let own : given ≡ after = same_Ok _ _ _ (records_give-none (sizes_scheme names) width tt number given) e in
+marks names columns width number given after [] view long e =
+    let own : given ≡ after = same_Ok _ _ _ (records_give-none (sizes_scheme names) width columns number given) e in
     (sym (ap length own) ∙ long, ap (λ (g : List (Option SizeRow)). is_some (get_or g view None)) (sym own) ∙ or-false (is_some (get_or given view None)))
-marks names width number given after (row ∷ rows) view long e =
-    let next = from_step (record_gives (sizes_scheme names) width tt given number row) _ after (sym (records_give-first (sizes_scheme names) width tt number given row rows) ∙ e) in
-    let taken = or_fault-ok (form_fault width number row) (placed names tt given number row) next.0 next.1 in
-    let own = placed-marks names given next.0 number row taken in
+marks names columns width number given after (row ∷ rows) view long e =
+    let next = from_step (record_gives (sizes_scheme names) width columns given number row) _ after (sym (records_give-first (sizes_scheme names) width columns number given row rows) ∙ e) in
+    let taken = or_fault-ok (form_fault width number row) (placed names columns given number row) next.0 next.1 in
+    let own = placed-marks names columns given next.0 number row taken in
     let length_next : length next.0 ≡ length names = ap length own.3 ∙ length-set given own.0 (Some own.1) ∙ long in
-    let later = marks names width (number + 1) next.0 after rows view length_next next.2 in
+    let later = marks names columns width (number + 1) next.0 after rows view length_next next.2 in
     let within = number-below names (view_in row) own.0 own.2 in
     let mark = marked given own.0 view own.1 (omega arith) in
     let here : is_row names view row ≡ same own.0 view = of-view view own.0 (number_of names (view_in row)) own.2 in (
@@ -146,11 +148,11 @@ marks names width number given after (row ∷ rows) view long e =
     )
 
 -- the same from the start
-given-marks : (names : List (List ℕ)) (width : ℕ) (after : List (Option SizeRow)) (rows : List Cells) (view : ℕ) → view < length names
-    → records_give (sizes_scheme names) width tt 2 (replicate (length names) None) rows ≡ Ok after
+given-marks : (names : List (List ℕ)) (columns : Columns) (width : ℕ) (after : List (Option SizeRow)) (rows : List Cells) (view : ℕ) → view < length names
+    → records_give (sizes_scheme names) width columns 2 (replicate (length names) None) rows ≡ Ok after
     → (length after ≡ length names) × (is_some (get_or after view None) ≡ list_any (is_row names view) rows)
-given-marks names width after rows view below e =
-    let all = marks names width 2 (replicate (length names) None) after rows view (length-replicate (length names) no_size) e in
+given-marks names columns width after rows view below e =
+    let all = marks names columns width 2 (replicate (length names) None) after rows view (length-replicate (length names) no_size) e in
     (all.0, all.1 ∙ ap (λ (o : Option SizeRow). is_some o || list_any (is_row names view) rows) (get_or-replicate (length names) view no_size no_size below))
 
 -- One row.
@@ -174,67 +176,77 @@ rows-named names name view [] found = refl
 rows-named names name view (row ∷ rows) found = rw (row-name names name view row found, rows-named names name view rows found) refl
 
 -- what is judged of a row's numbers
-abbrev numbers_judged : List ℕ → ℕ → Option ℤ → Option ℤ → Option ℤ → List (Option LoadFault)
-numbers_judged name number pre post change =
+abbrev numbers_judged : List ℕ → ℕ → Option ℤ → Option ℤ → Option ℤ → Option ℤ → List (Option LoadFault)
+numbers_judged name number pre post change weight =
     fault_if (not (is_some pre)) (Number number) ∷ fault_if (not (is_some post)) (Number number) ∷ fault_if (not (is_some change)) (Number number)
+    ∷ fault_if (not (is_some weight)) (Number number)
     ∷ fault_if (not (is_some (option_and_then rows_in pre))) (Sizes name) ∷ fault_if (not (is_some (option_and_then rows_in post))) (Sizes name) ∷ fault_if (not (is_some (option_and_then rows_in change))) (Sizes name)
-    ∷ fault_if (are_apart (option_and_then rows_in pre) (option_and_then rows_in post) (option_and_then rows_in change)) (Sizes name) ∷ []
+    ∷ fault_if (are_apart (option_and_then rows_in pre) (option_and_then rows_in post) (option_and_then rows_in change)) (Sizes name)
+    ∷ fault_if (not (is_some (option_and_then weight_in weight))) (Sizes name) ∷ []
 
-abbrev ranges : Option ℕ → Option ℕ → Option ℕ → Option SizeRow
-ranges a b c = option_and_then (λ pre. option_and_then (λ post. option_and_then (λ change.
-    if nat_le post (pre + change) && nat_le pre (post + change) then Some (record { pre = pre; post = post; change = change }) else None) c) b) a
+abbrev ranges : Option ℕ → Option ℕ → Option ℕ → Option ℕ → Option SizeRow
+ranges a b c w = option_and_then (λ pre. option_and_then (λ post. option_and_then (λ change.
+    if nat_le post (pre + change) && nat_le pre (post + change) then weighing pre post change w else None) c) b) a
 
-ranges-judged : (name : List ℕ) (number : ℕ) (a b c : Option ℕ) (next : SizeRow → Result (List (Option SizeRow)) LoadFault) → ((size : SizeRow) → result_err (next size) ≡ None)
-    → result_err (ok_or (ranges a b c) (Sizes name) >>= next)
-    ≡ first_of (fault_if (not (is_some a)) (Sizes name) ∷ fault_if (not (is_some b)) (Sizes name) ∷ fault_if (not (is_some c)) (Sizes name) ∷ fault_if (are_apart a b c) (Sizes name) ∷ [])
-ranges-judged name number None b c next good = refl
-ranges-judged name number (Some pre) None c next good = refl
-ranges-judged name number (Some pre) (Some post) None next good = refl
-ranges-judged name number (Some pre) (Some post) (Some change) next good = by (nat_le post (pre + change) && nat_le pre (post + change))
+ranges-judged : (name : List ℕ) (a b c w : Option ℕ) (next : SizeRow → Result (List (Option SizeRow)) LoadFault) → ((size : SizeRow) → result_err (next size) ≡ None)
+    → result_err (ok_or (ranges a b c w) (Sizes name) >>= next)
+    ≡ first_of (fault_if (not (is_some a)) (Sizes name) ∷ fault_if (not (is_some b)) (Sizes name) ∷ fault_if (not (is_some c)) (Sizes name) ∷ fault_if (are_apart a b c) (Sizes name)
+    ∷ fault_if (not (is_some w)) (Sizes name) ∷ [])
+ranges-judged name None b c w next good = refl
+ranges-judged name (Some pre) None c w next good = refl
+ranges-judged name (Some pre) (Some post) None w next good = refl
+ranges-judged name (Some pre) (Some post) (Some change) w next good = by (nat_le post (pre + change) && nat_le pre (post + change)) w
   where
-    by : (near : Bool) → result_err (ok_or (if near then Some (record { pre = pre; post = post; change = change }) else None) (Sizes name) >>= next) ≡ first_of (fault_if (not near) (Sizes name) ∷ [])
-    by true = good (record { pre = pre; post = post; change = change })
-    by false = refl
+    by : (near : Bool) (w : Option ℕ) → result_err (ok_or (if near then weighing pre post change w else None) (Sizes name) >>= next)
+        ≡ first_of (fault_if (not near) (Sizes name) ∷ fault_if (not (is_some w)) (Sizes name) ∷ [])
+    by true (Some weight) = good (record { pre = pre; post = post; change = change; weight = weight })
+    by true None = refl
+    by false w = refl
 
-numbers-judged : (number : ℕ) (row : Cells) (next : SizeRow → Result (List (Option SizeRow)) LoadFault) → ((size : SizeRow) → result_err (next size) ≡ None)
-    → result_err (size_written number row >>= next) ≡ first_of (numbers_judged (view_in row) number (whole_number (cell row 1)) (whole_number (cell row 2)) (whole_number (cell row 3)))
-unfolding counts_of size_of
-numbers-judged number row next good = by (whole_number (cell row 1)) (whole_number (cell row 2)) (whole_number (cell row 3))
+numbers-judged : (columns : Columns) (number : ℕ) (row : Cells) (next : SizeRow → Result (List (Option SizeRow)) LoadFault) → ((size : SizeRow) → result_err (next size) ≡ None)
+    → result_err (size_written columns number row >>= next)
+    ≡ first_of (numbers_judged (view_in row) number (whole_number (cell row 1)) (whole_number (cell row 2)) (whole_number (cell row 3)) (weight_of columns row))
+unfolding counts_of size_within
+numbers-judged columns number row next good = by (whole_number (cell row 1)) (whole_number (cell row 2)) (whole_number (cell row 3)) (weight_of columns row)
   where
-    by : (pre post change : Option ℤ)
-        → result_err ((ok_or (option_and_then (λ pre. option_and_then (λ post. option_and_then (λ change. Some (record { pre = pre; post = post; change = change })) change) post) pre) (Number number)
-        >>= (λ (counts : Counts). ok_or (size_of counts) (Sizes (view_in row)))) >>= next)
-        ≡ first_of (numbers_judged (view_in row) number pre post change)
-    by None post change = refl
-    by (Some a) None change = refl
-    by (Some a) (Some b) None = refl
-    by (Some a) (Some b) (Some c) = ranges-judged (view_in row) number (rows_in a) (rows_in b) (rows_in c) next good
+    by : (pre post change weight : Option ℤ)
+        → result_err ((ok_or (option_and_then (λ pre. option_and_then (λ post. option_and_then (λ change. option_and_then (λ weight.
+        Some (record { pre = pre; post = post; change = change; weight = weight })) weight) change) post) pre) (Number number)
+        >>= (λ (counts : Counts). ok_or (size_within counts) (Sizes (view_in row)))) >>= next)
+        ≡ first_of (numbers_judged (view_in row) number pre post change weight)
+    by None post change weight = refl
+    by (Some a) None change weight = refl
+    by (Some a) (Some b) None weight = refl
+    by (Some a) (Some b) (Some c) None = refl
+    by (Some a) (Some b) (Some c) (Some w) = ranges-judged (view_in row) (rows_in a) (rows_in b) (rows_in c) (weight_in w) next good
 
 -- taking a row is what is judged of it
-row-judged : (names : List (List ℕ)) (width : ℕ) (rows : List Cells) (given : List (Option SizeRow)) (number : ℕ) (cells : Cells)
-    → records_give (sizes_scheme names) width tt 2 (replicate (length names) None) rows ≡ Ok given → result_err (placed names tt given number cells) ≡ first_of (size_judged names tt rows number cells)
-row-judged names width rows given number cells e = by (number_of names (view_in cells)) refl
+row-judged : (names : List (List ℕ)) (columns : Columns) (width : ℕ) (rows : List Cells) (given : List (Option SizeRow)) (number : ℕ) (cells : Cells)
+    → records_give (sizes_scheme names) width columns 2 (replicate (length names) None) rows ≡ Ok given
+    → result_err (placed names columns given number cells) ≡ first_of (size_judged names columns rows number cells)
+row-judged names columns width rows given number cells e = by (number_of names (view_in cells)) refl
   where
     named : (o : Option ℕ) → number_of names (view_in cells) ≡ o → is_named names (view_in cells) ≡ is_some o
     named o found = sym (position-any (λ n. bytes_eq n (view_in cells)) names) ∙ ap is_some found
 
     chosen : (twice : Bool) (view : ℕ)
-        → result_err ((if twice then Err (Sizes (view_in cells)) else Ok view) >>= (λ v. size_written number cells >>= (λ size. Ok (set given v (Some size)))))
-        ≡ first_of (fault_if twice (Sizes (view_in cells)) ∷ numbers_judged (view_in cells) number (whole_number (cell cells 1)) (whole_number (cell cells 2)) (whole_number (cell cells 3)))
+        → result_err ((if twice then Err (Sizes (view_in cells)) else Ok view) >>= (λ v. size_written columns number cells >>= (λ size. Ok (set given v (Some size)))))
+        ≡ first_of (fault_if twice (Sizes (view_in cells))
+        ∷ numbers_judged (view_in cells) number (whole_number (cell cells 1)) (whole_number (cell cells 2)) (whole_number (cell cells 3)) (weight_of columns cells))
     chosen true view = refl
-    chosen false view = numbers-judged number cells (λ size. Ok (set given view (Some size))) (λ size. refl)
+    chosen false view = numbers-judged columns number cells (λ size. Ok (set given view (Some size))) (λ size. refl)
 
     by : (o : Option ℕ) → number_of names (view_in cells) ≡ o
-        → result_err (view_without given (view_in cells) o >>= (λ v. size_written number cells >>= (λ size. Ok (set given v (Some size))))) ≡ first_of (size_judged names tt rows number cells)
+        → result_err (view_without given (view_in cells) o >>= (λ v. size_written columns number cells >>= (λ size. Ok (set given v (Some size))))) ≡ first_of (size_judged names columns rows number cells)
     by None found = rw (named None found) refl
     by (Some view) found =
-        let twice = (given-marks names width given rows view (number-below names (view_in cells) view found) e).1 ∙ rows-named names (view_in cells) view rows found in
+        let twice = (given-marks names columns width given rows view (number-below names (view_in cells) view found) e).1 ∙ rows-named names (view_in cells) view rows found in
         rw (named (Some view) found, ← twice) (chosen (is_some (get_or given view None)) view)
 
 sizes-judged : (names : List (List ℕ)) → Judges (sizes_scheme names) (sizes_judging names) (replicate (length names) None)
 sizes-judged names = record {
   kinds = λ header. refl;
-  cells = λ kind width rows before number cells made. row-judged names width rows before number cells made;
+  cells = λ columns width rows before number cells made. row-judged names columns width rows before number cells made;
 }
 
 -- All rows.
@@ -359,14 +371,14 @@ all-taken names (header ∷ rows) given ends e =
     let below = from_step (below_header (sizes_scheme names) (header ∷ rows)) _ given e in
     let told = header-tells (sizes_scheme names) header rows below.0 below.1 in
     let read : records_give (sizes_scheme names) (length header) told.0 2 (replicate (length names) None) rows ≡ Ok given =
-    subst (λ (b : Below (Unit {0})). records_give (sizes_scheme names) b.width b.kind 2 (replicate (length names) None) b.rows ≡ Ok given) told.2 below.2 in (
+    subst (λ (b : Below Columns). records_give (sizes_scheme names) b.width b.kind 2 (replicate (length names) None) b.rows ≡ Ok given) told.2 below.2 in (
       header,
       rows,
       record {
         parts = refl;
         right = ends.value given e;
-        long = (marks names (length header) 2 (replicate (length names) None) given rows 0 (length-replicate (length names) no_size) read).0;
-        marks = λ view within. (given-marks names (length header) given rows view within read).1;
+        long = (marks names told.0 (length header) 2 (replicate (length names) None) given rows 0 (length-replicate (length names) no_size) read).0;
+        marks = λ view within. (given-marks names told.0 (length header) given rows view within read).1;
       },
     )
 

@@ -1,7 +1,5 @@
 -- What is wrong with a part of sizes, each fault by itself and at its place.
-use Rattle.std.specs.Prelude.{◌≡◌, ◌≢◌, ◌<◌, ℕ, ◌+◌, ◌&&◌, nat_le, Bool, false, not, List, [], ◌∷◌, length, map, slice_get, Option, Some, None, is_some, option_and_then, if◌then◌else◌}
-use Rattle.std.specs.Cmp.Lexicographic.{pointwise}
-use Rattle.std.specs.Str.{bytes_eq}
+use Rattle.std.specs.Prelude.{◌≡◌, ◌≢◌, ◌<◌, ℕ, ◌+◌, ◌&&◌, nat_le, Bool, false, not, List, [], ◌∷◌, length, map, slice_get, Option, Some, is_some, option_and_then}
 use Rattle.wh_dag.specs.Written.{is_named, name_of, number_of}
 use Rattle.wh_text.specs.FirstFault.{EndsByFirst, Place, fault_if}
 use Rattle.wh_text.specs.WholeNumber.{whole_number}
@@ -9,8 +7,9 @@ use Rattle.wh_text.specs.declared.fault.LoadFault.{LoadFault}
 use Rattle.wh_text.specs.declared.fault.LoadFault.TheVariants.{Number, Sizes}
 use Rattle.wh_text_tables.specs.FaultPlaces.{Cells, Judging, PartWrong}
 use Rattle.wh_text_tables.specs.Records.{cell, records_of}
-use Rattle.wh_text_tables.specs.RowSizes.{rows_in}
-use Rattle.wh_text_tables.specs.SizesText.{sizes_header, sizes_of_text}
+use Rattle.wh_text_tables.specs.RowSizes.{rows_in, weight_in, weight_of}
+use Rattle.wh_text_tables.specs.SizesText.{columns_of, sizes_of_text}
+use Rattle.wh_text_tables.specs.declared.sizes.header.Columns.{Columns}
 
 -- the name of the view whose sizes a row writes
 abbrev pub view_in : Cells → List ℕ
@@ -33,23 +32,33 @@ abbrev pub are_apart : Option ℕ → Option ℕ → Option ℕ → Bool
 are_apart (Some pre) (Some post) (Some change) = not (nat_le post (pre + change) && nat_le pre (post + change))
 are_apart _ _ _ = false
 
--- what is judged of a row: no view has the name, a row above has it; then pre, post and change, each as a number; then the range of each; then how far pre and post are apart
-abbrev pub size_judged : List (List ℕ) → Unit {0} → List Cells → ℕ → Cells → List (Option LoadFault)
-size_judged names kind above number cells =
+-- the weight of a row is no whole number
+abbrev pub weighs_no_number : Columns → Cells → Bool
+weighs_no_number columns cells = not (is_some (weight_of columns cells))
+
+-- the weight of a row is no number from 1 to 1,000
+abbrev pub weighs_out_of_range : Columns → Cells → Bool
+weighs_out_of_range columns cells = not (is_some (option_and_then weight_in (weight_of columns cells)))
+
+-- what is judged of a row: no view has the name, a row above has it; then pre, post, change and the weight, each as a number; then the range of pre, post and change; then how far pre and post are apart; then the range of the weight
+abbrev pub size_judged : List (List ℕ) → Columns → List Cells → ℕ → Cells → List (Option LoadFault)
+size_judged names columns above number cells =
     fault_if (not (is_named names (view_in cells))) (Sizes (view_in cells))
     ∷ fault_if (is_named (map view_in above) (view_in cells)) (Sizes (view_in cells))
     ∷ fault_if (is_no_number (cell cells 1)) (Number number)
     ∷ fault_if (is_no_number (cell cells 2)) (Number number)
     ∷ fault_if (is_no_number (cell cells 3)) (Number number)
+    ∷ fault_if (weighs_no_number columns cells) (Number number)
     ∷ fault_if (is_out_of_range (cell cells 1)) (Sizes (view_in cells))
     ∷ fault_if (is_out_of_range (cell cells 2)) (Sizes (view_in cells))
     ∷ fault_if (is_out_of_range (cell cells 3)) (Sizes (view_in cells))
     ∷ fault_if (are_apart (rows_written (cell cells 1)) (rows_written (cell cells 2)) (rows_written (cell cells 3))) (Sizes (view_in cells))
+    ∷ fault_if (weighs_out_of_range columns cells) (Sizes (view_in cells))
     ∷ []
 
 -- the records of sizes of the views of these names
-abbrev pub sizes_judging : List (List ℕ) → Judging (Unit {0})
-sizes_judging names = record { kind_of = λ header. if pointwise bytes_eq header sizes_header then Some tt else None; judged = size_judged names }
+abbrev pub sizes_judging : List (List ℕ) → Judging Columns
+sizes_judging names = record { kind_of = columns_of; judged = size_judged names }
 
 -- none of these rows writes sizes of the view of this number
 abbrev pub HasNoRow : List (List ℕ) → List Cells → ℕ → Type 0

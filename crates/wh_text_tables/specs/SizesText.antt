@@ -10,11 +10,27 @@ use Rattle.wh_text.specs.declared.fault.LoadFault.TheVariants.{Number, Sizes}
 use Rattle.wh_text.specs.ValueOrFault.{◌>>=◌, or_fault}
 use Rattle.wh_text_tables.specs.Part.{Scheme, part_of}
 use Rattle.wh_text_tables.specs.Records.{cell}
-use Rattle.wh_text_tables.specs.RowSizes.{counts_of, size_of}
+use Rattle.wh_text_tables.specs.RowSizes.{counts_of, size_within}
+use Rattle.wh_text_tables.specs.declared.sizes.header.Columns.{Columns}
+use Rattle.wh_text_tables.specs.declared.sizes.header.Columns.TheVariants as of_columns
 
--- the cells of the header: a view's name, its rows before and after a night, and how many of them change
-abbrev pub sizes_header : List (List ℕ)
-sizes_header = codes "view" ∷ codes "pre" ∷ codes "post" ∷ codes "change" ∷ []
+-- The header.
+
+-- the cell of a column of weights, where there is one
+abbrev pub weight_heading : Columns → List (List ℕ)
+weight_heading of_columns.Plain = []
+weight_heading of_columns.Weighted = codes "weight" ∷ []
+
+-- the cells of the header: a view's name, its rows before and after a night, and how many of them change; and what a row weighs, where there is such a column
+abbrev pub sizes_header : Columns → List (List ℕ)
+sizes_header columns = codes "view" ∷ codes "pre" ∷ codes "post" ∷ codes "change" ∷ weight_heading columns
+
+-- the columns that a header has, if it is one of sizes
+abbrev pub columns_of : List (List ℕ) → Option Columns
+columns_of header =
+    if pointwise bytes_eq header (sizes_header of_columns.Plain) then Some of_columns.Plain
+    else if pointwise bytes_eq header (sizes_header of_columns.Weighted) then Some of_columns.Weighted
+    else None
 
 -- A row: what it makes of what the rows before gave, view by view, in the order in which its cells are judged.
 
@@ -28,23 +44,23 @@ abbrev pub fresh_view : List (List ℕ) → List (Option SizeRow) → List ℕ �
 fresh_view names given name = view_without given name (number_of names name)
 
 -- the sizes that a row of this number writes: its numbers are judged before their ranges
-abbrev pub size_written : ℕ → List (List ℕ) → Result SizeRow LoadFault
-size_written number row = do
-  counts ← ok_or (counts_of row) (Number number)
-  ok_or (size_of counts) (Sizes (cell row 0))
+abbrev pub size_written : Columns → ℕ → List (List ℕ) → Result SizeRow LoadFault
+size_written columns number row = do
+  counts ← ok_or (counts_of columns row) (Number number)
+  ok_or (size_within counts) (Sizes (cell row 0))
 
 -- the view that the row names has the sizes that the row writes: its name is judged first
-abbrev pub placed : List (List ℕ) → Unit {0} → List (Option SizeRow) → ℕ → List (List ℕ) → Result (List (Option SizeRow)) LoadFault
-placed names kind given number row = do
+abbrev pub placed : List (List ℕ) → Columns → List (Option SizeRow) → ℕ → List (List ℕ) → Result (List (Option SizeRow)) LoadFault
+placed names columns given number row = do
   view ← fresh_view names given (cell row 0)
-  size ← size_written number row
+  size ← size_written columns number row
   Ok (slice_set given view (Some size))
 
 -- All rows.
 
 -- parts of sizes of the views of these names
-abbrev pub sizes_scheme : List (List ℕ) → Scheme (Unit {0}) (List (Option SizeRow))
-sizes_scheme names = record { kind_of = λ header. if pointwise bytes_eq header sizes_header then Some tt else None; take = placed names }
+abbrev pub sizes_scheme : List (List ℕ) → Scheme Columns (List (Option SizeRow))
+sizes_scheme names = record { kind_of = columns_of; take = placed names }
 
 -- the first view that was given no sizes
 abbrev pub missing_fault : List (List ℕ) → List (Option SizeRow) → Option LoadFault

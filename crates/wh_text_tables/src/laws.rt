@@ -3,8 +3,9 @@ ghost use Rattle.wh_text_tables.specs.SizesFaults.{SizesEndByFirst};
 ghost use Rattle.wh_text_tables.specs.TableFaults.{TablesEndByFirst};
 
 /// A law of the definitions: a text of sizes ends by its first fault, by records from the top and in each by what is judged
-/// of it: its form, its name (of no view, or a second time), each of its numbers, the range of each, how far pre and post are
-/// apart; below the last record, the first view without one. Where it has no fault it is read.
+/// of it: its form, its name (of no view, or a second time), each of its numbers, the range of each number of rows, how far pre
+/// and post are apart, the range of its weight; below the last record, the first view without one. Where it has no fault it is
+/// read.
 pub fn sizes_end_by_first_law()
     ensures { SizesEndByFirst }
 {}

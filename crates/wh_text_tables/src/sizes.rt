@@ -1,23 +1,26 @@
-//! The sizes of the views, from a CSV part: a header, and a row of each view, in any order.
+//! The sizes of the views, from a CSV part: a header, and a row of each view, in any order. What a row weighs stands in a
+//! fifth column, or is 1 where there is none.
 
-ghost use Rattle.std.specs.Prelude.{◌≡◌, ◌⊎◌, ◌<◌, List, length, replicate, IfOk, IfErr, IfSome, OnOk, OnErr, Option, Ok, Err, Some, None, vec_len};
+ghost use Rattle.std.specs.Prelude.{◌≡◌, ◌⊎◌, ◌<◌, List, length, replicate, IfOk, IfErr, IfSome, FitsSigned, OnOk, OnErr, Option, Ok, Err, Some, None, vec_len};
+ghost use Rattle.std.specs.Int.{w64};
 ghost use Rattle.std.specs.List.{filter_map};
 ghost use Rattle.csv.specs.Records.{fields_of};
 ghost use Rattle.wh_dag.specs.Written.{number_of};
 ghost use Rattle.wh_strategy.specs.declared.sizes.SizeRow.{SizeRow};
-ghost use Rattle.wh_text_tables.specs.RowSizes.{counts_of, size_of};
+ghost use Rattle.wh_text_tables.specs.RowSizes.{counts_of, size_within, weight_of};
 ghost use Rattle.wh_text_tables.specs.SizesReadBack.{SizesReadBack};
 ghost use Rattle.wh_text_tables.specs.SizesText.{fresh_view, missing_fault, placed, size_written, sizes_of_text, sizes_scheme};
 
+mod header;
+
 use crate::part::{PartReader, read_part};
-use crate::records::{are_cells, cell, whole_number};
+use crate::records::{cell, whole_number};
+use crate::sizes::header::{Columns, columns_of};
 use csv::StringRecord;
 use std::alloc::{AllocError, Global};
 use wh_dag::Shape;
 use wh_strategy::{SizeRow, Sizes};
 use wh_text::{LoadFault, Word};
-
-const HEADER: [&str; 4] = ["view", "pre", "post", "change"];
 
 /// The numbers of a row, as they are written.
 #[derive(Clone, Copy)]
@@ -25,28 +28,47 @@ struct Counts {
     pre: i64,
     post: i64,
     change: i64,
+    weight: i64,
+}
+
+/// The weight of a row as a number: what its fifth cell writes, if that is one, or 1 where there is no such column.
+fn weight_of(columns: Columns, row: &StringRecord) -> Option<i64>
+    ensures value { result ≡ weight_of columns (fields_of row.now) }
+    ensures fits { IfSome result (λ number. FitsSigned w64 number) }
+{
+    match columns {
+        Columns::Plain => Some(1),
+        Columns::Weighted => whole_number(cell(row, 4)),
+    }
 }
 
 /// The numbers that a row writes, where each is one.
 #[tactic(auto, using(wh_text::proofs::WholeNumbers::whole_numbers), unfolding(crate::specs::RowSizes::counts_of))]
-fn written_counts(row: &StringRecord) -> Option<Counts>
-    ensures { result ≡ counts_of (fields_of row.now) }
+fn written_counts(columns: Columns, row: &StringRecord) -> Option<Counts>
+    ensures { result ≡ counts_of columns (fields_of row.now) }
 {
     let pre = whole_number(cell(row, 1))?;
     let post = whole_number(cell(row, 2))?;
     let change = whole_number(cell(row, 3))?;
-    Some(Counts { pre, post, change })
+    let weight = weight_of(columns, row)?;
+    Some(Counts {
+        pre,
+        post,
+        change,
+        weight,
+    })
 }
 
 /// The sizes of these numbers, where they are within their limits.
-#[tactic(auto, unfolding(crate::specs::RowSizes::size_of))]
+#[tactic(auto, unfolding(crate::specs::RowSizes::size_within))]
 fn size_within(counts: Counts) -> Option<SizeRow>
-    ensures { result ≡ size_of counts }
+    ensures { result ≡ size_within counts }
 {
     let size = SizeRow {
         pre: u64::try_from(counts.pre).ok()?,
         post: u64::try_from(counts.post).ok()?,
         change: u64::try_from(counts.change).ok()?,
+        weight: u64::try_from(counts.weight).ok()?,
     };
     if size.is_within() { Some(size) } else { None }
 }
@@ -62,11 +84,16 @@ fn sizes_fault(alloc: Global, name: &str) -> LoadFault
 }
 
 /// The sizes that a row writes: its numbers are judged before their ranges.
-fn written_size(alloc: Global, number: usize, row: &StringRecord) -> Result<SizeRow, LoadFault>
-    ensures ok { IfOk result (λ size. size_written number (fields_of row.now) ≡ Ok size) }
-    ensures err { IfErr result (λ f. (f ≡ LoadFault.Memory) ⊎ (size_written number (fields_of row.now) ≡ Err f)) }
+fn written_size(
+    alloc: Global,
+    columns: Columns,
+    number: usize,
+    row: &StringRecord,
+) -> Result<SizeRow, LoadFault>
+    ensures ok { IfOk result (λ size. size_written columns number (fields_of row.now) ≡ Ok size) }
+    ensures err { IfErr result (λ f. (f ≡ LoadFault.Memory) ⊎ (size_written columns number (fields_of row.now) ≡ Err f)) }
 {
-    let Some(counts) = written_counts(row) else {
+    let Some(counts) = written_counts(columns, row) else {
         return Err(LoadFault::Number(number));
     };
     let Some(size) = size_within(counts) else {
@@ -114,16 +141,17 @@ fn place_row(
     alloc: Global,
     shape: &Shape,
     given: &mut [Option<SizeRow>],
+    columns: Columns,
     number: usize,
     row: &StringRecord,
 ) -> Result<(), LoadFault>
     requires { length given.old ≡ length shape.now.children }
-    ensures ok { OnOk result (placed shape.now.names tt given.old number (fields_of row.now) ≡ Ok given.new) }
-    ensures err { IfErr result (λ f. (f ≡ LoadFault.Memory) ⊎ (placed shape.now.names tt given.old number (fields_of row.now) ≡ Err f)) }
+    ensures ok { OnOk result (placed shape.now.names columns given.old number (fields_of row.now) ≡ Ok given.new) }
+    ensures err { IfErr result (λ f. (f ≡ LoadFault.Memory) ⊎ (placed shape.now.names columns given.old number (fields_of row.now) ≡ Err f)) }
     ensures kept { OnErr result (given.new ≡ given.old) }
 {
     let view = fresh_view(alloc, shape, given, cell(row, 0))?;
-    let size = written_size(alloc, number, row)?;
+    let size = written_size(alloc, columns, number, row)?;
     given[view] = Some(size);
     Ok(())
 }
@@ -136,7 +164,7 @@ struct SizesReader<'a> {
 }
 
 impl<'a> PartReader for SizesReader<'a> {
-    type Kind = ();
+    type Kind = Columns;
 
     type State = Vec<Option<SizeRow>>;
 
@@ -148,22 +176,18 @@ impl<'a> PartReader for SizesReader<'a> {
 
     ghost is_ready = { λ reader given number. length given ≡ length reader.shape.now.children };
 
-    fn kind(&self, header: &StringRecord) -> Option<()> {
-        if are_cells(header, &HEADER) {
-            Some(())
-        } else {
-            None
-        }
+    fn kind(&self, header: &StringRecord) -> Option<Columns> {
+        columns_of(header)
     }
 
     fn take(
         &self,
-        _kind: (),
+        columns: Columns,
         number: usize,
         cells: &StringRecord,
         state: &mut Vec<Option<SizeRow>>,
     ) -> Result<(), LoadFault> {
-        place_row(self.alloc, self.shape, state, number, cells)
+        place_row(self.alloc, self.shape, state, columns, number, cells)
     }
 }
 
@@ -201,8 +225,9 @@ fn covered(
 }
 
 /// The sizes of the shape's views, by their numbers, or the text's first fault, record by record: `Csv` (the record's
-/// form), then `Header`, or of a row `Sizes` (no view's name, or a second row of a view), `Number`, `Sizes` (out of
-/// range); after the last record `Sizes` of the first view without a row.
+/// form), then `Header`, or of a row `Sizes` (no view's name, or a second row of a view), `Number` (its weight's too),
+/// `Sizes` (out of range, pre and post too far apart, or a weight that is not 1 to 1,000); after the last record `Sizes` of
+/// the first view without a row.
 #[tactic(auto, unfolding(crate::specs::SizesText::sizes_of_text))]
 pub fn read_sizes(alloc: Global, shape: &Shape, text: &[u8]) -> Result<Sizes, LoadFault>
     ensures sizes { IfOk result (λ sizes. sizes_of_text shape.now.names text.now ≡ Ok sizes) }
@@ -219,7 +244,8 @@ pub fn read_sizes(alloc: Global, shape: &Shape, text: &[u8]) -> Result<Sizes, Lo
 }
 
 /// A law of the definitions: sizes that are written as a header and a record for each view, in the order of their numbers,
-/// are read back as they were. It asks for distinct names in UTF-8, as a shape has, and for sizes within their limits.
+/// are read back as they were: with a column of weights, and without it where each weight is 1. It asks for distinct names in
+/// UTF-8, as a shape has, and for sizes within their limits.
 pub fn sizes_read_back_law()
     ensures { SizesReadBack }
 {}

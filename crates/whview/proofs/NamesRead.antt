@@ -24,7 +24,7 @@ use Rattle.wh_text_tables.specs.SizesText.{sizes_of_text}
 use Rattle.wh_text_lines.specs.NodeLine.{is_parting}
 use Rattle.wh_text_lines.specs.PlanReadsBack.{is_unparted}
 use Rattle.wh_text_lines.specs.ReadsBack.{is_plain}
-use Rattle.wh_strategy.specs.Sizes.{AreSizes}
+use Rattle.wh_strategy.specs.Sizes.{AreSizeRows}
 use Rattle.wh_strategy.specs.declared.sizes.SizeRow.{SizeRow}
 
 -- ---- the bytes of a name
@@ -143,5 +143,5 @@ are_names text shape e =
 
 -- ---- the sizes
 
-pub are_sizes : (names : List (List ℕ)) (text : List ℕ) (rows : List SizeRow) → sizes_of_text names text ≡ Ok rows → AreSizes rows
+pub are_sizes : (names : List (List ℕ)) (text : List ℕ) (rows : List SizeRow) → sizes_of_text names text ≡ Ok rows → AreSizeRows rows
 are_sizes names text rows e = text-sizes names text rows e

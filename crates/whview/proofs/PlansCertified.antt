@@ -6,6 +6,7 @@ use Rattle.std.proofs.lemmas.Bool.{and_parts}
 use Rattle.std.proofs.lemmas.List.Elements.{All-append, All-cons, All-map, All-nil, All-weaker}
 use Rattle.std.proofs.lemmas.Option.{slice_get-get_or}
 use Rattle.wh_cert.proofs.Trees.{Each, each_of_all, has_parent}
+use Rattle.wh_cert.proofs.WeighedSizes.{sizes_are_light}
 use Rattle.wh_cert.specs.Bound.{pair_min}
 use Rattle.wh_cert.specs.Certificate.{IsJudged, line_in_order, line_of, lines_of}
 use Rattle.wh_cert.specs.Graph.{IsCycle, IsNode, Leads}
@@ -36,12 +37,13 @@ use Rattle.wh_strategy.proofs.Found.{has-head, has-tail, has_within}
 use Rattle.wh_strategy.specs.Expression.{At}
 use Rattle.wh_strategy.specs.Prices.{Prices, prices_of}
 use Rattle.wh_strategy.specs.Rules.{IsCorrect}
-use Rattle.wh_strategy.specs.Sizes.{AreSizes, Size, sizes_of}
+use Rattle.wh_strategy.specs.declared.sizes.Size.{Size}
+use Rattle.wh_strategy.specs.Sizes.{AreSizeRows, sizes_of}
 use Rattle.wh_strategy.specs.declared.expression.Expression.{Expression}
 use Rattle.wh_strategy.specs.declared.expression.Expression.TheVariants.{Comp, Inst}
 use Rattle.wh_strategy.specs.declared.sizes.SizeRow.{SizeRow}
 use Rattle.whview.proofs.NamesRead.{AreNames, are_names, are_sizes, name-plain, name-unparted}
-use Rattle.whview.proofs.SmallWorks.{small_size, work_fits}
+use Rattle.whview.proofs.SmallWorks.{work_fits}
 use Rattle.whview.specs.CheckOutput.{IsFaultShown}
 use Rattle.whview.specs.CertifyOutput.{IsJudgement, judged}
 use Rattle.whview.specs.PlanCertified.{LeastPlanIsCertified, PrintedPlanIsCertified, PrintedPlanIsReadBack, accepted_text, claim_with, plan_with, texts_with}
@@ -71,14 +73,14 @@ list_within shape list n e sh co k d l = of (get_or list k d) (slice_get-get_or 
 
 -- ---- the sizes are small
 
-small_pair : (rows : List SizeRow) (u w : ℕ) → AreSizes rows → pair_min (sizes_of rows) u w < 2 ^ 128
+small_pair : (rows : List SizeRow) (u w : ℕ) → AreSizeRows rows → pair_min (sizes_of rows) u w < 2 ^ 128
 small_pair rows u w are =
-    let first = small_size rows u are in
-    let second = small_size rows w are in
-    let before = second.pre in
-    let after = first.post in
-    let other = first.pre in
-    let new = second.post in
+    let first = sizes_are_light rows are u in
+    let second = sizes_are_light rows are w in
+    let before = second.light_before in
+    let after = first.light_after in
+    let other = first.light_before in
+    let new = second.light_after in
     omega arith
 
 -- ---- pairs are of views
@@ -95,7 +97,7 @@ siblings : (shape : List (List ℕ)) → All (λ pair. is_sibling_pair shape pai
 unfolding sibling_pairs_of
 siblings shape = passed (is_sibling_pair shape) (triples_below (length shape))
 
-pair_within : (shape : List (List ℕ)) (rows : List SizeRow) (n : ℕ) → n ≡ length shape → IsShape shape → AreSizes rows → (pair : SiblingPair) → is_sibling_pair shape pair ≡ true
+pair_within : (shape : List (List ℕ)) (rows : List SizeRow) (n : ℕ) → n ≡ length shape → IsShape shape → AreSizeRows rows → (pair : SiblingPair) → is_sibling_pair shape pair ≡ true
     → IsPairWithin n (line_of (sizes_of rows) pair)
 pair_within shape rows n e sh are pair h =
     let p = and_parts (nat_lt pair.lower pair.higher) (has (children_of shape pair.parent) pair.lower && has (children_of shape pair.parent) pair.higher) h in
@@ -109,7 +111,7 @@ pair_within shape rows n e sh are pair h =
     by true parent low high = record { parent = parent; first = low; second = high; least = small_pair rows pair.lower pair.higher are }
     by false parent low high = record { parent = parent; first = high; second = low; least = small_pair rows pair.higher pair.lower are }
 
-pairs_within : (shape : List (List ℕ)) (rows : List SizeRow) (n : ℕ) → n ≡ length shape → IsShape shape → AreSizes rows → All (IsPairWithin n) (lines_of shape (sizes_of rows))
+pairs_within : (shape : List (List ℕ)) (rows : List SizeRow) (n : ℕ) → n ≡ length shape → IsShape shape → AreSizeRows rows → All (IsPairWithin n) (lines_of shape (sizes_of rows))
 pairs_within shape rows n e sh are =
     All-map (IsPairWithin n) (line_of (sizes_of rows)) (sibling_pairs_of shape)
     (All-weaker (λ pair. is_sibling_pair shape pair ≡ true) (λ pair. IsPairWithin n (line_of (sizes_of rows) pair)) (pair_within shape rows n e sh are) (sibling_pairs_of shape) (siblings shape))
@@ -163,7 +165,7 @@ tree_within shape sizes prices work n e sh above (Branch couple left right) good
 -- ---- the certificate can be written
 
 writable_certificate : (names shape : List (List ℕ)) (rows : List SizeRow) (prices : Prices) (work : ℕ) → length names ≡ length shape → All (λ name. is_name name ≡ true) names
-    → IsShape shape → AreSizes rows → (own : Scope) (certificate : Certificate) → IsJudged shape (sizes_of rows) prices work certificate (accepted_for own)
+    → IsShape shape → AreSizeRows rows → (own : Scope) (certificate : Certificate) → IsJudged shape (sizes_of rows) prices work certificate (accepted_for own)
     → IsCertificateWritable names own certificate
 writable_certificate names shape rows prices work e formed sh are scope.All (Pairs lines) j =
     subst (All (IsPairWithin (length names))) (sym j.right) (pairs_within shape rows (length names) e sh are)
@@ -183,7 +185,7 @@ writable_certificate names shape rows prices work e formed sh are scope.OneWay (
 record IsRead (measured : Measured) : Type 0 where
   names : AreNames measured.shape
   shape : IsShape measured.shape.children
-  sizes : AreSizes measured.sizes
+  sizes : AreSizeRows measured.sizes
 
 is_read : (bytes : List ℕ) (measured : Measured) → measured_of bytes ≡ Ok measured → IsRead measured
 is_read bytes measured e =

@@ -14,7 +14,8 @@ use Rattle.wh_load.specs.ReadingPlan.{Measured, measured_of}
 use Rattle.wh_prune.specs.Plan.{IsCyclicAsDesired}
 use Rattle.wh_prune.specs.Spent.{IsSpent}
 use Rattle.wh_strategy.specs.Prices.{Prices, prices_of}
-use Rattle.wh_strategy.specs.Sizes.{Size, sizes_of}
+use Rattle.wh_strategy.specs.declared.sizes.Size.{Size}
+use Rattle.wh_strategy.specs.Sizes.{sizes_of}
 use Rattle.wh_strategy.specs.declared.costs.Costs.{Costs}
 use Rattle.wh_strategy.specs.declared.expression.Expression.{Expression}
 use Rattle.whview.specs.CheckOutput.{IsFaultShown}

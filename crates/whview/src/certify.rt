@@ -27,7 +27,7 @@ pub enum Outcome {
     OtherWork,
     /// Its certificate has this verdict.
     Judged {
-        /// The plan's work, in cost times rows.
+        /// The plan's work, in cost times rows by weight.
         work: u128,
         /// The verdict.
         verdict: Verdict,

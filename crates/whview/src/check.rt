@@ -16,7 +16,7 @@ use wh_strategy::{CheckFault, Costs, Rule, check, work};
 pub enum Outcome {
     /// It is correct, and has this work.
     Correct {
-        /// The work, in cost times rows.
+        /// The work, in cost times rows by weight.
         work: u128,
     },
     /// It breaks a rule.

@@ -27,7 +27,7 @@ pub enum Outcome {
     Spent {
         /// How many nodes were opened.
         opened: u64,
-        /// The least work that was found, in cost times rows.
+        /// The least work that was found, in cost times rows by weight.
         best: u128,
     },
 }

@@ -4,6 +4,7 @@ budgets, trees, long predicates, a long text and words that are not UTF-8. The a
 import random
 
 from whtools.cases import Case
+from whtools.sizes import part_of
 
 MOST, LEAST = 2**63 - 1, -(2**63)
 ONE_VIEW = "comp v from a\ninst a\ninst v\n"
@@ -95,23 +96,33 @@ def names():
     yield "a text of a million bytes", "night", night(KEPT, [cell], '"x:text"'), shown([f"1,{told}\n"], 1)
 
 
-def six_children(size, change):
-    """V over six views, all of this size before and after and with this change, computed at once, without its options."""
+def six_children(size, change, *weight):
+    """V over six views, all of this size before and after and with this change, and perhaps of this weight, computed at once, without
+    its options."""
     views = [f"A{n}" for n in range(1, 7)]
     over = ", ".join(f'"{view}"' for view in views)
     catalogue = "".join(f'[[view]]\nname = "{view}"\n' for view in views) + f'[[view]]\nname = "V"\nover = [{over}]\n'
     steps = f"comp V from {' '.join(views)}\n" + "".join(f"inst {view}\n" for view in [*views, "V"])
-    sizes = "".join(f"{view},{size},{size},{change}\n" for view in [*views, "V"])
-    return f"@catalogue\n{catalogue}@strategy\n{steps}@sizes\nview,pre,post,change\n{sizes}"
+    return f"@catalogue\n{catalogue}@strategy\n{steps}" + part_of([*views, "V"], [(size, size, change, *weight)] * 7)
 
 
 def costs():
-    """Sizes of 2^40, costs of a million, budgets of 1 and of 2^63 - 1, workers, readers and rows of a page, and one past each."""
+    """Sizes of 2^40, weights of 1 and 1,000, costs of a million, budgets of 1 and of 2^63 - 1, workers, readers and rows of a page, and one past each."""
     largest = 2**40
     work = 10**6 * (6 * 32 * largest + 6 * 31 * largest) + 10**6 * 7 * largest
     dear = "check --comp-cost 1000000 --inst-cost 1000000"
     yield "sizes of 2^40", dear, six_children(largest, largest), (f"correct\nwork {work}\n", 0)
     yield "sizes above 2^40", dear, six_children(largest + 1, 1), ("fault sizes A1\n", 3)
+    yield "sizes of 2^40 and weights of 1,000", dear, six_children(largest, largest, 1000), (f"correct\nwork {1000 * work}\n", 0)
+    yield "weights of 1", dear, six_children(largest, largest, 1), (f"correct\nwork {work}\n", 0)
+    for weight in (0, 1001, -1, 2**40, MOST, -MOST - 1):
+        yield f"a weight of {weight}", "check", six_children(1, 1, weight), ("fault sizes A1\n", 3)
+    yield "a weight of 65 bits", "check", six_children(1, 1, 2**63), ("fault number 2\n", 3)
+    yield "sizes above 2^40 and a weight", dear, six_children(largest + 1, 1, 1), ("fault sizes A1\n", 3)
+    for budget in (1, MOST):
+        heavy = f"scope all\nwork {10**9 * (15 * 2 * largest + 6 * largest) + 7 * 10**9 * largest}\n"
+        words, bundle = dear.replace("check", f"plan --budget {budget}"), six_children(largest, largest, 1000)
+        yield f"weights of 1,000 and a budget of {budget}", words, bundle, (heavy, 0)
     least = f"scope all\nwork {10**6 * (15 * 2 * largest + 6 * largest) + 7 * 10**6 * largest}\n"
     for budget in (1, MOST):
         yield f"a budget of {budget}", dear.replace("check", f"plan --budget {budget}"), six_children(largest, largest), (least, 0)

@@ -7,6 +7,7 @@ from tempfile import TemporaryDirectory
 
 from whtools.bundle import parts_of, words_of
 from whtools.catalogue import views_of
+from whtools.sizes import sizes_in
 from whtools.sql.tokens import Unfit
 from whtools.strategies import broken
 from whtools.warehouse.catalogue import Catalogue as LintedCatalogue
@@ -71,11 +72,12 @@ class Catalogue:
         return numbers[0], tuple(numbers[1:]) or None
 
     def sizes_of(self, lines):
-        """Of each view how many rows it has before and after, and how many change; None where no sizes are given."""
+        """Of each view how many rows it has before and after, and how many change, each by its weight where the sizes have one; None
+        where no sizes are given."""
         if lines is None:
             return None
-        records = {record[0]: tuple(map(int, record[1:])) for record in list(csv.reader(lines))[1:] if record}
-        return [records[view.name] for view in self.views]
+        sizes = sizes_in(lines, [view.name for view in self.views])
+        return [tuple(rows * (size[3] if len(size) > 3 else 1) for rows in size[:3]) for size in sizes]
 
     def correct(self):
         """The expressions of a strategy that is given and keeps all rules."""

@@ -24,7 +24,7 @@ class Comments:
         return f"{'open' if step.kind == 'comp' else step.kind} {self.views[step.view].name}"
 
     def rows(self, step):
-        """How many rows the step reads or changes by the sizes, which are those before, after and of the change."""
+        """How much work the step is by the sizes, which are those before, after and of the change, each by its weight."""
         if step.kind == "inst":
             return self.sizes[step.view][2]
         state = [sizes[1 if v in self.installed else 0] for v, sizes in enumerate(self.sizes)]

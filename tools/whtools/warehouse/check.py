@@ -4,7 +4,7 @@ from . import program
 from .finding import Failure
 from .folder import sound
 from .planning import parts
-from .sizes import given_text, sized, told_before
+from .sizes import given_text, sized, told_before, weighed
 from .status import BAD_INPUT, DONE, REFUSED
 from .strategy import FILE, Strategy
 
@@ -27,8 +27,11 @@ def strategy_of(folder):
 def run(words):
     folder = sound(words.folder)
     given, told = given_text(folder), told_before(folder)
-    sizes = sized(told or {view.name: (0, 0, 0) for view in folder.views}) if given is None else given
     text = strategy_of(folder)
+    if given is None and told is None:
+        sizes = sized({view.name: (0, 0, 0) for view in folder.views})
+    else:
+        sizes = weighed(sized(told) if given is None else given, folder, words)
     lines = program.answer(words.program, "check", parts(folder, sizes, strategy=text), words.through).decode().splitlines()
     print("\n".join(lines if given is not None or told else lines[:1]))
     return DONE

@@ -11,9 +11,11 @@ from .program import OWN_PROGRAM
 from .status import BAD_INPUT, BAD_WORDS, DONE, NOT_WRITTEN
 from .stopped import is_stopped
 from .takeover import is_pending
+from .weights import KINDS
 
 COMMANDS = ("pack", "unpack", "night", "lint", "check", "plan", "certify", "sizes", "diff", "explain", "graph")
-WITH_A_VALUE = ("--program", "--keep", "--comp-cost", "--inst-cost", "--budget", "--workers", "--readers", "--page-keys")
+WITH_A_VALUE = ("--program", "--keep", "--weights", "--comp-cost", "--inst-cost", "--budget", "--workers", "--readers", "--page-keys")
+WEIGHED = ("night", "check", "plan", "certify", "sizes", "explain", "graph")
 GOES_THROUGH = {
     "night": ("--workers", "--readers", "--page-keys"),
     "check": ("--comp-cost", "--inst-cost"),
@@ -28,6 +30,7 @@ class Words:
     def __init__(self, words):
         given = list(words)
         self.program, self.commit, self.keep, self.lenient, self.through = OWN_PROGRAM, False, None, False, []
+        self.weights = None
         self.command = given.pop(0) if given else ""
         if self.command not in COMMANDS:
             near = nearest(self.command, COMMANDS)
@@ -55,6 +58,8 @@ class Words:
             self.program = Path(given.pop(0)).resolve()
         elif word == "--keep" and self.command == "night":
             self.keep = number(given.pop(0))
+        elif word == "--weights" and self.command in WEIGHED:
+            self.weights = kind_of_weights(given.pop(0))
         elif word in GOES_THROUGH.get(self.command, ()):
             self.through += [word, given.pop(0)]
         elif word.startswith("-"):
@@ -68,6 +73,13 @@ def number(word):
     if not word.isdecimal() or int(word) == 0:
         raise Failure(BAD_WORDS, f"--keep is how many versions stay, 1 or more, and not {word!r}")
     return int(word)
+
+
+def kind_of_weights(word):
+    """By what weights are to be proposed."""
+    if word not in KINDS:
+        raise Failure(BAD_WORDS, f"--weights is {' or '.join(KINDS)}, and not {word!r}{nearest(word, KINDS)}")
+    return word
 
 
 def judge_folder(words):

@@ -1,11 +1,11 @@
-"""`explain`: a strategy line by line: what is read, old or new, how many rows, and why it stands there."""
+"""`explain`: a strategy line by line: what is read, old or new, how many rows, what they count by weight, and why it stands there."""
 
 from itertools import combinations
 
 from .check import strategy_of as given_strategy
 from .folder import sound
 from .planning import planned, strategy_of
-from .sizes import of_report, sizes_text
+from .sizes import of_text, sizes_text
 from .status import DONE
 from .strategy import FILE, Strategy
 
@@ -24,14 +24,27 @@ class Step:
         """The word for a view's rows here, and how many they are."""
         return ("new", self.sizes[name][1]) if name in self.installed else ("old", self.sizes[name][0])
 
+    def weight(self, name):
+        """What a row of a view counts as, 1 where no weights are told."""
+        return self.sizes[name][3] if len(self.sizes[name]) > 3 else 1
+
     def rows(self):
-        """How many rows the step reads or puts: those of the operands of each term, added up."""
+        """How many rows the step reads or puts."""
+        return self.total(lambda name: 1)
+
+    def work(self):
+        """What these rows count by their weights."""
+        return self.total(self.weight)
+
+    def total(self, weight):
+        """The rows of the operands of each term, each view's by a weight, added up."""
         if not self.sources:
-            return self.sizes[self.view][2]
+            return self.sizes[self.view][2] * weight(self.view)
         found = 0
         for count in range(1, len(self.sources) + 1):
             for part in combinations(self.sources, count):
-                found += sum(self.sizes[name][2] if name in part else self.state(name)[1] for name in self.over)
+                rows = {name: self.sizes[name][2] if name in part else self.state(name)[1] for name in self.over}
+                found += sum(rows[name] * weight(name) for name in self.over)
         return found
 
     def text(self):
@@ -57,9 +70,9 @@ def chosen(folder, words):
     """The strategy that is explained, and the sizes."""
     if (folder.path / FILE).is_file():
         text = given_strategy(folder)
-        return Strategy(text, folder.views), of_report(sizes_text(folder, words)[0])
+        return Strategy(text, folder.views), of_text(sizes_text(folder, words)[0])
     plan, sizes, _ = planned(folder, words)
-    return Strategy(strategy_of(plan), folder.views), of_report(sizes)
+    return Strategy(strategy_of(plan), folder.views), of_text(sizes)
 
 
 def steps(words):
@@ -71,6 +84,9 @@ def steps(words):
 
 
 def run(words):
-    for line, step in steps(words)[1]:
-        print(f"{line}: {step.rows()}\n    {step.text()}")
+    listed = steps(words)[1]
+    has_weights = any(step.weight(step.view) > 1 for _, step in listed)
+    for line, step in listed:
+        by_weight = f", by weight {step.work()}" if has_weights else ""
+        print(f"{line}: {step.rows()}{by_weight}\n    {step.text()}")
     return DONE

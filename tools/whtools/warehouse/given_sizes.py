@@ -3,12 +3,12 @@
 import csv
 import io
 
+from ..sizes import MOST_ROWS, MOST_WEIGHT, ROWS, WITH_WEIGHTS
 from .finding import Finding, Place, nearest
 from .packing import MARK
 from .records import NUMBER
 
-FILE, HEADER = "sizes.csv", ["view", "pre", "post", "change"]
-MOST_ROWS = 2**40
+FILE = "sizes.csv"
 
 
 class GivenSizes:
@@ -29,24 +29,25 @@ class GivenSizes:
             self.find(content[: error.start].count(b"\n") + 1, "this is not UTF-8")
             return
         header, line = next(filter(None, reader), None), reader.line_num + 1
-        if header != HEADER:
+        if header is None or tuple(header) not in (ROWS, WITH_WEIGHTS):
             has = "it is missing" if header is None else f"it is {','.join(header)}"
-            self.find(1, f"the header is {','.join(HEADER)}; {has}")
+            self.find(1, f"the header is {','.join(ROWS)} or {','.join(WITH_WEIGHTS)}; {has}")
             return
         for record in reader:
             if record:
-                self.take(record, line)
+                self.take(record, header, line)
             line = reader.line_num + 1
         for name in self.names:
             if name not in self.seen:
                 self.find(line, f"{name} has no record")
 
-    def take(self, record, line):
-        """Judges a record: its length, its view, its numbers, and how far they are apart."""
-        if len(record) != len(HEADER):
-            self.find(line, f"this record has {len(record)} cells and the header has {len(HEADER)}")
+    def take(self, record, header, line):
+        """Judges a record: its length, its view, its numbers of rows, how far they are apart, and its weight."""
+        if len(record) != len(header):
+            self.find(line, f"this record has {len(record)} cells and the header has {len(header)}")
             return
         name, *cells = record
+        cells, weights = cells[:3], cells[3:]
         if name not in self.names:
             self.find(line, f"there is no view {name}{nearest(name, self.names)}")
         elif name in self.seen:
@@ -57,3 +58,6 @@ class GivenSizes:
             self.find(line, f'"{cell}" is not a number of rows, which is 0 to {MOST_ROWS}')
         if not wrong and abs(int(cells[0]) - int(cells[1])) > int(cells[2]):
             self.find(line, f"{name}: pre and post are further apart than change")
+        for cell in weights:
+            if not NUMBER.fullmatch(cell) or not 1 <= int(cell) <= MOST_WEIGHT:
+                self.find(line, f'"{cell}" is not a weight, which is 1 to {MOST_WEIGHT}')

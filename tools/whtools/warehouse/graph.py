@@ -1,5 +1,7 @@
-"""`graph`: the views of a folder, who is over whom, and the order and work of a strategy: graph.dot and graph.svg in the folder."""
+"""`graph`: the views of a folder, who is over whom, of what kind that shape is, and the order and work of a strategy: graph.dot and
+graph.svg in the folder."""
 
+from ..kinds import shape_of, told
 from .explain import steps
 from .folder import sound
 from .finding import Failure
@@ -30,11 +32,11 @@ def notes(listed):
     return views, edges
 
 
-def dot(views, named, edges):
+def dot(views, named, edges, kind):
     """The graph as DOT."""
     lines = [f'  "{view.name}" [shape=box, label="{view.name}\\n{named.get(view.name, "")}"];' for view in views]
     lines += [f'  "{child}" -> "{view.name}" [label="{edges.get((child, view.name), "")}"];' for view in views for child in view.over]
-    return "digraph warehouse {\n  rankdir=BT;\n" + "\n".join(lines) + "\n}\n"
+    return f'digraph warehouse {{\n  rankdir=BT;\n  label="{kind}";\n' + "\n".join(lines) + "\n}\n"
 
 
 def wide(words, size):
@@ -45,8 +47,9 @@ def wide(words, size):
 class Picture:
     """The graph as a picture: base views stand at the bottom, and each other view in the row above the highest one that it is over."""
 
-    def __init__(self, views, named, edges):
+    def __init__(self, views, named, edges, kind=""):
         self.views, self.named, self.edges = views, named, edges
+        self.legend = [kind.capitalize() + "."] * bool(kind) + (LEGEND if named else [])
         self.layers = Layers(views, {view.name: self.width(view) for view in views})
         self.highest = len(self.layers.rows) - 1
 
@@ -113,21 +116,21 @@ class Picture:
         return f'<polyline points="{corners}" fill="none" stroke="#345" marker-end="url(#tip)"/>'
 
     def svg(self):
-        legend = LEGEND if self.named else []
-        width = max([self.layers.breadth, *(wide(words, NOTE_SIZE) for words in legend)]) + 2 * MARGIN
+        width = max([self.layers.breadth, *(wide(words, NOTE_SIZE) for words in self.legend)]) + 2 * MARGIN
         under = self.bottom(0) + 2 * MARGIN
-        height = under + 18 * len(legend)
+        height = under + 18 * len(self.legend)
         head = f'<svg xmlns="http://www.w3.org/2000/svg" width="{width:.0f}" height="{height}" font-family="monospace">'
         drawn = [TIP, f'<rect width="{width:.0f}" height="{height}" fill="#fff"/>']
         drawn += [self.comps(view) for view in self.views if view.over] + [self.box(view) for view in self.views]
         drawn += [
-            f'<text x="{MARGIN}" y="{under + 18 * number}" font-size="{NOTE_SIZE}">{words}</text>' for number, words in enumerate(legend)
+            f'<text x="{MARGIN}" y="{under + 18 * number}" font-size="{NOTE_SIZE}">{words}</text>'
+            for number, words in enumerate(self.legend)
         ]
         return "\n".join([head, *drawn, "</svg>\n"])
 
 
-def svg(views, named, edges):
-    return Picture(views, named, edges).svg()
+def svg(views, named, edges, kind):
+    return Picture(views, named, edges, kind).svg()
 
 
 def drawn(words):
@@ -143,7 +146,9 @@ def drawn(words):
 def run(words):
     folder, listed = drawn(words)
     named, edges = notes(listed)
+    kind = told(shape_of(folder.views))
     if folder.views:
         for name, made in (("graph.dot", dot), ("graph.svg", svg)):
-            (folder.path / name).write_text(made(folder.views, named, edges))
+            (folder.path / name).write_text(made(folder.views, named, edges, kind))
+    print(kind)
     return DONE

@@ -5,6 +5,8 @@ A line that goes past a level has a place of its own in that level's row, as if 
 
 from typing import NamedTuple
 
+from ..kinds import levels, shape_of
+
 GAP, LINE_WIDTH, SWEEPS = 24, 10, 8
 
 
@@ -14,14 +16,6 @@ class Passing(NamedTuple):
     child: str
     over: str
     level: int
-
-
-def levels(views):
-    """How many views stand below each one on the longest way down."""
-    found = {}
-    for view in views:
-        found[view.name] = 1 + max(map(found.get, view.over)) if view.over else 0
-    return found
 
 
 def settled(wanted, least):
@@ -45,7 +39,8 @@ class Layers:
     """The rows, from the base views up, and the middle of each member. `widths` has each view's width."""
 
     def __init__(self, views, widths):
-        self.levels, self.widths = levels(views), widths
+        self.levels = {view.name: level for view, level in zip(views, levels(shape_of(views)))}
+        self.widths = widths
         self.rows = [[] for _ in range(1 + max(self.levels.values()))]
         self.below, self.above, self.ways = {}, {}, {}
         for view in views:

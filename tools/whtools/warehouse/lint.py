@@ -1,7 +1,8 @@
-"""`lint`: all that is wrong in a folder, a line each, warnings too."""
+"""`lint`: all that is wrong in a folder, a line each, warnings too; and of what kind its shape is."""
 
 import sys
 
+from ..kinds import shape_of, told
 from .folder import Folder
 from .given_sizes import GivenSizes
 from .limits import after, sizes_after
@@ -24,4 +25,6 @@ def run(words):
     findings += after(sizes_after(folder))
     for finding in sorted(findings):
         print(finding, file=sys.stderr)
+    if not any(not finding.warns for finding in folder.catalogue.findings):
+        print(told(shape_of(folder.views)))
     return DONE if all(finding.warns for finding in findings) else BAD_INPUT

@@ -1,21 +1,33 @@
-"""Sizes of a folder's views for a night: given, from the last report, or measured by a night that changes nothing."""
+"""Sizes of a folder's views for a night: given, from the last report, or measured by a night that changes nothing; and their weights,
+given or proposed."""
 
+import csv
+import io
 import sys
 
 from ..bundle import unpack
+from ..sizes import ROWS, WITH_WEIGHTS
 from . import program
 from .finding import Failure
 from .folder import sound
 from .given_sizes import FILE, GivenSizes
 from .status import BAD_INPUT, DONE
 from .strategy import at_once, written
+from .weights import proposed
 
-HEADER = "view,pre,post,change"
+HEADER = ",".join(ROWS)
 
 
 def sized(rows):
-    """The part of sizes, of a view's numbers by its name."""
-    return "".join(f"{line}\n" for line in [HEADER, *(f"{name},{pre},{post},{change}" for name, (pre, post, change) in rows.items())])
+    """The part of sizes, of a view's numbers by its name: three of rows and, where they have one, the weight."""
+    header = WITH_WEIGHTS[: 1 + max(map(len, rows.values()), default=3)]
+    return "".join(f"{','.join(map(str, cells))}\n" for cells in [header, *((name, *numbers) for name, numbers in rows.items())])
+
+
+def of_text(text):
+    """A view's numbers by its name, of the text of sizes, which has no fault."""
+    records = list(filter(None, csv.reader(io.StringIO(text, newline=""))))
+    return {name: tuple(map(int, numbers)) for name, *numbers in records[1:]}
 
 
 def base_sizes(folder):
@@ -30,9 +42,8 @@ def base_sizes(folder):
 
 
 def of_report(text):
-    """The sizes that a text ends with."""
-    lines = text.partition(f"{HEADER}\n")[2].splitlines()
-    return {name: tuple(map(int, numbers)) for name, *numbers in (line.split(",") for line in lines)}
+    """The sizes that a report ends with."""
+    return of_text(HEADER + "\n" + text.partition(f"{HEADER}\n")[2])
 
 
 def last_report(folder):
@@ -102,8 +113,8 @@ def given_text(folder):
     return file.read_bytes().decode() if file.is_file() else None
 
 
-def sizes_text(folder, words):
-    """The sizes' text, and from where it is."""
+def rows_text(folder, words):
+    """The sizes' text, with the weights that are given alone, and from where it is."""
     given = given_text(folder)
     if given is not None:
         return given, "given in sizes.csv"
@@ -111,6 +122,20 @@ def sizes_text(folder, words):
     if told is not None:
         return sized(told), "from the change files and the last report"
     return sized(measured(folder, words)), "measured by a night that is not kept"
+
+
+def weighed(text, folder, words):
+    """The text with the weights that are asked for, in the place of any that it has."""
+    if words.weights is None:
+        return text
+    weights = proposed(folder, words)
+    return sized({name: (*numbers[:3], weights[name]) for name, numbers in of_text(text).items()})
+
+
+def sizes_text(folder, words):
+    """The sizes' text, and from where it is."""
+    text, source = rows_text(folder, words)
+    return weighed(text, folder, words), source + (f"; weights by {words.weights}" if words.weights else "")
 
 
 def run(words):

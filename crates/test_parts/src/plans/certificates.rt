@@ -1,7 +1,8 @@
 //! Pair bounds, and certificates that are accepted or rejected at a line.
 
 use crate::plans::given::{
-    CYCLIC, CYCLIC_SIZES, Measured, SIX, SIX_SIZES, TWO_BASES, TWO_BASES_SIZES, given, listed,
+    CYCLIC, CYCLIC_SIZES, Measured, SHRINKING_SIZES, SIX, SIX_SIZES, TWO_BASES, TWO_BASES_SIZES,
+    given, given_weighed, listed,
 };
 use std::alloc::{AllocError, Global};
 use std::process::Abort;
@@ -84,6 +85,27 @@ fn certificates_over_two_bases_are_judged_as_worked_by_hand(rt: HostRuntime) -> 
             *verdict,
             "{name}"
         );
+    }
+    Ok(())
+}
+
+/// What is judged of a plan, by the weight of each row of A.
+static WEIGHED: [(u64, &str, Line, Verdict); 5] = [
+    (1, "V<B B V<A A V", (2, 1, 0, 107), Verdict::All),
+    (2, "V<B B V<A A V", (2, 1, 0, 107), Verdict::Rejected(1)),
+    (2, "V<A A V<B B V", (2, 0, 1, 116), Verdict::All),
+    (1, "V<A A V<B B V", (2, 0, 1, 116), Verdict::Rejected(1)),
+    (2, "V<B B V<A A V", (2, 0, 1, 116), Verdict::Rejected(0)),
+];
+
+#[test]
+fn a_plan_made_under_other_weights_is_rejected(rt: HostRuntime) -> Result<(), Fail> {
+    let alloc = rt.alloc();
+    for (weight, steps, line, verdict) in &WEIGHED {
+        let given = given_weighed(&rt, alloc, &SHRINKING_SIZES, &[*weight, 1, 1])?;
+        let correct = correct(&rt, alloc, &given.shape, steps)?;
+        let found = judged(&rt, alloc, &given, &correct, &[*line])?;
+        assert_eq!(rt; found, *verdict, "{steps} where A weighs {weight}");
     }
     Ok(())
 }

@@ -54,20 +54,33 @@ pub(crate) static SIX_SIZES: [(u64, u64, u64); 7] = [
     (5, 5, 1),
 ];
 
-/// Sizes from rows of pre, post and change.
-pub(crate) fn sized(
+/// A shrinks by 2 rows and B by 3, so that B comes first; where each row of A weighs 2, A does.
+pub(crate) static SHRINKING_SIZES: [(u64, u64, u64); 3] = [(10, 8, 2), (100, 97, 3), (50, 50, 0)];
+
+/// Sizes from rows of pre, post and change, and what the rows of each view weigh.
+pub(crate) fn weighed(
     alloc: Global,
     rows: &[(u64, u64, u64)],
+    weights: &[u64],
 ) -> Result<Result<Sizes, OutOfRange>, AllocError> {
     let mut all = Vec::new(alloc);
-    for (pre, post, change) in rows {
+    for ((pre, post, change), weight) in rows.iter().zip(weights) {
         all.push(SizeRow {
             pre: *pre,
             post: *post,
             change: *change,
+            weight: *weight,
         })?;
     }
     Ok(Sizes::new(all))
+}
+
+/// Sizes from rows of pre, post and change, of at most 64 views, each row weighing 1.
+pub(crate) fn sized(
+    alloc: Global,
+    rows: &[(u64, u64, u64)],
+) -> Result<Result<Sizes, OutOfRange>, AllocError> {
+    weighed(alloc, rows, &[1; 64])
 }
 
 /// A shape with the sizes of its views.
@@ -77,7 +90,7 @@ pub(crate) struct Measured {
     pub(crate) sizes: Sizes,
 }
 
-/// These views with these sizes.
+/// These views with these sizes, each row weighing 1.
 pub(crate) fn given(
     rt: &impl Abort,
     alloc: Global,
@@ -86,6 +99,18 @@ pub(crate) fn given(
 ) -> Result<Measured, ShapeFault> {
     let shape = shaped(alloc, views)?;
     let sizes = sized(alloc, rows)?.expect(rt, "sizes");
+    Ok(Measured { shape, sizes })
+}
+
+/// V over A and B with these sizes, the rows of A, B and V weighing so much.
+pub(crate) fn given_weighed(
+    rt: &impl Abort,
+    alloc: Global,
+    rows: &[(u64, u64, u64)],
+    weights: &[u64],
+) -> Result<Measured, ShapeFault> {
+    let shape = shaped(alloc, &TWO_BASES)?;
+    let sizes = weighed(alloc, rows, weights)?.expect(rt, "sizes");
     Ok(Measured { shape, sizes })
 }
 

@@ -1,8 +1,8 @@
 //! Plans of least work: which list is found, and which cycle.
 
 use crate::plans::given::{
-    CYCLIC, CYCLIC_SIZES, Measured, SIX, SIX_SIZES, TIED_SIZES, TWO_BASES, TWO_BASES_SIZES, given,
-    sized, written,
+    CYCLIC, CYCLIC_SIZES, Measured, SHRINKING_SIZES, SIX, SIX_SIZES, TIED_SIZES, TWO_BASES,
+    TWO_BASES_SIZES, given, given_weighed, sized, written,
 };
 use std::alloc::{AllocError, Global};
 use std::process::Abort;
@@ -17,11 +17,9 @@ use wh_strategy::Costs;
 fn planned(
     rt: &impl Abort,
     alloc: Global,
-    views: &[(&str, &str)],
-    rows: &[(u64, u64, u64)],
+    given: &Measured,
 ) -> Result<(String, u128, Vec<PairMin>), Fail> {
-    let given = given(rt, alloc, views, rows)?;
-    match asked(rt, alloc, &given) {
+    match asked(rt, alloc, given) {
         Ok(plan) => Ok(told(rt, alloc, &given.shape, plan)?),
         Err(MinFault::Cyclic(cycle)) => {
             Ok((written(alloc, &given.shape, &cycle)?, 0, Vec::new(alloc)))
@@ -68,7 +66,8 @@ fn is_planned(
     wanted: (&str, u128, usize, u128),
 ) -> Result<(), Fail> {
     let (list, work, lines, least) = wanted;
-    let (found, found_work, pairs) = planned(rt, alloc, views, rows)?;
+    let given = given(rt, alloc, views, rows)?;
+    let (found, found_work, pairs) = planned(rt, alloc, &given)?;
     assert_eq!(rt; found.as_str(), list);
     assert_eq!(rt; found_work, work);
     assert_eq!(rt; pairs.len(), lines);
@@ -97,16 +96,42 @@ fn a_cycle_goes_back_from_the_smallest_node_that_is_left(rt: HostRuntime) -> Res
     is_planned(&rt, alloc, &CYCLIC, &TIED_SIZES, cycle)
 }
 
+/// A line of the pair that V is over.
+fn line_of_v(first: usize, second: usize, least: u128) -> PairMin {
+    PairMin {
+        parent: 2,
+        first,
+        second,
+        least,
+    }
+}
+
 #[test]
 fn a_line_names_the_view_that_is_installed_first(rt: HostRuntime) -> Result<(), Fail> {
-    let (_, _, pairs) = planned(&rt, rt.alloc(), &TWO_BASES, &TWO_BASES_SIZES)?;
-    let line = PairMin {
-        parent: 2,
-        first: 1,
-        second: 0,
-        least: 80,
-    };
-    assert_eq!(rt; pairs.as_slice(), [line].as_slice());
+    let alloc = rt.alloc();
+    let given = given(&rt, alloc, &TWO_BASES, &TWO_BASES_SIZES)?;
+    let (_, _, pairs) = planned(&rt, alloc, &given)?;
+    assert_eq!(rt; pairs.as_slice(), [line_of_v(1, 0, 80)].as_slice());
+    Ok(())
+}
+
+/// By the weight of each row of A, the list, the work, and the pair's order and minimum.
+static WEIGHED: [(u64, &str, u128, (usize, usize, u128)); 2] = [
+    (1, "V<B B V<A A V", 117, (1, 0, 107)),
+    (2, "V<A A V<B B V", 130, (0, 1, 116)),
+];
+
+#[test]
+fn weights_change_the_order(rt: HostRuntime) -> Result<(), Fail> {
+    let alloc = rt.alloc();
+    for (weight, list, work, (first, second, least)) in &WEIGHED {
+        let given = given_weighed(&rt, alloc, &SHRINKING_SIZES, &[*weight, 1, 1])?;
+        let (found, found_work, pairs) = planned(&rt, alloc, &given)?;
+        assert_eq!(rt; found.as_str(), *list);
+        assert_eq!(rt; found_work, *work);
+        let line = line_of_v(*first, *second, *least);
+        assert_eq!(rt; pairs.as_slice(), [line].as_slice());
+    }
     Ok(())
 }
 

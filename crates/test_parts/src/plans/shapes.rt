@@ -75,6 +75,39 @@ fn parents_follow_the_views(rt: HostRuntime) -> Result<(), Fail> {
 }
 
 #[test]
+fn shape_kinds_follow_the_views(rt: HostRuntime) -> Result<(), Fail> {
+    let alloc = rt.alloc();
+    for (views, kind) in [
+        (
+            [("a", "-"), ("b", "-"), ("v", "a b")].as_slice(),
+            "tree, uniform",
+        ),
+        (
+            &[("b", "-"), ("c", "-"), ("v1", "b c"), ("v2", "b v1")],
+            "neither",
+        ),
+        (
+            &[("a", "-"), ("b", "-"), ("v", "a b"), ("w", "a b")],
+            "uniform",
+        ),
+        (&[("p", "-"), ("s", "-"), ("q", "p"), ("r", "q s")], "tree"),
+    ] {
+        assert_eq!(rt; kind_of(&shaped(alloc, views)?), kind);
+    }
+    Ok(())
+}
+
+/// What a shape is, in words.
+fn kind_of(shape: &Shape) -> &'static str {
+    match (shape.is_tree(), shape.is_uniform()) {
+        (true, true) => "tree, uniform",
+        (true, false) => "tree",
+        (false, true) => "uniform",
+        (false, false) => "neither",
+    }
+}
+
+#[test]
 fn a_name_of_two_views_means_the_first(rt: HostRuntime) -> Result<(), Fail> {
     // View 1 is over "a", which view 0 is; that view 2 is "a" again comes to light in its own turn.
     tells(

@@ -1,7 +1,8 @@
 //! Which rule a list breaks and where, what it costs, and which sizes are refused.
 
 use crate::plans::given::{
-    Measured, SIX, SIX_SIZES, TWO_BASES, TWO_BASES_SIZES, given, listed, sized,
+    Measured, SIX, SIX_SIZES, TWO_BASES, TWO_BASES_SIZES, given, given_weighed, listed, sized,
+    weighed,
 };
 use std::alloc::{AllocError, Global};
 use std::process::Abort;
@@ -86,6 +87,16 @@ fn lists_over_two_bases_are_judged_as_worked_by_hand(rt: HostRuntime) -> Result<
     Ok(())
 }
 
+// Each row of A weighs 10, so A counts as 100 rows, then 120, of which 40 change: 130 + 30 + 110 + 40 + 6.
+#[test]
+fn weighted_work(rt: HostRuntime) -> Result<(), Fail> {
+    let alloc = rt.alloc();
+    let given = given_weighed(&rt, alloc, &TWO_BASES_SIZES, &[10, 1, 1])?;
+    let verdict = judged(&rt, alloc, &given, "V<B B V<A A V")?;
+    assert_eq!(rt; verdict, Verdict::Work(316));
+    Ok(())
+}
+
 static CHAIN: [(&str, &str); 3] = [("A", "-"), ("V", "A"), ("W", "V")];
 
 static CHAIN_SIZES: [(u64, u64, u64); 3] = [(10, 10, 1), (10, 10, 1), (10, 10, 1)];
@@ -146,6 +157,24 @@ fn sizes_too_far_apart(rt: HostRuntime) -> Result<(), Fail> {
     refuses(&rt, alloc, &[(10, 15, 5), (15, 9, 5)], Some(OutOfRange(1)))?;
     refuses(&rt, alloc, &[(most + 1, most, 1)], Some(OutOfRange(0)))?;
     refuses(&rt, alloc, &[(most, most, most), (0, most, most)], None)?;
+    Ok(())
+}
+
+// The limit is that of the rows, whatever they weigh.
+#[test]
+fn weights_from_1_to_1000(rt: HostRuntime) -> Result<(), Fail> {
+    let alloc = rt.alloc();
+    let most = 1 << 40;
+    let full = [(most, most, most)];
+    assert_eq!(rt; weighed(alloc, &full, &[0])?.err(), Some(OutOfRange(0)));
+    assert_eq!(rt; weighed(alloc, &full, &[1])?.err(), None);
+    assert_eq!(rt; weighed(alloc, &full, &[1_000])?.err(), None);
+    assert_eq!(rt; weighed(alloc, &full, &[1_001])?.err(), Some(OutOfRange(0)));
+    let above = [(10, 15, 5), (most + 1, most, 1)];
+    assert_eq!(rt;
+        weighed(alloc, &above, &[1_000, 1])?.err(),
+        Some(OutOfRange(1))
+    );
     Ok(())
 }
 

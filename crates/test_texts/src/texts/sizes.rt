@@ -1,4 +1,4 @@
-// Sizes: the rows of bases A and B and of V over both, and of texts with two faults the first.
+// Sizes: the rows of bases A and B and of V over both, with weights and without, and of texts with two faults the first.
 
 use crate::texts::cases::{Reads, agree, fault_line, two_children};
 use std::alloc::{AllocError, Global};
@@ -6,24 +6,24 @@ use wh_load::read_sizes;
 use wh_strategy::{SizeRow, Sizes};
 
 // Rows under the header.
-const ROWS: &str = "10 12 4
-100 70 30
-50 44 6
+const ROWS: &str = "10 12 4 1
+100 70 30 1
+50 44 6 1
 ----
 A,10,12,4
 B,100,70,30
 V,50,44,6
 ====
-10 12 4
-100 70 30
-50 44 6
+10 12 4 1
+100 70 30 1
+50 44 6 1
 ----
 V,50,44,6
 A,10,12,4
 B,100,70,30====
-10 12 4
-100 70 30
-50 44 6
+10 12 4 1
+100 70 30 1
+50 44 6 1
 ----
 
 
@@ -33,17 +33,17 @@ V,50,44,6\r
 A,10,12,4\r
 
 ====
-10 12 4
-100 70 30
-50 44 6
+10 12 4 1
+100 70 30 1
+50 44 6 1
 ----
 \"B\",\"100\",70,30
 V,+50,044,+006
 A,10,12,4
 ====
-0 1099511627776 1099511627776
-1099511627776 0 1099511627776
-0 0 0
+0 1099511627776 1099511627776 1
+1099511627776 0 1099511627776 1
+0 0 0 1
 ----
 A,0,1099511627776,1099511627776
 B,1099511627776,0,1099511627776
@@ -230,6 +230,160 @@ A,1,1,0
 B,1
 ";
 
+// Rows under the header with weights.
+const WEIGHTED: &str = "10 12 4 10
+100 70 30 1
+50 44 6 1
+----
+A,10,12,4,10
+B,100,70,30,1
+V,50,44,6,1
+====
+10 12 4 7
+100 70 30 1
+50 44 6 1000
+----
+V,50,44,6,+1000
+\"B\",100,70,30,\"01\"
+A,10,12,4,007\r
+====
+0 1099511627776 1099511627776 1000
+1099511627776 0 1099511627776 1000
+0 0 0 1000
+----
+A,0,1099511627776,1099511627776,1000
+B,1099511627776,0,1099511627776,1000
+V,0,0,0,1000
+====
+8 fault sizes A
+----
+A,1,1,0,0
+====
+8 fault sizes A
+----
+A,1,1,0,-0
+====
+8 fault sizes A
+----
+A,1,1,0,1001
+====
+8 fault sizes A
+----
+A,1,1,0,-1
+====
+8 fault sizes A
+----
+A,1,1,0,-9223372036854775808
+====
+8 fault sizes A
+----
+A,1,1,0,9223372036854775807
+====
+6 fault number 2
+----
+A,1,1,0,9223372036854775808
+====
+6 fault number 2
+----
+A,1,1,0,x
+====
+6 fault number 2
+----
+A,1,1,0,
+====
+6 fault number 2
+----
+A,1,1,0,1.5
+====
+8 fault sizes A
+----
+A,1099511627777,1,1,1
+====
+8 fault sizes A
+----
+A,10,15,4,2
+====
+5 fault csv 2
+----
+A,1,1,0
+====
+5 fault csv 2
+----
+A,1,1,0,1,1
+====
+8 fault sizes B
+----
+A,1,1,0,1
+B,1,1,0,0
+====
+6 fault number 3
+----
+A,1,1,0,1
+B,1,1,0,x
+====
+8 fault sizes V
+----
+A,1,1,0,1
+B,1,1,0,2
+====
+8 fault sizes A
+----
+";
+
+// The same with two faults: record by record its form, the name, the numbers and the weight's among them, then the ranges.
+const TWO_FAULTS_WEIGHTED: &str = "6 fault number 2
+----
+A,1099511627777,1,1,x
+====
+6 fault number 2
+----
+A,10,15,4,x
+====
+6 fault number 2
+----
+A,x,1,0,0
+====
+6 fault number 2
+----
+A,1,1,x,1001
+====
+8 fault sizes A
+----
+A,10,15,4,0
+====
+8 fault sizes A
+----
+A,1099511627777,1,1,0
+====
+8 fault sizes C
+----
+C,1,1,0,x
+====
+8 fault sizes A
+----
+A,1,1,0,1
+A,1,1,0,x
+====
+5 fault csv 2
+----
+C,1,1,x
+====
+5 fault csv 3
+----
+A,1,1,0,1
+B,1,1,0
+====
+8 fault sizes B
+----
+B,1,1,0,0
+C,1,1,0,x
+====
+6 fault number 2
+----
+A,1,1,0,x
+B,1,1,0,0
+";
+
 // Whole parts; the header is judged first.
 const HEADERS: &str = "7 fault header
 ----
@@ -246,7 +400,37 @@ A,1
 ====
 7 fault header
 ----
-view,pre,post,change,weight
+view,pre,post,change,
+====
+7 fault header
+----
+view,pre,post,change,weights
+====
+7 fault header
+----
+view,pre,post,change,Weight
+====
+7 fault header
+----
+view,pre,post,change,weight,weight
+====
+7 fault header
+----
+view,pre,post,weight,change
+A,1,1,1,0
+====
+7 fault header
+----
+view,pre,post,weight
+A,1,1,1
+====
+7 fault header
+----
+weight,view,pre,post,change
+====
+7 fault header
+----
+weight
 ====
 7 fault header
 ----
@@ -272,14 +456,32 @@ view, pre,post,change
 view,pre,post,change
 A,1
 ====
-1 1 0
-2 2 0
-3 3 0
+8 fault sizes A
+----
+view,\"pre\",post,change,\"weight\"
+====
+5 fault csv 2
+----
+view,pre,post,change,weight
+A,1,1,0
+====
+1 1 0 1
+2 2 0 1
+3 3 0 1
 ----
 \u{ef}\u{bb}\u{bf}view,pre,post,change
 A,1,1,0
 B,2,2,0
 V,3,3,0
+====
+1 1 0 3
+2 2 0 2
+3 3 0 1
+----
+\u{ef}\u{bb}\u{bf}view,pre,post,change,weight\r
+A,1,1,0,3
+B,2,2,0,2
+V,3,3,0,1
 ====
 5 fault csv 1
 ----
@@ -297,12 +499,17 @@ view,pre,post,change
 C,x,1,\u{c3}
 ";
 
-/// A line for each view: its rows before, after and of the change.
+/// A line for each view: its rows before, after and of the change, and the weight of each.
 fn size_line(alloc: Global, sizes: &Sizes) -> Result<String, AllocError> {
     let mut line = String::new(alloc);
     for view in 0..sizes.len() {
-        let SizeRow { pre, post, change } = sizes.row(view);
-        line.push_str(format!(in alloc; "{pre} {post} {change}\n")?.as_str())?;
+        let SizeRow {
+            pre,
+            post,
+            change,
+            weight,
+        } = sizes.row(view);
+        line.push_str(format!(in alloc; "{pre} {post} {change} {weight}\n")?.as_str())?;
     }
     Ok(line)
 }
@@ -328,6 +535,18 @@ fn the_rows_of_sizes_are_read_or_their_fault_is_told(rt: HostRuntime) -> Result<
 fn of_two_faults_of_sizes_the_first_is_told(rt: HostRuntime) -> Result<(), AllocError> {
     let header = "view,pre,post,change\n";
     agree(&rt, rt.alloc(), Reads::Sizes, header, TWO_FAULTS)
+}
+
+#[test]
+fn weights_are_read_or_their_fault_is_told(rt: HostRuntime) -> Result<(), AllocError> {
+    let header = "view,pre,post,change,weight\n";
+    agree(&rt, rt.alloc(), Reads::Sizes, header, WEIGHTED)
+}
+
+#[test]
+fn of_two_faults_of_weighted_sizes_the_first_is_told(rt: HostRuntime) -> Result<(), AllocError> {
+    let header = "view,pre,post,change,weight\n";
+    agree(&rt, rt.alloc(), Reads::Sizes, header, TWO_FAULTS_WEIGHTED)
 }
 
 #[test]

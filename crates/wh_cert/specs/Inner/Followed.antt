@@ -2,7 +2,7 @@
 use Rattle.std.specs.Prelude.{◌≡◌, ◌≢◌, ℕ, ◌<◌, List, length, map, filter, take, slice_get, true, false}
 use Rattle.wh_dag.specs.Siblings.{is_sibling_pair}
 use Rattle.wh_dag.specs.declared.siblings.SiblingPair.{SiblingPair}
-use Rattle.wh_strategy.specs.Sizes.{Size}
+use Rattle.wh_strategy.specs.declared.sizes.Size.{Size}
 use Rattle.wh_cert.specs.Certificate.{line_of}
 use Rattle.wh_cert.specs.declared.certificate.PairMin.{PairMin}
 use Rattle.wh_cert.specs.declared.lines.Followed.{Followed}

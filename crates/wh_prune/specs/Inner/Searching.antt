@@ -6,7 +6,7 @@ use Rattle.wh_dag.specs.declared.siblings.Couple.{Couple}
 use Rattle.wh_strategy.specs.declared.expression.Expression.{Expression}
 use Rattle.wh_strategy.specs.Prices.{Prices}
 use Rattle.wh_strategy.specs.Rules.{IsCorrect, IsOneWay}
-use Rattle.wh_strategy.specs.Sizes.{Size}
+use Rattle.wh_strategy.specs.declared.sizes.Size.{Size}
 use Rattle.wh_strategy.specs.Work.{work_of}
 use Rattle.wh_cert.specs.Graph.{decides}
 use Rattle.wh_cert.specs.Search.{IsGoodNode, nodes_below}

@@ -9,6 +9,6 @@ abbrev pub invariant-loop-view : goal.invariant-loop-view
 invariant-loop-view l = record {
   rows : l.rows ≡ sum_below (λ v. rows_by (decided_value (sizes_of l.sizes) l.decisions) (sizes_of l.sizes) (children_of l.shape.children v)) l.view;
   changes : l.changes ≡ sum_below (λ v. (sizes_of l.sizes v).change) l.view;
-  small : l.rows ≤ l.view * 2 ^ 48;
-  low : l.changes ≤ l.view * 2 ^ 40;
+  small : l.rows ≤ l.view * 2 ^ 58;
+  low : l.changes ≤ l.view * 2 ^ 50;
 }

@@ -8,6 +8,6 @@ abbrev pub invariant-loop-i : goal.invariant-loop-i
 invariant-loop-i l = record {
   changes : l.changes ≡ sum_by (λ u. (sizes_of l.sizes u).change) (take l.i l.children);
   pairs : l.values + sum_pairs (decided_value (sizes_of l.sizes) l.decided) (drop l.i l.children) ≡ sum_pairs (decided_value (sizes_of l.sizes) l.decided) l.children;
-  low : l.changes ≤ l.i * 2 ^ 40;
-  small : l.values ≤ l.i * 2 ^ 44;
+  low : l.changes ≤ l.i * 2 ^ 50;
+  small : l.values ≤ l.i * 2 ^ 54;
 }

@@ -1,5 +1,6 @@
 use Rattle.wh_strategy.specs.Sizes.{sizes_of}
-use Rattle.wh_cert.proofs.Least.{sizes_grow_within, pair_bound-le_work}
+use Rattle.wh_cert.proofs.Least.{pair_bound-le_work}
+use Rattle.wh_cert.proofs.WeighedSizes.{sizes_grow_within}
 use Rattle.wh_cert.proofs.bound.no_strategy_is_below_the_bound.Goals as goal
 
 pub returns : goal.returns

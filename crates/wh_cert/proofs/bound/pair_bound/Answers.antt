@@ -2,7 +2,8 @@ use Rattle.std.proofs.Common.{◌≤◌, sym, subst}
 use Rattle.wh_strategy.specs.Prices.{prices_of}
 use Rattle.wh_strategy.specs.Sizes.{sizes_of}
 use Rattle.wh_strategy.specs.Work.{work_of}
-use Rattle.wh_cert.proofs.Least.{sizes_grow_within, pair_bound-le_work}
+use Rattle.wh_cert.proofs.Least.{pair_bound-le_work}
+use Rattle.wh_cert.proofs.WeighedSizes.{sizes_grow_within}
 use Rattle.wh_cert.proofs.bound.pair_bound.Goals as goal
 
 pub returns-clause-least : goal.returns-clause-least

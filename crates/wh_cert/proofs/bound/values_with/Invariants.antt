@@ -7,5 +7,5 @@ use Rattle.wh_cert.proofs.bound.values_with.Given as goal
 abbrev pub invariant-loop-other : goal.invariant-loop-other
 invariant-loop-other l = record {
   sum : l.total ≡ sum_by (decided_value (sizes_of l.sizes) l.decided l.view) (take l.other-index l.others);
-  small : l.total ≤ l.other-index * 2 ^ 41;
+  small : l.total ≤ l.other-index * 2 ^ 51;
 }

@@ -1,41 +1,37 @@
-use Rattle.std.proofs.Common.{rules, ◌≡◌, refl, sym, ap, subst, ◌∙◌, ℕ, [], length, None, ◌⊎◌, inl, inr, ⊎_elim}
+use Rattle.std.proofs.Common.{rules, refl, sym, ap, subst, ◌∙◌, ℕ, length, None, inl, inr, ⊎_elim}
 use Rattle.wh_strategy.specs.Rules.{IsCorrect}
 use Rattle.wh_maint.specs.Asked.{AreBags}
 use Rattle.wh_maint.specs.Comp.{bag_at}
 use Rattle.wh_maint.specs.Contents.{AreContentsOf}
 use Rattle.wh_maint.specs.Definition.{graph_of}
 use Rattle.wh_maint.specs.Laws.{changed}
-use Rattle.wh_maint.specs.declared.fault.MaintFault.{MaintFault}
-use Rattle.wh_maint.specs.declared.fault.MaintFault.TheVariants.{Absent, Large, Memory, Range}
-use Rattle.wh_store.specs.Ledgers.{Ledger, ledger}
 use Rattle.wh_carry.specs.Kept.{kept}
 use Rattle.wh_carry.specs.Refused.{AreAllowedBelow, IsBaseFault}
 use Rattle.wh_carry.specs.Steps.{AreSteps}
 use Rattle.wh_carry.proofs.NewValues.{ends_in_contents}
 use Rattle.wh_carry.proofs.Nights.{steps_end, tables_end}
 use Rattle.wh_carry.proofs.Parts.{stages_in}
-use Rattle.wh_night.specs.Refusals.{IsFirstStageFault}
-use Rattle.wh_carry.specs.Night.{AreAllowed}
 use Rattle.wh_night.specs.Tonight.{made_by}
 use Rattle.wh_night.specs.Inner.Underway.{night_given}
 use Rattle.wh_night.proofs.Beginnings.{begins, given_over}
+use Rattle.wh_night.proofs.StageByStage.{first_fault}
 use Rattle.wh_night.proofs.alone.night_alone.Goals as goal
-
--- nothing is published before it
-abbrev nothing : Ledger
-nothing = ledger (record { limit = 0; opening = [] }) [] None
-
--- want of memory, or for pages of any size
-memory_or : (fault : MaintFault) (P : ℕ → Type 0) → ((keys : ℕ) → (fault ≡ Memory) ⊎ P keys) → (fault ≡ Memory) ⊎ ((keys : ℕ) → P keys)
-memory_or Memory P h = inl refl
-memory_or (Large v) P h = inr (λ keys. ⊎_elim (λ (e : Large v ≡ Memory). cc) (λ p. p) (h keys))
-memory_or (Range v) P h = inr (λ keys. ⊎_elim (λ (e : Range v ≡ Memory). cc) (λ p. p) (h keys))
-memory_or (Absent v row) P h = inr (λ keys. ⊎_elim (λ (e : Absent v row ≡ Memory). cc) (λ p. p) (h keys))
 
 pub through-requires-clause-stages : goal.through-requires-clause-stages
 through-requires-clause-stages g c κs within =
     let ok : IsCorrect c.args.catalog.now.views.children c.args.correct.now.list = subst (λ shape. IsCorrect shape c.args.correct.now.list) c.requires.judged c.strategy.ensures.rules in
     stages_in c.args.catalog.now c.args.correct.now.list ok c.as_slice.result.now (c.as_slice.ensures.value ∙ c.in-Ok-waves.ensures.stages)
+
+pub through-requires-clause-begun : goal.through-requires-clause-begun
+through-requires-clause-begun g c κs within =
+    let cat = c.args.catalog.now in
+    let list = c.args.correct.now.list in
+    let ok : IsCorrect cat.views.children list = subst (λ shape. IsCorrect shape list) c.requires.judged c.strategy.ensures.rules in
+    record {
+      given = given_over list c.args.tables.items c.args.changes.now None;
+      fit = record { are = c.as_slice.ensures.value ∙ c.in-Ok-waves.ensures.stages; fit = tt };
+      at = record { come = begins cat list c.args.tables.items c.args.changes.now None 1 (kept c.in-Ok.state) _ c.new.ensures.items c.in-Ok.ensures.parts.catalogue ok c.in-Ok.ensures.first; out = refl };
+    }
 
 pub returns-in-Ok-through-clause-carried : goal.returns-in-Ok-through-clause-carried
 returns-in-Ok-through-clause-carried g c =
@@ -43,10 +39,10 @@ returns-in-Ok-through-clause-carried g c =
     let list = c.args.correct.now.list in
     let old = bag_at c.args.tables.items in
     let changes = bag_at c.args.changes.now in
-    let t = given_over list c.args.tables.items c.args.changes.now nothing in
+    let t = given_over list c.args.tables.items c.args.changes.now None in
     let ok : IsCorrect cat.views.children list = subst (λ shape. IsCorrect shape list) c.requires.judged c.strategy.ensures.rules in
-    let come = c.in-Ok-through.ensures.goes 1 t (c.as_slice.ensures.value ∙ c.in-Ok-waves.ensures.stages)
-    (begins cat list c.args.tables.items c.args.changes.now nothing 1 (kept c.in-Ok.state) _ c.new.ensures.items c.in-Ok.ensures.parts.catalogue ok c.in-Ok.ensures.first) in
+    let come = (c.in-Ok-through.ensures.goes t (c.as_slice.ensures.value ∙ c.in-Ok-waves.ensures.stages)
+    (record { come = begins cat list c.args.tables.items c.args.changes.now None 1 (kept c.in-Ok.state) _ c.new.ensures.items c.in-Ok.ensures.parts.catalogue ok c.in-Ok.ensures.first; out = refl })).come in
     let no_fault : AreAllowedBelow cat old changes (length cat.views.children) = search rules in
     let new = c.through.new.progress in
     let become = λ (v : ℕ). tables_end cat list old changes come.stands.catalogue come.stands.correct (length list) (kept new.state) refl come.stands.agrees v in
@@ -71,7 +67,8 @@ returns-clause-refused g c =
     let list = c.args.correct.now.list in
     let ok : IsCorrect cat.views.children list = subst (λ shape. IsCorrect shape list) c.requires.judged c.strategy.ensures.rules in
     let allowed : AreAllowedBelow cat (bag_at c.args.tables.items) (bag_at c.args.changes.now) (length cat.views.children) = search rules in
-    let t = given_over list c.args.tables.items c.args.changes.now nothing in
-    let stops = λ (keys : ℕ). c.in-Err-through.ensures.stops keys (given_over list c.args.tables.items c.args.changes.now nothing) (c.as_slice.ensures.value ∙ c.in-Ok-waves.ensures.stages)
-    (begins cat list c.args.tables.items c.args.changes.now nothing keys (kept c.in-Ok.state) _ c.new.ensures.items c.in-Ok.ensures.parts.catalogue ok c.in-Ok.ensures.first) in
-    memory_or c.in-Err-through.fault (λ keys. AreAllowed (night_given cat keys t) × IsFirstStageFault (night_given cat keys t) c.in-Err-through.fault) (λ keys. ⊎_elim (λ m. inl m) (λ f. inr (allowed, f)) (stops keys))
+    let t = given_over list c.args.tables.items c.args.changes.now None in
+    let fault = c.in-Err-through.fault in
+    let stops = c.in-Err-through.ensures.stops t (c.as_slice.ensures.value ∙ c.in-Ok-waves.ensures.stages)
+    (record { come = begins cat list c.args.tables.items c.args.changes.now None 1 (kept c.in-Ok.state) _ c.new.ensures.items c.in-Ok.ensures.parts.catalogue ok c.in-Ok.ensures.first; out = refl }) in
+    ⊎_elim (λ m. inl m) (λ f. inr (λ keys. (allowed, first_fault cat t 1 keys fault f))) stops

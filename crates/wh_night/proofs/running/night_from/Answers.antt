@@ -1,4 +1,4 @@
-use Rattle.std.proofs.Common.{◌≡◌, refl, sym, ap, subst, ◌∙◌, ℕ, List, [], length, inr, arith}
+use Rattle.std.proofs.Common.{◌≡◌, refl, sym, ap, subst, ◌∙◌, ℕ, List, [], length, Some, inr, arith}
 use Rattle.wh_dag.specs.Catalog.{CatalogOf}
 use Rattle.wh_row.specs.Bag.{Bag}
 use Rattle.wh_strategy.specs.declared.expression.Expression.{Expression}
@@ -43,7 +43,7 @@ module _ (g : Over) (c : In-Ok-waves g) where
   night = tonight c.args.catalog.now c.args.correct.now.list l changes c.args.options.page_keys
 
   abbrev given : Given
-  given = given_over c.args.correct.now.list newest changes l
+  given = given_over c.args.correct.now.list newest changes (Some l)
 
   ok : IsCorrect c.args.catalog.now.views.children c.args.correct.now.list
   ok = subst (λ shape. IsCorrect shape c.args.correct.now.list) c.requires.judged c.strategy.ensures.rules
@@ -55,7 +55,7 @@ module _ (g : Over) (c : In-Ok-waves g) where
   allowed = subst (λ ts. AreAllowedBelow c.args.catalog.now (bag_at ts) (bag_at changes) (length c.args.catalog.now.views.children)) (c.deref.ensures.value ∙ c.requires.current) c.in_default-base_changes.ensures.allowed
 
   come : (steps : List (Expression × ℕ)) → steps ≡ [] → HasCome night 0 (kept c.in-Ok.state) steps
-  come steps none = begins c.args.catalog.now c.args.correct.now.list newest changes l c.args.options.page_keys (kept c.in-Ok.state) steps none c.in-Ok.ensures.parts.catalogue ok first
+  come steps none = begins c.args.catalog.now c.args.correct.now.list newest changes (Some l) c.args.options.page_keys (kept c.in-Ok.state) steps none c.in-Ok.ensures.parts.catalogue ok first
 
 pub returns-in-Err-clause-refused : goal.returns-in-Err-clause-refused
 returns-in-Err-clause-refused g c =
@@ -88,8 +88,10 @@ run-answer-requires-clause-begins g c κs within =
       given = given g to;
       fit = record {
         are = c.as_slice.ensures.value ∙ c.in-Ok-waves.ensures.stages;
-        tables = record { each = c.requires.tables.each; are = λ v l. refl };
-        fit = c.requires.fit.later (allowed_for c.args.catalog.now (newest g to) c.args.changes.now c.requires.tables c.requires.changes (allowed g to));
+        fit = record {
+          tables = record { each = c.requires.tables.each; are = λ v l. refl };
+          fit = c.requires.fit.later (allowed_for c.args.catalog.now (newest g to) c.args.changes.now c.requires.tables c.requires.changes (allowed g to));
+        };
       };
       before = refl;
       come = come g to _ c.new.ensures.items;

@@ -9,6 +9,6 @@ use Rattle.wh_strategy.proofs.terms.work.Given as goal
 abbrev pub invariant-loop-place : goal.invariant-loop-place
 invariant-loop-place l = record {
   sum : l.total ≡ sum_below (cost_at l.children (sizes_of l.sizes) (prices_of l.costs) l.list) l.place;
-  small : l.total ≤ l.place * 2 ^ 69;
+  small : l.total ≤ l.place * 2 ^ 79;
   told : TellsInstalled l.installed.flags (take l.place l.list);
 }

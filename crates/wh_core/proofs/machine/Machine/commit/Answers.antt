@@ -31,7 +31,7 @@ returns c = λ s log is h.
     let m = c.args.self.now in
     let active : is_some m.store.draft ≡ true = search rules in
     let none = none_left m.place m.course.parts.items (omega arith) in
-    let over : turn s log ≡ Over = end_turn_here (night s log) (remaining s log) (drop m.place m.course.parts.items) m.course.stop m.drawn m.ended (goes_here s log m h active) none in
+    let over : turn s log ≡ Over = end_turn_here (night s log) (remaining s log) (drop m.place m.course.parts.items) m.course.stop m.drawn m.done (goes_here s log m h active) none in
     let next : c.number.result ≡ number (versions s log) + 1 = c.number.ensures ∙ ap (λ (w : Window). w.number) c.in-Ok.ensures.ok ∙ ap (λ n. n + 1) (number_here s log m h) in
     let r : IsReply s log event.Commit (reply.Version c.number.result) = subst (λ n. IsReply s log event.Commit (reply.Version n)) (sym next) (commits s log m h active none) in (
       record {

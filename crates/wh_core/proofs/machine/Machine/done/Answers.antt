@@ -56,7 +56,7 @@ returns-then-self-outcomes c = λ s log h.
     let os : List (Option MaintFault) = c.in-Some-outcomes_at.outcomes.now in
     let none : c.index-outcomes-job.result ≡ None = search rules in
     let own : slice_get os c.in-Some.job ≡ Some None = slice_get_read os (length os) c.in-Some.job c.index-outcomes-job.result refl (omega arith) c.index-outcomes-job.is ∙ ap Some none in
-    let more_left : m.ended + 1 < length os = let k = slice_get_within os c.in-Some.job None own in omega arith in
+    let more_left : m.done + 1 < length os = let k = slice_get_within os c.in-Some.job None own in omega arith in
     let r : IsReply s log (event.Done c.args.worker) reply.Done = job_done s log m h c.args.worker (omega arith) active os c.in-Some-outcomes_at.ensures c.in-Some.job held own more_left in (
       record {
         legal = more log (event.Done c.args.worker) reply.Done h.legal r;
@@ -68,7 +68,7 @@ returns-then-self-outcomes c = λ s log h.
         sessions = h.sessions;
         workers = search rules;
         holders = slot_set m.holders.items s.workers c.args.worker None (holding log) (omega arith) h.holders;
-        night = λ o. ended_one (night s log) (remaining s log) (drop m.place m.course.parts.items) m.course.stop m.drawn m.ended (goes_here s log m h active) os c.in-Some-outcomes_at.ensures more_left;
+        night = λ o. ended_one (night s log) (remaining s log) (drop m.place m.course.parts.items) m.course.stop m.drawn m.done (goes_here s log m h active) os c.in-Some-outcomes_at.ensures more_left;
       },
       r,
     )
@@ -82,7 +82,7 @@ returns-in-Some-hindrance c = λ s log h.
     let none : c.index-outcomes-job.result ≡ None = search rules in
     let own : slice_get os c.in-Some.job ≡ Some None = slice_get_read os (length os) c.in-Some.job c.index-outcomes-job.result refl (omega arith) c.index-outcomes-job.is ∙ ap Some none in
     let some = (here s log m h c.args.worker (omega arith) active os c.in-Some-outcomes_at.ensures c.in-Some.job held).some in
-    let lasts : m.ended + 1 ≡ length os = omega (arith, some) in (
+    let lasts : m.done + 1 ≡ length os = omega (arith, some) in (
       h,
       subst (λ k. IsReply s log (event.Done c.args.worker) (reply.Refused k)) (sym c.cause_of-in-Some-hindrance.ensures)
           (wave_stopped s log m h c.args.worker (omega arith) active os c.in-Some-outcomes_at.ensures c.in-Some.job held own lasts c.in-Some-hindrance.fault.now (drop_one m.place m.course.parts.items ∙ c.in-Some-hindrance.ensures.0) c.in-Some-hindrance.ensures.1),
@@ -98,7 +98,7 @@ returns c = λ s log h.
     let none : c.index-outcomes-job.result ≡ None = search rules in
     let own : slice_get os c.in-Some.job ≡ Some None = slice_get_read os (length os) c.in-Some.job c.index-outcomes-job.result refl (omega arith) c.index-outcomes-job.is ∙ ap Some none in
     let some = (here s log m h c.args.worker (omega arith) active os c.in-Some-outcomes_at.ensures c.in-Some.job held).some in
-    let lasts : m.ended + 1 ≡ length os = omega (arith, some) in
+    let lasts : m.done + 1 ≡ length os = omega (arith, some) in
     let on : (drop 1 (drop m.place m.course.parts.items) ≢ []) ⊎ (m.course.stop ≡ None) = ⊎_elim (λ no. inl (λ e. no (sym (drop_one m.place m.course.parts.items) ∙ e))) (λ e. inr e) c.in_default-hindrance.ensures in
     let r : IsReply s log (event.Done c.args.worker) reply.Done = wave_done s log m h c.args.worker (omega arith) active os c.in-Some-outcomes_at.ensures c.in-Some.job held own lasts on in (
       subst (Stands s (Finished c.args.worker ∷ log)) (sym c.turn_over.ensures) (record {
@@ -112,7 +112,7 @@ returns c = λ s log h.
         workers = search rules;
         holders = slot_set m.holders.items s.workers c.args.worker None (holding log) (omega arith) h.holders;
         night = λ o. subst (λ parts. AreLeft (night s log) (after_done (remaining s log)) parts m.course.stop 0 0) (drop_one m.place m.course.parts.items)
-            (wave_over (night s log) (remaining s log) (drop m.place m.course.parts.items) m.course.stop m.drawn m.ended (goes_here s log m h active) os c.in-Some-outcomes_at.ensures lasts
+            (wave_over (night s log) (remaining s log) (drop m.place m.course.parts.items) m.course.stop m.drawn m.done (goes_here s log m h active) os c.in-Some-outcomes_at.ensures lasts
             (all_passed s log m h c.args.worker (omega arith) active os c.in-Some-outcomes_at.ensures c.in-Some.job held own lasts) on);
       }),
       r,

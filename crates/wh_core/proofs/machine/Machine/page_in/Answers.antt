@@ -87,7 +87,7 @@ returns c = λ s log h.
         holders = h.holders;
         night = λ o. subst (λ n. AreLeft n (after_page (remaining_in n log)) (drop (m.place + 1) m.course.parts.items) m.course.stop 0 0) (sym (night-paged s log))
             (subst (λ parts. AreLeft (night s log) (after_page (remaining s log)) parts m.course.stop 0 0) (drop_one m.place m.course.parts.items)
-            (page_over (night s log) (remaining s log) (drop m.place m.course.parts.items) m.course.stop m.drawn m.ended (goes_here s log m h active) op first on));
+            (page_over (night s log) (remaining s log) (drop m.place m.course.parts.items) m.course.stop m.drawn m.done (goes_here s log m h active) op first on));
       }),
       r,
     )

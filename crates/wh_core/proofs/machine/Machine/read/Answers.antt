@@ -1,15 +1,15 @@
-use Rattle.std.proofs.Common.{rules, ◌∷◌, ◌≡◌, refl, sym, ap, subst, ◌∙◌, ℕ, ◌<◌, length, not, Bool, true, false, Option, Some, None, inl, inr, arith}
+use Rattle.std.proofs.Common.{rules, [], ◌∷◌, ◌≡◌, ◌≢◌, refl, sym, ap, subst, ◌∙◌, ℕ, ◌<◌, length, not, Bool, true, false, Option, Some, None, inl, inr, arith}
 use Rattle.std.specs.Prelude.{is_none, option_map, ◌==◌, ◌||◌, nat_lt}
-use Rattle.wh_store.specs.Pages.{page_of}
-use Rattle.wh_store.specs.Versions.{table_of, version}
-use Rattle.wh_store.specs.Windows.{unexpired}
+use Rattle.wh_store.specs.Pages.{Shown, page_of}
+use Rattle.wh_store.specs.Versions.{table_in, table_of, version}
+use Rattle.wh_store.specs.Windows.{kept_version, unexpired}
 use Rattle.wh_core.specs.declared.event.Event.TheVariants as event
 use Rattle.wh_core.specs.declared.reply.Cause.TheVariants as cause
 use Rattle.wh_core.specs.declared.reply.Reply.TheVariants as reply
 use Rattle.wh_core.specs.declared.session.Seat.{Seat}
 use Rattle.wh_core.specs.Log.{SessionOf, bookmark_after, session}
 use Rattle.wh_core.specs.Nights.{published, versions}
-use Rattle.wh_core.specs.Replies.{IsReply, more}
+use Rattle.wh_core.specs.Replies.{IsReply, goes_on, more}
 use Rattle.wh_core.specs.Standing.{session_of}
 use Rattle.wh_core.proofs.Seats.{seat_set, seated, shown, turned, wrong_limit}
 use Rattle.wh_core.proofs.machine.Machine.read.Goals as goal
@@ -30,7 +30,15 @@ returns-in_default-visible c = λ s log h.
     let alive : unexpired m.store c.in-Some.seat.version ≡ true = search rules in
     let views = c.views.ensures.of_list s.opening (published s log) h.shows in
     let right : (c.args.limit == 0) || nat_lt 256 c.args.limit ≡ false = search rules in
-    (h, shown s log m h c.args.desk c.args.view c.args.limit (session_of c.in-Some.seat) (omega arith) seat alive (omega (arith, views)) (reply.Refused cause.Memory) right (inr refl))
+    let kept : kept_version m.store c.in-Some.seat.version ≡ version (versions s log) c.in-Some.seat.version = (c.told_law.ensures m.store s.opening (published s log) h.shows).contents c.in-Some.seat.version alive in
+    let same : page_of (table_in (kept_version m.store c.in-Some.seat.version) c.args.view) (option_map (λ row. row.now) c.goes_on-after.result) c.args.limit
+    ≡ page_of (table_of (versions s log) c.in-Some.seat.version c.args.view) (goes_on c.args.view (session_of c.in-Some.seat).bookmark) c.args.limit =
+    ap (λ contents. page_of (table_in contents c.args.view) (option_map (λ row. row.now) c.goes_on-after.result) c.args.limit) kept
+    ∙ ap (λ a. page_of (table_of (versions s log) c.in-Some.seat.version c.args.view) a c.args.limit) c.goes_on-after.ensures in (
+      h,
+      shown s log m h c.args.desk c.args.view c.args.limit (session_of c.in-Some.seat) (omega arith) seat alive (omega (arith, views)) (reply.Refused cause.Memory) right
+          (inr (subst (λ (page : Shown). page.rows ≢ []) same c.in_default-visible.ensures.memory, refl)),
+    )
 
 pub returns-in_default-mark_after : goal.returns-in_default-mark_after
 returns-in_default-mark_after c = λ s log h.
@@ -39,7 +47,11 @@ returns-in_default-mark_after c = λ s log h.
     let alive : unexpired m.store c.in-Some.seat.version ≡ true = search rules in
     let views = c.views.ensures.of_list s.opening (published s log) h.shows in
     let right : (c.args.limit == 0) || nat_lt 256 c.args.limit ≡ false = search rules in
-    (h, shown s log m h c.args.desk c.args.view c.args.limit (session_of c.in-Some.seat) (omega arith) seat alive (omega (arith, views)) (reply.Refused cause.Memory) right (inr refl))
+    let page = c.in-Ok.ensures.of_list s.opening (published s log) h.shows ∙ ap (λ a. page_of (table_of (versions s log) c.in-Some.seat.version c.args.view) a c.args.limit) c.goes_on-after.ensures in (
+      h,
+      shown s log m h c.args.desk c.args.view c.args.limit (session_of c.in-Some.seat) (omega arith) seat alive (omega (arith, views)) (reply.Refused cause.Memory) right
+          (inr (subst (λ (page : Shown). page.rows ≢ []) page c.in_default-mark_after.ensures.memory, refl)),
+    )
 
 pub returns : goal.returns
 unfolding published
@@ -54,7 +66,7 @@ returns c = λ s log h.
     let r : IsReply s log (event.Read c.args.desk c.args.view c.args.limit) (reply.Page c.in-Ok.page) =
     shown s log m h c.args.desk c.args.view c.args.limit of (omega arith) seat alive (omega (arith, views)) (reply.Page c.in-Ok.page) right (inl (ap reply.Page page)) in
     let new : Seat = record { version = c.in-Some.seat.version; mark = c.in-Ok-mark_after.mark } in
-    let left : session_of new ≡ record { version = of.version; bookmark = bookmark_after c.args.view c.in-Ok.page } = ap (λ b. record { version = of.version; bookmark = b }) c.in-Ok-mark_after.ensures in (
+    let left : session_of new ≡ record { version = of.version; bookmark = bookmark_after c.args.view c.in-Ok.page } = ap (λ b. record { version = of.version; bookmark = b }) c.in-Ok-mark_after.ensures.mark in (
       record {
         legal = more log (event.Read c.args.desk c.args.view c.args.limit) (reply.Page c.in-Ok.page) h.legal r;
         shows = h.shows;

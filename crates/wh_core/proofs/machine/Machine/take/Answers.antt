@@ -32,7 +32,7 @@ returns-in_default c = λ s log h.
     let no = c.in_default.ensures in (
       h,
       take_here s log m h c.args.worker _ (omega arith) active (onward (is_some (holding log c.args.worker)) cause.Busy _ _ (ap is_some held ∙ none)
-          (no_wave (night s log) (remaining s log) (drop m.place m.course.parts.items) m.course.stop m.drawn m.ended (goes_here s log m h active) no)),
+          (no_wave (night s log) (remaining s log) (drop m.place m.course.parts.items) m.course.stop m.drawn m.done (goes_here s log m h active) no)),
     )
 
 pub returns-then-self-outcomes : goal.returns-then-self-outcomes
@@ -43,7 +43,7 @@ returns-then-self-outcomes c = λ s log h.
     let none : is_some c.index.result.now ≡ false = search rules in
     let g = goes_here s log m h active in
     let os = c.in-Some.outcomes.now in
-    let t = wave_turn_here (night s log) (remaining s log) (drop m.place m.course.parts.items) m.course.stop m.drawn m.ended g os c.in-Some.ensures in (
+    let t = wave_turn_here (night s log) (remaining s log) (drop m.place m.course.parts.items) m.course.stop m.drawn m.done g os c.in-Some.ensures in (
       h,
       take_here s log m h c.args.worker _ (omega arith) active (onward (is_some (holding log c.args.worker)) cause.Busy _ _ (ap is_some held ∙ none)
           (subst (λ t. IsRuled (take_ruling t) (reply.Refused cause.NoJob)) (sym t) (refuse (nat_le (length os) m.drawn) cause.NoJob _ (le_true (length os) m.drawn (omega arith))))),
@@ -59,7 +59,7 @@ returns c = λ s log h.
     let g = goes_here s log m h active in
     let os = c.in-Some.outcomes.now in
     let l : m.drawn < length os = omega arith in
-    let t = wave_turn_here (night s log) (remaining s log) (drop m.place m.course.parts.items) m.course.stop m.drawn m.ended g os c.in-Some.ensures in
+    let t = wave_turn_here (night s log) (remaining s log) (drop m.place m.course.parts.items) m.course.stop m.drawn m.done g os c.in-Some.ensures in
     let r : IsReply s log (event.Take c.args.worker) (reply.Job m.drawn) =
     take_here s log m h c.args.worker _ (omega arith) active (onward (is_some (holding log c.args.worker)) cause.Busy _ _ (ap is_some held ∙ none)
     (subst (λ t. IsRuled (take_ruling t) (reply.Job m.drawn)) (sym t) (onward (nat_le (length os) m.drawn) cause.NoJob (Says (reply.Job m.drawn)) _ (le_false (length os) m.drawn l) refl))) in (
@@ -73,7 +73,7 @@ returns c = λ s log h.
         sessions = h.sessions;
         workers = search rules;
         holders = slot_set m.holders.items s.workers c.args.worker (Some m.drawn) (holding log) (omega arith) h.holders;
-        night = λ o. drew (night s log) (remaining s log) (drop m.place m.course.parts.items) m.course.stop m.drawn m.ended g os c.in-Some.ensures l;
+        night = λ o. drew (night s log) (remaining s log) (drop m.place m.course.parts.items) m.course.stop m.drawn m.done g os c.in-Some.ensures l;
       },
       r,
     )

@@ -1,0 +1,111 @@
+"""Tests of the model of plans: sizes and weights as they are read, and what the bundles are answered, whose answers are worked out by
+hand; and the kinds of shapes."""
+
+import re
+import tomllib
+import unittest
+
+from whtools import kinds
+from whtools.bundle import parts_of
+from whtools.cases.sizes import texts
+from whtools.examples import examples
+from whtools.planner import Planner
+from whtools.plans import Plan
+from whtools.sizes import BadSizes, part_of, sizes_in
+
+EXAMPLES = {example.name: example for example in examples()}
+SHAPES = {
+    "one_way_check": ([[], [], [0, 1]], True, True),
+    "plan_one_way": ([[], [], [0, 1], [0, 2]], False, False),
+    "each of two joined views over both bases": ([[], [], [0, 1], [0, 1]], False, True),
+    "P, S, Q over P, R over Q and S": ([[], [], [0], [2, 1]], True, False),
+}
+
+
+def names_and_over(catalogue):
+    views = tomllib.loads("\n".join(catalogue))["view"]
+    names = [view["name"] for view in views]
+    return names, [[names.index(name) for name in view.get("over", [])] for view in views]
+
+
+def numbered(text, names):
+    """A text with v0, v1 and so on for the names of views."""
+    return re.sub(r"\w+", lambda word: f"v{names.index(word[0])}" if word[0] in names else word[0], text)
+
+
+class Modelled(unittest.TestCase):
+    def planner(self, name):
+        """The catalogue and sizes of a bundle, and its other parts and its answer with the views' numbers for their names."""
+        once, nights = parts_of(EXAMPLES[name].bundle.decode())
+        names, over = names_and_over(once["catalogue"])
+        lines = {part: numbered("\n".join(once.get(part, nights[0].get(part, []))) + "\n", names) for part in ("strategy", "plan")}
+        return Planner(over, sizes_in(once["sizes"], names), 1, 1), lines, numbered(EXAMPLES[name].answer.decode(), names)
+
+    def test_work_by_hand(self):
+        for name in ("one_way_check", "both_children_at_once", "weighted_work", "six_children", "the_largest_sizes_and_weights"):
+            with self.subTest(name=name):
+                planner, lines, answer = self.planner(name)
+                steps = Plan(f"scope all\nwork 0\n{lines['strategy']}").steps
+                self.assertEqual(f"correct\nwork {planner.work_of(steps)}\nstatus 0\n", answer)
+
+    def test_plans_by_hand(self):
+        names = [name for name, example in EXAMPLES.items() if example.words == ["plan"] and example.answer.startswith(b"scope")]
+        self.assertGreater(len(names), 6)
+        for name in names:
+            with self.subTest(name=name):
+                planner, _, answer = self.planner(name)
+                text, status = planner.planned(2**20)
+                ours, wanted = Plan(text), Plan(answer.partition("status")[0])
+                self.assertEqual((ours.scope, ours.work, status), (wanted.scope, wanted.work, 0))
+                self.assertEqual(planner.verdict(wanted)[1], 0)
+
+    def test_the_order_that_weights_change(self):
+        for name in ("plan_weights_change_the_order", "plan_the_order_without_weights", "plan_weights_of_one"):
+            with self.subTest(name=name):
+                planner, _, answer = self.planner(name)
+                text, status = planner.planned(1)
+                self.assertEqual(f"{text}status {status}\n", answer)
+
+    def test_verdicts_by_hand(self):
+        for name in ("pairs", "another_minimum", "another_work", "with_weights", "under_other_weights", "weights_of_these_pairs",
+                     "weights_of_other_pairs", "tree", "full_tree", "bound_alone", "a_cycle_alone", "a_branch_twice"):  # fmt: skip
+            with self.subTest(name=name):
+                planner, lines, answer = self.planner(f"certify_{name}")
+                text, status = planner.verdict(Plan(lines["plan"]))
+                self.assertEqual(f"{text}status {status}\n", answer)
+
+    def test_kinds_by_hand(self):
+        for name, (over, is_tree, is_uniform) in SHAPES.items():
+            with self.subTest(name=name):
+                self.assertEqual((kinds.is_tree(over), kinds.is_uniform(over)), (is_tree, is_uniform))
+                if name in EXAMPLES:
+                    self.assertEqual(self.planner(name)[0].over, over)
+
+
+class Sizes(unittest.TestCase):
+    def test_each_case_as_it_is_told(self):
+        for what, bundle, text, status in texts():
+            with self.subTest(what=what):
+                lines = parts_of(bundle)[0]["sizes"]
+                try:
+                    sizes = sizes_in(lines, ["A", "B"])
+                    planner = Planner([[], []], sizes, 1, 1)
+                    self.assertEqual((f"correct\nwork {planner.work_of([(0, None), (1, None)])}\n", 0), (text, status))
+                except BadSizes as fault:
+                    self.assertEqual((f"{fault}\n", 3), (text, status))
+
+    def test_the_bundles_with_a_fault(self):
+        told = 0
+        for example in EXAMPLES.values():
+            once = parts_of(example.bundle.decode(errors="replace"))[0] if b"\n@sizes\n" in example.bundle else {}
+            is_of_sizes = re.match(rb"fault (header|csv|number|sizes)", example.answer) and example.words[0] in ("check", "plan")
+            if is_of_sizes and "catalogue" in once:
+                told += 1
+                with self.subTest(name=example.name), self.assertRaises(BadSizes) as fault:
+                    sizes_in(once["sizes"], names_and_over(once["catalogue"])[0])
+                self.assertEqual(f"{fault.exception}\nstatus 3\n", example.answer.decode())
+        self.assertGreater(told, 15)
+
+    def test_what_is_written_is_read(self):
+        for sizes in ([(1, 2, 3), (0, 0, 0)], [(1, 2, 3, 1), (0, 0, 0, 1000)]):
+            self.assertEqual(sizes_in(part_of("AB", sizes).splitlines()[1:], "AB"), sizes)

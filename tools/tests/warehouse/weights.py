@@ -1,0 +1,159 @@
+"""Weights of a folder: given, judged and proposed; and what its shape is told to be."""
+
+import shutil
+import subprocess
+import sys
+from fractions import Fraction
+from types import SimpleNamespace
+
+from whtools.bundle import parts_of
+from whtools.cases.sizes import texts
+from whtools.kinds import told
+from whtools.warehouse import weights
+from whtools.warehouse.explain import Step
+from whtools.warehouse.given_sizes import GivenSizes
+
+from .shop import SIZES, TOOLS, Shop
+
+# A row of orders weighs 3, one of sales 5, and one of each other view 1.
+WEIGHTED = (
+    SIZES.replace("change\n", "change,weight\n").replace("5,7,2\n", "5,7,2,3\n").replace("7,9,6\n", "7,9,6,1\n").replace("3,4,3\n", "3,4,3,1\n")
+    .replace("sales,7,9,8\n", "sales,7,9,8,5\n").replace("6,8,8\n", "6,8,8,1\n").replace("4,6,8\n", "4,6,8,1\n")
+)  # fmt: skip
+SEEN = "".join(f"1,{document},{100000 + 10 * document + visit}\n" for document in range(10, 16) for visit in range(10))
+UNIFORM, NEITHER = "the shape is uniform: no plan needs a search", "the shape is neither a tree nor uniform: a plan may need a search"
+NIGHT = "comp seen from documents: 104\ninst documents: 4\ncomp seen from visits: 16\ninst visits: 10\ninst seen: 40\nwork 174\nversion 1\n"
+
+
+class Weights(Shop):
+    def printed(self, *words):
+        """What a command prints, and the lines on standard error."""
+        command = [sys.executable, TOOLS / "warehouse", words[0], self.folder, *words[1:], "--program", self.program]
+        ran = subprocess.run(command, capture_output=True, text=True, check=True)
+        return ran.stdout.splitlines(), ran.stderr.splitlines()
+
+    def test_weights_that_are_given(self):
+        (self.folder / "sizes.csv").write_text(WEIGHTED)
+        self.assertEqual(self.printed("sizes"), (WEIGHTED.splitlines(), ["sizes given in sizes.csv"]))
+        self.assertEqual(self.ran("lint"), (0, []))
+        steps = [line for line in self.printed("explain")[0] if not line.startswith(" ")]
+        # 2 changed orders of weight 3, 7 old lines and 3 old products; then the 8 changed sales of weight 5
+        self.assertEqual((steps[0], steps[8]), ("comp sales from orders: 12, by weight 16", "inst sales: 8, by weight 40"))
+
+    def test_weights_that_are_wrong(self):
+        wrong = WEIGHTED.replace("orders,5,7,2,3", "orders,5,7,2,0").replace("lines,7,9,6,1", "lines,7,9,6,1001")
+        wrong = wrong.replace("products,3,4,3,1", "product,3,4,3,x").replace("8,5\n", "8\n")
+        (self.folder / "sizes.csv").write_text(wrong)
+        told = [
+            'sizes.csv:2:1: "0" is not a weight, which is 1 to 1000',
+            'sizes.csv:3:1: "1001" is not a weight, which is 1 to 1000',
+            'sizes.csv:4:1: "x" is not a weight, which is 1 to 1000',
+            "sizes.csv:4:1: there is no view product; did you mean products?",
+            "sizes.csv:5:1: this record has 4 cells and the header has 5",
+            "sizes.csv:8:1: products has no record",
+            "sizes.csv:8:1: sales has no record",
+        ]
+        self.assertEqual(self.ran("lint"), (3, told))
+        self.assertEqual(self.ran("plan")[0], 3)
+
+    def test_a_finding_exactly_where_the_program_has_a_fault(self):
+        views = [SimpleNamespace(name=name) for name in "AB"]
+        for what, bundle, _, status in texts():
+            with self.subTest(what=what):
+                (self.folder / "sizes.csv").write_text("\n".join([*parts_of(bundle)[0]["sizes"], ""]))
+                self.assertEqual(bool(GivenSizes(self.folder, views).findings), status == 3)
+
+    def test_headers_that_are_none(self):
+        right = "view,pre,post,change or view,pre,post,change,weight"
+        for header in ("view,pre,post,weight,change", "view,pre,post,change,weight,cost"):
+            with self.subTest(header=header):
+                (self.folder / "sizes.csv").write_text(WEIGHTED.replace("view,pre,post,change,weight", header))
+                self.assertEqual(self.ran("lint"), (3, [f"sizes.csv:1:1: the header is {right}; it is {header}"]))
+
+    def test_a_row_weighs_as_many_as_it_has_cells(self):
+        (self.folder / "sizes.csv").write_text(WEIGHTED)
+        text, source = self.printed("sizes", "--weights", "cells")
+        self.assertEqual(source, ["sizes given in sizes.csv; weights by cells"])
+        cells = [("orders", 3), ("lines", 3), ("products", 2), ("sales", 5), ("daily_by_product", 5), ("daily_by_region", 4)]
+        rows = [line.split(",") for line in SIZES.splitlines()]
+        self.assertEqual(text, [",".join([*rows[0], "weight"]), *(f"{','.join(row)},{n}" for row, (_, n) in zip(rows[1:], cells))])
+
+    def test_a_row_weighs_as_its_bytes_beside_those_of_the_narrowest(self):
+        shutil.rmtree(self.folder)
+        shutil.copytree(TOOLS.parent / "examples/documents", self.folder)
+        self.answers(f"{NIGHT}view seen\n#,document,visitor\n{SEEN}".encode(), 0)
+        text, source = self.printed("sizes", "--weights", "bytes")
+        self.assertEqual(source, ["sizes measured by a night that is not kept; weights by bytes"])
+        # the program that stands here answers every night alike, so seen has the same rows before
+        self.assertEqual(text[1:], ["documents,10,6,4,20", "visits,100,90,10,1", "seen,60,60,40,1"])
+        self.assertEqual(self.printed("sizes")[0][1:], ["documents,10,6,4", "visits,100,90,10", "seen,60,60,40"])
+        self.assertEqual(self.ran("night", "--commit"), (0, []))
+        self.answers(b"", 0)
+        text, source = self.printed("sizes", "--weights", "bytes")
+        self.assertEqual([line.rpartition(",")[2] for line in text[1:]], ["20", "1", "1"])
+        self.assertEqual(source, ["sizes from the change files and the last report; weights by bytes"])
+
+    def test_means_are_scaled_to_the_nearest_and_at_most_a_thousand(self):
+        means = {"a": Fraction(10), "b": Fraction(14), "c": Fraction(15), "d": Fraction(9999), "e": Fraction(99999), "f": 0}
+        self.assertEqual(weights.scaled(means), {"a": 1, "b": 1, "c": 2, "d": 1000, "e": 1000, "f": 1})
+        self.assertEqual(weights.scaled({"a": 0, "b": 0}), {"a": 1, "b": 1})
+        self.assertEqual(weights.scaled({}), {})
+
+    def test_a_row_is_measured_as_csv_writes_it(self):
+        rows = weights.rows_of(b'#,x,y\n3,1,"a,""b"\n1,1,\xc3\xa9\n')
+        # 1,"a,""b" and a line end are 10 bytes, and 1 with a letter of two bytes 5
+        self.assertEqual(weights.mean(rows), Fraction(3 * 10 + 5, 4))
+
+    def test_words_that_mean_nothing(self):
+        self.assertEqual(self.ran("sizes", "--weights", "byte"), (2, ["--weights is cells or bytes, and not 'byte'; did you mean bytes?"]))
+        self.assertEqual(self.ran("lint", "--weights", "cells"), (2, ["lint has no option --weights"]))
+
+    def test_a_report_has_rows_alone(self):
+        self.program.write_text(
+            f"#!/bin/sh\ncat >> {self.program}.bundle\ncase $1 in\nplan) printf 'scope all\\nwork 0\\n'; cat {self.folder}/strategy.kept;;\n"
+            f"certify) echo certified;;\n*) cat {self.program.parent}/answer;; esac\n"
+        )
+        (self.folder / "strategy.txt").rename(self.folder / "strategy.kept")
+        self.assertEqual(self.ran("night", "--weights", "cells")[0], 0)
+        report = (self.folder / "new/report.txt").read_text()
+        self.assertIn("; weights by cells: certified\n", report)
+        self.assertIn("\nview,pre,post,change\norders,5,7,2\n", report)
+        self.assertIn(b"@sizes\nview,pre,post,change,weight\norders,5,7,2,3\n", (self.program.parent / "program.bundle").read_bytes())
+
+
+class Kinds(Shop):
+    def test_what_a_shape_is_told_to_be(self):
+        command = [sys.executable, TOOLS / "warehouse", "lint", self.folder]
+        more = '[[view]]\nname = "more"\nover = ["orders", "sales"]\njoin = [["orders.id", "sales.pieces"]]\ngroup = []\ncount = "n"\n'
+        ran = subprocess.run(command, capture_output=True, text=True, check=True)
+        self.assertEqual((ran.stdout, ran.stderr), (f"{UNIFORM}\n", ""))
+        with (self.folder / "catalogue.toml").open("a") as catalogue:
+            catalogue.write(more)
+        ran = subprocess.run(command, capture_output=True, text=True)
+        self.assertEqual(ran.stdout, f"{NEITHER}\n")
+        self.edit("catalogue.toml", 'over = ["orders", "sales"]', 'over = ["orders", "sale"]')
+        ran = subprocess.run(command, capture_output=True, text=True)
+        self.assertEqual((ran.stdout, ran.returncode), ("", 3))
+
+    def test_the_words_for_each_kind(self):
+        self.assertEqual(told([[], [], [0, 1]]), "the shape is a tree and uniform: no plan needs a search")
+        self.assertEqual(told([[], [], [0], [2, 1]]), "the shape is a tree: no plan needs a search")
+        self.assertEqual(told([[], [], [0, 1], [0, 1]]), UNIFORM)
+        self.assertEqual(told([[], [], [0, 1], [0, 2]]), NEITHER)
+
+    def test_a_graph_says_it_too(self):
+        (self.folder / "sizes.csv").write_text(SIZES)
+        command = [sys.executable, TOOLS / "warehouse", "graph", self.folder, "--program", self.program]
+        ran = subprocess.run(command, capture_output=True, text=True, check=True)
+        self.assertEqual(ran.stdout, f"{UNIFORM}\n")
+        self.assertIn(f'  label="{UNIFORM}";\n', (self.folder / "graph.dot").read_text())
+        self.assertIn(">The shape is uniform: no plan needs a search.<", (self.folder / "graph.svg").read_text())
+
+
+class Explained(Shop):
+    def test_a_comp_from_two_views_counts_each_term_by_weight(self):
+        views = [SimpleNamespace(name="A", over=[]), SimpleNamespace(name="B", over=[]), SimpleNamespace(name="V", over=["A", "B"])]
+        strategy = SimpleNamespace(expressions=[("V", ["A", "B"])], views=views)
+        step = Step(strategy, 0, {"A": (10, 12, 4, 10), "B": (100, 70, 30, 1), "V": (50, 44, 6, 1)})
+        # changed A with old B, old A with changed B, and both changed: 104, 40 and 34 rows; 40 + 100, 100 + 30 and 40 + 30 by weight
+        self.assertEqual((step.rows(), step.work()), (178, 340))
