@@ -3,6 +3,7 @@ pub mod ReadLaws
 pub mod TouchLaws
 pub mod TableLaws
 pub mod RowLaws
+mod RunLaws
 pub mod OpeningLaws
 pub mod ShownLaws
 pub mod PageLaws

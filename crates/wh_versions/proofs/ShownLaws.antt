@@ -1,5 +1,5 @@
 -- What versions show once a night writes, is given up or begins.
-use Rattle.std.proofs.Common.{◌≡◌, refl, sym, ap, subst, ◌∙◌, ℕ, suc, ◌+◌, ◌-◌, ◌<◌, ◌≤◌, List, [], ◌∷◌, Bool, true, false, cond, Option, Some, None, ◌⊎◌, ⊎_elim, add-one, arith}
+use Rattle.std.proofs.Common.{◌≡◌, refl, sym, ap, subst, ◌∙◌, ℕ, suc, ◌+◌, ◌-◌, ◌<◌, ◌≤◌, List, [], ◌∷◌, Bool, true, false, cond, Option, Some, None, ⊎_elim, add-one, arith}
 use Rattle.std.specs.FinMap as fin
 use Rattle.wh_pieces.specs.Pieces.{found}
 use Rattle.wh_row.specs.Bag.{Bag, count, number, set_count}
@@ -9,7 +9,7 @@ use Rattle.wh_row.proofs.CountLaws.{count-set_count, same_bag}
 use Rattle.wh_versions.specs.Inner.Tables.{begun}
 use Rattle.wh_versions.specs.Laws.{TablesCount, EachPutIsShown, EachGivesUp, EachBeginKeeps, EachAddedIsUnseen}
 use Rattle.wh_versions.specs.Rows.{Pairs, read, with_pair, without_pair, AreFalling, ArePairs, is_unread}
-use Rattle.wh_versions.specs.Tables.{pairs_in, shown, table_at, is_given, added, written, given_up, IsBegun, MayBeAdded, with_counts}
+use Rattle.wh_versions.specs.Tables.{pairs_in, shown, table_at, is_given, added, written, given_up, IsBegun, with_counts}
 use Rattle.wh_versions.proofs.ReadLaws.{read_put, read_put_new, put_pairs, read_back, read_older, read_same}
 use Rattle.wh_versions.proofs.TableLaws.{unread_reads, begun_of}
 

@@ -1,5 +1,5 @@
 -- What holds of all views' rows, whatever a night does to them. Numbers of pairs fall, and there are at most n.
-use Rattle.std.specs.Prelude.{◌≡◌, ℕ, suc, ◌+◌, ◌-◌, ◌<◌, ◌≤◌, ℤ, pos, ◌↔◌, Option, Some, None, IsTrue}
+use Rattle.std.specs.Prelude.{◌≡◌, ℕ, suc, ◌+◌, ◌-◌, ◌<◌, ◌≤◌, ℤ, ◌↔◌, Some, None, IsTrue}
 use Rattle.wh_pieces.specs.Place.{AreRisingRows}
 use Rattle.wh_row.specs.Bag.{count, written as written_out}
 use Rattle.wh_row.specs.Row.{Row}

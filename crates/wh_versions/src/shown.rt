@@ -1,7 +1,9 @@
 //! What a version shows of the rows of a view.
 
-ghost use Rattle.std.specs.Prelude.{◌≡◌, ◌≢◌, [], take, length, nat_le, IfOk, OnErr};
+ghost use Rattle.std.specs.Prelude.{◌≡◌, ◌≢◌, ◌≤◌, ◌*◌, ◌++◌, ◌↔◌, [], take, length, nat_le, IsTrue, IfOk, OnOk, OnErr};
+ghost use Rattle.wh_pieces.specs.Flat.{flat};
 ghost use Rattle.wh_row.specs.Bag.{empty};
+ghost use Rattle.wh_versions.specs.Inner.Pages.{leading};
 ghost use Rattle.wh_versions.specs.Pages.{shown_of};
 ghost use Rattle.wh_versions.specs.Tables.{shown};
 
@@ -10,10 +12,13 @@ use std::alloc::{AllocError, Global};
 use wh_pieces::{Entries, Pieces};
 use wh_row::{Bag, BagFault, Records};
 
+/// How many rows are read at a time: time alone hangs on it.
+const RUN: usize = 64;
+
 /// The first of these rows that a version shows, at most so many, and whether it shows none after them.
 pub(crate) fn first_shown<const N: usize>(
     alloc: Global,
-    entries: Entries<'_, VersionRow<N>>,
+    mut entries: Entries<'_, VersionRow<N>>,
     version: u64,
     limit: usize,
 ) -> Result<(Records, bool), AllocError>
@@ -22,17 +27,70 @@ pub(crate) fn first_shown<const N: usize>(
     ensures memory { OnErr result (take limit (shown_of version entries.entry) ≢ []) }
 {
     let mut rows = Records::new(alloc);
-    for (row, pairs) in entries {
-        let count = pairs.read(version);
-        if count == 0 {
-            continue;
-        }
-        if rows.len() == limit {
-            return Ok((rows, false));
-        }
-        rows.push(row, count)?;
+    while rows.len() < limit {
+        let most = RUN.min(limit - rows.len());
+        let Some((width, cells, pairs)) = entries.run(most) else {
+            return Ok((rows, true));
+        };
+        add_shown(&mut rows, width, cells, pairs, version)?;
     }
-    Ok((rows, true))
+    Ok((rows, is_none_shown(entries, version)))
+}
+
+/// Adds those of a run's rows that a version shows.
+fn add_shown<const N: usize>(
+    rows: &mut Records,
+    width: usize,
+    cells: &[i64],
+    pairs: &[VersionRow<N>],
+    version: u64,
+) -> Result<(), AllocError>
+    requires even { length cells.now ≡ width * length pairs.now }
+    requires few { length pairs.now ≤ RUN }
+    ensures ok { OnOk result (rows.new ≡ rows.old ++ shown_of version (flat width cells.now pairs.now)) }
+    ensures memory { OnErr result (shown_of version (flat width cells.now pairs.now) ≢ []) }
+{
+    let mut counts = [0; RUN];
+    let mut from = 0;
+    while from < pairs.len() {
+        let to = from + read_leading(&mut counts, &pairs[from..], version);
+        rows.append(width, &cells[width * from..width * to], &counts[..to - from])?;
+        from = to + 1;
+    }
+    Ok(())
+}
+
+/// Reads what a version counts of the rows before the first that it does not show, and says how many these are.
+fn read_leading<const N: usize>(
+    counts: &mut [i64],
+    pairs: &[VersionRow<N>],
+    version: u64,
+) -> usize
+    requires { length pairs.now ≤ length counts.old }
+    ensures counts { take result counts.new ≡ leading version pairs.now }
+    ensures room { length counts.new ≡ length counts.old }
+    ensures few { result ≡ length (leading version pairs.now) }
+{
+    for place in 0..pairs.len() {
+        let count = pairs[place].read(version);
+        if count == 0 {
+            return place;
+        }
+        counts[place] = count;
+    }
+    pairs.len()
+}
+
+/// Whether a version shows none of these rows.
+fn is_none_shown<const N: usize>(entries: Entries<'_, VersionRow<N>>, version: u64) -> bool
+    ensures { IsTrue result ↔ (shown_of version entries.entry ≡ []) }
+{
+    for (_, pairs) in entries {
+        if pairs.read(version) != 0 {
+            return false;
+        }
+    }
+    true
 }
 
 /// The table that a version shows of rows.

@@ -1,5 +1,5 @@
 -- What only proofs and private contracts use. Pairs as they are stored, in places side by side.
-use Rattle.std.specs.Prelude.{◌≡◌, ℕ, zero, suc, ℤ, pos, negsuc, ◌≤ℤ◌, int_le, ◌&&◌, ◌==◌, Bool, true, false, cond, List, [], ◌∷◌}
+use Rattle.std.specs.Prelude.{◌≡◌, ℕ, zero, suc, ℤ, pos, negsuc, ◌≤ℤ◌, int_le, ◌&&◌, ◌==◌, Bool, false, cond, List, [], ◌∷◌}
 use Rattle.std.specs.Coded.{Coded, coded×, coded_ℕ, coded_ℤ, coded_list}
 use Rattle.std.specs.List.{AllByRecursion}
 use Rattle.wh_versions.specs.Rows.{Pairs}

@@ -1,17 +1,35 @@
-use Rattle.std.proofs.Common.{◌≡◌, ◌≢◌, ◌∷◌, ◌++◌, ◌∙◌, ap, sym, rules, pos, length}
-use Rattle.wh_pieces.specs.Row.{Row}
+use Rattle.std.proofs.Common.{◌++◌, List, length, sym, ap, ◌∙◌, arith, append_assoc, length-append}
+use Rattle.wh_pieces.specs.Flat.{flat}
+use Rattle.wh_pieces.proofs.FlatLaws.{length-flat}
+use Rattle.wh_row.specs.Weigh.{Counted}
 use Rattle.wh_versions.specs.Pages.{shown_of}
-use Rattle.wh_versions.specs.Rows.{Pairs, read}
-use Rattle.wh_versions.proofs.PageLaws.{told, page_lacks, taken}
+use Rattle.wh_versions.proofs.PageLaws.{told}
+use Rattle.wh_versions.proofs.RunLaws.{shown-append, shown_few, page_needs}
 use Rattle.wh_versions.proofs.shown.first_shown.Goals as goal
 
-pub returns-in_err-push-clause-memory : goal.returns-in_err-push-clause-memory
-returns-in_err-push-clause-memory g c =
+pub loop-rows-smaller : goal.loop-rows-smaller
+loop-rows-smaller g c =
+    let run = flat c.in-Some.width c.in-Some.cells.now c.in-Some.pairs.now in
+    let parts = ap (λ (xs : List _). length xs) c.in-Some.ensures.rows in
+    omega (arith, parts, length-append run c.run.new.self, length-flat c.in-Some.width c.in-Some.cells.now c.in-Some.pairs.now, c.in-Some.ensures.some)
+
+pub loop-rows-preserved : goal.loop-rows-preserved
+loop-rows-preserved g c =
     let s = c.args.version in
-    let e : Row × Pairs = (c.in-Some.row.now, c.in-Some.pairs) in
-    let rest = c.next.new.self in
-    let steps : c.loop-row.row-iterator ≡ e ∷ rest = c.in-Some.ensures.steps in
-    let counts : read s e.1 ≢ pos 0 = search rules in
-    let other : length c.loop-row.rows ≢ c.args.limit = search rules in
-    told (page_lacks c.args.limit c.loop-row.rows (shown_of s rest) (shown_of s c.args.entries) (e.0, read s e.1) c.loop-row.invariant.few other
-    (ap (λ es. c.loop-row.rows ++ es) (sym (ap (shown_of s) steps ∙ taken s e rest counts)) ∙ c.loop-row.invariant.so_far)) c.from_residual.result
+    let run = flat c.in-Some.width c.in-Some.cells.now c.in-Some.pairs.now in
+    let added = ap (λ (xs : Counted). length xs) c.in_ok-add_shown.ensures.ok ∙ length-append c.loop-rows.rows (shown_of s run) in
+    record {
+      few = omega (arith, added, shown_few s run, length-flat c.in-Some.width c.in-Some.cells.now c.in-Some.pairs.now, c.in-Some.ensures.few, c.len.ensures, c.len-in-loop-rows.ensures, c.loop-rows-test.true, c.min-most.ensures);
+      so_far = ap (λ (xs : Counted). xs ++ shown_of s c.run.new.self) c.in_ok-add_shown.ensures.ok
+          ∙ append_assoc c.loop-rows.rows (shown_of s run) (shown_of s c.run.new.self)
+          ∙ ap (λ (xs : Counted). c.loop-rows.rows ++ xs) (sym (ap (shown_of s) c.in-Some.ensures.rows ∙ shown-append s run c.run.new.self))
+          ∙ c.loop-rows.invariant.so_far;
+    }
+
+pub returns-in_err-add_shown-clause-memory : goal.returns-in_err-add_shown-clause-memory
+returns-in_err-add_shown-clause-memory g c =
+    let s = c.args.version in
+    let run = flat c.in-Some.width c.in-Some.cells.now c.in-Some.pairs.now in
+    let rest = ap (shown_of s) c.in-Some.ensures.rows ∙ shown-append s run c.run.new.self in
+    let all = ap (λ (xs : Counted). c.loop-rows.rows ++ xs) (sym rest) ∙ c.loop-rows.invariant.so_far in
+    told (page_needs c.args.limit c.loop-rows.rows (shown_of s run) (shown_of s c.run.new.self) (shown_of s c.args.entries) all c.in_err-add_shown.ensures.memory (omega (arith, c.loop-rows-test.true))) c.from_residual.result

@@ -1,6 +1,0 @@
-use Rattle.std.proofs.Common.{◌≡◌}
-use Rattle.wh_row.specs.Inner.Flat.{even_ends}
-use Rattle.wh_row.proofs.records.note_ends.Given as goal
-
-abbrev pub invariant-loop-row : goal.invariant-loop-row
-invariant-loop-row l = l.ends.items ≡ even_ends 0 l.width l.row
