@@ -107,6 +107,29 @@ fn assert_records(rt: &impl Abort, records: &Records, wanted: &[(&[i64], i64)]) 
 }
 
 #[test]
+fn runs_of_several_widths_are_appended(rt: HostRuntime) -> Result<(), Fail> {
+    let mut records = Records::new(rt.alloc());
+    records.append(2, &[1, 5, 2, 6], &[1, 3])?;
+    records.append(3, &[], &[])?;
+    records.append(2, &[3, 7], &[-1])?;
+    records.append(1, &[7, 8], &[2, 4])?;
+    records.append(0, &[], &[9])?;
+    assert_records(
+        &rt,
+        &records,
+        &[
+            (&[1, 5], 1),
+            (&[2, 6], 3),
+            (&[3, 7], -1),
+            (&[7], 2),
+            (&[8], 4),
+            (&[], 9),
+        ],
+    );
+    Ok(())
+}
+
+#[test]
 fn records_of_several_widths_stand_as_they_came(rt: HostRuntime) -> Result<(), Fail> {
     let wanted: [(&[i64], i64); 6] = [
         (&[], 4),

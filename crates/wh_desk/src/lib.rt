@@ -21,5 +21,5 @@ pub use chair::DeskFault;
 pub use desk::Desk;
 pub use history::Told;
 pub use laws::seen_versions_stay_law;
-pub use warehouse::{MAX_DESKS, OpenFault, open_warehouse};
+pub use warehouse::{MAX_DESKS, OpenFault, open_warehouse, open_with_copy};
 pub use writer::Writer;

@@ -73,10 +73,30 @@ pub fn open_warehouse<R: Wait>(
     ensures desks { IfOk result (λ r. length r.1.items ≡ desks) }
     ensures alike { IfOk result (λ r. All (λ d. d ≡ sitting (record { book = r.0.book; of = r.0.ledger.of; list = [] }) None) r.1.items) }
 {
-    let history = History::new(&store);
     let Ok(copy) = store.copy(alloc) else {
         return Err(OpenFault::Memory);
     };
+    open_with_copy(rt, alloc, store, copy, desks)
+}
+
+/// As [`open_warehouse`], over a store and a second one that shows the same, so that a caller may fill both at once.
+pub fn open_with_copy<R: Wait>(
+    rt: &R,
+    alloc: Global,
+    store: Store,
+    copy: Store,
+    desks: usize,
+) -> Result<(Writer, Vec<Desk>), OpenFault>
+    requires new { Shows store (current store) [] }
+    requires same { copy ≡ store }
+    requires limit { 2 ≤ store.limit }
+    requires least { 1 ≤ desks }
+    requires most { desks ≤ 16 }
+    ensures writer { IfOk result (λ r. r.0.ledger ≡ ledger (record { limit = store.limit; opening = current store }) [] None) }
+    ensures desks { IfOk result (λ r. length r.1.items ≡ desks) }
+    ensures alike { IfOk result (λ r. All (λ d. d ≡ sitting (record { book = r.0.book; of = r.0.ledger.of; list = [] }) None) r.1.items) }
+{
+    let history = History::new(&store);
     let first = Kept {
         store,
         front: history.told(),

@@ -12,9 +12,9 @@ ghost use Rattle.wh_carry.specs.Night.{Night};
 ghost use Rattle.wh_store.specs.Ledgers.{Warehouse};
 ghost use Rattle.wh_night.specs.Refusals.{IsRefused, IsRefusedSo, left_of};
 ghost use Rattle.wh_night.specs.Tonight.{newest_in, night_over};
-ghost use Rattle.wh_store.specs.Windows.{Shows, current};
+ghost use Rattle.wh_store.specs.Kept.{AreTables};
 ghost use Rattle.wh_night.specs.Serving.{rows_of};
-ghost use Rattle.wh_night.specs.Inner.Serving.{CanRun, IsReady, IsRun, IsSeated, IsServed, newly};
+ghost use Rattle.wh_night.specs.Inner.Serving.{CanRun, IsReady, IsRun, IsSeated, IsServed, newly, opened};
 
 use crate::alone::night_alone;
 use crate::cause::NightCause;
@@ -24,10 +24,10 @@ use crate::running::{Options, night_from};
 use crate::watch::Watch;
 use std::alloc::Global;
 use std::sync::Wait;
-use std::thread::{Threads, join_mut};
+use std::thread::{Threads, join, join_mut};
 use wh_carry::{Carried, CarryFault, Report};
 use wh_dag::Catalog;
-use wh_desk::{Desk, Writer, open_warehouse};
+use wh_desk::{Desk, Writer, open_with_copy};
 use wh_formula::{RowTest, RowValue};
 use wh_maint::MaintFault;
 use wh_row::Bag;
@@ -210,17 +210,47 @@ fn serve_none<F: RowTest, G: RowValue, W: Watch + Sync, R: Threads + Sync>(
     })
 }
 
-/// A night beside one reader at least, over a new store of these tables.
+/// A store of these tables, as version 0.
+fn store_of(alloc: Global, tables: &[Bag]) -> Option<Store>
+    requires { AreTables tables.now }
+    ensures { IfSome result (λ store. store ≡ opened tables.now) }
+{
+    match Store::new(alloc, tables, MIN_VERSIONS) {
+        Ok(store) => Some(store),
+        Err(_) => None,
+    }
+}
+
+/// Two stores of these tables, filled beside each other where a thread can be started.
+fn two_stores<R: Threads + Sync>(rt: &R, alloc: Global, tables: &[Bag]) -> Option<(Store, Store)>
+    requires { AreTables tables.now }
+    ensures first { IfSome result (λ stores. stores.0 ≡ opened tables.now) }
+    ensures second { IfSome result (λ stores. stores.1 ≡ opened tables.now) }
+{
+    let (first, second) = join(
+        rt,
+        move || -> Option<Store>
+            requires { AreTables tables.now }
+            ensures { IfSome result (λ store. store ≡ opened tables.now) }
+        { store_of(alloc, tables) },
+        move || -> Option<Store>
+            requires { AreTables tables.now }
+            ensures { IfSome result (λ store. store ≡ opened tables.now) }
+        { store_of(alloc, tables) },
+    );
+    Some((first?, second?))
+}
+
+/// A night beside one reader at least, over new stores of these tables.
 fn serve_some<F: RowTest, G: RowValue, W: Watch + Sync, R: Threads + Wait + Sync>(
     rt: &R,
     asked: &Asked<'_, F, G, W>,
-    store: Store,
+    stores: (Store, Store),
     tables: Vec<Bag>,
     readers: usize,
 ) -> Result<Served, CarryFault>
-    requires new { Shows store (current store) [] }
-    requires limit { store.limit ≡ 2 }
-    requires current { current store ≡ tables.items }
+    requires first { stores.0 ≡ opened tables.items }
+    requires second { stores.1 ≡ opened tables.items }
     requires ready { CanRun asked.now.catalog.now asked.now.correct.now (newly tables.items) asked.now.changes.now asked.now.options }
     requires least { 1 ≤ readers }
     requires most { readers ≤ 16 }
@@ -229,7 +259,8 @@ fn serve_some<F: RowTest, G: RowValue, W: Watch + Sync, R: Threads + Wait + Sync
     ensures refused { IfErr result (λ f. (f.fault ≡ Memory)
         ⊎ IsRefusedSo (night_over asked.now.catalog.now asked.now.correct.now.list tables.items asked.now.changes.now asked.now.options.page_keys) (left_of f.started) f.fault) }
 {
-    let Ok((mut writer, mut desks)) = open_warehouse(rt, asked.alloc, store, readers) else {
+    let (store, copy) = stores;
+    let Ok((mut writer, mut desks)) = open_with_copy(rt, asked.alloc, store, copy, readers) else {
         return Err(want_of_memory());
     };
     if !sit_down(&mut desks) {
@@ -288,8 +319,8 @@ pub fn serve_night<F: RowTest, G: RowValue, W: Watch + Sync, R: Threads + Wait +
     if count == 0 {
         return serve_none(rt, &asked, tables);
     }
-    let Ok(store) = Store::new(alloc, &tables, MIN_VERSIONS) else {
+    let Some(stores) = two_stores(rt, alloc, &tables) else {
         return Err(want_of_memory());
     };
-    serve_some(rt, &asked, store, tables, count)
+    serve_some(rt, &asked, stores, tables, count)
 }

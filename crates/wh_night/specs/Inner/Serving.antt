@@ -10,6 +10,9 @@ use Rattle.wh_store.specs.Operations.{Opens}
 use Rattle.wh_store.specs.Pages.{Contents}
 use Rattle.wh_store.specs.Faults.{publish_refusal}
 use Rattle.wh_store.specs.Ledgers.{Ledger, Warehouse, ledger}
+use Rattle.wh_store.specs.Slots.{opening_rows}
+use Rattle.wh_store.specs.Versions.{versions_of}
+use Rattle.wh_store.specs.Windows.{Window, window}
 use Rattle.wh_carry.specs.Fit.{AreFitFor}
 use Rattle.wh_carry.specs.declared.report.Carried.{Carried}
 use Rattle.wh_desk.specs.Desks.{Sitting}
@@ -19,6 +22,10 @@ use Rattle.wh_night.specs.Refusals.{IsRefused}
 use Rattle.wh_night.specs.Tonight.{newest_in, tonight}
 use Rattle.wh_night.specs.Published.{IsPublished}
 use Rattle.wh_night.specs.declared.serving.Served.{Served}
+
+-- what a store shows that was filled with these tables
+abbrev pub opened : Contents → Window
+opened tables = window 2 (opening_rows tables) (versions_of tables [])
 
 -- a warehouse that begins with these tables; nothing is published
 abbrev pub newly : Contents → Ledger
