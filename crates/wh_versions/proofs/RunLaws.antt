@@ -109,8 +109,8 @@ run_parts s w cells ps from rows after before cut ns so_far same added =
     let run = flat w (drop (w * from) cells) (leading s (drop from ps)) in
     let rest = shown_of s (drop (n + 1) (flat w (drop (w * from) cells) (drop from ps))) in
     let next : drop (from + n + 1) (flat w cells ps) ≡ drop (n + 1) (flat w (drop (w * from) cells) (drop from ps)) =
-      (let k : from + n + 1 ≡ from + (n + 1) = omega arith in ap (λ m. drop m (flat w cells ps)) k)
-      ∙ sym (drop-drop (n + 1) from (flat w cells ps)) ∙ ap (drop (n + 1)) (drop-flat w cells ps from) in
+    (let k : from + n + 1 ≡ from + (n + 1) = omega arith in ap (λ m. drop m (flat w cells ps)) k)
+    ∙ sym (drop-drop (n + 1) from (flat w cells ps)) ∙ ap (drop (n + 1)) (drop-flat w cells ps from) in
     (λ i. (added ∙ ap (λ (xs : Counted). rows ++ xs) same) i ++ shown_of s (next i))
     ∙ append_assoc rows run rest
     ∙ ap (λ (xs : Counted). rows ++ xs) (sym (run_shown s w (drop (w * from) cells) (drop from ps)) ∙ ap (shown_of s) (sym (drop-flat w cells ps from)))

@@ -54,18 +54,18 @@ fn add_shown<const N: usize>(
     let mut from = 0;
     while from < pairs.len() {
         let to = from + read_leading(&mut counts, &pairs[from..], version);
-        rows.append(width, &cells[width * from..width * to], &counts[..to - from])?;
+        rows.append(
+            width,
+            &cells[width * from..width * to],
+            &counts[..to - from],
+        )?;
         from = to + 1;
     }
     Ok(())
 }
 
 /// Reads what a version counts of the rows before the first that it does not show, and says how many these are.
-fn read_leading<const N: usize>(
-    counts: &mut [i64],
-    pairs: &[VersionRow<N>],
-    version: u64,
-) -> usize
+fn read_leading<const N: usize>(counts: &mut [i64], pairs: &[VersionRow<N>], version: u64) -> usize
     requires { length pairs.now ≤ length counts.old }
     ensures counts { take result counts.new ≡ leading version pairs.now }
     ensures room { length counts.new ≡ length counts.old }
