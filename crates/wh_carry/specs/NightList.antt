@@ -12,9 +12,13 @@ use Rattle.wh_store.specs.Operations.{Operation, Opens, Writes, Commits, Gives_u
 use Rattle.wh_carry.specs.Carry.{State, at_first, before, change_in, step}
 use Rattle.wh_carry.specs.Refused.{HasValueAt, HaveValuesBelow}
 
--- the rows of a change in rising order, each with its count in the table that has the change; 0 for a row that leaves
+-- the rows of a change in rising order, each with its count in this table
+abbrev pub counts_in : Bag → Bag → Counted
+counts_in table change = map (λ e. (e.0, count table e.0)) (written change)
+
+-- the same in the table that has the change: 0 for a row that leaves
 abbrev pub new_counts : Bag → Bag → Counted
-new_counts table change = map (λ e. (e.0, count (sum_of table change) e.0)) (written change)
+new_counts table change = counts_in (sum_of table change) change
 
 -- rows cut into pages of this many, the last one perhaps shorter; at most so many pages
 abbrev pub pages_within : ℕ → ℕ → Counted → List Counted

@@ -1,4 +1,4 @@
-//! Insts: a view's change is added to its table, and the new counts go where the night is published.
+//! Insts: a view's change is added to its table, and its new counts are handed to the night's outlet.
 
 ghost use Rattle.std.specs.Prelude.{◌≡◌, ◌≤◌, ◌<◌, ◌==◌, length, OnOk, IfErr, IfSome};
 ghost use Rattle.wh_strategy.specs.declared.expression.Expression.TheVariants.{Inst};

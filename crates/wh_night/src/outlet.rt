@@ -3,8 +3,8 @@
 ghost use Rattle.std.specs.Prelude.{◌≡◌, ◌≤◌, ℕ, Option, None, Some, OnOk, OnErr, IfSome, map};
 ghost use Rattle.wh_store.specs.Operations.{Writes};
 ghost use Rattle.wh_store.specs.Ledgers.{Ledger};
-ghost use Rattle.wh_carry.specs.NightList.{pages_of};
-ghost use Rattle.wh_night.specs.Inner.Underway.{ArePartlyOut, TakesRows, behind, counts_in};
+ghost use Rattle.wh_carry.specs.NightList.{counts_in, pages_of};
+ghost use Rattle.wh_night.specs.Inner.Underway.{ArePartlyOut, TakesRows, behind};
 
 use crate::pages::publish_change;
 use std::alloc::{AllocError, Global};
@@ -41,7 +41,7 @@ pub(crate) trait Outlet<W> {
         ensures err { OnErr result (ArePartlyOut (kept writer.old) (map (Writes view) (pages_of (keys self.now) (counts_in table.now change.now))) (kept writer.new)) };
 }
 
-/// Of a night that nobody reads beside nothing goes out.
+/// For a night that nobody reads beside: nothing goes out.
 pub(crate) struct Nowhere;
 
 impl Outlet<()> for Nowhere {

@@ -6,9 +6,9 @@ ghost use Rattle.wh_row.specs.Stored.{plain};
 ghost use Rattle.wh_row.specs.Weigh.{Counted};
 ghost use Rattle.wh_store.specs.Operations.{Operation, Writes};
 ghost use Rattle.wh_store.specs.Pages.{is_page};
-ghost use Rattle.wh_carry.specs.NightList.{pages_of};
+ghost use Rattle.wh_carry.specs.NightList.{counts_in, pages_of};
 ghost use Rattle.wh_night.specs.Tonight.{goes_out};
-ghost use Rattle.wh_night.specs.Inner.Underway.{AreGoodPages, TakesPages, GoesOut, IsPartly, counts_in};
+ghost use Rattle.wh_night.specs.Inner.Underway.{AreGoodPages, TakesPages, GoesOut, IsPartly};
 
 use std::alloc::{AllocError, Global};
 use std::sync::Wait;

@@ -111,10 +111,6 @@ pub record TakesPages (l : Ledger) (view : ℕ) : Type 0 where
 abbrev pub AreGoodPages : ℕ → Counted → Type 0
 AreGoodPages keys rows = All (λ page. is_page page ≡ true) (pages_of keys rows)
 
--- the rows of a change in rising order, each with its count in this table
-abbrev pub counts_in : Bag → Bag → Counted
-counts_in table change = map (λ e. (e.0, count table e.0)) (written change)
-
 -- these rows may be put: the view takes pages, and cut into pages the rows are such
 pub record TakesRows (keys view : ℕ) (rows : Counted) (l : Ledger) : Type 0 where
   pub takes : TakesPages l view
