@@ -1,6 +1,7 @@
 //! What publishes.
 
-ghost use Rattle.std.specs.Prelude.{◌≡◌, ◌++◌, ◌∷◌, [], ◌<◌, List, None, length, is_some, IfOk, IfErr, OnOk, IsTrue, MatchOption, MatchResult, Option};
+ghost use Rattle.std.specs.Prelude.{◌≡◌, ◌≢◌, ◌++◌, ◌∷◌, [], ◌<◌, List, None, length, is_some, IfOk, IfErr, OnOk, OnErr, IsTrue, MatchOption, MatchResult, Option};
+ghost use Rattle.wh_row.specs.Bag.{empty};
 ghost use Rattle.wh_store.specs.Operations.{operation};
 ghost use Rattle.wh_store.specs.Versions.{is_active, is_well_formed, number, table_in};
 ghost use Rattle.wh_store.specs.Faults.{publish_refusal, refused, IsOkUnlessMemory, Ends, EndsLater};
@@ -53,9 +54,10 @@ pub trait Publish {
         ensures opening { result ≡ length (kept self.now).of.opening }
         ensures newest { result ≡ length (versions_in (kept self.now).of (kept self.now).list).newest };
 
-    /// The table of a view in the current version.
+    /// The table of a view in the current version. Memory is wanted for its rows alone.
     fn table(&self, view: usize) -> Result<Bag, AllocError>
         requires nothing_held { (kept self.now).held ≡ None }
         requires view { view < length (versions_in (kept self.now).of (kept self.now).list).newest }
-        ensures { IfOk result (λ table. table ≡ table_in (versions_in (kept self.now).of (kept self.now).list).newest view) };
+        ensures table { IfOk result (λ table. table ≡ table_in (versions_in (kept self.now).of (kept self.now).list).newest view) }
+        ensures memory { OnErr result (table_in (versions_in (kept self.now).of (kept self.now).list).newest view ≢ empty) };
 }

@@ -1,6 +1,7 @@
 //! A store, and all that was done to it.
 
-ghost use Rattle.std.specs.Prelude.{◌≡◌, ◌≤◌, ◌<◌, ◌++◌, ◌∷◌, [], None, IfOk, IfErr, OnOk, IsTrue, length};
+ghost use Rattle.std.specs.Prelude.{◌≡◌, ◌≢◌, ◌≤◌, ◌<◌, ◌++◌, ◌∷◌, [], None, IfOk, IfErr, OnOk, OnErr, IsTrue, length};
+ghost use Rattle.wh_row.specs.Bag.{empty};
 ghost use Rattle.wh_store.specs.Operations.{operation};
 ghost use Rattle.wh_store.specs.Refusals.{refusal};
 ghost use Rattle.wh_store.specs.Versions.{is_active, is_well_formed, number, table_in};
@@ -114,7 +115,8 @@ impl Journal {
     /// The table of a view in the current version.
     pub(crate) fn table(&self, view: usize) -> Result<Bag, AllocError>
         requires { view < length (versions_in self.now.of self.now.list).newest }
-        ensures { IfOk result (λ table. table ≡ table_in (versions_in self.now.of self.now.list).newest view) }
+        ensures table { IfOk result (λ table. table ≡ table_in (versions_in self.now.of self.now.list).newest view) }
+        ensures memory { OnErr result (table_in (versions_in self.now.of self.now.list).newest view ≢ empty) }
     {
         told_law();
         self.store.table(view)

@@ -16,7 +16,7 @@ loop-view-preserved g c =
     let each : length newest ≡ c.args.views = c.requires.views in
     let t = c.loop-view.invariant in
     c.in_ok-push.ensures.items
-    ∙ (λ i. t i ++ c.in_ok-table.ensures i ∷ [])
+    ∙ (λ i. t i ++ c.in_ok-table.ensures.table i ∷ [])
     ∙ sym (next_table newest c.loop-view.view (omega (arith, each)))
 
 pub returns : goal.returns
