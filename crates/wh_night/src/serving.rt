@@ -223,7 +223,7 @@ fn store_of(alloc: Global, tables: &[Bag]) -> Option<Store>
 
 /// Two stores of these tables, filled beside each other where a thread can be started.
 fn two_stores<R: Threads + Sync>(rt: &R, alloc: Global, tables: &[Bag]) -> Option<(Store, Store)>
-    requires { AreTables tables.now }
+    requires tables { AreTables tables.now }
     ensures first { IfSome result (λ stores. stores.0 ≡ opened tables.now) }
     ensures second { IfSome result (λ stores. stores.1 ≡ opened tables.now) }
 {
@@ -231,11 +231,11 @@ fn two_stores<R: Threads + Sync>(rt: &R, alloc: Global, tables: &[Bag]) -> Optio
         rt,
         move || -> Option<Store>
             requires { AreTables tables.now }
-            ensures { IfSome result (λ store. store ≡ opened tables.now) }
+            ensures { IfSome result (λ store. store ≡ opened tables.entry.now) }
         { store_of(alloc, tables) },
         move || -> Option<Store>
             requires { AreTables tables.now }
-            ensures { IfSome result (λ store. store ≡ opened tables.now) }
+            ensures { IfSome result (λ store. store ≡ opened tables.entry.now) }
         { store_of(alloc, tables) },
     );
     Some((first?, second?))

@@ -9,3 +9,4 @@ pub mod BringLaws
 pub mod WidthLaws
 pub mod CutLaws
 pub mod NotedLaws
+mod ValueLaws

@@ -33,3 +33,10 @@ from row es = filter (λ e. is_le (row_cmp row e.0)) es
 -- each row has this many cells
 abbrev pub AreWide : {T : Type 0} → ℕ → List (Row × T) → Type 0
 AreWide width es = AllByRecursion (λ e. length e.0 ≡ width) es
+
+-- the same rows, each with a value that is made of the one there as P says
+abbrev pub AreRevalued : {T U : Type 0} → (T → U → Type 0) → List (Row × T) → List (Row × U) → Type 0
+AreRevalued P [] [] = Unit {0}
+AreRevalued P [] (f ∷ fs) = ⊥
+AreRevalued P (e ∷ es) [] = ⊥
+AreRevalued P (e ∷ es) (f ∷ fs) = (f.0 ≡ e.0) × P e.1 f.1 × AreRevalued P es fs

@@ -4,7 +4,7 @@ ghost use Rattle.std.specs.Prelude.{◌≡◌, ◌<◌, ◌≤◌, ◌+◌, ◌*
 ghost use Rattle.std.specs.List.{insert, remove};
 ghost use Rattle.std.specs.Map.{keys_of};
 ghost use Rattle.wh_pieces.specs.Flat.{flat};
-ghost use Rattle.wh_pieces.specs.Pieces.{AreWide};
+ghost use Rattle.wh_pieces.specs.Pieces.{AreRevalued, AreWide};
 ghost use Rattle.wh_pieces.specs.Place.{AreRisingRows};
 ghost use Rattle.wh_pieces.specs.Inner.Place.{IsAt, IsGapFor, set_at};
 
@@ -217,6 +217,27 @@ impl<T: Copy + Drop> Piece<T> {
     {
         let cells = with_room(alloc, &self.cells[self.width * place..])?;
         let values = with_room(alloc, &self.values[place..])?;
+        Ok(Piece {
+            width: self.width,
+            cells,
+            values,
+        })
+    }
+
+    /// The same rows with other values, made of theirs.
+    pub(crate) fn with_values<U: Copy + Drop, F: Fn(T) -> U>(
+        &self,
+        alloc: Global,
+        value_of: &F,
+    ) -> Result<Piece<U>, AllocError>
+        requires { F.IsAlwaysCallable value_of.now }
+        ensures { IfOk result (AreRevalued (λ old new. F.post value_of.now old new) self.now) }
+    {
+        let mut values = Vec::with_capacity(alloc, and_room(self.values.len()))?;
+        for value in &self.values {
+            values.push(value_of(*value))?;
+        }
+        let cells = with_room(alloc, &self.cells)?;
         Ok(Piece {
             width: self.width,
             cells,

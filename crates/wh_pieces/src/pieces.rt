@@ -5,7 +5,7 @@ ghost use Rattle.std.specs.List.{insert, remove};
 ghost use Rattle.wh_pieces.specs.Flat.{flat};
 ghost use Rattle.wh_pieces.specs.Row.{is_row};
 ghost use Rattle.wh_pieces.specs.Place.{AreRisingRows, IsAbove};
-ghost use Rattle.wh_pieces.specs.Pieces.{found, with_entry, without_entry, above, from, all_of, AreWide};
+ghost use Rattle.wh_pieces.specs.Pieces.{found, with_entry, without_entry, above, from, all_of, AreRevalued, AreWide};
 ghost use Rattle.wh_pieces.specs.Inner.Pieces.{AreNotEmpty, ArePieces, AreCounted, IsPieceFor, piece_at, before, after};
 
 use crate::bulk::cut;
@@ -310,6 +310,32 @@ impl<T: Copy + Drop> Pieces<T> {
         let mut pieces = Vec::new(alloc);
         for piece in &self.pieces {
             let Ok(()) = pieces.push(piece.tail(alloc, 0)?) else {
+                return Err(AllocError);
+            };
+        }
+        Ok(Pieces {
+            alloc,
+            most: self.most,
+            pieces,
+            len: self.len,
+        })
+    }
+
+    /// The same rows, each with a value that `value_of` makes of the one there. No row is looked at.
+    pub fn with_values<U: Copy + Drop, F: Fn(T) -> U>(
+        &self,
+        alloc: Global,
+        value_of: &F,
+    ) -> Result<Pieces<U>, AllocError>
+        requires { F.IsAlwaysCallable value_of.now }
+        ensures ok { IfOk result (AreRevalued (λ old new. F.post value_of.now old new) self.now) }
+
+        // Memory only where there is a row.
+        ensures memory { OnErr result (self.now ≢ []) }
+    {
+        let mut pieces = Vec::new(alloc);
+        for piece in &self.pieces {
+            let Ok(()) = pieces.push(piece.with_values(alloc, value_of)?) else {
                 return Err(AllocError);
             };
         }

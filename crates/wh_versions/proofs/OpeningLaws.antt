@@ -7,7 +7,7 @@ use Rattle.std.specs.List.Sorted.{IsStrictlySortedBy}
 use Rattle.std.specs.Map.{keys_of}
 use Rattle.wh_pieces.specs.Row.{Row, row_cmp, is_row}
 use Rattle.wh_pieces.specs.Place.{AreRisingRows}
-use Rattle.wh_pieces.specs.Pieces.{found}
+use Rattle.wh_pieces.specs.Pieces.{AreRevalued, found}
 use Rattle.wh_row.specs.Bag.{Bag, count, IsTable}
 use Rattle.wh_row.specs.Weigh.{Counted}
 use Rattle.wh_versions.specs.Rows.{Pairs, with_pair}
@@ -21,15 +21,17 @@ AreOf b es = AllByRecursion (λ (e : Row × ℤ). (count b e.0 ≡ e.1) × (e.1 
 pub least_of : (b : Bag) (e : Row × ℤ) (es : Counted) → IsTable b → AreOf b (e ∷ es) → pos 0 ≤ℤ e.1
 least_of b e es is of = let P : ℤ → Type 0 = λ z. pos 0 ≤ℤ z in subst P of.0.0 (is e.0)
 
-opening_keys : (es : Counted) → keys_of (opening es) ≡ map {A = Row × ℤ} {B = Row} (λ e. e.0) es
-opening_keys [] = refl
-opening_keys (e ∷ es) = ap (λ rs. e.0 ∷ rs) (opening_keys es)
-
-pub opening_rises : (es : Counted) → IsStrictlySortedBy row_cmp (map {A = Row × ℤ} {B = Row} (λ e. e.0) es) → AreRisingRows (opening es)
-opening_rises es h = subst (λ (rs : List Row). IsStrictlySortedBy row_cmp rs) (sym (opening_keys es)) h
-
 abbrev pub only : ℤ → Pairs
 only c = (0, c) ∷ []
+
+-- a table's rows, each with the pair that is made of its count
+pub opening_made : (b : Bag) (P : ℤ → Pairs → Type 0) → IsTable b → ((c : ℤ) (ps : Pairs) → P c ps → pos 0 ≤ℤ c → ps ≡ only c)
+    → (es : Counted) (rows : List (Row × Pairs)) → AreOf b es → AreRevalued P es rows → rows ≡ opening es
+opening_made b P is one [] [] of made = refl
+opening_made b P is one [] (r ∷ rows) of made = absurd made
+opening_made b P is one (e ∷ es) [] of made = absurd made
+opening_made b P is one (e ∷ es) (r ∷ rows) of made =
+    λ i. (made.0 i, one e.1 r.1 made.1 (least_of b e es is of) i) ∷ opening_made b P is one es rows of.1 made.2 i
 
 pub one_pair : (n : ℕ) (c : ℤ) → 0 < n → with_pair n 0 c [] ≡ only c
 one_pair zero c h = absurd (omega arith)

@@ -1,6 +1,6 @@
 //! What a night does to the rows of a view.
 
-ghost use Rattle.std.specs.Prelude.{◌≡◌, ◌≢◌, ◌⊎◌, ◌≤ℤ◌, List, ℤ, pos, true, false, cond, ◌<◌, IfOk, OnOk, OnErr, Some, None};
+ghost use Rattle.std.specs.Prelude.{◌≡◌, ◌≢◌, [], ◌∷◌, ◌⊎◌, ◌≤ℤ◌, List, ℤ, pos, true, false, cond, ◌<◌, IfOk, OnOk, OnErr, Some, None};
 ghost use Rattle.wh_pieces.specs.Pieces.{found};
 ghost use Rattle.wh_pieces.specs.Row.{is_row};
 ghost use Rattle.wh_row.specs.Stored.{plain};
@@ -12,7 +12,7 @@ ghost use Rattle.wh_versions.specs.Inner.Tables.{AreAdded, AreSafe, IsNew, begun
 use crate::row::VersionRow;
 use std::alloc::{AllocError, Global};
 use wh_pieces::Pieces;
-use wh_row::{Bag, Row};
+use wh_row::{Bag, Row, a_bag_lists_its_rows};
 
 /// What a row counts in a version.
 pub(crate) fn count_of<const N: usize>(
@@ -28,7 +28,18 @@ pub(crate) fn count_of<const N: usize>(
     }
 }
 
-/// The rows of a table, each with its count in version 0.
+/// A count in version 0, as the only pair; no pairs where it is below zero.
+fn first_pairs<const N: usize>(count: i64) -> VersionRow<N>
+    requires { 0 < N }
+    ensures { pos 0 ≤ℤ count → result ≡ (0, count) ∷ [] }
+{
+    if count < 0 {
+        return VersionRow::none();
+    }
+    VersionRow::none().with(0, count)
+}
+
+/// The rows of a table, each with its count in version 0. They are copied piece by piece.
 pub(crate) fn first_rows<const N: usize>(
     alloc: Global,
     table: &Bag,
@@ -37,11 +48,14 @@ pub(crate) fn first_rows<const N: usize>(
     requires table { IsTable table.now }
     ensures { IfOk result (λ rows. rows ≡ opening (written_out table.now)) }
 {
-    let mut rows = Pieces::new(alloc);
-    for (row, count) in table.rows() {
-        rows.push(row, VersionRow::none().with(0, count))?;
-    }
-    Ok(rows)
+    a_bag_lists_its_rows();
+    table.map_counts(
+        alloc,
+        &move |count: i64| -> VersionRow<N>
+            requires { 0 < N }
+            ensures { pos 0 ≤ℤ count → result ≡ (0, count) ∷ [] }
+        { first_pairs(count) },
+    )
 }
 
 /// Touches a row, and adds it with no pairs where it is not there.

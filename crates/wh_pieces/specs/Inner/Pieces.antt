@@ -4,7 +4,7 @@ use Rattle.std.specs.List.{AllByRecursion}
 use Rattle.wh_pieces.specs.Row.{Row}
 use Rattle.wh_pieces.specs.Place.{AreRisingRows, IsAbove}
 use Rattle.wh_pieces.specs.Inner.Place.{IsBelowFirst}
-use Rattle.wh_pieces.specs.Pieces.{all_of, above}
+use Rattle.wh_pieces.specs.Pieces.{all_of}
 
 abbrev pub AreNotEmpty : {T : Type 0} → List (List (Row × T)) → Type 0
 AreNotEmpty ls = AllByRecursion (λ l. 0 < length l) ls
@@ -40,3 +40,10 @@ after ls nth place = drop place (piece_at ls nth) ++ all_of (drop (suc nth) ls)
 abbrev pub BeginsAt : {T : Type 0} → List (List (Row × T)) → ℕ → Type 0
 BeginsAt [] place = place ≡ 0
 BeginsAt (x ∷ xs) place = (place < length x) × AreNotEmpty xs
+
+-- each value is made of the one at its place as P says
+abbrev pub AreMade : {T U : Type 0} → (T → U → Type 0) → List T → List U → Type 0
+AreMade P [] [] = Unit {0}
+AreMade P [] (u ∷ us) = ⊥
+AreMade P (t ∷ ts) [] = ⊥
+AreMade P (t ∷ ts) (u ∷ us) = P t u × AreMade P ts us

@@ -14,17 +14,11 @@ use Rattle.wh_night.specs.Inner.Serving.{newly}
 use Rattle.wh_night.proofs.Serves.{first_number, fit_are_tables, if_served}
 use Rattle.wh_night.proofs.serving.serve_night.Goals as goal
 
-pub new-requires-clause-tables : goal.new-requires-clause-tables
-new-requires-clause-tables g c = subst AreTables (sym c.deref.ensures.value) (fit_are_tables c.args.catalog.now c.args.tables.items c.requires.tables.each (λ v l. c.requires.fit.now v))
-
-pub serve_some-requires-clause-current : goal.serve_some-requires-clause-current
-serve_some-requires-clause-current g c κs within = c.in-Ok.ensures.current ∙ c.deref.ensures.value
+pub two_stores-requires-clause-tables : goal.two_stores-requires-clause-tables
+two_stores-requires-clause-tables g c κs within = subst AreTables (sym c.deref.ensures.value) (fit_are_tables c.args.catalog.now c.args.tables.items c.requires.tables.each (λ v l. c.requires.fit.now v))
 
 pub serve_none-requires-clause-fit : goal.serve_none-requires-clause-fit
 serve_none-requires-clause-fit g c κs within = λ v l. c.requires.fit.now v
-
-pub serve_some-requires-clause-new : goal.serve_some-requires-clause-new
-serve_some-requires-clause-new g c κs within = subst (λ ts. Shows c.in-Ok.store ts []) (sym c.in-Ok.ensures.current) c.in-Ok.ensures.shows
 
 pub serve_some-requires-clause-ready : goal.serve_some-requires-clause-ready
 serve_some-requires-clause-ready g c κs within = record {
