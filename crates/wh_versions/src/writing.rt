@@ -28,15 +28,16 @@ pub(crate) fn count_of<const N: usize>(
     }
 }
 
-/// A count in version 0, as the only pair; no pairs where it is below zero.
-fn first_pairs<const N: usize>(count: i64) -> VersionRow<N>
-    requires { 0 < N }
+/// A count in version 0 put to no pairs; none where it is below zero.
+fn first_pair<const N: usize>(none: VersionRow<N>, count: i64) -> VersionRow<N>
+    requires versions { 0 < N }
+    requires none { none ≡ [] }
     ensures { pos 0 ≤ℤ count → result ≡ (0, count) ∷ [] }
 {
     if count < 0 {
-        return VersionRow::none();
+        return none;
     }
-    VersionRow::none().with(0, count)
+    none.with(0, count)
 }
 
 /// The rows of a table, each with its count in version 0. They are copied piece by piece.
@@ -49,12 +50,13 @@ pub(crate) fn first_rows<const N: usize>(
     ensures { IfOk result (λ rows. rows ≡ opening (written_out table.now)) }
 {
     a_bag_lists_its_rows();
+    let none = VersionRow::none();
     table.map_counts(
         alloc,
         &move |count: i64| -> VersionRow<N>
-            requires { 0 < N }
+            requires { (0 < N) × (none ≡ []) }
             ensures { pos 0 ≤ℤ count → result ≡ (0, count) ∷ [] }
-        { first_pairs(count) },
+        { first_pair(none, count) },
     )
 }
 

@@ -14,4 +14,4 @@ ok_for (Err e) f h = tt
 pub returns : goal.returns
 returns g c =
     let listed = (c.a_bag_lists_its_rows.ensures c.args.table.now).counted in
-    ?
+    ok_for c.map_counts.result (λ rows made. opening_made c.args.table.now _ c.requires.table (λ n ps p least. p least) (written_out c.args.table.now) rows listed made) c.map_counts.ensures.ok
