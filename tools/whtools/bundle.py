@@ -14,18 +14,17 @@ PIECE = re.compile(rb"(?:^|(?<=\n))@[^\n]*\n?(?:(?!@)[^\n]*\n|(?!@)[^\n]+)*")
 # ---- what is written
 
 
-def lines_of(content):
-    """The lines of a file, each with its line feed; the last gets one where it has none."""
-    lines = content.split(b"\n")
-    if lines[-1] == b"":
-        lines.pop()
-    return [line + b"\n" for line in lines]
+def part_pieces(heading, content):
+    """The same as `part`, in pieces, so that a large content is not copied."""
+    if content.startswith(b"@") or b"\n@" in content:
+        content = (b"\n" + content).replace(b"\n@", b"\n@@")[1:]
+    ended = not content or content.endswith(b"\n")
+    return [b"@" + heading.encode() + b"\n", content, *([] if ended else [b"\n"])]
 
 
 def part(heading, content):
     """A part of a bundle: its heading, and its lines, of which those that begin with `@` get a second one."""
-    lines = [b"@" + line if line.startswith(b"@") else line for line in lines_of(content)]
-    return b"@" + heading.encode() + b"\n" + b"".join(lines)
+    return b"".join(part_pieces(heading, content))
 
 
 # ---- what is read
@@ -62,25 +61,41 @@ def pieces(text):
 # ---- answers
 
 
-def unpack(answer):
-    """The tables of an answer by the names of their views.
+def headings(answer):
+    """Where lines begin that may be a view's or a reader's heading, in order. The readers' stand at the end, where there are any."""
+    found, place = [0] if answer.startswith(b"view ") else [], answer.find(b"\nview ")
+    while place >= 0:
+        found.append(place + 1)
+        place = answer.find(b"\nview ", place + 1)
+    last = sum(len(line) + 1 for line in readers(answer))
+    return [*found, len(answer) - last] if last else found
+
+
+def spans(answer):
+    """Where the table of each view begins and ends in an answer, by the view's name.
 
     A line inside a quoted cell is no line of the answer, whatever it reads: quotes in a cell are doubled, so a line ends
     inside a cell exactly where the quotes so far are odd.
     """
-    answer += b"" if answer.endswith(b"\n") else b"\n"
-    tables, view, start, counted, quotes = {}, None, 0, 0, 0
-    for heading in HEADING.finditer(answer):
-        quotes += answer.count(b'"', counted, heading.start()) if view else 0
-        counted = heading.start()
+    found, view, start, counted, quotes = {}, None, 0, 0, 0
+    for place in headings(answer):
+        heading = HEADING.match(answer, place)
+        if not heading:
+            continue
+        quotes += answer.count(b'"', counted, place) if view else 0
+        counted = place
         if quotes % 2 == 0:
             if view:
-                tables[view] = answer[start : heading.start()]
-            view, start = heading[1] and heading[1].decode(), heading.end() + 1
+                found[view] = start, place
+            view, start = heading[1] and heading[1].decode(), min(heading.end() + 1, len(answer))
             counted = start
-    if view:
-        tables[view] = answer[start:]
-    return tables
+    return found | ({view: (start, len(answer))} if view else {})
+
+
+def unpack(answer):
+    """The tables of an answer by the names of their views."""
+    answer += b"" if answer.endswith(b"\n") else b"\n"
+    return {view: answer[start:end] for view, (start, end) in spans(answer).items()}
 
 
 def readers(answer):

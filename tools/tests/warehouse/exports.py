@@ -28,6 +28,17 @@ class Differences(unittest.TestCase):
         after = b"id,name\r\n3,bread\r\n1,jam\r\n4,honey\r\n4,honey\r\n"
         self.assertEqual(self.ran(before, after), (0, b'#,id,name\n-1,1,jam\n-1,2,"tea, black"\n2,4,honey\n', []))
 
+    def test_an_export_with_counts_beside_one_without(self):
+        before = b'#,id,name\n1,1,jam\n1,2,"tea, black"\n1,3,bread\n'
+        after = b"id,name\n3,bread\n1,jam\n1,jam\n4,honey\n"
+        changes = b'#,id,name\n1,1,jam\n-1,2,"tea, black"\n1,4,honey\n'
+        self.assertEqual(self.ran(before, after), (0, changes, []))
+        self.assertEqual(self.ran(before.replace(b"1,3,bread", b"2,3,bread"), after), (0, changes.replace(b"1,4", b"-1,3,bread\n1,4"), []))
+        self.assertEqual(self.ran(b"#,x\n1,\n1,a\n", b"x\na\n\n"), (0, b"#,x\n-1,\n", []))
+
+    def test_a_record_that_is_written_otherwise_is_the_same(self):
+        self.assertEqual(self.ran(b'x,y\n1,"a"\n', b"x,y\n1,a\n"), (0, b"#,x,y\n", []))
+
     def test_equal_exports_have_the_header_alone_as_their_changes(self):
         self.assertEqual(self.ran(b"#,x\n3,7\n", b"x\n7\n7\n7\n"), (0, b"#,x\n", []))
 

@@ -45,6 +45,44 @@ class Nights(Shop):
         (self.folder / "sizes.csv").write_text(SIZES)
         self.assertEqual(self.sizes(), (SIZES.splitlines(), ["sizes given in sizes.csv"]))
 
+    def test_a_night_without_sizes_is_carried_out_once_and_the_next_one_is_planned(self):
+        kept = (SHOP / "strategy.txt").read_text()
+        (self.folder / "strategy.txt").unlink()
+        self.program.write_text(
+            f"#!/bin/sh\ncat > /dev/null\necho $1 >> {self.program}.words\ncase $1 in\nplan) printf 'scope all\nwork 98\n{kept}';;\n"
+            f"certify) echo certified;;\n*) cat {self.program.parent}/answer;; esac\n"
+        )
+        self.assertEqual(self.ran("night", "--commit"), (0, []))
+        self.assertEqual(Path(f"{self.program}.words").read_text().split(), ["night"])
+        report = (self.folder / "current/report.txt").read_text()
+        self.assertTrue(report.startswith("strategy view by view: the sizes below are the first, and the next night is planned\ncomp "), report)
+        self.assertTrue(report.endswith("products,3,4,3\nsales,,9,8\ndaily_by_product,,8,8\ndaily_by_region,,6,8\n"), report)
+        self.assertEqual(self.ran("night"), (0, []))
+        self.assertEqual(Path(f"{self.program}.words").read_text().split(), ["night", "plan", "certify", "night"])
+        report = (self.folder / "new/report.txt").read_text()
+        self.assertTrue(report.startswith("strategy planned, sizes from the change files and the last report: certified\ncomp "), report)
+        self.assertIn("\nsales,9,9,8\n", report)
+
+    def test_the_first_rows_of_a_warehouse_are_known_to_be_none_before_them(self):
+        for name in ("orders", "lines", "products"):
+            header = (self.folder / f"data/{name}.csv").read_text().partition("\n")[0]
+            (self.folder / f"data/{name}.csv").write_text(f"{header}\n")
+            (self.folder / f"changes/{name}.csv").write_text(f"#,{header}\n")
+        self.assertEqual(self.ran("night"), (0, []))
+        self.assertIn("\nsales,0,9,8\n", (self.folder / "new/report.txt").read_text())
+
+    def test_a_view_whose_rows_stay_is_not_looked_at(self):
+        self.assertEqual(self.ran("night", "--commit"), (0, []))
+        stays = ANSWER.read_bytes().removesuffix(b"status 0\n").replace(b"inst daily_by_region: 8", b"inst daily_by_region: 0")
+        self.answers(stays.partition(b"view daily_by_region")[0] + b"view daily_by_region\nnone\n", 0)
+        self.assertEqual(self.ran("night", "--commit"), (0, []))
+        one, two = (self.folder / "versions" / number / "views/daily_by_region.csv" for number in "12")
+        self.assertTrue(one.samefile(two))
+        self.edit("catalogue.toml", "# A small shop", "# A shop")
+        self.answer_as_the_shop()
+        self.assertEqual(self.ran("night", "--commit"), (0, []))
+        self.assertTrue((self.folder / "current/views/daily_by_region.csv").samefile(one))
+
     def sizes(self):
         command = [sys.executable, TOOLS / "warehouse", "sizes", self.folder, "--program", self.program]
         ran = subprocess.run(command, capture_output=True, text=True, check=True)

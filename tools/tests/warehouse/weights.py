@@ -114,6 +114,7 @@ class Weights(Shop):
             f"certify) echo certified;;\n*) cat {self.program.parent}/answer;; esac\n"
         )
         (self.folder / "strategy.txt").rename(self.folder / "strategy.kept")
+        (self.folder / "sizes.csv").write_text(SIZES)
         self.assertEqual(self.ran("night", "--weights", "cells")[0], 0)
         report = (self.folder / "new/report.txt").read_text()
         self.assertIn("; weights by cells: certified\n", report)

@@ -1,19 +1,16 @@
 """A night as it is carried out: judged, with its strategy, every view's table after it, and its report."""
 
-import csv
-import io
-from collections import Counter
 from typing import NamedTuple
 
-from ..bundle import readers, unpack
 from . import program
+from .catalogue import FILE as CATALOGUE
 from .check import strategy_of as given_strategy
 from .finding import Failure, warn
 from .folder import Folder, judged
 from .limits import after, sizes_after
+from .made import Made, of_base, of_derived
 from .planning import certified, planned, strategy_of
-from .records import table_text
-from .sizes import of_night, rows_before, sized
+from .sizes import base_sizes, given_text, sized, told_before, told_rows
 from .status import BAD_INPUT, SPENT
 from .strategy import FILE, at_once, written
 
@@ -26,19 +23,54 @@ class Chosen(NamedTuple):
     plan: str = ""
 
 
-class Night(NamedTuple):
-    """What a night came to: the folder as it was read, every view's table by its name, the report, and the strategy."""
+class Night:
+    """What a night came to: the folder as it was read, the strategy, and the program's answer. The tables are made one after the other,
+    so that few are held at a time, and the report after them.
+    """
 
-    folder: Folder
-    tables: dict
-    report: str
-    chosen: Chosen
+    def __init__(self, folder, chosen, answer):
+        self.folder, self.chosen, self.answer = folder, chosen, answer
+        self.before, self.changed, self.rows = told_rows(folder), answer.changed(), {}
+
+    def tables(self):
+        """Each view with its table after the night."""
+        last = self.folder.state.root
+        is_as_before = is_same(last / CATALOGUE, self.folder.catalogue.content)
+        for view in self.folder.views:
+            file = last / "views" / f"{view.name}.csv"
+            if view.is_base:
+                yield view, of_base(self.folder, view)
+            elif is_as_before and self.changed[view.name] == 0 and file.is_file() and view.name in self.before:
+                self.rows[view.name] = self.before[view.name]
+                yield view, Made([], file)
+            else:
+                table, rows = self.answer.table(view.name), self.before.get(view.name)
+                found, self.rows[view.name] = of_derived(view, table, self.changed[view.name], file, rows)
+                yield view, found
+
+    def sizes(self):
+        """How many rows each view had, where that is known, has, and changed."""
+        base = base_sizes(self.folder)
+        derived = {name: (self.before.get(name, ""), rows, self.changed[name]) for name, rows in self.rows.items()}
+        return {view.name: base[view.name] if view.is_base else derived[view.name] for view in self.folder.views}
+
+    def report(self):
+        """What the night did: how its strategy was come by, the rows of each expression, what readers saw, and the views' sizes."""
+        seen = "".join(f"{line}\n" for line in self.answer.readers)
+        return f"{self.chosen.how}\n{self.answer.head}\n{seen}{sized(self.sizes())}"
+
+
+def is_same(file, content):
+    """Whether a file is there and has these bytes."""
+    return file.is_file() and file.read_bytes() == content
 
 
 def chosen(folder, words):
-    """The strategy that is carried out."""
+    """The strategy that is carried out. Where nothing tells of sizes nothing is planned: the night itself counts them for the next one."""
     if (folder.path / FILE).is_file():
         return Chosen(given_strategy(folder), f"strategy from {FILE}")
+    if given_text(folder) is None and told_before(folder) is None:
+        return Chosen(written(at_once(folder.views)), "strategy view by view: the sizes below are the first, and the next night is planned")
     try:
         plan, sizes, source = planned(folder, words)
     except Failure as failure:
@@ -46,31 +78,6 @@ def chosen(folder, words):
             raise
         return Chosen(written(at_once(folder.views)), "strategy view by view: the search for a plan was given up")
     return Chosen(strategy_of(plan), f"strategy planned, sizes {source}: {certified(folder, words, plan, sizes)}", plan)
-
-
-def sorted_table(view, table):
-    """A printed table, sorted by what it shows."""
-    records = list(csv.reader(io.StringIO(table.decode(), newline="")))[1:]
-    rows = Counter()
-    for count, *cells in records:
-        rows[tuple(int(cell) if kind == "int" else cell for cell, (_, kind) in zip(cells, view.columns))] += int(count)
-    return table_text(view.columns, rows)
-
-
-def tables(folder, answer):
-    """Every view's table after the night, by its name."""
-    derived = unpack(answer)
-    return {
-        view.name: table_text(view.columns, folder.rolled(view)) if view.is_base else sorted_table(view, derived[view.name])
-        for view in folder.views
-    }
-
-
-def report(folder, how, answer, before):
-    """What the night did: how its strategy was come by, the rows of each expression, what readers saw, and the views' sizes."""
-    head = answer.partition(b"\nversion ")[0].decode()
-    seen = "".join(f"{line}\n" for line in readers(answer))
-    return f"{how}\n{head}\n{seen}{sized(of_night(folder, answer, before))}"
 
 
 def judge_after(folder, is_kept):
@@ -86,6 +93,4 @@ def carried(folder, words):
     warn(judged(folder).warnings)
     judge_after(folder, words.commit)
     taken = chosen(folder, words)
-    answer = program.night(folder, words, taken.strategy, words.through)
-    told = report(folder, taken.how, answer, rows_before(folder, words))
-    return Night(folder, tables(folder, answer), told, taken)
+    return Night(folder, taken, program.night(folder, words, taken.strategy, words.through))

@@ -25,19 +25,20 @@ def to_take(folder):
 
 
 def write_version(part, night):
-    """Writes all files of a version. Those that are as in the last one are links to it."""
+    """Writes all files of a version. Those that are as in the last one are links to it. Answers the report."""
     last = night.folder.state.root
     for kind in ("data", "views"):
         os.makedirs(part / kind)
-    for view in night.folder.views:
-        file = f"{'data' if view.is_base else 'views'}/{view.name}.csv"
-        put(part / file, night.tables[view.name], last / file)
-    texts = {"strategy.txt": night.chosen.strategy, "plan.txt": night.chosen.plan, "report.txt": night.report}
+    for view, table in night.tables():
+        table.put(part / f"{'data' if view.is_base else 'views'}/{view.name}.csv", True)
+    report = night.report()
+    texts = {"strategy.txt": night.chosen.strategy, "plan.txt": night.chosen.plan, "report.txt": report}
     files = {file: text.encode() for file, text in texts.items() if text}
     for file, content in (files | {"catalogue.toml": night.folder.catalogue.content}).items():
         put(part / file, content, last / file)
     if not os.listdir(part / "given"):
         os.rmdir(part / "given")
+    return report
 
 
 def undo(claim):
@@ -50,14 +51,14 @@ def undo(claim):
 
 
 def decided(words, interrupts, number):
-    """Carries the night out up to the rename that decides. Whatever ends it before has the changes put back."""
+    """Carries the night out up to the rename that decides. Whatever ends it before has the changes put back. Answers the report."""
     part = words.folder / VERSIONS / f"{number}{PART}"
     claim = Claim(words.folder, part)
     try:
         try:
             claim.take(to_take(words.folder))
             night = carried(Folder(words.folder, part), words)
-            write_version(part, night)
+            report = write_version(part, night)
             claim.own()
             keep(part)
             point(words.folder, number)
@@ -69,7 +70,7 @@ def decided(words, interrupts, number):
         undo(claim)
         raise
     night.folder.state.release()
-    return night
+    return report
 
 
 def finish(words, number):
@@ -91,6 +92,6 @@ def commit(words, interrupts):
     """A night that is kept. Answers its report."""
     take_over(words.folder, interrupts)
     number = whole(words.folder)[-1] + 1
-    night = decided(words, interrupts, number)
+    report = decided(words, interrupts, number)
     finish(words, number)
-    return night.report
+    return report

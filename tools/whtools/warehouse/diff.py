@@ -1,39 +1,94 @@
-"""`diff`: the changes from one export of a base view to the next, as a file of changes/ has them, on standard output."""
+"""`diff`: the changes from one export of a base view to the next, as a file of changes/ has them, on standard output.
+
+Where each record of both is a line, and all have the header's cells, only the lines are read that are not as often in the one as in the
+other.
+"""
 
 import csv
 import io
 import sys
 from collections import Counter
+from functools import cached_property
 
+from .by_lines import has_whole_lines, is_formed
 from .finding import Failure
+from .packing import MARK
 from .status import BAD_INPUT, DONE
 
 
-def exported(path):
-    """The columns of an export, with or without `#`, and its rows with how often they stand."""
-    if not path.is_file():
-        raise Failure(BAD_INPUT, f"there is no file {path}")
-    text = path.read_bytes().decode("utf-8-sig", errors="surrogateescape")
-    reader = csv.reader(io.StringIO(text, newline=""))
-    header, rows = next(reader, []), Counter()
-    counted = header[:1] == ["#"]
-    line = reader.line_num + 1
-    for record in filter(None, reader):
-        if len(record) != len(header) or (counted and not record[0].isdecimal()):
-            raise Failure(BAD_INPUT, f"{path}:{line}:1: this record has not the header's cells, or no count")
-        rows[tuple(record[counted:])] += int(record[0]) if counted else 1
-        line = reader.line_num + 1
-    return header[counted:], rows
+class Export:
+    """An export with its columns, which may have `#` before them."""
+
+    def __init__(self, path):
+        if not path.is_file():
+            raise Failure(BAD_INPUT, f"there is no file {path}")
+        self.path, content = path, path.read_bytes().removeprefix(MARK)
+        self.content = content.replace(b"\r\n", b"\n") if has_whole_lines(content) else content
+        header = next(self.records(), [])
+        self.is_counted = header[:1] == ["#"]
+        self.columns, self.width = header[self.is_counted :], len(header)
+
+    def records(self):
+        """The records, the header first, and where each ends."""
+        text = self.content.decode(errors="surrogateescape")
+        self.reader = csv.reader(io.StringIO(text, newline=""))
+        return self.reader
+
+    @cached_property
+    def has_lines(self):
+        """Whether it is seen at once that each record is a line with the header's cells."""
+        start = self.content.find(b"\n") + 1
+        return start > 0 and has_whole_lines(self.content) and is_formed(self.content, start, len(self.columns), self.is_counted)
+
+    def drop_counts(self):
+        """Leaves `#` out, where each record is a line, is no less without it, and counts once."""
+        if self.is_counted and self.has_lines and self.width > 2 and self.content.count(b"\n1,") == self.content.rstrip(b"\n").count(b"\n"):
+            self.content, self.is_counted, self.width = self.content.replace(b"\n1,", b"\n"), False, self.width - 1
+
+    def lines(self):
+        """The lines below the header, and how often each stands."""
+        return Counter(filter(None, self.content.split(b"\n")[1:]))
+
+    def rows(self):
+        """The rows, and how often each stands, record by record."""
+        rows = Counter()
+        line = next(self.records(), None) and self.reader.line_num + 1
+        for record in filter(None, self.reader):
+            if len(record) != self.width or (self.is_counted and not record[0].isdecimal()):
+                raise Failure(BAD_INPUT, f"{self.path}:{line}:1: this record has not the header's cells, or no count")
+            rows[tuple(record[self.is_counted :])] += int(record[0]) if self.is_counted else 1
+            line = self.reader.line_num + 1
+        return rows
+
+    def rows_of(self, lines):
+        """The rows of some lines, each of which stands so often."""
+        rows = Counter()
+        for line, count in lines:
+            record = next(csv.reader([line.decode(errors="surrogateescape")]))
+            rows[tuple(record[self.is_counted :])] += count * (int(record[0]) if self.is_counted else 1)
+        return rows
+
+
+def rows_apart(before, after):
+    """The rows of both exports, but for some that are as often in the one as in the other."""
+    if before.is_counted != after.is_counted:
+        before.drop_counts()
+        after.drop_counts()
+    if before.has_lines and after.has_lines and before.is_counted == after.is_counted:
+        old, new = before.lines().items(), after.lines().items()
+        return before.rows_of(old - new), after.rows_of(new - old)
+    return before.rows(), after.rows()
 
 
 def run(words):
-    before, after = map(exported, words.folders)
-    if before[0] != after[0]:
-        raise Failure(BAD_INPUT, f"{words.folders[1]}:1:1: the header is {','.join(after[0])}, and it was {','.join(before[0])}")
+    before, after = map(Export, words.folders)
+    if before.columns != after.columns:
+        raise Failure(BAD_INPUT, f"{after.path}:1:1: the header is {','.join(after.columns)}, and it was {','.join(before.columns)}")
+    old, new = rows_apart(before, after)
+    counts = {row: new[row] - old[row] for row in old.keys() | new.keys()}
     written = io.StringIO()
     writer = csv.writer(written, lineterminator="\n")
-    writer.writerow(["#", *before[0]])
-    counts = {row: after[1][row] - before[1][row] for row in before[1].keys() | after[1].keys()}
+    writer.writerow(["#", *before.columns])
     writer.writerows([count, *row] for row, count in sorted(counts.items()) if count)
     sys.stdout.buffer.write(written.getvalue().encode("utf-8", errors="surrogateescape"))
     return DONE

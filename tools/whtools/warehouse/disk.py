@@ -29,9 +29,9 @@ def sync(path):
             os.close(handle)
 
 
-def write(file, content):
-    with telling(file):
-        file.write_bytes(content)
+def write(file, pieces):
+    with telling(file), open(file, "wb") as opened:
+        opened.writelines(pieces)
 
 
 def keep(folder):
@@ -51,16 +51,22 @@ def writable(file):
             os.chmod(file, mode | OWNER_WRITES)
 
 
+def link(like, file):
+    """Makes a hard link, and answers whether this file system could."""
+    try:
+        os.link(like, file)
+    except OSError as error:
+        if error.errno not in NO_LINKS:
+            raise
+        return False
+    return True
+
+
 def put(file, content, like):
     """Writes a file: as a hard link to the one that it is like, where that has the same bytes and can be linked."""
-    if like.is_file() and like.stat().st_size == len(content) and like.read_bytes() == content:
-        try:
-            os.link(like, file)
-            return
-        except OSError as error:
-            if error.errno not in NO_LINKS:
-                raise
-    write(file, content)
+    is_like = like.is_file() and like.stat().st_size == len(content) and like.read_bytes() == content
+    if not is_like or not link(like, file):
+        write(file, [content])
 
 
 def remove(path):

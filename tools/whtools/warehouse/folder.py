@@ -2,7 +2,7 @@
 
 from collections import Counter
 
-from ..bundle import part
+from ..bundle import part_pieces
 from .catalogue import Catalogue
 from .finding import Failure, Finding, Place
 from .inputs import Inputs
@@ -71,12 +71,22 @@ class Folder:
             rows[row] += count
         return rows
 
+    def after(self, view):
+        """The table of a base view after its changes, in pieces."""
+        return self.data[view.name].after(self.changes[view.name].rows if view.name in self.changes else {})
+
+    def is_unchanged(self, view):
+        """Whether a base view's table is one that a night has made, and stays."""
+        records = self.data[view.name]
+        return records.is_made and records.header[0] and not any(self.changes[view.name].rows.values() if view.name in self.changes else ())
+
     def bundle(self, strategy, with_changes=True):
-        """The bundle of one night with this strategy."""
-        parts = [part("catalogue", self.catalogue.content)]
-        for kind, kept in (("data", self.data), ("changes", self.changes)):
-            parts += [part(f"{kind} {name}", kept[name].content) for name in kept if kind == "data" or with_changes]
-        return b"".join([*parts, part("strategy", strategy.encode())])
+        """The bundle of one night with this strategy, in pieces."""
+        parts = part_pieces("catalogue", self.catalogue.content)
+        for kind, kept in (("data", self.data), ("changes", self.changes if with_changes else {})):
+            for name, records in kept.items():
+                parts += part_pieces(f"{kind} {name}", records.content)
+        return parts + part_pieces("strategy", strategy.encode())
 
 
 def judged(folder):

@@ -11,10 +11,11 @@ FORMS = {"data": "NAME.csv", "changes": "NAME.csv, NAME.1.csv, NAME.2.csv and so
 
 
 class Source(NamedTuple):
-    """A file that is read: where it lies, and the name by which it is told."""
+    """A file that is read: where it lies, the name by which it is told, and whether it is a table that a night has made by this catalogue."""
 
     path: object
     told: str
+    is_made: bool = False
 
 
 def entries(folder):
@@ -49,7 +50,14 @@ class Inputs:
         self.places = {"data": part / "given", "changes": part / "changes"} if part else {kind: folder / kind for kind in FORMS}
         self.changes = by_view(self.places["changes"], "changes", CHANGES)
         self.carried = tables(self.state.root / "data", self.state.told)
+        if self.state.number and self.is_catalogue_as_before():
+            self.carried = {name: source._replace(is_made=True) for name, source in self.carried.items()}
         self.given = {} if self.state.number is None else tables(self.places["data"], "data")
+
+    def is_catalogue_as_before(self):
+        """Whether the catalogue is that of the version, so that its tables have been judged by it."""
+        files = [folder / "catalogue.toml" for folder in (self.folder, self.state.root)]
+        return all(file.is_file() for file in files) and files[0].read_bytes() == files[1].read_bytes()
 
     def table(self, name):
         """The table of a base view, or None."""

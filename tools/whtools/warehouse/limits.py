@@ -1,7 +1,6 @@
 """How large the input of the program may be, and what is told where a folder is larger or comes near to it."""
 
 from .finding import Failure, Finding, Place
-from .records import table_text
 from .status import BAD_INPUT
 
 # The limit; how many of the largest files are told, and which part of the whole a file has that is not worth it.
@@ -9,8 +8,8 @@ MOST, LARGEST, SMALL = 2**26, 3, 20
 CURE = "put numbers in the place of long texts, have fewer columns, or keep the facts of several years in folders of their own"
 # Above which part of the limit a warning is due.
 NEAR = 9 / 10
-# By how many bytes at most a quote, and a row besides its count, may grow as a table is written anew.
-QUOTE, ROW = 3, 3
+# By how many bytes at most a quote, and a row, may grow as a table is written anew: a row that has no count gets one.
+QUOTE, ROW = 3, 2
 
 
 def beyond(total, what="the night's bundle has"):
@@ -45,25 +44,30 @@ def bundle_sizes(folder):
     return found
 
 
-def judge(bundle):
-    """Refuses a bundle that the program would not take."""
-    if len(bundle) > MOST:
-        raise Failure(BAD_INPUT, f"{beyond(len(bundle))}; {CURE}")
+def judge(pieces):
+    """Refuses a bundle in pieces that the program would not take."""
+    total = sum(map(len, pieces))
+    if total > MOST:
+        raise Failure(BAD_INPUT, f"{beyond(total)}; {CURE}")
 
 
 def most_after(folder):
-    """How much the base tables take at most after the night, without writing them."""
+    """How much the base tables take at most after the night, without writing them: counts that are added up have no more digits."""
     read = [*folder.data.values(), *(records for changes in folder.changes.values() for records in changes.files)]
-    digits = len(str(sum(max(records.rows.values(), default=0) for records in read)))
-    return sum(len(each.content) + QUOTE * each.content.count(b'"') + (digits + ROW) * len(each.rows) for each in read)
+    return sum(map(most_anew, read))
+
+
+def most_anew(records):
+    """How much a table or changes take at most when they are written anew; a table that a night has made stays as it is."""
+    content = records.content
+    return len(content) + (0 if records.is_made else QUOTE * content.count(b'"') + ROW * (content.count(b"\n") + 1))
 
 
 def sizes_after(folder):
     """How much the base tables and the catalogue take after the night, where that can come near to the limit; else nothing."""
     if most_after(folder) + len(folder.catalogue.content) < NEAR * MOST:
         return {}
-    tables = {view.name: table_text(view.columns, folder.rolled(view)) for view in folder.bases if view.name in folder.data}
-    return table_sizes(folder, tables)
+    return table_sizes(folder, {view.name: b"".join(folder.after(view)) for view in folder.bases if view.name in folder.data})
 
 
 def table_sizes(folder, tables):

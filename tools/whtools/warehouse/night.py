@@ -24,14 +24,15 @@ def preview(words):
     night, part, new = carried(Folder(words.folder), words), words.folder / "new.part", words.folder / "new"
     try:
         os.makedirs(part)
-        for name, table in night.tables.items():
-            write(part / f"{name}.csv", table)
-        write(part / "report.txt", night.report.encode())
+        for view, table in night.tables():
+            table.put(part / f"{view.name}.csv", False)
+        report = night.report()
+        write(part / "report.txt", [report.encode()])
         remove(new)
         os.rename(part, new)
     finally:
         remove(part)
-    return night.report
+    return report
 
 
 def tell(words, report):

@@ -19,6 +19,6 @@ def run(words):
     for path in left_out(words.folder):
         print(f"tools/warehouse: {path} is no part of a bundle", file=sys.stderr)
     bundle = pack(words.folder)
-    judge(bundle)
+    judge([bundle])
     sys.stdout.buffer.write(bundle)
     return DONE

@@ -1,14 +1,20 @@
 """The program, run on a bundle. What is no answer of its own is told, with the word that nothing was changed."""
 
+import os
 import signal
 import subprocess
+from contextlib import suppress
 from pathlib import Path
+from tempfile import TemporaryFile
+from threading import Thread
 
-from ..bundle import unpack
+from ..bundle import readers, spans
 from .finding import Failure
 from .limits import judge
 from .status import DONE, NO_ANSWER, NOT_WRITTEN
 
+# How much of an answer is looked at to tell whether there is one.
+BEGINNING = 64
 OWN_PROGRAM = Path(__file__).resolve().parents[3] / "whview"
 
 
@@ -22,32 +28,80 @@ def how_it_ended(status):
     return f"ended with status {status} and without an answer"
 
 
+def feed(pipe, pieces):
+    """Hands the program its input; one that ends before it has read all of it wants no more."""
+    with suppress(OSError), pipe:
+        for piece in pieces:
+            pipe.write(piece)
+
+
+def answered(words, pieces):
+    """The status, and the file in which what was printed stands, which has no name. Whatever ends the waiting ends the program."""
+    printed = TemporaryFile()
+    with subprocess.Popen(words, stdin=subprocess.PIPE, stdout=printed) as running:
+        feeder = Thread(target=feed, args=(running.stdin, pieces))
+        feeder.start()
+        try:
+            running.wait()
+        except BaseException:
+            running.kill()
+            raise
+        finally:
+            feeder.join()
+    printed.seek(0)
+    return running.returncode, printed
+
+
 def run(program, command, bundle, options=()):
-    """The status, which is one of the program's, and what was printed."""
-    judge(bundle)
+    """The status, which is one of the program's, and the file with what was printed."""
+    pieces = [bundle] if isinstance(bundle, bytes) else bundle
+    judge(pieces)
     try:
-        ran = subprocess.run([program, command, *options], input=bundle, stdout=subprocess.PIPE, check=False)
+        status, printed = answered([program, command, *options], pieces)
     except OSError as error:
         raise Failure(NO_ANSWER, f"{program} cannot be run for {command}: {error.strerror}; nothing was changed") from error
-    if not DONE <= ran.returncode <= NOT_WRITTEN or not ran.stdout.strip():
-        status = ran.returncode if DONE < ran.returncode <= NOT_WRITTEN else NO_ANSWER
-        raise Failure(status, f"{program} {command} {how_it_ended(ran.returncode)}; nothing was changed")
-    return ran.returncode, ran.stdout
+    if not DONE <= status <= NOT_WRITTEN or not printed.peek(BEGINNING)[:BEGINNING].strip():
+        ended = status if DONE < status <= NOT_WRITTEN else NO_ANSWER
+        raise Failure(ended, f"{program} {command} {how_it_ended(status)}; nothing was changed")
+    return status, printed
+
+
+def done(program, command, bundle, options=()):
+    """The file with what the program answers; where it is not done, that ends the command."""
+    status, printed = run(program, command, bundle, options)
+    if status != DONE:
+        raise Failure(status, *printed.read().decode(errors="replace").strip().splitlines())
+    return printed
 
 
 def answer(program, command, bundle, options=()):
     """What the program answers; where it is not done, that ends the command."""
-    status, printed = run(program, command, bundle, options)
-    if status != DONE:
-        raise Failure(status, *printed.decode(errors="replace").strip().splitlines())
-    return printed
+    return done(program, command, bundle, options).read()
+
+
+class Night:
+    """The answer of a night: what stands above its tables, the readers' lines below them, and the tables, each read where it is asked
+    for.
+    """
+
+    def __init__(self, file):
+        self.file, whole = file, file.read()
+        self.head, self.readers, self.places = whole[: whole.find(b"\nversion ")].decode(), readers(whole), spans(whole)
+
+    def table(self, name):
+        start, end = self.places[name]
+        return os.pread(self.file.fileno(), end - start, start)
+
+    def changed(self):
+        """How many rows each view's Inst changed, by its name."""
+        steps = self.head.partition("\nwork ")[0].split("\n")
+        return {name: int(count) for name, count in (line[5:].split(": ") for line in steps if line.startswith("inst "))}
 
 
 def night(folder, words, strategy, options=(), with_changes=True):
     """The answer of a night, which has the tables of all derived views."""
-    printed = answer(words.program, "night", folder.bundle(strategy, with_changes), options)
-    tables = unpack(printed)
-    missing = [view.name for view in folder.views if not view.is_base and view.name not in tables]
+    found = Night(done(words.program, "night", folder.bundle(strategy, with_changes), options))
+    missing = [view.name for view in folder.views if not view.is_base and view.name not in found.places]
     if missing:
         raise Failure(NO_ANSWER, f"{words.program} night gave no table of {missing[0]}; nothing was changed")
-    return printed
+    return found

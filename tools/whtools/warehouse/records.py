@@ -5,7 +5,9 @@ import io
 import re
 from collections import Counter
 from functools import cached_property
+from types import SimpleNamespace
 
+from .by_lines import Lines, NotSorted, counted, has_whole_lines, is_sound, line_of, standing
 from .finding import Finding, Place
 from .packing import MARK, merged
 
@@ -14,12 +16,95 @@ MOST = 2**63
 
 
 class Records:
-    """The rows of a table or of changes, how often each stands in it, the line of each one's first record, and the findings."""
+    """The rows of a table or of changes, how often each stands in it, the line of each one's first record, and the findings. Where all
+    is seen at once to be sound, no record is read before somebody asks for its row.
+    """
 
     def __init__(self, source, view, are_changes):
-        self.file, self.view, self.are_changes = source.told, view, are_changes
-        self.rows, self.lines, self.findings, self.begun = Counter(), {}, [], []
+        self.file, self.view, self.are_changes, self.is_made = source.told, view, are_changes, source.is_made
         self.content = source.path.read_bytes()
+
+    @cached_property
+    def header(self):
+        """Whether the first line is the header, with `#` and without; and where the records begin."""
+        start, end = len(MARK) if self.content.startswith(MARK) else 0, self.content.find(b"\n") + 1
+        line = self.content[start:end].rstrip(b"\r\n")
+        wanted = ",".join(name for name, _ in self.view.columns).encode()
+        return line == b"#," + wanted, line == wanted and not self.are_changes, end
+
+    @cached_property
+    def is_sound(self):
+        """Whether all is seen at once to have no fault."""
+        is_counted, is_bare, start = self.header
+        if self.is_made and is_counted:
+            return True
+        return (is_counted or is_bare) and is_sound(self.content, start, self.view.columns, is_counted, self.are_changes)
+
+    @cached_property
+    def has_lines(self):
+        """Whether it is sound, and each record is a line."""
+        return self.is_sound and has_whole_lines(self.content)
+
+    @cached_property
+    def whole(self):
+        """All of it, record by record."""
+        return Reading(self)
+
+    @property
+    def findings(self):
+        return [] if self.is_sound else self.whole.findings
+
+    @property
+    def rows(self):
+        return self.whole.rows
+
+    @property
+    def lines(self):
+        return self.whole.lines
+
+    @cached_property
+    def total(self):
+        """How many rows there are, each as often as it counts."""
+        is_counted, _, start = self.header
+        if not self.has_lines:
+            return self.rows.total()
+        return counted(self.content) if is_counted else self.content.count(b"\n", start) + (not self.content.endswith(b"\n"))
+
+    @cached_property
+    def made(self):
+        """The table as one of the tool's own, or None where it is another's."""
+        return Lines(self.content, self.view.columns) if self.is_made and self.header[0] and self.has_lines else None
+
+    def standing(self, rows):
+        """How often each of these rows stands, or less where that takes a closer look."""
+        if self.made:
+            return {row: self.made.find(row, self.made.start)[2] for row in rows}
+        if not self.has_lines:
+            return self.rows
+        is_counted, _, start = self.header
+        lines = {line_of(1, row)[2:-1]: row for row in rows}
+        return {lines[line]: count for line, count in standing(self.content, start, lines, is_counted).items()}
+
+    def after(self, changes):
+        """The table with these changes of rows, sorted, in pieces. No row leaves that is not there."""
+        try:
+            return self.made.spliced(self.made.added(changes)) if self.made else self.sorted(changes)
+        except NotSorted:
+            return self.sorted(changes)
+
+    def sorted(self, changes):
+        """The same, where it is not sorted yet."""
+        rows = Counter(self.rows)
+        rows.update(changes)
+        return [table_text(self.view.columns, rows)]
+
+
+class Reading:
+    """Records one by one: their rows, their lines, and what is wrong in them."""
+
+    def __init__(self, records):
+        self.file, self.view, self.are_changes, self.content = records.file, records.view, records.are_changes, records.content
+        self.rows, self.lines, self.findings, self.begun = Counter(), {}, [], []
         content = self.content.removeprefix(MARK)
         try:
             text = content.decode()
@@ -130,26 +215,28 @@ class Changes:
 
 def shown(row):
     """A row as a CSV file has it, without a line's end."""
-    written = io.StringIO()
-    csv.writer(written, lineterminator="").writerow(row)
-    return written.getvalue()
+    return line_of(0, row)[2:-1].decode()
 
 
 def table_text(columns, rows):
     """A table sorted by what it shows, with `#`."""
-    written = io.StringIO()
-    writer = csv.writer(written, lineterminator="\n")
+    lines = []
+    # A cell is put in quotes where it has a letter of a line's end, and each line ends by one of them.
+    writer = csv.writer(SimpleNamespace(write=lines.append), lineterminator="\r\n")
     writer.writerow(["#", *(name for name, _ in columns)])
     writer.writerows([count, *row] for row, count in sorted(rows.items()) if count)
-    return written.getvalue().encode()
+    return "".join([f"{line[:-2]}\n" for line in lines]).encode()
 
 
 def absent(data, changes):
     """A finding for each row of changes of which more leave than there are."""
+    leaving = {row: count for row, count in changes.rows.items() if count < 0}
+    there = data.standing(leaving) if leaving else {}
+    if any(there[row] + count < 0 for row, count in leaving.items()):
+        there = data.rows
     found = []
-    for row, count in changes.rows.items():
-        there = data.rows[row]
-        if there + count < 0:
-            text = f"{-count} of {shown(row)} leave, and {data.file} has {there}"
+    for row, count in leaving.items():
+        if there[row] + count < 0:
+            text = f"{-count} of {shown(row)} leave, and {data.file} has {there[row]}"
             found.append(Finding(changes.place(row), text))
     return found

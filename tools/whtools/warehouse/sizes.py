@@ -5,9 +5,9 @@ import csv
 import io
 import sys
 
-from ..bundle import unpack
 from ..sizes import ROWS, WITH_WEIGHTS
 from . import program
+from .by_lines import counted, counted_through, has_whole_lines
 from .finding import Failure
 from .folder import sound
 from .given_sizes import FILE, GivenSizes
@@ -27,7 +27,7 @@ def sized(rows):
 def of_text(text):
     """A view's numbers by its name, of the text of sizes, which has no fault."""
     records = list(filter(None, csv.reader(io.StringIO(text, newline=""))))
-    return {name: tuple(map(int, numbers)) for name, *numbers in records[1:]}
+    return {name: tuple(int(number) if number else None for number in numbers) for name, *numbers in records[1:]}
 
 
 def base_sizes(folder):
@@ -35,7 +35,7 @@ def base_sizes(folder):
     found = {}
     for view in folder.views:
         if view.is_base:
-            before = folder.data[view.name].rows.total()
+            before = folder.data[view.name].total
             changes = folder.changes[view.name].rows.values() if view.name in folder.changes else ()
             found[view.name] = (before, before + sum(changes), sum(map(abs, changes)))
     return found
@@ -66,42 +66,34 @@ def told_before(folder):
     return {view.name: found[view.name] for view in folder.views}
 
 
-def counted(table):
-    """How many rows a printed table has: the sum of its counts."""
-    inside, total = False, 0
-    for number, line in enumerate(table.split(b"\n")):
-        if number and line and not inside:
-            total += int(line.partition(b",")[0])
-        inside ^= line.count(b'"') % 2 == 1
-    return total
+def rows_of(table):
+    """How many rows a printed table has."""
+    return counted(table) if has_whole_lines(table) else counted_through(table)
 
 
-def installed(answer):
-    """How many rows each view's Inst changed, by its name."""
-    head = answer.partition(b"\nwork ")[0].decode()
-    return {name: int(count) for name, count in (line[5:].split(": ") for line in head.split("\n") if line.startswith("inst "))}
-
-
-def of_night(folder, answer, before):
-    """The sizes of a night that was carried out, with the derived views' rows before it."""
-    changed, tables, base = installed(answer), unpack(answer), base_sizes(folder)
-    derived = {name: (before[name], counted(table), changed[name]) for name, table in tables.items()}
-    return {view.name: base[view.name] if view.is_base else derived[view.name] for view in folder.views}
+def told_rows(folder):
+    """How many rows each derived view has, as far as it is known: from the last report, and none where all base tables are empty."""
+    last, derived = last_report(folder), [view.name for view in folder.views if not view.is_base]
+    if not any(before for before, _, _ in base_sizes(folder).values()):
+        return dict.fromkeys(derived, 0)
+    return {name: last[name][1] for name in derived if name in last}
 
 
 def rows_before(folder, words):
-    """How many rows each derived view has before the night: the last report says it, or a night without changes."""
-    last = last_report(folder)
-    derived = [view.name for view in folder.views if not view.is_base]
-    if all(name in last for name in derived):
-        return {name: last[name][1] for name in derived}
+    """How many rows each derived view has before the night: it is told, or counted by a night without changes."""
+    told, derived = told_rows(folder), [view.name for view in folder.views if not view.is_base]
+    if len(told) == len(derived):
+        return told
     answer = program.night(folder, words, written(at_once(folder.views)), with_changes=False)
-    return {name: counted(table) for name, table in unpack(answer).items()}
+    return {name: rows_of(answer.table(name)) for name in derived}
 
 
 def measured(folder, words):
     """Sizes by a night that is carried out and not kept."""
-    return of_night(folder, program.night(folder, words, written(at_once(folder.views))), rows_before(folder, words))
+    answer, before = program.night(folder, words, written(at_once(folder.views))), rows_before(folder, words)
+    changed, base = answer.changed(), base_sizes(folder)
+    derived = {name: (rows, rows_of(answer.table(name)), changed[name]) for name, rows in before.items()}
+    return {view.name: base[view.name] if view.is_base else derived[view.name] for view in folder.views}
 
 
 def given_text(folder):

@@ -5,7 +5,6 @@ import io
 from collections import Counter
 from fractions import Fraction
 
-from ..bundle import unpack
 from ..sizes import MOST_WEIGHT
 from . import program
 from .records import shown
@@ -57,7 +56,10 @@ def derived_tables(folder, words):
     files = {view.name: folder.state.root / "views" / f"{view.name}.csv" for view in folder.views if not view.is_base}
     if folder.state.number is not None and all(file.is_file() for file in files.values()):
         return {name: file.read_bytes() for name, file in files.items()}
-    return unpack(program.night(folder, words, written(at_once(folder.views)))) if files else {}
+    if not files:
+        return {}
+    answer = program.night(folder, words, written(at_once(folder.views)))
+    return {name: answer.table(name) for name in files}
 
 
 def proposed(folder, words):
