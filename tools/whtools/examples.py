@@ -1,5 +1,6 @@
 """The bundles of examples/ and tools/tests/bundles/, each with its words and its answer, for the tools that run them all."""
 
+import subprocess
 from pathlib import Path
 from typing import NamedTuple
 
@@ -34,3 +35,10 @@ def examples():
     """The bundles of both folders, by name."""
     paths = sorted((path for folder in FOLDERS for path in folder.glob("*.bundle")), key=lambda path: path.stem)
     return [Example(path, words_of(path), path.read_bytes(), path.with_suffix(".answer").read_bytes()) for path in paths]
+
+
+def mistake(started, example):
+    """What the program answers to an example in another way, or None."""
+    ran = subprocess.run([started, *example.words, "--input", example.path], stdin=subprocess.DEVNULL, capture_output=True, timeout=60)
+    answer = ran.stdout + b"status %d\n" % ran.returncode
+    return None if answer == example.answer else f"{example.path.name} answered\n{answer.decode(errors='replace')}"

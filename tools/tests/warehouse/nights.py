@@ -143,11 +143,6 @@ class Programs(Shop):
         told = f"{self.program} cannot be run for night: No such file or directory; nothing was changed"
         self.assertEqual(self.ran("night", "--commit"), (70, [told]))
 
-    def test_a_look_at_what_it_might_not_print_whole_is_refused_at_once(self):
-        ran = subprocess.run([TOOLS / "look", "night"], input=b"@catalogue\n" + b" " * 2**19, capture_output=True)
-        told = "tools/look: the input has 524299 bytes, and its answer may be longer than can be printed; 524288 is the most"
-        self.assertEqual((ran.returncode, ran.stdout, ran.stderr.decode()), (70, b"", f"{told}; take ./whview, which has no such bound\n"))
-
     def test_an_answer_that_was_cut(self):
         self.answers(ANSWER.read_bytes().partition(b"view daily_by_region")[0], 0)
         self.assertEqual(self.ran("night"), (70, [f"{self.program} night gave no table of daily_by_region; nothing was changed"]))

@@ -145,6 +145,7 @@ class Told(Shop):
         self.assertEqual(self.ran("nigth"), (2, [f"there is no command 'nigth'; there are {there}; did you mean night?"]))
         self.assertEqual(self.ran("lint", "--commit"), (2, ["lint has no option --commit"]))
         self.assertEqual(self.ran("night", "--keep", "2"), (2, ["--keep goes with --commit, which makes the versions"]))
+        self.assertEqual(self.ran("lint", "--unproved"), (2, ["--unproved and --program FILE name two programs; give one"]))
         self.assertEqual(self.ran("night", "--keep", "0"), (2, ["--keep is how many versions stay, 1 or more, and not '0'"]))
 
     def test_what_the_program_says_comes_to_the_terminal_with_its_status(self):

@@ -2,12 +2,13 @@
 
 import os
 import sys
+from functools import cached_property
 from importlib import import_module
 from pathlib import Path
 
 from .finding import Failure, nearest, of_system, warn
 from .lock import at_work
-from .program import OWN_PROGRAM
+from .program import own
 from .status import BAD_INPUT, BAD_WORDS, DONE, NOT_WRITTEN
 from .stopped import is_stopped
 from .takeover import is_pending
@@ -29,7 +30,7 @@ class Words:
 
     def __init__(self, words):
         given = list(words)
-        self.program, self.commit, self.keep, self.lenient, self.through = OWN_PROGRAM, False, None, False, []
+        self.named, self.unproved, self.commit, self.keep, self.lenient, self.through = None, False, False, None, False, []
         self.weights = None
         self.command = given.pop(0) if given else ""
         if self.command not in COMMANDS:
@@ -42,8 +43,15 @@ class Words:
         if len(folders) != (2 if self.command == "diff" else 1):
             raise Failure(BAD_WORDS, "diff takes two files" if self.command == "diff" else f"{self.command} takes one folder")
         self.folder = self.folders[0]
+        if self.named and self.unproved:
+            raise Failure(BAD_WORDS, "--unproved and --program FILE name two programs; give one")
         if self.keep and not self.commit:
             raise Failure(BAD_WORDS, "--keep goes with --commit, which makes the versions")
+
+    @cached_property
+    def program(self):
+        """The program, once it is needed."""
+        return self.named or own(self.unproved)
 
     def take(self, given, folders):
         """Takes the next word, and its value where it has one."""
@@ -55,7 +63,9 @@ class Words:
         elif word in WITH_A_VALUE and not given:
             raise Failure(BAD_WORDS, f"{word} wants a value")
         elif word == "--program":
-            self.program = Path(given.pop(0)).resolve()
+            self.named = Path(given.pop(0)).resolve()
+        elif word == "--unproved":
+            self.unproved = True
         elif word == "--keep" and self.command == "night":
             self.keep = number(given.pop(0))
         elif word == "--weights" and self.command in WEIGHED:

@@ -3,19 +3,38 @@
 import os
 import signal
 import subprocess
-from contextlib import suppress
 from pathlib import Path
-from tempfile import TemporaryFile
-from threading import Thread
+from tempfile import TemporaryFile, gettempdir
 
 from ..bundle import readers, spans
-from .finding import Failure
+from ..unproved import NotBuilt, unproved
+from .disk import telling
+from .finding import Failure, warn
 from .limits import judge
 from .status import DONE, NO_ANSWER, NOT_WRITTEN
 
 # How much of an answer is looked at to tell whether there is one.
 BEGINNING = 64
-OWN_PROGRAM = Path(__file__).resolve().parents[3] / "whview"
+ROOT = Path(__file__).resolve().parents[3]
+NOT_THERE = (
+    "the proved program is not there: `./whview --help` proves and builds it, which takes half an hour or more; with --unproved another is"
+    " taken, which is built within minutes; --program FILE names a program"
+)
+
+
+def own(is_unproved):
+    """The repository's program: the one that is not proved where it is asked for, and else the one that is, which is not built unasked."""
+    if is_unproved:
+        try:
+            found = unproved(ROOT)
+        except NotBuilt as cause:
+            raise Failure(NO_ANSWER, f"tools/unproved: {cause}") from cause
+        warn(["this is done by a program that is not proved"])
+        return found
+    found = subprocess.run([ROOT / "tools/built"], stdout=subprocess.PIPE, stderr=subprocess.DEVNULL, text=True)
+    if found.returncode:
+        raise Failure(NO_ANSWER, NOT_THERE)
+    return Path(found.stdout.removesuffix("\n"))
 
 
 def how_it_ended(status):
@@ -28,38 +47,27 @@ def how_it_ended(status):
     return f"ended with status {status} and without an answer"
 
 
-def feed(pipe, pieces):
-    """Hands the program its input; one that ends before it has read all of it wants no more."""
-    with suppress(OSError), pipe:
-        for piece in pieces:
-            pipe.write(piece)
-
-
-def answered(words, pieces):
-    """The status, and the file in which what was printed stands, which has no name. Whatever ends the waiting ends the program."""
-    printed = TemporaryFile()
-    with subprocess.Popen(words, stdin=subprocess.PIPE, stdout=printed) as running:
-        feeder = Thread(target=feed, args=(running.stdin, pieces))
-        feeder.start()
-        try:
-            running.wait()
-        except BaseException:
-            running.kill()
-            raise
-        finally:
-            feeder.join()
-    printed.seek(0)
-    return running.returncode, printed
+def temporary(pieces=()):
+    """A file without a name, which has these pieces."""
+    file = TemporaryFile()
+    with telling(gettempdir()):
+        file.writelines(pieces)
+        file.seek(0)
+    return file
 
 
 def run(program, command, bundle, options=()):
     """The status, which is one of the program's, and the file with what was printed."""
     pieces = [bundle] if isinstance(bundle, bytes) else bundle
     judge(pieces)
+    given, printed = temporary(pieces), temporary()
     try:
-        status, printed = answered([program, command, *options], pieces)
+        status = subprocess.run([program, command, *options], stdin=given, stdout=printed, check=False).returncode
     except OSError as error:
         raise Failure(NO_ANSWER, f"{program} cannot be run for {command}: {error.strerror}; nothing was changed") from error
+    finally:
+        given.close()
+    printed.seek(0)
     if not DONE <= status <= NOT_WRITTEN or not printed.peek(BEGINNING)[:BEGINNING].strip():
         ended = status if DONE < status <= NOT_WRITTEN else NO_ANSWER
         raise Failure(ended, f"{program} {command} {how_it_ended(status)}; nothing was changed")
