@@ -1,12 +1,9 @@
 -- The rows of a table, as version 0 alone.
-use Rattle.std.proofs.Common.{◌≡◌, ◌≢◌, refl, sym, ap, subst, ℕ, zero, suc, ◌+◌, ◌-◌, ◌<◌, ◌≤◌, ◌≤ℤ◌, ℤ, pos, List, [], ◌∷◌, length, take, map, true, false, cond, Some, inl, inr, arith}
+use Rattle.std.proofs.Common.{◌≡◌, ◌≢◌, refl, sym, subst, ℕ, zero, suc, ◌+◌, ◌-◌, ◌<◌, ◌≤◌, ◌≤ℤ◌, ℤ, pos, List, [], ◌∷◌, length, take, true, false, cond, Some, inl, inr, arith}
 use Rattle.std.proofs.Common.{◌*◌, lit<}
 use prog.Memory.{up}
 use Rattle.std.specs.List.{AllByRecursion}
-use Rattle.std.specs.List.Sorted.{IsStrictlySortedBy}
-use Rattle.std.specs.Map.{keys_of}
-use Rattle.wh_pieces.specs.Row.{Row, row_cmp, is_row}
-use Rattle.wh_pieces.specs.Place.{AreRisingRows}
+use Rattle.wh_pieces.specs.Row.{Row, is_row}
 use Rattle.wh_pieces.specs.Pieces.{AreRevalued, found}
 use Rattle.wh_row.specs.Bag.{Bag, count, IsTable}
 use Rattle.wh_row.specs.Weigh.{Counted}

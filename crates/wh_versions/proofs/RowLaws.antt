@@ -1,8 +1,8 @@
 -- What holds of all rows.
-use Rattle.std.proofs.Common.{◌≡◌, refl, suc, ◌-◌, ℕ, Option, Some, None, true, false, arith, cond}
+use Rattle.std.proofs.Common.{◌≡◌, refl, suc, ◌-◌, Some, None, true, false, arith, cond}
 use Rattle.wh_versions.specs.Laws.{EachPutIsRead, EachReadsBack, DroppedAreUnread}
 use Rattle.wh_versions.proofs.ReadLaws.{read_put, read_put_new, put_pairs, read_back, read_older, back_pairs}
-use Rattle.wh_versions.specs.Rows.{Pairs, IsUnread, is_unread}
+use Rattle.wh_versions.specs.Rows.{IsUnread, is_unread}
 use Rattle.wh_versions.proofs.TableLaws.{unread_reads, begun_of}
 
 pub each_put_is_read : EachPutIsRead

@@ -1,9 +1,6 @@
-use Rattle.std.proofs.Common.{◌≡◌, ◌≤ℤ◌, ℤ, pos, [], ◌∷◌, Result, Ok, Err, IfOk}
-use Rattle.wh_pieces.specs.Pieces.{AreRevalued}
+use Rattle.std.proofs.Common.{Result, Ok, Err, IfOk}
 use Rattle.wh_row.specs.Bag.{written as written_out}
-use Rattle.wh_versions.specs.Rows.{Pairs}
-use Rattle.wh_versions.specs.Tables.{opening}
-use Rattle.wh_versions.proofs.OpeningLaws.{only, opening_made}
+use Rattle.wh_versions.proofs.OpeningLaws.{opening_made}
 use Rattle.wh_versions.proofs.writing.first_rows.Goals as goal
 
 -- whatever is answered
