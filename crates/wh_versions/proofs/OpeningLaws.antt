@@ -1,9 +1,12 @@
 -- The rows of a table, as version 0 alone.
-use Rattle.std.proofs.Common.{◌≡◌, ◌≢◌, refl, sym, subst, ℕ, zero, suc, ◌+◌, ◌-◌, ◌<◌, ◌≤◌, ◌≤ℤ◌, ℤ, pos, List, [], ◌∷◌, length, take, true, false, cond, Some, inl, inr, arith}
+use Rattle.std.proofs.Common.{◌≡◌, ◌≢◌, refl, sym, ap, subst, ℕ, zero, suc, ◌+◌, ◌-◌, ◌<◌, ◌≤◌, ◌≤ℤ◌, ℤ, pos, List, [], ◌∷◌, length, take, map, true, false, cond, Some, inl, inr, arith}
 use Rattle.std.proofs.Common.{◌*◌, lit<}
 use prog.Memory.{up}
 use Rattle.std.specs.List.{AllByRecursion}
-use Rattle.wh_pieces.specs.Row.{Row, is_row}
+use Rattle.std.specs.List.Sorted.{IsStrictlySortedBy}
+use Rattle.std.specs.Map.{keys_of}
+use Rattle.wh_pieces.specs.Row.{Row, row_cmp, is_row}
+use Rattle.wh_pieces.specs.Place.{AreRisingRows}
 use Rattle.wh_pieces.specs.Pieces.{AreRevalued, found}
 use Rattle.wh_row.specs.Bag.{Bag, count, IsTable}
 use Rattle.wh_row.specs.Weigh.{Counted}
@@ -17,6 +20,13 @@ AreOf b es = AllByRecursion (λ (e : Row × ℤ). (count b e.0 ≡ e.1) × (e.1 
 
 pub least_of : (b : Bag) (e : Row × ℤ) (es : Counted) → IsTable b → AreOf b (e ∷ es) → pos 0 ≤ℤ e.1
 least_of b e es is of = let P : ℤ → Type 0 = λ z. pos 0 ≤ℤ z in subst P of.0.0 (is e.0)
+
+opening_keys : (es : Counted) → keys_of (opening es) ≡ map {A = Row × ℤ} {B = Row} (λ e. e.0) es
+opening_keys [] = refl
+opening_keys (e ∷ es) = ap (λ rs. e.0 ∷ rs) (opening_keys es)
+
+pub opening_rises : (es : Counted) → IsStrictlySortedBy row_cmp (map {A = Row × ℤ} {B = Row} (λ e. e.0) es) → AreRisingRows (opening es)
+opening_rises es h = subst (λ (rs : List Row). IsStrictlySortedBy row_cmp rs) (sym (opening_keys es)) h
 
 abbrev pub only : ℤ → Pairs
 only c = (0, c) ∷ []
