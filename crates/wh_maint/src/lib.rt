@@ -39,7 +39,7 @@ pub use laws::{
     sizes_multiply, summaries_show_accumulators, tables_have_width, terms_are_within,
     terms_give_values, terms_meet_old_or_new_rows, values_are_fit,
 };
-pub use opening::opening_contents;
+pub use opening::{opening_contents, opening_contents_wide};
 pub use pending::Pending;
 pub use size::operand_rows;
 pub use wants::Wants;
