@@ -7,6 +7,7 @@
 
 mod asked;
 mod base_change;
+mod beside;
 mod both_sums;
 mod column;
 mod combined;
@@ -15,6 +16,7 @@ mod evaluated;
 mod fault;
 mod finished;
 mod group_change;
+mod hands;
 mod installed;
 mod laws;
 mod opening;
@@ -22,6 +24,7 @@ mod pending;
 mod size;
 mod term;
 mod wants;
+mod wide;
 
 pub use asked::{are_bags, are_sources, is_fit};
 pub use base_change::changed;
@@ -43,3 +46,4 @@ pub use opening::{opening_contents, opening_contents_wide};
 pub use pending::Pending;
 pub use size::operand_rows;
 pub use wants::Wants;
+pub use wide::{comp_wide, evaluate_wide};
