@@ -13,6 +13,5 @@ mod opened;
 mod product;
 mod steps;
 mod waves;
-mod wide;
 
 use test_given::{catalogs, tables};

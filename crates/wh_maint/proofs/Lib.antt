@@ -29,7 +29,6 @@ mod NoRows
 pub mod OldRows
 mod OneRow
 mod OpenedContents
-mod Parts
 pub mod Products
 pub mod RuledOut
 pub mod SizeBounds
