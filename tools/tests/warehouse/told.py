@@ -4,6 +4,9 @@ import os
 import subprocess
 import sys
 
+from whtools.warehouse.command import COMMANDS
+from whtools.warehouse.helps import OPTIONS
+
 from .shop import SHOP, SIZES, TOOLS, Shop, contents
 
 
@@ -15,6 +18,55 @@ class Told(Shop):
         self.edit("data/products.csv", "bread,300", "bread,12.50")
         told = 'data/products.csv:2:7: "12.50" is not a whole number (keep cents)'
         self.assertEqual(self.ran("night"), (3, [told]))
+
+    def test_what_is_meant_by_a_cell_that_is_no_number(self):
+        null, dates = "there is no NULL; see the recipe NULL in docs/WAREHOUSE.md", "see the recipe Dates in docs/WAREHOUSE.md"
+        page = (TOOLS.parent / "docs/WAREHOUSE.md").read_text()
+        for recipe in ("**NULL.**", "**Dates.**"):
+            self.assertIn(recipe, page)
+        cells = {"": null, "NULL": null, "\\N": null, "n/a": null, "2026-11-27": dates, "27.11.2026": dates, "2026/1/2 10:00": dates}
+        for cell, cure in cells.items():
+            with self.subTest(cell=cell):
+                (self.folder / "data/products.csv").write_text(f"product,price\njam,450\nbread,{cell}\n")
+                self.assertEqual(self.ran("lint"), (3, [f'data/products.csv:3:7: "{cell}" is not a whole number ({cure})']))
+
+    def test_quotes_that_are_wrong(self):
+        cure = "a quote within a cell is written twice, and the cell is put in quotes"
+        never = f"the quote that opens here is never closed; {cure}"
+        closed = "the quote that opens here is closed in line {}, where more stands before the next comma; " + cure
+        later = "the quote that opens here is closed in a later line, and this record has 3 cells and the header has 2; " + cure
+        texts = {
+            'bread,300\n"jam,450\ntea,800\n': ("3:1", never),
+            'bread,300\n"jam,450\n"tea",800\n': ("3:1", closed.format(4)),
+            'bread,300\n"jam, 5" wide",450\n': ("3:1", closed.format(3)),
+            'bread,300\n"jam,450\ntea,800",1,2\n': ("3:1", later),
+            '"bre\nad",300\njam,"450': ("4:5", never),
+        }
+        for text, (place, told) in texts.items():
+            with self.subTest(text=text):
+                (self.folder / "data/products.csv").write_text(f"product,price\n{text}")
+                self.assertEqual(self.ran("lint"), (3, [f"data/products.csv:{place}: {told}"]))
+        (self.folder / "data/products.csv").write_text('"product,price\n')
+        self.assertEqual(self.ran("lint"), (3, [f"data/products.csv:1:1: {never}"]))
+
+    def test_a_byte_order_mark(self):
+        for file in ("catalogue.toml", "strategy.txt"):
+            content = (self.folder / file).read_bytes()
+            (self.folder / file).write_bytes(b"\xef\xbb\xbf" + content)
+            told = f"{file}:1:1: a byte order mark stands before the first line; save the file as UTF-8 without one"
+            for command in ("lint", "check"):
+                self.assertEqual(self.ran(command), (3, [told]))
+            (self.folder / file).write_bytes(content)
+        (self.folder / "data/orders.csv").write_bytes(b"\xef\xbb\xbf" + (self.folder / "data/orders.csv").read_bytes())
+        self.assertEqual(self.ran("lint"), (0, []))
+
+    def test_a_text_that_is_written_as_a_column(self):
+        self.edit("catalogue.toml", 'join = [["orders.id"', 'where = ["=", "orders.day", "Tuesday"]\njoin = [["orders.id"')
+        there = "orders.id, orders.day, orders.region, lines.id, lines.product, lines.pieces, products.product, products.price"
+        told = f'catalogue.toml:19:29: sales: there is no column "Tuesday"; there are {there}; a text is {{ text = "Tuesday" }}'
+        self.assertEqual(self.ran("lint"), (3, [told]))
+        self.edit("catalogue.toml", '"Tuesday"', '{ text = "Tuesday" }')
+        self.assertEqual(self.ran("lint"), (0, []))
 
     def test_a_number_below_a_cell_of_two_lines(self):
         self.edit("data/lines.csv", '2,"tea, black",3', '2,"tea,\nblack",x')
@@ -147,6 +199,24 @@ class Told(Shop):
         self.assertEqual(self.ran("night", "--keep", "2"), (2, ["--keep goes with --commit, which makes the versions"]))
         self.assertEqual(self.ran("lint", "--unproved"), (2, ["--unproved and --program FILE name two programs; give one"]))
         self.assertEqual(self.ran("night", "--keep", "0"), (2, ["--keep is how many versions stay, 1 or more, and not '0'"]))
+
+    def test_numbers_of_options_are_refused_before_the_program_is_asked(self):
+        self.answers(b"", 70)
+        wrong = [("night", "--workers", "17", "1 to 16"), ("night", "--readers", "-1", "0 to 16"), ("night", "--page-keys", "0", "1 to 256")]
+        wrong += [("plan", "--budget", "x", "1 to 9223372036854775807"), ("check", "--comp-cost", "1000001", "1 to 1000000")]
+        for command, option, number, between in wrong:
+            told = f"{option} is a whole number from {between}, and not '{number}'"
+            self.assertEqual(self.ran(command, option, number), (2, [told]))
+        self.assertEqual(self.ran("night", "--workers", "2", "--workers", "+3"), (2, ["--workers stands twice"]))
+
+    def test_each_command_has_a_help_of_its_own(self):
+        for command in COMMANDS:
+            for words in ([command, "--help"], [command, "some", "words", "-h"], ["help", command]):
+                ran = subprocess.run([TOOLS / "warehouse", *words], capture_output=True, text=True)
+                self.assertEqual((ran.returncode, ran.stderr), (0, ""))
+                self.assertTrue(ran.stdout.startswith(f"tools/warehouse {command} "), ran.stdout)
+                listed = [option for option, commands, _ in OPTIONS if command in commands]
+                self.assertEqual([option for option, _, _ in OPTIONS if f"\n    {option} " in ran.stdout], listed)
 
     def test_what_the_program_says_comes_to_the_terminal_with_its_status(self):
         self.answers(b"refused large sales\nleft given-up\n", 1)

@@ -2,7 +2,7 @@
 
 from typing import NamedTuple
 
-from . import program
+from . import refusals
 from .catalogue import FILE as CATALOGUE
 from .check import strategy_of as given_strategy
 from .finding import Failure, warn
@@ -93,4 +93,4 @@ def carried(folder, words):
     warn(judged(folder).warnings)
     judge_after(folder, words.commit)
     taken = chosen(folder, words)
-    return Night(folder, taken, program.night(folder, words, taken.strategy, words.through))
+    return Night(folder, taken, refusals.night(folder, words, taken.strategy, words.through))

@@ -3,7 +3,7 @@
 import re
 import tomllib
 
-from .finding import Finding, Place, nearest
+from .finding import MARK, MARKED, Finding, Place, nearest
 from .formulas import MOST, MOST_COLUMNS, NAME, Formulas
 from .toml_places import places, top_place
 
@@ -93,6 +93,9 @@ class Catalogue:
         """The text and its array of views; None for what is no TOML, and False where there is no such array."""
         try:
             text = content.decode()
+            if content.startswith(MARK):
+                self.find(Place(FILE), MARKED)
+                return "", None
             tables = tomllib.loads(text)
             for key in tables:
                 self.judge_top(text, key)

@@ -1,12 +1,14 @@
 """The words of tools/warehouse, and which command they mean."""
 
 import os
+import re
 import sys
 from functools import cached_property
 from importlib import import_module
 from pathlib import Path
 
 from .finding import Failure, nearest, of_system, warn
+from .helps import help_of
 from .lock import at_work
 from .program import own
 from .status import BAD_INPUT, BAD_WORDS, DONE, NOT_WRITTEN
@@ -14,9 +16,13 @@ from .stopped import is_stopped
 from .takeover import is_pending
 from .weights import KINDS
 
+HELPS = ("-h", "--help", "help")
 COMMANDS = ("pack", "unpack", "night", "lint", "check", "plan", "certify", "sizes", "diff", "explain", "graph")
 WITH_A_VALUE = ("--program", "--keep", "--weights", "--comp-cost", "--inst-cost", "--budget", "--workers", "--readers", "--page-keys")
 WEIGHED = ("night", "check", "plan", "certify", "sizes", "explain", "graph")
+# The numbers that the program takes behind an option, from the least to the greatest.
+RANGES = {"--workers": (1, 16), "--readers": (0, 16), "--page-keys": (1, 256), "--budget": (1, 2**63 - 1)}
+RANGES |= dict.fromkeys(("--comp-cost", "--inst-cost"), (1, 1_000_000))
 GOES_THROUGH = {
     "night": ("--workers", "--readers", "--page-keys"),
     "check": ("--comp-cost", "--inst-cost"),
@@ -71,7 +77,7 @@ class Words:
         elif word == "--weights" and self.command in WEIGHED:
             self.weights = kind_of_weights(given.pop(0))
         elif word in GOES_THROUGH.get(self.command, ()):
-            self.through += [word, given.pop(0)]
+            self.through += [word, number_of(word, given.pop(0), self.through)]
         elif word.startswith("-"):
             raise Failure(BAD_WORDS, f"{self.command} has no option {word}")
         else:
@@ -83,6 +89,16 @@ def number(word):
     if not word.isdecimal() or int(word) == 0:
         raise Failure(BAD_WORDS, f"--keep is how many versions stay, 1 or more, and not {word!r}")
     return int(word)
+
+
+def number_of(option, word, earlier):
+    """The number behind an option that goes through, which the program takes."""
+    least, most = RANGES[option]
+    if option in earlier:
+        raise Failure(BAD_WORDS, f"{option} stands twice")
+    if not re.fullmatch(r"\+?[0-9]+", word) or not least <= int(word) <= most:
+        raise Failure(BAD_WORDS, f"{option} is a whole number from {least} to {most}, and not {word!r}")
+    return word
 
 
 def kind_of_weights(word):
@@ -109,9 +125,12 @@ def judge_folder(words):
 
 def main(given, about):
     """Carries a command out, and answers its status."""
-    if not given or given[0] in ("-h", "--help", "help"):
-        print(about, file=sys.stdout if given else sys.stderr)
+    if not given or given[0] in HELPS:
+        print(about if len(given) < 2 or given[1] not in COMMANDS else help_of(given[1]), file=sys.stdout if given else sys.stderr)
         return DONE if given else BAD_WORDS
+    if given[0] in COMMANDS and any(word in HELPS[:2] for word in given[1:]):
+        print(help_of(given[0]))
+        return DONE
     try:
         words = Words(given)
         if words.command not in ("unpack", "diff"):

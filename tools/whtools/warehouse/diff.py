@@ -11,8 +11,7 @@ from collections import Counter
 from functools import cached_property
 
 from .by_lines import has_whole_lines, is_formed
-from .finding import Failure
-from .packing import MARK
+from .finding import MARK, Failure
 from .status import BAD_INPUT, DONE
 
 

@@ -5,6 +5,11 @@ from difflib import get_close_matches
 from typing import NamedTuple
 
 
+# A byte order mark, which may stand before a table, and what is told of it where it may not.
+MARK = b"\xef\xbb\xbf"
+MARKED = "a byte order mark stands before the first line; save the file as UTF-8 without one"
+
+
 def nearest(word, words):
     """A half-sentence with the nearest of these words, where one is near."""
     near = get_close_matches(word, words, 1)

@@ -4,8 +4,7 @@ import csv
 import io
 
 from ..sizes import MOST_ROWS, MOST_WEIGHT, ROWS, WITH_WEIGHTS
-from .finding import Finding, Place, nearest
-from .packing import MARK
+from .finding import MARK, Finding, Place, nearest
 from .records import NUMBER
 
 FILE = "sizes.csv"

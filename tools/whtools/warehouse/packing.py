@@ -12,6 +12,7 @@ from collections import Counter
 
 from ..bundle import part
 from .catalogue import Catalogue
+from .finding import MARK
 from .inputs import CHANGES, Inputs, by_view
 
 AFTER = ("sizes.csv", "plan.txt", "schedule.txt")
@@ -19,8 +20,6 @@ READ = ("catalogue.toml", "strategy.txt", *AFTER, "graph.dot", "graph.svg")
 # What the nights make, those of before there were versions too; and what is judged by itself.
 OWN = ("data", "changes", "versions", "versions.part", "current", "current.part", "new", "new.part", "new.old")
 OWN += ("views", "before", "commit", "commit.part")
-# A byte order mark, which may stand before a table.
-MARK = b"\xef\xbb\xbf"
 
 
 def merged(contents):

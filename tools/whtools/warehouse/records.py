@@ -7,12 +7,19 @@ from collections import Counter
 from functools import cached_property
 from types import SimpleNamespace
 
+from . import quotes
 from .by_lines import Lines, NotSorted, counted, has_whole_lines, is_sound, line_of, standing
-from .finding import Finding, Place
-from .packing import MARK, merged
+from .finding import MARK, Finding, Place
+from .packing import merged
 
 NUMBER = re.compile(r"[+-]?[0-9]+")
 MOST = 2**63
+# What is often meant by a cell that is no number; in docs/WAREHOUSE.md are the recipes.
+CURES = [
+    (re.compile(r"[+-]?[0-9]+[.,][0-9]+"), "keep cents"),
+    (re.compile(r" *|NULL|null|Null|NIL|nil|None|NaN|nan|N/A|n/a|\\N|-"), "there is no NULL; see the recipe NULL in docs/WAREHOUSE.md"),
+    (re.compile(r"[0-9]{1,4}([-/.])[0-9]{1,2}\1[0-9]{1,4}([ T].*)?"), "see the recipe Dates in docs/WAREHOUSE.md"),
+]
 
 
 class Records:
@@ -113,7 +120,7 @@ class Reading:
             start = content.rfind(b"\n", 0, error.start) + 1
             self.find(line, len(content[start : error.start].decode()) + 1, "this is not UTF-8")
             return
-        self.read(csv.reader(io.StringIO(text, newline="")))
+        self.read(csv.reader(io.StringIO(text, newline=""), strict=True))
 
     @cached_property
     def text(self):
@@ -126,7 +133,11 @@ class Reading:
     def read(self, reader):
         """Goes through the records; with a wrong header none is judged."""
         columns = [name for name, _ in self.view.columns]
-        header = next((record for record in reader if record), None)
+        try:
+            header = next((record for record in reader if record), None)
+        except csv.Error:
+            self.find(*quotes.told(self.text, self.starts(), 1))
+            return
         counted = header is not None and header[:1] == ["#"]
         wanted = ["#", *columns] if counted or self.are_changes else columns
         if header != wanted:
@@ -135,15 +146,28 @@ class Reading:
             return
         kinds = (["int"] if counted else []) + [kind for _, kind in self.view.columns]
         line = reader.line_num + 1
-        for record in reader:
+        for record in self.followed(reader, line):
             if record:
                 self.take(record, kinds, counted, line)
             line = reader.line_num + 1
 
+    def followed(self, reader, line):
+        """The records up to one whose quotes are wrong, which is found."""
+        while True:
+            try:
+                record = next(reader)
+            except StopIteration:
+                return
+            except csv.Error:
+                self.find(*quotes.told(self.text, self.starts(), line))
+                return
+            line = reader.line_num + 1
+            yield record
+
     def take(self, record, kinds, counted, line):
         """Adds a record, or finds what is wrong with it."""
         if len(record) != len(kinds):
-            self.find(line, 1, f"this record has {len(record)} cells and the header has {len(kinds)}")
+            self.find_length(record, len(kinds), line)
             return
         cells = []
         for number, (cell, kind) in enumerate(zip(record, kinds)):
@@ -160,6 +184,14 @@ class Reading:
         self.rows[row] += count
         self.lines.setdefault(row, line)
 
+    def find_length(self, record, wanted, line):
+        """A record of another length than the header; where a cell goes over lines, its quote may be what is wrong."""
+        over, text = quotes.over_lines(record), f"this record has {len(record)} cells and the header has {wanted}"
+        if over is None:
+            self.find(line, 1, text)
+        else:
+            self.find(*self.place_of(line, over), f"the quote that opens here is closed in a later line, and {text}; {quotes.CURE}")
+
     def starts(self):
         """Where each line begins; a carriage return alone ends one, as it does a record."""
         if not self.begun:
@@ -171,8 +203,8 @@ class Reading:
         if NUMBER.fullmatch(cell) and -MOST <= int(cell) < MOST:
             return int(cell)
         cause = "does not fit into 64 bits" if NUMBER.fullmatch(cell) else "is not a whole number"
-        cents = " (keep cents)" if re.fullmatch(r"[+-]?[0-9]+[.,][0-9]+", cell) else ""
-        self.find(*self.place_of(line, number), f'"{cell}" {cause}{cents}')
+        cure = next((f" ({text})" for form, text in CURES if form.fullmatch(cell)), "")
+        self.find(*self.place_of(line, number), f'"{cell}" {cause}{cure}')
         return None
 
     def place_of(self, line, number):

@@ -6,7 +6,7 @@ import io
 import sys
 
 from ..sizes import ROWS, WITH_WEIGHTS
-from . import program
+from . import program, refusals
 from .by_lines import counted, counted_through, has_whole_lines
 from .finding import Failure
 from .folder import sound
@@ -90,7 +90,7 @@ def rows_before(folder, words):
 
 def measured(folder, words):
     """Sizes by a night that is carried out and not kept."""
-    answer, before = program.night(folder, words, written(at_once(folder.views))), rows_before(folder, words)
+    answer, before = refusals.night(folder, words, written(at_once(folder.views))), rows_before(folder, words)
     changed, base = answer.changed(), base_sizes(folder)
     derived = {name: (rows, rows_of(answer.table(name)), changed[name]) for name, rows in before.items()}
     return {view.name: base[view.name] if view.is_base else derived[view.name] for view in folder.views}

@@ -3,7 +3,7 @@
 from types import SimpleNamespace
 
 from ..strategies import rules
-from .finding import Finding, Place, nearest
+from .finding import MARK, MARKED, Finding, Place, nearest
 
 FILE = "strategy.txt"
 WORDS = {
@@ -34,7 +34,9 @@ class Strategy:
     def __init__(self, text, views):
         self.views, self.names = views, [view.name for view in views]
         self.expressions, self.lines, self.findings = [], [], []
-        for number, line in enumerate(text.split("\n"), 1):
+        if text.startswith(MARK.decode()):
+            self.findings.append(Finding(Place(FILE), MARKED))
+        for number, line in enumerate(text.removeprefix(MARK.decode()).split("\n"), 1):
             if line.split():
                 self.take(line, number)
 

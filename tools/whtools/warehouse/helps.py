@@ -1,0 +1,32 @@
+"""What `tools/warehouse COMMAND --help` prints: what the command does, and its options."""
+
+from importlib import import_module
+
+WORDS = {"diff": "OLD NEW", "unpack": "FOLDER < ANSWER"}
+WITHOUT_PROGRAM = ("lint", "pack", "unpack", "diff")
+OPTIONS = [
+    ("--commit", ("night",), "keeps the night: takes the changes and makes a version"),
+    ("--keep K", ("night",), "with --commit: the newest K versions stay, 1 or more; without it all do"),
+    ("--lenient", ("lint",), "has keys that the program does not look at as warnings"),
+    ("--workers N", ("night",), "how many workers compute at once, 1 to 16; without it 1"),
+    ("--readers N", ("night",), "how many readers go through the tables of before meanwhile, 0 to 16: a trial of the promise, and no service"),
+    ("--page-keys N", ("night",), "how many rows are put at a time, 1 to 256; without it 256"),
+    ("--weights KIND", ("night", "check", "plan", "certify", "sizes", "explain", "graph"), "proposes weights, by cells or by bytes"),
+    ("--comp-cost N", ("check", "plan", "certify"), "what a row that a Comp reads costs, 1 to 1,000,000; without it 1"),
+    ("--inst-cost N", ("check", "plan", "certify"), "the same of a row that an Inst puts"),
+    ("--budget N", ("plan",), "how many nodes a search opens at most, 1 to 9,223,372,036,854,775,807; without it 1,000,000"),
+]
+PROGRAM = [
+    ("--unproved", "by the program that is built without its proof, within minutes"),
+    ("--program FILE", "by another program than the repository's proved one"),
+]
+
+
+def help_of(command):
+    """What a command does, and its options."""
+    options = [(option, text) for option, commands, text in OPTIONS if command in commands]
+    options += PROGRAM if command not in WITHOUT_PROGRAM else []
+    lines = [f"tools/warehouse {command} {WORDS.get(command, 'FOLDER')}{' [OPTIONS]' if options else ''}", ""]
+    lines += [(import_module(f"whtools.warehouse.{command}").__doc__ or "").strip()]
+    lines += ["", *(f"    {option:15} {text}" for option, text in options)] if options else []
+    return "\n".join([*lines, "", "Statuses and recipes are in docs/WAREHOUSE.md."])
