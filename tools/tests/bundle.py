@@ -72,6 +72,18 @@ class Unpack(unittest.TestCase):
         answer = b"comp v from a: 3\nwork 3\nversion 1\nview v\n#,x\n1,7\nview w\n#,y\nreader 0 version 0 rows 5\n"
         self.assertEqual(bundle.unpack(answer), {"v": b"#,x\n1,7\n", "w": b"#,y\n"})
 
+    def test_tables_are_found_at_once_where_their_names_are_known(self):
+        tables = {"a": b"#,x\n1,2\n", "b": b'#,t\n1,"two\nlines"\n', "c": b"#,x\n"}
+        hidden = b'#,t\n1,"x\nview b\n#,t\n1,y"\n'
+        for readers in (b"", b"reader 0 version 0 rows 3\nreader 1 version 0 rows 3\n"):
+            for first in (tables["a"], hidden):
+                listed = tables | {"a": first}
+                answer = b"inst a: 1\nversion 1\n" + b"".join(b"view %s\n%s" % (name.encode(), text) for name, text in listed.items()) + readers
+                for names in (["a", "b", "c"], ["a", "b"], []):
+                    found = {name: answer[start:end] for name, (start, end) in bundle.spans_of(answer, names).items()}
+                    self.assertEqual(found, listed)
+        self.assertEqual(bundle.spans_of(b"refused range a\n", []), {})
+
     def test_a_quoted_cell_whose_second_line_reads_as_a_view_or_a_reader(self):
         table = b'#,x\n1,"one\nview w\nreader 0 ""quoted"""\n1,two\n'
         self.assertEqual(bundle.unpack(b"version 1\nview v\n" + table + b"view u\n#,y\n"), {"v": table, "u": b"#,y\n"})

@@ -71,6 +71,17 @@ def headings(answer):
     return [*found, len(answer) - last] if last else found
 
 
+def spans_of(answer, names):
+    """Where the tables of these views begin and end, where no more lines read as a heading than there are views; else by `spans`."""
+    places = headings(answer)
+    found = [HEADING.match(answer, place) for place in places]
+    views = [heading for heading in found if heading and heading[1]]
+    if [heading[1].decode() for heading in views] != names or None in found:
+        return spans(answer)
+    ends = [*places[1 : len(views)], places[len(views)] if len(places) > len(views) else len(answer)]
+    return {name: (min(heading.end() + 1, end), end) for name, heading, end in zip(names, views, ends)}
+
+
 def spans(answer):
     """Where the table of each view begins and ends in an answer, by the view's name.
 

@@ -19,10 +19,10 @@ class Drawing(Shop):
         self.assertEqual(self.ran("graph"), (0, []))
         drawn = (self.folder / "graph.dot").read_text()
         self.assertIn('  "sales" [shape=box, label="sales\\ninst 9: 8"];\n', drawn)
-        self.assertIn('  "products" -> "sales" [label="5: 19"];\n', drawn)
+        self.assertIn('  "products" -> "sales" [label="5: 19 (3)"];\n', drawn)
         picture = ElementTree.parse(self.folder / "graph.svg")
         words = {text.text for text in picture.iter("{http://www.w3.org/2000/svg}text")}
-        self.assertLessEqual({"orders", "inst 2: 2", "1: 12", "5: 19", "8: 8", "daily_by_region"}, words)
+        self.assertLessEqual({"orders", "inst 2: 2", "1: 12 (2)", "5: 19 (3)", "8: 8 (8)", "daily_by_region"}, words)
 
     def views(self, source):
         """Views that are drawn, some with long names, and their notes."""

@@ -9,7 +9,7 @@ from types import SimpleNamespace
 from unittest import mock
 
 from whtools.warehouse import by_lines
-from whtools.warehouse.by_lines import Lines, NotSorted, counted, differing, has_whole_lines, line_of
+from whtools.warehouse.by_lines import Lines, NotSorted, counted, differing, has_whole_lines, in_order, line_of
 from whtools.warehouse.inputs import Source
 from whtools.warehouse.made import of_derived, sorted_table
 from whtools.warehouse.records import Changes, Records, absent, table_text
@@ -118,9 +118,17 @@ class Derived(Lying):
             found, total = of_derived(SimpleNamespace(columns=COLUMNS), table, change, last, before.total())
             wanted = table_text(COLUMNS, after)
             self.assertEqual((found.like or b"".join(found.pieces), total), (last if after == before else wanted, after.total()))
-            self.assertEqual(sorted_table(COLUMNS, table), wanted)
+            self.assertEqual(sorted_table(COLUMNS, table, has_whole_lines(table)), wanted)
             merged += len(found.pieces) > 1
         self.assertGreater(merged, 100)
+
+    def test_rows_are_sorted_as_tuples_are(self):
+        source = random.Random(6)
+        for _ in range(200):
+            found = [(source.randint(-9, 9), source.choice(TEXTS), source.randint(0, 2**62)) for _ in range(source.randint(0, 30))]
+            found = list(dict.fromkeys(found))
+            order = in_order([list(cells) for cells in zip(*found)], len(found))
+            self.assertEqual([found[number] for number in order], sorted(found))
 
     def test_a_line_within_a_cell_is_no_row(self):
         before = b'#,x,t,u\n1,1,"a\n1,2,b,c\nd",e\n'

@@ -55,13 +55,26 @@ class Nights(Shop):
         self.assertEqual(self.ran("night", "--commit"), (0, []))
         self.assertEqual(Path(f"{self.program}.words").read_text().split(), ["night"])
         report = (self.folder / "current/report.txt").read_text()
-        self.assertTrue(report.startswith("strategy view by view: the sizes below are the first, and the next night is planned\ncomp "), report)
+        self.assertTrue(report.startswith("strategy view by view: the sizes below are the first, and the next night is planned\nseconds: "), report)
         self.assertTrue(report.endswith("products,3,4,3\nsales,,9,8\ndaily_by_product,,8,8\ndaily_by_region,,6,8\n"), report)
         self.assertEqual(self.ran("night"), (0, []))
         self.assertEqual(Path(f"{self.program}.words").read_text().split(), ["night", "plan", "certify", "night"])
         report = (self.folder / "new/report.txt").read_text()
-        self.assertTrue(report.startswith("strategy planned, sizes from the change files and the last report: certified\ncomp "), report)
+        self.assertTrue(report.startswith("strategy planned, sizes from the change files and the last report: certified\nseconds: "), report)
         self.assertIn("\nsales,9,9,8\n", report)
+
+    def test_a_report_tells_where_the_time_is_and_which_work_is_idle(self):
+        (self.folder / "changes/products.csv").unlink()
+        self.assertEqual(self.ran("night"), (0, []))
+        lines = (self.folder / "new/report.txt").read_text().splitlines()
+        self.assertRegex(lines[1], r"^seconds: [0-9]+\.[0-9]{2} in the program, [0-9]+\.[0-9]{2} in all but for the end of writing$")
+        self.assertEqual(lines[2], "no changed row goes through 1 of 5 Comps, which are 19 of the work")
+        (self.folder / "sizes.csv").write_text(SIZES.replace("products,3,4,3", "products,3,3,0"))
+        command = [sys.executable, TOOLS / "warehouse", "explain", self.folder, "--program", self.program]
+        told = subprocess.run(command, capture_output=True, text=True, check=True).stdout.splitlines()
+        place = told.index("comp sales from products: 16")
+        self.assertTrue(told[place + 1].endswith("; no changed row goes through it, so nothing is looked up"), told[place + 1])
+        self.assertEqual(sum(line.endswith("nothing is looked up") for line in told), 1)
 
     def test_the_first_rows_of_a_warehouse_are_known_to_be_none_before_them(self):
         for name in ("orders", "lines", "products"):

@@ -5,11 +5,15 @@ allow, takes a table out of this: that one is read row by row.
 """
 
 import csv
+import io
 import re
 from functools import lru_cache
+from itertools import islice
 
 # How much of two tables is compared at a time; how soon they are to meet again, and how much farther on one than in the other.
 STEP, NEAR, FARTHER = 2**16, 2**9, 4
+# How many records are read at a time.
+RECORDS = 2**14
 # The counts of a table that are not 1.
 COUNTS = re.compile(rb"\n(?!1,)([0-9]+),")
 OTHERS = bytes(set(range(256)) - set(b'"\n'))
@@ -60,6 +64,32 @@ def line_of(count, row):
     cells = [str(count), *map(str, row)]
     marked = ['"' + cell.replace('"', '""') + '"' if set(cell) & set(',"\r\n') else cell for cell in cells]
     return (",".join(marked) + "\n").encode()
+
+
+# ---- cells and their order
+
+
+def columns_of(content, kinds):
+    """The cells of records, column by column; equal texts are held once."""
+    reader = csv.reader(io.StringIO(content.decode(), newline=""))
+    columns, held = [[] for _ in kinds], {}
+    while records := list(filter(None, islice(reader, RECORDS))):
+        for column, kind, cells in zip(columns, kinds, zip(*records)):
+            column += map(int, cells) if kind == "int" else map(held.setdefault, cells, cells)
+    return columns
+
+
+def in_order(columns, count):
+    """The numbers of so many rows in the order of their cells, of which each column is a list. A row's key goes on column by column,
+    until no two are equal."""
+    keys = [0] * count
+    for cells in columns:
+        places = {cell: place for place, cell in enumerate(sorted(set(cells)))}
+        size = len(places)
+        keys = [key * size + place for key, place in zip(keys, map(places.__getitem__, cells))]
+        if len(set(keys)) == count:
+            break
+    return sorted(range(count), key=keys.__getitem__)
 
 
 # ---- how many
@@ -151,7 +181,8 @@ class Lines:
 
     def row(self, line):
         """How often a line's row counts, and the row."""
-        count, *cells = next(csv.reader([line.decode()]))
+        text = line.decode()
+        count, *cells = next(csv.reader([text])) if '"' in text else text.removesuffix("\n").split(",")
         return int(count), tuple(int(cell) if kind == "int" else cell for cell, kind in zip(cells, self.kinds))
 
     def find(self, row, low):

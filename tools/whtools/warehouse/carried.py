@@ -1,5 +1,6 @@
 """A night as it is carried out: judged, with its strategy, every view's table after it, and its report."""
 
+import time
 from typing import NamedTuple
 
 from . import refusals
@@ -28,8 +29,8 @@ class Night:
     so that few are held at a time, and the report after them.
     """
 
-    def __init__(self, folder, chosen, answer):
-        self.folder, self.chosen, self.answer = folder, chosen, answer
+    def __init__(self, folder, chosen, answer, began):
+        self.folder, self.chosen, self.answer, self.began = folder, chosen, answer, began
         self.before, self.changed, self.rows = told_rows(folder), answer.changed(), {}
 
     def tables(self):
@@ -56,8 +57,18 @@ class Night:
 
     def report(self):
         """What the night did: how its strategy was come by, the rows of each expression, what readers saw, and the views' sizes."""
-        seen = "".join(f"{line}\n" for line in self.answer.readers)
-        return f"{self.chosen.how}\n{self.answer.head}\n{seen}{sized(self.sizes())}"
+        sizes, seen = self.sizes(), "".join(f"{line}\n" for line in self.answer.readers)
+        return f"{self.chosen.how}\n{self.took()}\n{self.idle(sizes)}\n{self.answer.head}\n{seen}{sized(sizes)}"
+
+    def took(self):
+        """How many seconds went by, up to here."""
+        return f"seconds: {self.answer.seconds:.2f} in the program, {time.monotonic() - self.began:.2f} in all but for the end of writing"
+
+    def idle(self, sizes):
+        """How much of the work is that of Comps through which no changed row goes."""
+        comps = [line[5:].split(": ") for line in self.answer.head.split("\n") if line.startswith("comp ")]
+        rows = [int(rows) for named, rows in comps if not any(sizes[name][2] for name in named.partition(" from ")[2].split())]
+        return f"no changed row goes through {len(rows)} of {len(comps)} Comps, which are {sum(rows)} of the work"
 
 
 def is_same(file, content):
@@ -90,7 +101,8 @@ def judge_after(folder, is_kept):
 
 def carried(folder, words):
     """Judges the folder and carries its night out."""
+    began = time.monotonic()
     warn(judged(folder).warnings)
     judge_after(folder, words.commit)
     taken = chosen(folder, words)
-    return Night(folder, taken, refusals.night(folder, words, taken.strategy, words.through))
+    return Night(folder, taken, refusals.night(folder, words, taken.strategy, words.through), began)

@@ -32,6 +32,10 @@ class Step:
         """How many rows the step reads or puts."""
         return self.total(lambda name: 1)
 
+    def changed(self):
+        """How many changed rows go through the step; all others are looked at only where these lead to them."""
+        return sum(self.sizes[name][2] for name in self.sources or [self.view])
+
     def work(self):
         """What these rows count by their weights."""
         return self.total(self.weight)
@@ -58,7 +62,8 @@ class Step:
         after = [name for name in self.over if name in self.installed]
         why = [f"after inst {name}, whose rows are the new ones here" for name in after]
         why += [f"before inst {name}, which makes its rows new" for name in self.sources]
-        return f"reads {changes}{read}; it stands {', '.join(why)}"
+        idle = "" if self.changed() else "; no changed row goes through it, so nothing is looked up"
+        return f"reads {changes}{read}; it stands {', '.join(why)}{idle}"
 
     def inst(self):
         """What an Inst puts, and what had to come first."""

@@ -17,7 +17,7 @@ TIP = (
 )
 LEGEND = [
     "A box is a view: under its name the step that installs it, and how many rows that puts.",
-    "A cell below it is a Comp from the view that its arrow comes from: its step, and how many rows it reads.",
+    "A cell below it is a Comp from the view that its arrow comes from: its step, how many rows it reads, and how many of them changed.",
 ]
 
 
@@ -26,7 +26,7 @@ def notes(listed):
     views, edges = {}, {}
     for place, (_, step) in enumerate(listed, 1):
         if step.sources:
-            edges.update({(name, step.view): f"{place}: {step.rows()}" for name in step.sources})
+            edges.update({(name, step.view): f"{place}: {step.rows()} ({step.changed()})" for name in step.sources})
         else:
             views[step.view] = f"inst {place}: {step.rows()}"
     return views, edges

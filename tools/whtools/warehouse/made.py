@@ -2,15 +2,12 @@
 what is not sorted is sorted.
 """
 
-import csv
-import io
-import os
 import shutil
-from types import SimpleNamespace
 from typing import NamedTuple
 
-from .by_lines import Lines, NotSorted, counted, counted_through, has_whole_lines
+from .by_lines import Lines, NotSorted, columns_of, counted, counted_through, has_whole_lines, in_order
 from .disk import link, write
+from .records import table_text
 
 # A view of which more than this part of the rows changed is sorted anew.
 MANY = 1 / 3
@@ -51,19 +48,17 @@ def of_derived(view, table, changed, last, rows):
     """
     has_lines = has_whole_lines(table)
     if has_lines and rows is not None and last.is_file() and any(kind == "text" for _, kind in view.columns):
-        merged = of_few(view, table, changed, last.read_bytes())
+        merged = of_few(view, table, last.read_bytes()) if changed < MANY * rows else None
         if merged:
             pieces, more = merged
             return Made(pieces, None if len(pieces) > 1 else last), rows + more
     total = counted(table) if has_lines else counted_through(table)
-    return made([table if all(kind == "int" for _, kind in view.columns) else sorted_table(view.columns, table)], last), total
+    return made([table if all(kind == "int" for _, kind in view.columns) else sorted_table(view.columns, table, has_lines)], last), total
 
 
-def of_few(view, table, changed, before):
-    """The table of before, with what changed, in pieces, and how many rows that adds; None where much changed, or it was none of the
-    tool's own."""
-    header = table[: table.find(b"\n") + 1]
-    if not before.startswith(header) or changed >= MANY * before.count(b"\n") or not has_whole_lines(before):
+def of_few(view, table, before):
+    """The table of before, with what changed, in pieces, and how many rows that adds; None where it was none of the tool's own."""
+    if not before.startswith(table[: table.find(b"\n") + 1]):
         return None
     try:
         lines = Lines(before, view.columns)
@@ -73,12 +68,11 @@ def of_few(view, table, changed, before):
     return lines.spliced(edits), more
 
 
-def sorted_table(columns, table):
+def sorted_table(columns, table, has_lines):
     """A printed table, sorted by what it shows. Its rows are distinct."""
-    records = list(csv.reader(io.StringIO(table.decode(), newline="")))
-    header, listed = records[0], list(zip(*records[1:])) or [()] * (1 + len(columns))
-    keys = list(zip(*(map(int, cells) if kind == "int" else cells for cells, (_, kind) in zip(listed[1:], columns))))
-    lines = []
-    writer = csv.writer(SimpleNamespace(write=lines.append), lineterminator="\r\n")
-    writer.writerows([header, *(records[1 + number] for number in sorted(range(len(keys)), key=keys.__getitem__))])
-    return "".join([f"{line[:-2]}\n" for line in lines]).encode()
+    start = table.find(b"\n") + 1
+    counts, *cells = columns_of(table[start:], ["int", *(kind for _, kind in columns)])
+    if not has_lines:
+        return table_text(columns, dict(zip(zip(*cells), counts)))
+    lines = table[start:].split(b"\n")
+    return table[:start] + b"".join([lines[number] + b"\n" for number in in_order(cells, len(counts))])

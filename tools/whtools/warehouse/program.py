@@ -3,10 +3,11 @@
 import os
 import signal
 import subprocess
+import time
 from pathlib import Path
 from tempfile import TemporaryFile, gettempdir
 
-from ..bundle import readers, spans
+from ..bundle import readers, spans_of
 from ..unproved import NotBuilt, unproved
 from .disk import telling
 from .finding import Failure, warn
@@ -92,9 +93,9 @@ class Night:
     for.
     """
 
-    def __init__(self, file):
-        self.file, whole = file, file.read()
-        self.head, self.readers, self.places = whole[: whole.find(b"\nversion ")].decode(), readers(whole), spans(whole)
+    def __init__(self, file, seconds, names):
+        self.file, self.seconds, whole = file, seconds, file.read()
+        self.head, self.readers, self.places = whole[: whole.find(b"\nversion ")].decode(), readers(whole), spans_of(whole, names)
 
     def table(self, name):
         start, end = self.places[name]
@@ -108,8 +109,10 @@ class Night:
 
 def night(folder, words, strategy, options=(), with_changes=True):
     """The answer of a night, which has the tables of all derived views."""
-    found = Night(done(words.program, "night", folder.bundle(strategy, with_changes), options))
-    missing = [view.name for view in folder.views if not view.is_base and view.name not in found.places]
+    program, began, names = words.program, time.monotonic(), [view.name for view in folder.views if not view.is_base]
+    printed = done(program, "night", folder.bundle(strategy, with_changes), options)
+    found = Night(printed, time.monotonic() - began, names)
+    missing = [name for name in names if name not in found.places]
     if missing:
         raise Failure(NO_ANSWER, f"{words.program} night gave no table of {missing[0]}; nothing was changed")
     return found

@@ -8,7 +8,7 @@ from functools import cached_property
 from types import SimpleNamespace
 
 from . import quotes
-from .by_lines import Lines, NotSorted, counted, has_whole_lines, is_sound, line_of, standing
+from .by_lines import Lines, NotSorted, columns_of, counted, has_whole_lines, in_order, is_sound, line_of, standing
 from .finding import MARK, Finding, Place
 from .packing import merged
 
@@ -61,9 +61,16 @@ class Records:
     def findings(self):
         return [] if self.is_sound else self.whole.findings
 
-    @property
+    @cached_property
     def rows(self):
-        return self.whole.rows
+        """The rows, and how often each stands."""
+        if not self.has_lines:
+            return self.whole.rows
+        is_counted, _, start = self.header
+        kinds = ["int"] * is_counted + [kind for _, kind in self.view.columns]
+        columns = columns_of(self.content[start:], kinds)
+        rows = list(zip(*columns[is_counted:]))
+        return added(rows, columns[0]) if is_counted else Counter(rows)
 
     @property
     def lines(self):
@@ -250,13 +257,24 @@ def shown(row):
     return line_of(0, row)[2:-1].decode()
 
 
+def added(rows, counts):
+    """The rows with their counts, which add up where a row stands twice."""
+    found = Counter(dict(zip(rows, counts)))
+    if len(found) < len(rows):
+        found = Counter()
+        for row, count in zip(rows, counts):
+            found[row] += count
+    return found
+
+
 def table_text(columns, rows):
     """A table sorted by what it shows, with `#`."""
-    lines = []
+    listed, lines = [(row, count) for row, count in rows.items() if count], []
     # A cell is put in quotes where it has a letter of a line's end, and each line ends by one of them.
     writer = csv.writer(SimpleNamespace(write=lines.append), lineterminator="\r\n")
     writer.writerow(["#", *(name for name, _ in columns)])
-    writer.writerows([count, *row] for row, count in sorted(rows.items()) if count)
+    cells = ([row[place] for row, _ in listed] for place in range(len(columns)))
+    writer.writerows([listed[number][1], *listed[number][0]] for number in in_order(cells, len(listed)))
     return "".join([f"{line[:-2]}\n" for line in lines]).encode()
 
 

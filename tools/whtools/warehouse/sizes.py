@@ -31,11 +31,12 @@ def of_text(text):
 
 
 def base_sizes(folder):
-    """The sizes of the base views, which their files say."""
-    found = {}
+    """The sizes of the base views: the last report says them of tables that a night has made, and else their files."""
+    last, found = last_report(folder), {}
     for view in folder.views:
         if view.is_base:
-            before = folder.data[view.name].total
+            records = folder.data[view.name]
+            before = last[view.name][1] if records.is_made and view.name in last else records.total
             changes = folder.changes[view.name].rows.values() if view.name in folder.changes else ()
             found[view.name] = (before, before + sum(changes), sum(map(abs, changes)))
     return found
