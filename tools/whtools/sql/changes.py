@@ -24,9 +24,6 @@ class Changes:
 
     # ---- base views
 
-    def told_large(self, v):
-        return f"refused large {self.views[v].name}"
-
     def net(self, step):
         """Equal rows of the changes add up, and opposite ones cancel."""
         v = step.view
@@ -56,7 +53,7 @@ class Changes:
     def absent(self, v):
         net = self.working(v, "net")
         query = sql("SELECT 1 FROM {net} AS d WHERE d.n < 0 AND d.n < - d.was", net=net)
-        return self.dialect.refuse(f"refused absent {self.views[v].name}", query)
+        return self.dialect.refuse(self.told_absent(v), query)
 
     def large(self, v):
         """A count that would leave 64 bits."""

@@ -66,18 +66,6 @@ class Comps:
 
     # ---- terms
 
-    def outputs(self, v, formulas):
-        """What a combined row shows: what it is kept or grouped by, and what is summed."""
-        view = self.views[v]
-        if not self.shape.is_summary(v):
-            return [formulas.value(formula) for formula in view.keep]
-        return [*map(formulas.column, view.group), *(self.dialect.summand(formulas.value(formula)) for formula in view.sums)]
-
-    def lost(self, v, formulas):
-        """1 where an output has no value."""
-        tests = [test for formula in self.shape.checked(v) for test in formulas.tests(formula)]
-        return sql("CASE WHEN {tests} THEN 0 ELSE 1 END", tests=both(tests)) if tests else number(0)
-
     def term(self, v, term):
         """The combined rows of one term."""
         formulas = Formulas(self.dialect, self.column(v, term))
@@ -126,4 +114,4 @@ class Comps:
         return found + self.range(v, sql("SELECT 1 FROM {pending} AS d WHERE {tests}", pending=pending, tests=joined(tests, "OR")))
 
     def range(self, v, query):
-        return self.dialect.refuse(f"refused range {self.views[v].name}", query)
+        return self.dialect.refuse(self.told_range(v), query)

@@ -20,7 +20,7 @@ class Dialect:
     temporary = None
     limit = None
     folds = False
-    escapes = False
+    writer = Writer()
     own_columns = ()
 
     def __init__(self, schema=None):
@@ -28,7 +28,7 @@ class Dialect:
 
     def written(self, lines):
         """Each line of a script as its text."""
-        return [Writer(self.escapes).written(each) for each in lines]
+        return [self.writer.written(each) for each in lines]
 
     def table(self, said):
         """A table that stays."""

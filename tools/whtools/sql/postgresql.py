@@ -5,6 +5,7 @@ from whtools.sql.dialect import LEAST, MOST, Dialect
 from whtools.sql.formulas import both, nodes
 from whtools.sql.postgresql_checks import Checks
 from whtools.sql.tokens import END_OF_STATEMENT, body, joined, name, sql, statements, text, word
+from whtools.sql.written import EscapingWriter
 
 LIMITS = sql("{least} AND {most}", least=sql("{n}::numeric", n=text(str(LEAST))), most=sql("{n}::numeric", n=text(str(MOST))))
 VARIABLES = [sql("{name} pg_catalog.text", name=word(said)) for said in ("path", "finding", "collapsed", "merged", "nested")]
@@ -40,7 +41,7 @@ class PostgreSQL(Dialect):
     own_schema = "public"
     temporary = word("pg_temp")
     limit = 63
-    escapes = True
+    writer = EscapingWriter()
     own_columns = ("tableoid", "xmin", "cmin", "xmax", "cmax", "ctid")
     kinds = {"int": sql("bigint"), "text": sql("text")}
     declared = {"int": sql("bigint"), "text": sql("text COLLATE {c}", c=name("C"))}

@@ -3,15 +3,11 @@
 from functools import cache
 from typing import NamedTuple
 
+from whtools.sql.catalogued import WIDEST_INDEX, Catalogued
 from whtools.sql.changes import Changes
 from whtools.sql.comps import Comps
 from whtools.sql.insts import Insts
-from whtools.sql.names import Names
-from whtools.sql.shape import Shape
-from whtools.sql.steps import Steps
 from whtools.sql.tokens import joined, name, sql, word
-
-WIDEST_INDEX = 32
 
 
 class Expected(NamedTuple):
@@ -23,26 +19,14 @@ class Expected(NamedTuple):
     columns: list
 
 
-class Script(Comps, Changes, Insts):
+class Script(Comps, Changes, Insts, Catalogued):
     """The statements over a catalogue in a dialect. `plain` has the base views whose tables have no column of counts."""
 
     def __init__(self, catalogue, dialect, plain=()):
-        self.views, self.words, self.dialect = catalogue.views, catalogue.words, dialect
-        self.shape, self.steps = Shape(self.views, plain), Steps(self.views)
-        for view in self.views:
-            dialect.judge_table(view.name)
-        self.tables = Names(dialect, [view.name for view in self.views])
-        self.columns = [Names(dialect, [said for said, _ in view.columns], dialect.own_columns) for view in self.views]
+        super().__init__(catalogue, dialect, plain)
         self.checked = dialect.checks(self)
 
     # ---- names
-
-    def said(self, v, suffix=""):
-        """The name of a view's table, or of its changes."""
-        return self.tables.of(self.views[v].name, suffix)
-
-    def table(self, v, suffix=""):
-        return self.dialect.table(self.said(v, suffix))
 
     def working(self, v, kind):
         """A working table of a view's."""
@@ -51,24 +35,11 @@ class Script(Comps, Changes, Insts):
     def working_name(self, v, kind):
         return f"night~{kind}{v}"
 
-    def users(self, v):
-        """The names of a view's columns in the user's table."""
-        return [name(self.columns[v].of(said)) for said, _ in self.views[v].columns]
-
-    def kinds(self, v):
-        return [kind for _, kind in self.views[v].columns]
-
     @cache
     def read(self, v, of="t"):
         """The columns of a view's table, as they are read."""
         columns = zip(self.users(v), self.kinds(v))
         return tuple(self.dialect.read(sql("{of}.{column}", of=word(of), column=column), kind) for column, kind in columns)
-
-    @cache
-    def cells(self, v, of=None):
-        """The columns of a view's working tables."""
-        found = [word("c", place) for place in range(1, self.shape.width(v) + 1)]
-        return tuple(sql("{of}.{column}", of=word(of), column=column) if of else column for column in found)
 
     def same(self, v, count=None):
         """Whether a row t of a view's table is the row d of a working table, or of its group."""
@@ -120,19 +91,11 @@ class Script(Comps, Changes, Insts):
     def indexes(self):
         """An index for the columns by which a table is joined with another one."""
         found = []
-        for u, tables in enumerate(self.indexed()):
+        for u, tables in enumerate(self.asked_for()):
             for at, columns in enumerate(tables, 1):
                 index, table = self.dialect.index(self.said(u, f"~{at}")), self.dialect.indexed(self.said(u))
                 listed = joined([self.users(u)[column] for column in columns])
                 found.append(sql("CREATE INDEX {index} ON {table} ({columns})", index=index, table=table, columns=listed))
-        return found
-
-    def indexed(self):
-        """Of each view the lists of columns by which another view is joined with it, each once."""
-        found = [{} for _ in self.views]
-        for v, view in enumerate(self.views):
-            for (u, _), columns in self.shape.partners(v).items():
-                found[view.over[u]][tuple(sorted(columns)[:WIDEST_INDEX])] = True
         return found
 
     def working_tables(self):
@@ -144,13 +107,6 @@ class Script(Comps, Changes, Insts):
         return found
 
     # ---- scripts
-
-    def carried(self, steps, comment):
-        """The statements of steps, each with a comment above it."""
-        found = []
-        for step in steps:
-            found += [comment(step), *getattr(self, step.kind)(step)]
-        return found
 
     def whole(self, before, steps, after, comment):
         """A transaction of all this."""
@@ -177,5 +133,3 @@ class Script(Comps, Changes, Insts):
             found.append(sql("DELETE FROM {table}", table=self.dialect.target(self.said(v, "~changes"))))
             found += self.dialect.refuse(told, sql("SELECT 1 FROM {table}", table=table))
         return found
-
-

@@ -6,10 +6,11 @@ from whtools.evaluator import terms
 
 
 class Operand(NamedTuple):
-    """What a term multiplies: a view's table as it is when the statement runs, or the view's change."""
+    """What a term multiplies: a view's table as it is when the statement runs, before or after the view's inst, or the view's change."""
 
     view: int
     is_change: bool
+    is_after: bool = False
 
 
 class Step(NamedTuple):
@@ -27,10 +28,10 @@ class Steps:
     def __init__(self, views):
         self.views = views
 
-    def terms(self, view, sources):
+    def terms(self, view, sources, installed=()):
         """The operands of each term of a Comp: for each part of its sources their changes, and the tables of all others."""
         numbers = range(len(self.views))
-        tables, changes = [Operand(u, False) for u in numbers], [Operand(u, True) for u in numbers]
+        tables, changes = [Operand(u, False, u in installed) for u in numbers], [Operand(u, True) for u in numbers]
         return tuple(map(tuple, terms(self.views[view].over, sources, tables, changes)))
 
     def whole(self, view):
@@ -53,10 +54,11 @@ class Steps:
     def night(self, strategy):
         """The base changes netted and judged, and then the expressions; a view's change is made where it is first wanted."""
         found = [Step("net", v) for v in self.base()] + [Step("judge", v) for v in self.base()]
-        ready = set(self.base())
+        ready, installed = set(self.base()), set()
         for view, sources in strategy:
             wanted = [view] if sources is None else sorted(sources)
             found += [Step("finish", v) for v in wanted if v not in ready]
             ready.update(wanted)
-            found.append(Step("inst", view) if sources is None else Step("comp", view, sources, self.terms(view, sources)))
+            found.append(Step("inst", view) if sources is None else Step("comp", view, sources, self.terms(view, sources, installed)))
+            installed.update(wanted if sources is None else ())
         return found

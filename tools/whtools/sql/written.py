@@ -10,10 +10,7 @@ APART = frozenset("AND AS BY CHECK ELSE EXISTS FROM HAVING IN JOIN NOT ON OR OVE
 
 
 class Writer:
-    """Writes tokens as an engine reads them. Where backslashes escape, a text with a line's end or one of them is written with escapes."""
-
-    def __init__(self, escapes):
-        self.escapes = escapes
+    """Writes tokens as an engine reads them whose quotes are doubled within quotes."""
 
     def written(self, given):
         """The text of tokens."""
@@ -47,8 +44,6 @@ class Writer:
         return '"' + said.replace('"', '""') + '"'
 
     def text(self, said):
-        if self.escapes and set(said) & {"\\", "\n", "\r"}:
-            return "E'" + "".join(ESCAPES.get(letter, letter) for letter in said) + "'"
         return "'" + said.replace("'", "''") + "'"
 
     def comment(self, said):
@@ -60,3 +55,12 @@ class Writer:
         while f"${tag}$" in inner:
             tag += "_"
         return f"${tag}${inner}\n${tag}$"
+
+
+class EscapingWriter(Writer):
+    """The same where a text with a backslash or a line's end is one with escapes."""
+
+    def text(self, said):
+        if set(said) & {"\\", "\n", "\r"}:
+            return "E'" + "".join(ESCAPES.get(letter, letter) for letter in said) + "'"
+        return super().text(said)
