@@ -179,8 +179,12 @@ class PostgreSQLDatabase:
         try:
             return self.session.asked(text)
         except (Broken, BrokenPipeError):
-            self.session = Session(self.server, self.name)
+            self.renew()
             raise
+
+    def renew(self):
+        """A session in the place of one that is broken."""
+        self.session = Session(self.server, self.name)
 
     def fresh(self, schema="public", more=(), role="postgres"):
         """The database with these empty schemas alone."""

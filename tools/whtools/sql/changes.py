@@ -24,10 +24,14 @@ class Changes:
 
     # ---- base views
 
+    def changes(self, v):
+        """The table that a night reads a base view's changes from."""
+        return self.table(v, "~changes")
+
     def net(self, step):
         """Equal rows of the changes add up, and opposite ones cancel."""
         v = step.view
-        table, counts = self.table(v, "~changes"), self.dialect.halves(self.dialect.read_count(sql("t.{count}", count=COUNT)))
+        table, counts = self.changes(v), self.dialect.halves(self.dialect.read_count(sql("t.{count}", count=COUNT)))
         wrong = self.dialect.wrong_cells(self.read(v), self.kinds(v), sql("t.{count}", count=COUNT))
         told = f"table {self.views[v].name}~changes does not fit: a cell or a count of it is of another kind than its column"
         judged = self.dialect.refuse(told, sql("SELECT 1 FROM {table} AS t WHERE {wrong}", table=table, wrong=wrong)) if wrong else []

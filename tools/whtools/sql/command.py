@@ -3,6 +3,7 @@
 import argparse
 import sys
 
+from whtools.live import command as live
 from whtools.sql.catalogue import read
 from whtools.sql.comments import Comments
 from whtools.sql.postgresql import PostgreSQL
@@ -18,8 +19,10 @@ def asked(about):
     """The words of the command line."""
     words = argparse.ArgumentParser("tools/sql", description=about, formatter_class=argparse.RawDescriptionHelpFormatter)
     words.add_argument("--engine", choices=ENGINES, default="postgresql")
-    for name in ("create", "open", "night", "explain"):
+    for name in ("create", "open", "night", "explain", "live", "capture", "uncapture"):
         words.add_argument(f"--{name}", action="store_true")
+    words.add_argument("--database", default="")
+    words.add_argument("--from", dest="source")
     words.add_argument("--schema")
     words.add_argument("--plain", default="")
     words.add_argument("--counted", default="")
@@ -45,6 +48,8 @@ def plain_views(catalogue, words):
 
 def written(words):
     """The text that is asked for."""
+    if words.live or words.capture or words.uncapture:
+        return live.written(words)
     catalogue, dialect = read(words.path), ENGINES[words.engine](words.schema)
     script, comments = Script(catalogue, dialect, plain_views(catalogue, words)), Comments(catalogue)
     if words.explain:

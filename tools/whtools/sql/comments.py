@@ -30,13 +30,16 @@ class Comments:
         state = [sizes[1 if v in self.installed else 0] for v, sizes in enumerate(self.sizes)]
         return sum(self.sizes[o.view][2] if o.is_change else state[o.view] for term in step.terms for o in term)
 
+    def predicted(self, step):
+        """The work of a step by the sizes, or None where there are none; steps are asked for in their order."""
+        found = self.rows(step) if self.sizes and (step.sources or step.kind == "inst") else None
+        self.installed |= {step.view} if step.kind == "inst" else set()
+        return found
+
     def told(self, step):
         """A step with its predicted work."""
-        told = self.expression(step)
-        if self.sizes and (step.sources or step.kind == "inst"):
-            told += f": work {self.rows(step)}"
-        self.installed |= {step.view} if step.kind == "inst" else set()
-        return told
+        work = self.predicted(step)
+        return self.expression(step) + ("" if work is None else f": work {work}")
 
     def short(self, step):
         """The comment above a statement."""

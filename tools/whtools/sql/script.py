@@ -90,12 +90,15 @@ class Script(Comps, Changes, Insts, Catalogued):
 
     def indexes(self):
         """An index for the columns by which a table is joined with another one."""
+        return [index for u in range(len(self.views)) for index in self.indexes_of(u)]
+
+    def indexes_of(self, u):
+        """Those of a view's table."""
         found = []
-        for u, tables in enumerate(self.asked_for()):
-            for at, columns in enumerate(tables, 1):
-                index, table = self.dialect.index(self.said(u, f"~{at}")), self.dialect.indexed(self.said(u))
-                listed = joined([self.users(u)[column] for column in columns])
-                found.append(sql("CREATE INDEX {index} ON {table} ({columns})", index=index, table=table, columns=listed))
+        for at, columns in enumerate(self.asked_for()[u], 1):
+            index, table = self.dialect.index(self.said(u, f"~{at}")), self.dialect.indexed(self.said(u))
+            listed = joined([self.users(u)[column] for column in columns])
+            found.append(sql("CREATE INDEX {index} ON {table} ({columns})", index=index, table=table, columns=listed))
         return found
 
     def working_tables(self):

@@ -57,17 +57,27 @@ class PostgreSQLEngine:
         self.programs = programs
 
     def __enter__(self):
-        self.folder = Path(tempfile.mkdtemp(prefix="whview_sql"))
-        self.user = self.unprivileged()
-        if self.user:
-            shutil.chown(self.folder, self.user)
+        self.folder = self.made_folder()
         self.called("initdb", "-D", self.folder / "data", "-U", "postgres", "-A", "trust", "-E", "UTF8", "--no-locale", "-N")
-        self.called("pg_ctl", "-D", self.folder / "data", "-w", "-l", self.folder / "log", "-o", f"{SETTINGS} -k {self.folder}", "start")
+        self.start()
         return self
 
     def __exit__(self, *_):
-        self.called("pg_ctl", "-D", self.folder / "data", "-m", "immediate", "-w", "stop")
+        self.stop()
         shutil.rmtree(self.folder, ignore_errors=True)
+
+    def made_folder(self):
+        """A folder of the server's own, and of whom it runs as."""
+        found, self.user = Path(tempfile.mkdtemp(prefix="whview_sql")), self.unprivileged()
+        if self.user:
+            shutil.chown(found, self.user)
+        return found
+
+    def start(self):
+        self.called("pg_ctl", "-D", self.folder / "data", "-w", "-l", self.folder / "log", "-o", f"{SETTINGS} -k {self.folder}", "start")
+
+    def stop(self):
+        self.called("pg_ctl", "-D", self.folder / "data", "-m", "immediate", "-w", "stop")
 
     def unprivileged(self):
         """Whom the server runs as where this is root, which it refuses."""

@@ -1,0 +1,167 @@
+"""An application's database as it is asked: PostgreSQL through psql, which finds the server as it always does, or a file of SQLite."""
+
+import json
+import sqlite3
+import subprocess
+from pathlib import Path
+from typing import NamedTuple
+
+from whtools.live.turned import DIGITS, Told
+from whtools.sql.tokens import END_OF_STATEMENT, Unfit, joined, name, sql, text
+
+
+class Table(NamedTuple):
+    """An ordinary or partitioned table: its columns, and of its keys without NULLs the primary one or else the narrowest, by names."""
+
+    name: str
+    columns: list
+    key: list
+
+
+class PostgreSQLAsked:
+    """A database of a PostgreSQL server: the name or the address that psql takes, or what it takes by itself."""
+
+    own_schema = "public"
+
+    def __init__(self, address, dialect):
+        self.address, self.dialect = address, dialect
+
+    def command(self, *words):
+        where = [self.address] if self.address else []
+        return ["psql", "-X", "-q", "-A", "-t", "-v", "ON_ERROR_STOP=1", *words, *where]
+
+    def run(self, lines):
+        """What statements print."""
+        given = "\n".join([*self.dialect.head, "SET client_min_messages = warning;", *self.dialect.written(lines), ""])
+        try:
+            ran = subprocess.run(self.command(), input=given.encode(), capture_output=True, check=False)
+        except OSError as fault:
+            raise Unfit(f"psql cannot be run: {fault.strerror}") from fault
+        if ran.returncode:
+            told = ran.stderr.decode(errors="replace").strip().split("\n")
+            raise Unfit(f"the database says: {' '.join(told)[:600]}")
+        return ran.stdout.decode()
+
+    def rows(self, *queries):
+        """The rows of each query, whose columns are listed in it as an array of JSON."""
+        marked = [sql("{each}{end}", each=each, end=END_OF_STATEMENT) for query in queries for each in (query, sql("SELECT {mark}", mark=text("--")))]
+        found = [[]]
+        for line in self.run(marked).split("\n")[:-1]:
+            if line == "--":
+                found.append([])
+            else:
+                found[-1].append(json.loads(line))
+        return found[:-1]
+
+    def tables(self, schema, names=None):
+        """The tables of a schema, by their names."""
+        chosen = sql("AND c.relname IN ({names})", names=joined(list(map(text, names)))) if names else sql("")
+        of = sql(
+            "pg_class AS c JOIN pg_namespace AS s ON s.oid = c.relnamespace AND s.nspname = {schema} WHERE c.relkind IN ({kinds})"
+            " AND NOT c.relispartition {chosen}", schema=text(schema), kinds=joined([text("r"), text("p")]), chosen=chosen,
+        )  # fmt: skip
+        columns, keys = self.rows(self.columns_query(of), self.keys_query(of))
+        found = {}
+        for table, column, shown, type_name, modifier, may_be_null in columns:
+            digits = (modifier - 4) >> 16 & 0xFFFF if modifier >= 4 else None
+            places = modifier - 4 & 0x7FF if modifier >= 4 else None
+            found.setdefault(table, Table(table, [], [])).columns.append(Told(column, shown, type_name, digits, places, may_be_null))
+        for table, key in reversed(keys):
+            found[table] = found[table]._replace(key=key)
+        return found
+
+    def columns_query(self, of):
+        """Each column by its base type: an enumeration's is told as such."""
+        return sql(
+            "WITH RECURSIVE b (relation, place, type, modifier, nothing) AS (SELECT a.attrelid, a.attnum, a.atttypid, a.atttypmod,"
+            " NOT a.attnotnull FROM pg_attribute AS a WHERE a.attnum > 0 AND NOT a.attisdropped AND a.attrelid IN (SELECT c.oid FROM {of})"
+            " UNION ALL SELECT b.relation, b.place, t.typbasetype, CASE WHEN b.modifier = -1 THEN t.typtypmod ELSE b.modifier END,"
+            " b.nothing AND NOT t.typnotnull FROM b JOIN pg_type AS t ON t.oid = b.type AND t.typtype = {domain})"
+            " SELECT json_build_array(c.relname, a.attname, format_type(a.atttypid, a.atttypmod),"
+            " CASE WHEN t.typtype = {of_enum} THEN {enum} WHEN n.nspname <> {own} THEN {other} ELSE t.typname END, b.modifier, b.nothing)"
+            " FROM b JOIN pg_type AS t ON t.oid = b.type JOIN pg_namespace AS n ON n.oid = t.typnamespace"
+            " JOIN pg_attribute AS a ON a.attrelid = b.relation AND a.attnum = b.place JOIN pg_class AS c ON c.oid = b.relation"
+            " WHERE t.typtype <> {domain} ORDER BY c.relname, a.attnum",
+            of=of, domain=text("d"), of_enum=text("e"), enum=text("enum"), own=text("pg_catalog"), other=text(""),
+        )  # fmt: skip
+
+    def keys_query(self, of):
+        """The unique indexes over columns without NULLs, for each table the primary key first, and then the narrowest."""
+        return sql(
+            "SELECT json_build_array(c.relname, (SELECT json_agg(a.attname ORDER BY k) FROM generate_series(0, i.indnkeyatts - 1) AS k"
+            " JOIN pg_attribute AS a ON a.attrelid = i.indrelid AND a.attnum = i.indkey[k])) FROM pg_index AS i"
+            " JOIN pg_class AS c ON c.oid = i.indrelid WHERE c.oid IN (SELECT c.oid FROM {of}) AND i.indisunique AND i.indisvalid"
+            " AND i.indpred IS NULL AND i.indexprs IS NULL AND NOT EXISTS (SELECT 1 FROM generate_series(0, i.indnkeyatts - 1) AS k"
+            " JOIN pg_attribute AS a ON a.attrelid = i.indrelid AND a.attnum = i.indkey[k] WHERE NOT a.attnotnull)"
+            " ORDER BY c.relname, i.indisprimary DESC, i.indnkeyatts, i.indexrelid",
+            of=of,
+        )  # fmt: skip
+
+
+class SQLiteAsked:
+    """A file of SQLite, which is read and not written."""
+
+    own_schema = "main"
+
+    def __init__(self, address, dialect):
+        if not address or not Path(address).is_file():
+            raise Unfit(f"--database names the file of the tables, and {address or 'none'} is none")
+        self.address, self.dialect = address, dialect
+
+    def rows(self, *queries):
+        found = sqlite3.connect(f"{Path(self.address).resolve().as_uri()}?mode=ro", uri=True)
+        try:
+            return [[list(row) for row in found.execute(self.dialect.written([query])[0])] for query in queries]
+        except sqlite3.Error as fault:
+            raise Unfit(f"{self.address}: {fault}") from fault
+        finally:
+            found.close()
+
+    def tables(self, _, names=None):
+        """The tables of the file, by their names."""
+        listed = self.rows(sql("SELECT l.name FROM pragma_table_list AS l WHERE l.schema = {main} AND l.type = {kind} ORDER BY l.name",
+                               main=text("main"), kind=text("table")))[0]  # fmt: skip
+        own = [said for said, in listed if not said.startswith("sqlite_") and (names is None or said in names)]
+        return {said: self.table(said) for said in own}
+
+    def table(self, said):
+        columns, indexes = self.rows(
+            sql("SELECT x.name, x.type, x.{notnull}, x.pk FROM pragma_table_xinfo({table}) AS x WHERE x.hidden <> 1 ORDER BY x.cid",
+                notnull=name("notnull"), table=text(said)),
+            sql("SELECT l.name, l.origin = {primary}, l.partial FROM pragma_index_list({table}) AS l WHERE l.{unique} = 1"
+                " ORDER BY l.origin <> {primary}, l.seq", table=text(said), unique=name("unique"), primary=text("pk")),
+        )  # fmt: skip
+        primary = [column for column, _, _, place in sorted(columns, key=lambda column: column[3]) if place]
+        is_rowid = len(primary) == 1 and next(kind for column, kind, *_ in columns if column == primary[0]).upper() == "INTEGER"
+        told = [self.told(*column[:3], is_rowid and column[0] == primary[0]) for column in columns]
+        filled = {each.name for each in told if not each.may_be_null}
+        keys = [primary] if primary and filled.issuperset(primary) else []
+        keys += [key for key in map(self.indexed, [index for index, _, partial in indexes if not partial]) if key and filled.issuperset(key)]
+        return Table(said, told, keys[0] if keys else [])
+
+    def indexed(self, index):
+        """The columns of an index, or none where it is over more than columns."""
+        columns = [column for column, in self.rows(sql("SELECT x.name FROM pragma_index_info({index}) AS x ORDER BY x.seqno", index=text(index)))[0]]
+        return columns if None not in columns else []
+
+    def told(self, column, type_name, is_filled, is_rowid):
+        digits = DIGITS.fullmatch(type_name.upper())
+        numbers = (int(digits[1]), int(digits[2] or 0)) if digits else (None, None)
+        return Told(column, type_name or "none", type_name, *numbers, not (is_filled or is_rowid))
+
+    def names(self):
+        """The names of all tables and views, in small letters."""
+        return {said.lower() for said, in self.rows(sql("SELECT s.name FROM sqlite_master AS s"))[0]}
+
+    def is_without_rowid(self, table):
+        return bool(self.rows(sql("SELECT l.wr FROM pragma_table_list AS l WHERE l.name = {table} AND l.schema = {main}", table=text(table),
+                                  main=text("main")))[0][0][0])  # fmt: skip
+
+    def unique(self, table):
+        """Of each unique index its columns, None for an expression, and by what collation each is compared."""
+        listed = self.rows(sql("SELECT l.name FROM pragma_index_list({table}) AS l WHERE l.{unique} = 1", table=text(table), unique=name("unique")))
+        query = "SELECT x.name, x.coll FROM pragma_index_xinfo({index}) AS x WHERE x.key = 1"
+        return [self.rows(sql(query, index=text(index)))[0] for index, in listed[0]]
+
+
+ASKED = {"postgresql": PostgreSQLAsked, "sqlite": SQLiteAsked}

@@ -1,0 +1,98 @@
+"""What each night leaves of itself: when it ran, the rows of each view before and after it and of its change, and how long each step took."""
+
+from whtools.sql.dialect import COUNT
+from whtools.sql.tokens import joined, name, number, sql, text
+
+NIGHTS, SIZES, STEPS = "~nights", "~sizes", "~steps"
+MOMENTS = "night~moments"
+
+
+class History:
+    """The tables of a script's nights, and the statements that add a night to them."""
+
+    def __init__(self, script):
+        self.script, self.dialect = script, script.dialect
+
+    def tables(self):
+        """Their names and columns."""
+        parts = {kind: self.dialect.history_kinds[kind] for kind in ("whole", "text", "moment", "seconds")}
+        return [
+            (NIGHTS, sql("night {whole} PRIMARY KEY, began {moment} NOT NULL, ended {moment}", **parts)),
+            (SIZES, sql("night {whole} NOT NULL, view {text} NOT NULL, pre {whole} NOT NULL, post {whole} NOT NULL, change {whole} NOT NULL,"
+                        " PRIMARY KEY (night, view)", **parts)),
+            (STEPS, sql("night {whole} NOT NULL, step {whole} NOT NULL, told {text} NOT NULL, work {whole}, seconds {seconds},"
+                        " PRIMARY KEY (night, step)", **parts)),
+        ]  # fmt: skip
+
+    def table(self, said):
+        return self.script.own(said)
+
+    def target(self, said):
+        """A table that a statement of the night fills."""
+        return self.dialect.target(f"{self.script.prefix}{said}")
+
+    def working_tables(self):
+        whole = self.dialect.kinds["int"]
+        return [(MOMENTS, [sql("step {whole}, at {seconds}", whole=whole, seconds=self.dialect.history_kinds["seconds"])])]
+
+    def moment(self, step):
+        """A step has ended; step 0 is what stands before the first."""
+        moments = self.dialect.filling(self.dialect.working(MOMENTS))
+        return sql("INSERT INTO {moments} VALUES ({step}, {now})", moments=moments, step=number(step), now=self.dialect.now)
+
+    def number(self):
+        """The number of the night that is being carried out."""
+        return sql("(SELECT coalesce(max(b.night), 0) FROM {nights} AS b)", nights=self.table(NIGHTS))
+
+    def began(self):
+        nights = self.table(NIGHTS)
+        began = "INSERT INTO {target} (night, began) SELECT coalesce(max(b.night), 0) + 1, {moment} FROM {nights} AS b"
+        return [sql(began, target=self.target(NIGHTS), moment=self.dialect.moment, nights=nights), self.moment(0)]
+
+    def before(self, v):
+        """How many rows a view had after the last night, or has now where no night says it."""
+        counted = sql("sum(t.{count})", count=COUNT) if self.script.shape.is_counted(v) else sql("count(*)")
+        last = "(SELECT s.post FROM {sizes} AS s WHERE s.view = {view} ORDER BY s.night DESC LIMIT 1)"
+        now = "(SELECT coalesce({counted}, 0) FROM {table} AS t)"
+        last = sql(last, sizes=self.table(SIZES), view=text(self.script.views[v].name))
+        return last, sql(now, counted=counted, table=self.script.table(v))
+
+    def sizes(self, v):
+        """The rows of a view before the night and after it, and those that came and left."""
+        last, now = self.before(v)
+        changed = "(SELECT coalesce(sum({number}), 0) FROM {net} AS d)"
+        more, change = (sql(changed, number=sql(each), net=self.script.working(v, "net")) for each in ("d.n", "abs(d.n)"))
+        added = "INSERT INTO {target} (night, view, pre, post, change) SELECT {night}, {view}, g.rows, g.rows + {more}, {change}"
+        added += " FROM (SELECT coalesce({last}, {now} - {more}) AS rows) AS g"
+        return sql(added, target=self.target(SIZES), night=self.number(), view=text(self.script.views[v].name), more=more, change=change,
+                   last=last, now=now)  # fmt: skip
+
+    def opened(self, v):
+        """The rows of a view that was just filled."""
+        _, now = self.before(v)
+        added = "INSERT INTO {target} (night, view, pre, post, change) SELECT {night}, {view}, g.rows, g.rows, 0 FROM (SELECT {now} AS rows) AS g"
+        return sql(added, target=self.target(SIZES), night=self.number(), view=text(self.script.views[v].name), now=now)
+
+    def steps(self, told, works):
+        """Each step with its predicted work, where there is one, and its seconds, where the engine tells the time while it works."""
+        nothing = sql("NULL")
+        rows = [
+            sql("({at}, {said}, {work})", at=number(at), said=self.dialect.text(said), work=nothing if work is None else number(work))
+            for at, (said, work) in enumerate(zip(told, works), 1)
+        ]
+        added = (
+            "INSERT INTO {target} (night, step, told, work, seconds) SELECT {night}, l.step, l.told, CAST(l.work AS {whole}), e.at - s.at"
+            " FROM (WITH listed (step, told, work) AS (VALUES {rows}) SELECT * FROM listed) AS l"
+            " LEFT JOIN {moments} AS e ON e.step = l.step LEFT JOIN {moments} AS s ON s.step = l.step - 1"
+        )
+        return sql(added, target=self.target(STEPS), night=self.number(), rows=joined(rows), whole=self.dialect.kinds["int"],
+                   moments=self.dialect.working(MOMENTS))  # fmt: skip
+
+    def ended(self, told, works):
+        """What a night adds at its end."""
+        return [*(self.sizes(v) for v in range(len(self.script.views))), *([self.steps(told, works)] if told else []), self.closed()]
+
+    def closed(self):
+        """The night is over."""
+        ended = "UPDATE {target} SET ended = {moment} WHERE night = {night}"
+        return sql(ended, target=self.target(NIGHTS), moment=self.dialect.moment, night=self.number())

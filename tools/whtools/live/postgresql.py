@@ -1,0 +1,302 @@
+"""PostgreSQL as tables are captured there: by statement triggers with transition tables, beside writers that do not wait."""
+
+from whtools.live.turned import NULL
+from whtools.sql.dialect import COUNT
+from whtools.sql.postgresql import SETTINGS, PostgreSQL
+from whtools.sql.tokens import END_OF_STATEMENT, body, joined, name, number, sql, statements, text, word
+
+# How often a table is tried that somebody is writing to, and how many milliseconds it is left alone in between: a minute in all.
+TRIES, PAUSE = 1200, 50
+EVENTS = (
+    ("insert", "AFTER INSERT ON ", " REFERENCING NEW TABLE AS come"),
+    ("update", "AFTER UPDATE ON ", " REFERENCING OLD TABLE AS gone NEW TABLE AS come"),
+    ("delete", "AFTER DELETE ON ", " REFERENCING OLD TABLE AS gone"),
+    ("truncate", "BEFORE TRUNCATE ON ", ""),
+)
+CAPTURED, COLUMNS, PARTS = "~captured", "~columns", "~parts"
+# A source, its partitions and its heirs, as b. Whatever has no rows of its own is not truncated by itself.
+BELOW = (
+    "(WITH RECURSIVE below (root, relation) AS (SELECT c.source::oid, c.source::oid FROM {state} AS c WHERE c.view = {view} UNION SELECT b.root,"
+    " i.inhrelid FROM below AS b JOIN pg_inherits AS i ON i.inhparent = b.relation) SELECT * FROM below) AS b"
+)
+FIRED = "(SELECT count(*) FROM pg_trigger AS t WHERE t.tgrelid = {relation} AND t.tgfoid = {function}::regprocedure AND t.tgenabled = {always})"
+WANTED = "(SELECT CASE c.relkind WHEN {ordinary} THEN 4 ELSE 3 END FROM pg_class AS c WHERE c.oid = {relation})"
+UNTRUNCATED = "a table whose changes are captured is truncated at READ COMMITTED alone: another isolation does not see all rows that go"
+BUSY = "somebody is writing to %s all the time, and its triggers wait for a moment without: run the script again"
+
+
+class LivePostgreSQL(PostgreSQL):
+    """Nights take their changes by one statement, beside writers."""
+
+    takes = True
+    history_kinds = {"whole": sql("bigint"), "text": sql("text"), "moment": sql("timestamptz"), "seconds": sql("float8")}
+    moment = sql("clock_timestamp()")
+    now = sql("extract(epoch FROM clock_timestamp())")
+
+    def captures(self, script):
+        return Captures(script)
+
+
+class Captures:
+    """The statements that capture the tables of base views, that look whether they are still captured, and that let them go."""
+
+    def __init__(self, script):
+        self.script, self.dialect = script, script.dialect
+        self.state, self.columns, self.parts = (script.own(said) for said in (CAPTURED, COLUMNS, PARTS))
+        self.texts = {said: text(letter) for said, letter in (("ordinary", "r"), ("always", "A"), ("foreign", "f"))}
+
+    def view(self, v):
+        return text(self.script.views[v].name)
+
+    def function(self, v):
+        return self.dialect.table(self.script.said(v, "~capture"))
+
+    def written(self, said):
+        """What is written for tokens, as a text."""
+        return text(self.dialect.written([said])[0])
+
+    def query(self, v, template, **parts):
+        """A query about the source of a view."""
+        function = self.written(sql("{function}()", function=self.function(v)))
+        own = {"state": self.state, "columns": self.columns, "noted": self.parts, "view": self.view(v), "function": function}
+        return sql(template, **own, **self.texts, **parts)
+
+    # ---- tables
+
+    def made(self, sources):
+        """The tables that are not there yet, the functions of the triggers, and what is captured."""
+        schema = name(self.dialect.schema)
+        tables = [
+            (self.state, sql("view text PRIMARY KEY, source regclass NOT NULL, filled boolean NOT NULL"), []),
+            (self.columns, sql("view text NOT NULL, name text NOT NULL, type text NOT NULL, PRIMARY KEY (view, name)"), []),
+            (self.parts, sql("view text NOT NULL, part oid NOT NULL, name text NOT NULL, PRIMARY KEY (view, part)"), []),
+            *((self.script.own(said), columns, []) for said, columns in self.script.history.tables()),
+            *(each for v in range(len(self.script.views)) for each in self.view_tables(v, sources)),
+        ]
+        is_missing = sql("to_regnamespace({schema}) IS NULL", schema=self.written(schema))
+        made = [self.dialect.where(is_missing, sql("CREATE SCHEMA {schema}", schema=schema))]
+        for table, columns, more in tables:
+            is_missing = sql("to_regclass({table}) IS NULL", table=self.written(table))
+            create = sql("CREATE TABLE {table} ({columns})", table=table, columns=columns)
+            made += self.dialect.only_where(is_missing, [create, *more])
+        return self.dialect.creation([*made, *(each for v in sources for each in self.noted(v, sources[v]))])
+
+    def view_tables(self, v, sources):
+        """The table of a view and that of its changes, which is not cut at its end: whoever writes there would wait for it."""
+        found = [(self.script.table(v), joined(self.script.keyed(v, sources[v].key if v in sources else [])), self.script.indexes_of(v))]
+        if v in sources:
+            changes, cut = self.script.table(v, "~changes"), word("vacuum_truncate")
+            kept = sql("ALTER TABLE {changes} SET ({cut} = false)", changes=changes, cut=cut)
+            found.append((changes, joined([*self.script.typed(v), sql("{count} bigint NOT NULL", count=COUNT)]), [kept]))
+        return found
+
+    def noted(self, v, source):
+        """What is captured, and by what function."""
+        other = self.query(
+            v, "SELECT format({told}, c.source, {view}::text) FROM {state} AS c WHERE c.view = {view} AND c.source <> {source}::regclass",
+            told=text("%s is captured as %s already: let it go first by --uncapture"), source=self.written(source.said),
+        )  # fmt: skip
+        replicated = self.query(
+            v, "SELECT format({told}, r.srrelid::regclass) FROM pg_subscription_rel AS r WHERE r.srrelid = {source}::regclass",
+            told=text("%s is written by logical replication, which fires no such triggers"), source=self.written(source.said),
+        )  # fmt: skip
+        return [
+            *self.dialect.refuse_with(other),
+            *self.dialect.refuse_with(replicated),
+            self.query(v, "INSERT INTO {state} VALUES ({view}, {source}::regclass, FALSE) ON CONFLICT DO NOTHING", source=self.written(source.said)),
+            self.query(v, "DELETE FROM {columns} WHERE view = {view}"),
+            self.query(v, "INSERT INTO {columns} SELECT {view}, a.attname, format_type(a.atttypid, a.atttypmod) FROM pg_attribute AS a"
+                          " WHERE a.attrelid = {source}::regclass AND a.attname IN ({names})", source=self.written(source.said),
+                       names=joined([text(column.name) for column in source.columns])),
+            self.captured_by(v, source),
+        ]  # fmt: skip
+
+    # ---- triggers
+
+    def captured_by(self, v, source):
+        """The function of a table's triggers. What an UPDATE leaves as it was, for the catalogue, is no change."""
+        columns = joined([*self.script.users(v), COUNT])
+        insert = sql("INSERT INTO {changes} ({columns})", changes=self.script.table(v, "~changes"), columns=columns)
+        come, gone = (sql("SELECT {shown}, {sign} FROM {rows} AS r", shown=source.shown, sign=number(sign), rows=word(rows))
+                      for rows, sign in (("come", 1), ("gone", -1)))  # fmt: skip
+        both = sql(
+            "SELECT {cells}, sum(g.n) FROM ({gone} UNION ALL {come}) AS g ({cells}, n) GROUP BY {cells} HAVING sum(g.n) <> 0",
+            gone=gone, come=come, cells=joined(self.script.cells(v)),
+        )  # fmt: skip
+        before, after = sql("{insert} SELECT {shown}, -1 FROM ONLY", insert=insert, shown=source.shown), sql("AS r")
+        program = sql(
+            "\nBEGIN\n  IF TG_OP = {insert} THEN {inserted}{end}\n  ELSIF TG_OP = {delete} THEN {deleted}{end}\n"
+            "  ELSIF TG_OP = {update} THEN {updated}{end}\n  ELSIF current_setting({isolation}) <> {wanted} THEN {refused}{end}\n"
+            "  ELSE EXECUTE concat({before}, TG_RELID::regclass, {after}){end}\n  END IF{end}\n  RETURN NULL{end}\nEND{end}",
+            insert=text("INSERT"), delete=text("DELETE"), update=text("UPDATE"), inserted=sql("{insert} {rows}", insert=insert, rows=come),
+            deleted=sql("{insert} {rows}", insert=insert, rows=gone), updated=sql("{insert} {rows}", insert=insert, rows=both),
+            isolation=text("transaction_isolation"), wanted=text("read committed"), refused=self.dialect.raised(text(UNTRUNCATED)),
+            before=text(self.dialect.written([before])[0] + " "), after=text(" " + self.dialect.written([after])[0]), end=END_OF_STATEMENT,
+        )  # fmt: skip
+        return sql(
+            "CREATE OR REPLACE FUNCTION {function}() RETURNS trigger LANGUAGE plpgsql SECURITY DEFINER SET search_path = pg_catalog, pg_temp"
+            " AS {program}",
+            function=self.function(v), program=body(program),
+        )  # fmt: skip
+
+    def fired(self, v):
+        """Each table of a source gets its triggers in a transaction of its own, at a moment when nobody is writing to it."""
+        create = [
+            sql("EXECUTE concat({create}, quote_ident(concat({said}, made::oid, {event})), {when}, part, {rows}, {call}, made)",
+                create=text("CREATE OR REPLACE TRIGGER "), said=text("whview "), event=text(f" {event}"), when=text(f" {when}"), rows=text(rows),
+                call=text(" FOR EACH STATEMENT EXECUTE FUNCTION "))
+            for event, when, rows in EVENTS
+        ]  # fmt: skip
+        is_ordinary = sql("EXISTS (SELECT 1 FROM pg_class AS c WHERE c.oid = part AND c.relkind = {ordinary})", ordinary=self.texts["ordinary"])
+        always = [
+            sql("EXECUTE concat({alter}, part, {enable}, quote_ident(concat({said}, made::oid, {event})))", alter=text("ALTER TABLE ONLY "),
+                enable=text(" ENABLE ALWAYS TRIGGER "), said=text("whview "), event=text(f" {event}"))
+            for event, *_ in EVENTS
+        ]  # fmt: skip
+        made = [*create[:3], *always[:3], *self.dialect.only_where(is_ordinary, [create[3], always[3]])]
+        relations = self.query(v, "SELECT b.relation::regclass FROM " + BELOW)
+        missing = self.query(v, FIRED + " < " + WANTED, relation=word("part"))
+        unfit = self.query(v, "SELECT format({told}, c.oid::regclass) FROM pg_class AS c WHERE c.oid = part AND c.relkind = {foreign}",
+                           told=text("%s is a foreign table, whose changes are not captured"))  # fmt: skip
+        return self.one_by_one(v, relations, missing, "SHARE ROW EXCLUSIVE", made, self.dialect.refuse_with(unfit))
+
+    def left(self, v):
+        """The triggers of tables that are no part of a source any more go."""
+        relations = self.query(v, "SELECT DISTINCT t.tgrelid::regclass FROM pg_trigger AS t WHERE t.tgfoid = {function}::regprocedure"
+                                  " AND t.tgrelid NOT IN (SELECT b.relation FROM " + BELOW + ")")  # fmt: skip
+        return self.dropped_from(v, relations)
+
+    def let_go(self, v):
+        """All triggers of a source go."""
+        relations = self.query(v, "SELECT DISTINCT t.tgrelid::regclass FROM pg_trigger AS t WHERE t.tgfoid = to_regprocedure({function})")
+        return self.dropped_from(v, relations)
+
+    def dropped_from(self, v, relations):
+        there = self.query(v, "EXISTS (SELECT 1 FROM pg_trigger AS t WHERE t.tgrelid = part AND t.tgfoid = made)")
+        named = sql("SELECT t.tgname FROM pg_trigger AS t WHERE t.tgrelid = part AND t.tgfoid = made")
+        dropped = sql(
+            "FOR finding IN {named} LOOP EXECUTE concat({drop}, quote_ident(finding), {on}, part){end} END LOOP",
+            named=named, drop=text("DROP TRIGGER "), on=text(" ON "), end=END_OF_STATEMENT,
+        )
+        return self.one_by_one(v, relations, there, "ACCESS EXCLUSIVE", [dropped], [])
+
+    def one_by_one(self, v, relations, test, mode, made, judged):
+        """A program that goes to each of these relations where a test holds, and tries its statements until nobody is writing there."""
+        function = self.written(sql("{function}()", function=self.function(v)))
+        lock = sql("EXECUTE concat({lock}, part, {mode})", lock=text("LOCK TABLE ONLY "), mode=text(f" IN {mode} MODE NOWAIT"))
+        busy = self.dialect.where(sql("tries > {most}", most=number(TRIES)), self.dialect.raised(sql("format({busy}, part)", busy=text(BUSY))))
+        program = sql(
+            "\nDECLARE part regclass{end} made regprocedure{end} tries int{end} path text{end} finding text{end}\nBEGIN\n"
+            "made := to_regprocedure({function}){end}\nFOR part IN {relations} LOOP{settings}\n{judged}\ntries := 0{end}\n"
+            "WHILE {test} LOOP\nBEGIN{made}\nEXCEPTION WHEN lock_not_available THEN\ntries := tries + 1{end}\n{busy}{end}\n"
+            "PERFORM pg_sleep({pause} / 1000.0){end}\nEND{end}\nEND LOOP{end}\nCOMMIT{end}\nEND LOOP{end}\nEND{end}",
+            function=function, relations=relations, settings=statements(SETTINGS, 1), judged=statements(judged, 1), test=test,
+            made=statements([lock, *made], 2), busy=busy, pause=number(PAUSE), end=END_OF_STATEMENT,
+        )  # fmt: skip
+        return sql("DO {program}{end}", program=body(program), end=END_OF_STATEMENT)
+
+    # ---- contents
+
+    def filled(self, sources):
+        """By one snapshot each mirror gets what its table has; and where it was filled before, its changes what it lacks, so that nothing is
+        lost of what no trigger saw."""
+        mirrors = joined([self.script.table(v) for v in sources])
+        made = [each for v, source in sources.items() for each in self.filled_one(v, source)]
+        return [
+            sql("BEGIN ISOLATION LEVEL REPEATABLE READ READ WRITE{end}", end=END_OF_STATEMENT),
+            sql("LOCK TABLE {mirrors} IN EXCLUSIVE MODE{end}", mirrors=mirrors, end=END_OF_STATEMENT),
+            self.dialect.block(made),
+            sql("COMMIT{end}", end=END_OF_STATEMENT),
+        ]
+
+    def filled_one(self, v, source):
+        is_filled = self.query(v, "EXISTS (SELECT 1 FROM {state} AS c WHERE c.view = {view} AND c.filled)")
+        emptied = sql("DELETE FROM {changes}", changes=self.script.table(v, "~changes"))
+        choice = "IF {test} THEN {difference} ELSE {first} END IF"
+        first = [*self.first(v, source), self.query(v, "UPDATE {state} SET filled = TRUE WHERE view = {view}")]
+        table = self.script.table(v)
+        return [
+            *self.unlike_null(v, source),
+            emptied,
+            self.query(v, "DELETE FROM {noted} WHERE view = {view}"),
+            self.query(v, "INSERT INTO {noted} SELECT {view}, b.relation, b.relation::regclass FROM " + BELOW),
+            sql(choice, test=is_filled, difference=statements([self.difference(v, source)], 2), first=statements(first, 2)),
+            sql("ANALYZE {table}", table=table),
+        ]
+
+    def unlike_null(self, v, source):
+        """A refusal of a cell that would be taken for NULL."""
+        found = []
+        for column in source.null_columns:
+            null = self.dialect.text(NULL["text"]) if column.kind == "text" else self.dialect.whole(NULL["int"])
+            told = f"{self.script.views[v].name} cannot be captured: {NULL[column.kind]} stands in its column {column.name}, and stands for NULL"
+            query = "SELECT 1 FROM {source} AS r WHERE r.{column} IS NOT NULL AND {turned} = {null}"
+            found += self.dialect.refuse(told, sql(query, source=source.said, column=name(column.name), turned=column.said, null=null))
+        return found
+
+    def first(self, v, source):
+        columns, grouped = joined([*self.script.users(v), COUNT]), [column.said for column in source.columns]
+        insert = "INSERT INTO {mirror} ({columns}) SELECT {shown}, {count} FROM {source} AS r {grouped}"
+        count = sql("1") if source.key else sql("count(*)")
+        grouping = sql("") if source.key else sql("GROUP BY {cells}", cells=joined(grouped))
+        return [sql(insert, mirror=self.script.table(v), columns=columns, shown=source.shown, count=count, source=source.said, grouped=grouping)]
+
+    def difference(self, v, source):
+        cells = joined(self.script.cells(v))
+        return sql(
+            "INSERT INTO {changes} ({columns}) SELECT {cells}, sum(g.n) FROM (SELECT {shown}, 1 FROM {source} AS r"
+            " UNION ALL SELECT {mirrored}, - t.{count} FROM {mirror} AS t) AS g ({cells}, n) GROUP BY {cells} HAVING sum(g.n) <> 0",
+            changes=self.script.table(v, "~changes"), columns=joined([*self.script.users(v), COUNT]), cells=cells, shown=source.shown,
+            source=source.said, mirrored=joined(self.script.read(v)), count=COUNT, mirror=self.script.table(v),
+        )  # fmt: skip
+
+    # ---- scripts
+
+    def capture(self, sources, _):
+        triggers = [each for v in sources for each in (self.fired(v), self.left(v))]
+        return [*self.made(sources), *triggers, *self.filled(sources)]
+
+    def uncapture(self):
+        """Triggers first, so that no writer meets a table that is gone."""
+        base = self.script.steps.base()
+        tables = [self.script.table(v) for v in range(len(self.script.views))] + [self.script.table(v, "~changes") for v in base]
+        tables += [self.state, self.columns, self.parts, *(self.script.own(said) for said, _ in self.script.history.tables())]
+        gone = [sql("DROP FUNCTION IF EXISTS {function}()", function=self.function(v)) for v in base]
+        gone += [sql("DROP TABLE IF EXISTS {table}", table=table) for table in tables]
+        schema = name(self.dialect.schema)
+        is_empty = sql(
+            "to_regnamespace({said}) IS NOT NULL AND NOT EXISTS (SELECT 1 FROM pg_depend AS d WHERE d.refclassid = {spaces}::regclass"
+            " AND d.refobjid = to_regnamespace({said}))", said=self.written(schema), spaces=text("pg_namespace"),
+        )  # fmt: skip
+        gone += [self.dialect.where(is_empty, sql("DROP SCHEMA {schema}", schema=schema))]
+        return [*(self.let_go(v) for v in base), *self.dialect.creation(gone)]
+
+    # ---- a night's look at them
+
+    def whole(self):
+        """Refusals of a source that is not captured as it was, judged after its changes were taken: whatever has happened to it before is
+        seen then."""
+        told = text(f"table %s is not captured as it was: %s; run tools/sql --capture")
+        return [
+            each
+            for v in self.script.steps.base()
+            for template, parts in self.holes()
+            for each in self.dialect.refuse_with(self.query(v, template, told=told, **parts))
+        ]
+
+    def holes(self):
+        """Queries for what is otherwise than it was captured, each giving a sentence."""
+        one = "SELECT format({told}, {view}::text, {why}) "
+        return [
+            (one + "WHERE NOT EXISTS (SELECT 1 FROM {state} AS c JOIN pg_class AS k ON k.oid = c.source WHERE c.view = {view} AND c.filled)",
+             {"why": text("its table is gone, or was never filled")}),
+            ("SELECT format({told}, {view}::text, format({why}, min(b.relation)::regclass)) FROM " + BELOW + " WHERE "
+             + FIRED.replace("{relation}", "b.relation") + " < " + WANTED.replace("{relation}", "b.relation") + " HAVING count(*) > 0",
+             {"why": text("%s has no triggers")}),
+            ("SELECT format({told}, {view}::text, format({why}, min(p.name))) FROM {noted} AS p WHERE p.view = {view}"
+             " AND p.part NOT IN (SELECT b.relation FROM " + BELOW + ") HAVING count(*) > 0", {"why": text("%s is no part of it any more")}),
+            ("SELECT format({told}, {view}::text, format({why}, min(w.name))) FROM {columns} AS w JOIN {state} AS c ON c.view = w.view"
+             " LEFT JOIN pg_attribute AS a ON a.attrelid = c.source AND a.attname = w.name AND a.attnum > 0 AND NOT a.attisdropped"
+             " WHERE w.view = {view} AND w.type IS DISTINCT FROM format_type(a.atttypid, a.atttypmod) HAVING count(*) > 0",
+             {"why": text("its column %s is of another type")}),
+        ]  # fmt: skip

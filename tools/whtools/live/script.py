@@ -1,0 +1,93 @@
+"""Scripts over mirrors of tables that applications go on writing to."""
+
+from whtools.live.history import History
+from whtools.sql.comments import Comments
+from whtools.sql.dialect import COUNT
+from whtools.sql.names import Names
+from whtools.sql.catalogued import WIDEST_INDEX
+from whtools.sql.script import Script
+from whtools.sql.tokens import joined, name, sql, word
+
+
+class LiveScript(Script):
+    """The statements over a catalogue whose base views are mirrors. Their tables and all others stand in a schema of their own, or in
+    SQLite have a word before their names. A night takes the changes that are there when it begins, and what comes later stays."""
+
+    def __init__(self, catalogue, dialect, prefix=""):
+        self.prefix = prefix
+        self.prefixed = Names(dialect, [prefix + view.name for view in catalogue.views])
+        super().__init__(catalogue, dialect)
+        self.catalogue, self.history, self.captures = catalogue, History(self), dialect.captures(self)
+
+    # ---- names
+
+    def said(self, v, suffix=""):
+        return self.prefixed.of(self.prefix + self.views[v].name, suffix)
+
+    def own(self, suffix):
+        """A table that is of no view, such as the history of nights."""
+        return self.dialect.table(f"{self.prefix}{suffix}")
+
+    def changes(self, v):
+        return self.working(v, "taken") if self.dialect.takes else super().changes(v)
+
+    # ---- a night
+
+    def working_tables(self):
+        """Those of any night, and the changes that it takes."""
+        count = sql("{count} {kind} NOT NULL", count=COUNT, kind=self.dialect.kinds["int"])
+        taken = [(self.working_name(v, "taken"), [*self.typed(v), count]) for v in self.steps.base()] if self.dialect.takes else []
+        return [*super().working_tables(), *taken, *self.history.working_tables()]
+
+    def taken(self):
+        """What stands in the tables of changes leaves them in one statement, and so by one snapshot: each transaction of an application is
+        in it wholly or not at all. Whoever writes to the tables goes on: its rows are of the next night."""
+        parts, made = [], None
+        for v in self.steps.base():
+            columns, gone = joined([*self.users(v), COUNT]), word("gone", v)
+            if made:
+                parts.append(sql("{kept} AS ({made})", kept=word("kept", len(parts)), made=made))
+            deleted = sql("DELETE FROM {changes} RETURNING {columns}", changes=self.table(v, "~changes"), columns=columns)
+            parts.append(sql("{gone} AS ({deleted})", gone=gone, deleted=deleted))
+            made = sql("INSERT INTO {taken} ({columns}) SELECT {columns} FROM {gone}", taken=self.changes(v), columns=columns, gone=gone)
+        return [sql("WITH {parts} {made}", parts=joined(parts), made=made)]
+
+    def carried(self, steps, comment):
+        """The statements of steps, each with a comment above it and its moment below."""
+        found = []
+        for at, step in enumerate(steps, 1):
+            found += [comment(step), *getattr(self, step.kind)(step), self.history.moment(at)]
+        return found
+
+    def night(self, strategy, comment):
+        steps, works = self.steps.night(strategy), Comments(self.catalogue)
+        listed = [(works.expression(step), works.predicted(step)) for step in steps]
+        ended = [] if self.dialect.takes else self.emptied()
+        ended += self.dialect.settled() + [each for v in range(len(self.views)) for each in [*self.verified(v), *self.untouched(v)]]
+        begun = [*(self.taken() if self.dialect.takes else []), *self.captures.whole()]
+        return self.whole([*begun, *self.history.began()], steps, [*ended, *self.history.ended(*zip(*listed))], comment)
+
+    def open(self, comment):
+        """The derived views are filled from the mirrors; what is in the tables of changes stays there."""
+        derived = self.steps.derived()
+        cleared = [each for v in reversed(derived) for each in self.cleared(v)]
+        ended = self.dialect.settled() + [each for v in derived for each in self.verified(v)]
+        sizes = [self.history.opened(v) for v in range(len(self.views))]
+        return self.whole([*self.history.began(), *cleared], self.steps.opening(), [*ended, *sizes, self.history.closed()], comment)
+
+    def whole(self, before, steps, after, comment):
+        """A transaction of all this, which locks the mirrors and the views alone."""
+        locked = [self.table(v) for v in range(len(self.views))]
+        working = self.checked.working_tables() + self.working_tables()
+        made = before + self.carried(steps, comment) + after
+        return self.dialect.program(self.checked.statements(locked), working, made, self.checked.watchers())
+
+    # ---- tables
+
+    def keyed(self, v, key):
+        """The columns of a table, whose key is the source's where it has one."""
+        columns = [name(self.columns[v].of(said)) for said in key] or self.users(v)[: self.shape.groups(v)]
+        found = [each for each in self.declared(v) if each.tokens[0] != word("CONSTRAINT").tokens[0]]
+        if 0 < len(columns) <= WIDEST_INDEX:
+            found.append(sql("CONSTRAINT {key} UNIQUE ({columns})", key=name(self.said(v, "~key")), columns=joined(columns)))
+        return found

@@ -1,0 +1,66 @@
+"""Which table of the application each base view mirrors, and how its columns are turned."""
+
+from typing import NamedTuple
+
+from whtools.live import turned
+from whtools.sql.tokens import Unfit, joined, name, sql
+
+TURNS = {"postgresql": turned.of_postgresql, "sqlite": turned.of_sqlite}
+
+
+class Source(NamedTuple):
+    """A table of the application: its schema and name, its columns as they are turned, in the view's order, and what of them is a key."""
+
+    schema: str
+    table: str
+    columns: list
+    key: list
+
+    @property
+    def said(self):
+        return sql("{schema}.{table}", schema=name(self.schema), table=name(self.table))
+
+    @property
+    def shown(self):
+        """The columns of a row r of the table, as they are turned."""
+        return joined([column.said for column in self.columns])
+
+    @property
+    def null_columns(self):
+        return [column for column in self.columns if column.may_be_null]
+
+
+def turned_by(engine, table):
+    """The columns of a table, each turned or not, by their names."""
+    return {told.name: TURNS[engine](told) for told in table.columns}
+
+
+def source(engine, view, schema, table):
+    """The table that a base view mirrors, where its columns are turned as the view has them."""
+    turned_columns, columns = turned_by(engine, table), []
+    for said, kind in view.columns:
+        found = turned_columns.get(said)
+        if found is None:
+            raise Unfit(f"{view.name}: the table {table.name} has no column {said}; it has {', '.join(turned_columns)}")
+        if isinstance(found, turned.Unturned):
+            raise Unfit(f"{view.name} cannot be captured: {found.why}")
+        if found.kind != kind:
+            kinds = {"int": "a whole number", "text": "a text"}
+            wanted = said if found.kind == "int" else f"{said}:text"
+            raise Unfit(f"{view.name}: {said} is turned into {kinds[found.kind]}; write it as {wanted!r} in the catalogue")
+        columns.append(found)
+    is_apart = {column.name for column in columns if column.is_apart and not column.may_be_null}
+    return Source(schema, table.name, columns, table.key if is_apart.issuperset(table.key) else [])
+
+
+def sources(script, asked, schema):
+    """The tables of the base views, by the views' numbers."""
+    base = script.steps.base()
+    tables = asked.tables(schema, [script.views[v].name for v in base])
+    found = {}
+    for v in base:
+        view = script.views[v]
+        if view.name not in tables:
+            raise Unfit(f"{view.name}: there is no table {view.name} in {schema}; name the schema of the tables by --from")
+        found[v] = source(script.dialect.engine, view, schema, tables[view.name])
+    return found

@@ -1,0 +1,155 @@
+"""How a column of an application's table is turned into a whole number or a text: each value into one, so that no writer meets a fault."""
+
+import re
+from typing import NamedTuple
+
+from whtools.sql.dialect import LEAST, MOST
+from whtools.sql.tokens import Sql, joined, name, number, sql, text, word
+
+# What stands for NULL. It equals itself, so that joins and groups take all NULLs for one value: `where` has to leave them out.
+NULL = {"int": LEAST, "text": "\\N"}
+# What is no number, and a day or a moment without end, come after all others; those without a beginning before them.
+LAST, FIRST = MOST - 1, LEAST + 1
+# So many digits fit 64 bits, or a REAL of SQLite.
+MOST_DIGITS = {"postgresql": 18, "sqlite": 15}
+NEITHER = "which is neither a whole number nor a text to the byte: make it numeric(p,s), or leave the column out"
+TOO_WIDE = "whose values need not fit 64 bits: make it numeric(p,s) with p up to {most}, or leave the column out"
+
+
+class Told(NamedTuple):
+    """What a database says of a column: its name, its type in words and by its bare name, its digits and places, and whether it may be NULL."""
+
+    name: str
+    shown: str
+    type: str
+    digits: int | None
+    places: int | None
+    may_be_null: bool
+
+
+class Turned(NamedTuple):
+    """How a column is turned: into which kind, from the cell of a row r, whether it may be NULL, and whether unequal values stay unequal."""
+
+    name: str
+    kind: str
+    said: Sql
+    may_be_null: bool
+    is_apart: bool
+
+
+class Unturned(NamedTuple):
+    """A column that is not turned, and why."""
+
+    name: str
+    why: str
+
+
+def refused(told, why):
+    return Unturned(told.name, f"its column {told.name} is of the type {told.shown}, {why}")
+
+
+def cell(told):
+    return sql("r.{column}", column=name(told.name))
+
+
+# ---- PostgreSQL
+
+
+def whole(said):
+    return sql("{said}::bigint", said=text(str(said)))
+
+
+def calendar(template):
+    """A day or a moment, which may be without end or beginning."""
+    wanted = "CASE WHEN isfinite({cell}) THEN " + template + " WHEN {cell} > {day}::timestamp THEN {last} WHEN {cell} < {day}::timestamp THEN {first} END"
+    return lambda cell: sql(wanted, cell=cell, day=text("1970-01-01"), last=whole(LAST), first=whole(FIRST))
+
+
+def units(places):
+    """A numeric of so many places, which may be no number."""
+    wanted = "CASE WHEN {cell} = {nan}::numeric THEN {last} ELSE ({cell} * {unit}::numeric)::bigint END"
+    return lambda cell: sql(wanted, cell=cell, nan=text("NaN"), last=whole(LAST), unit=text(str(10**places)))
+
+
+SECONDS = calendar("floor(extract(epoch FROM {cell}))::bigint")
+NUMBERS = {
+    **dict.fromkeys(("int2", "int4", "int8"), lambda cell: sql("{cell}::bigint", cell=cell)),
+    "bool": lambda cell: sql("{cell}::integer::bigint", cell=cell),
+    "date": calendar("({cell} - {day}::date)::bigint"),
+    **dict.fromkeys(("timestamp", "timestamptz"), SECONDS),
+}
+TEXTS = ("text", "varchar", "bpchar", "uuid", "name", "enum")
+
+
+def of_postgresql(told):
+    """How PostgreSQL turns a column, or why it does not."""
+    found = NUMBERS.get(told.type)
+    if told.type == "numeric":
+        most = MOST_DIGITS["postgresql"]
+        if told.digits is None or not 0 <= told.places <= told.digits <= most:
+            return refused(told, TOO_WIDE.format(most=most))
+        found = units(told.places)
+    if told.type in TEXTS:
+        return turned(told, "text", sql("{cell}::text", cell=cell(told)), sql("{said}::text", said=text(NULL["text"])))
+    if found is None:
+        return refused(told, NEITHER)
+    return turned(told, "int", found(cell(told)), whole(NULL["int"]), found is not SECONDS)
+
+
+def turned(told, kind, said, null, is_apart=True):
+    if told.may_be_null:
+        said = sql("coalesce({said}, {null})", said=said, null=null)
+    return Turned(told.name, kind, said, told.may_be_null, is_apart)
+
+
+# ---- SQLite, which keeps any value in any column: what is of another kind than its column is left as it is, and a night refuses it
+
+
+def day_or_moment(template):
+    """What is written as a day or a moment; a number of the application's own stays what it is."""
+    wanted = "coalesce(CASE WHEN typeof({cell}) = {kind} AND {cell} GLOB {digit} THEN " + template + " END, {cell})"
+    return lambda cell: sql(wanted, cell=cell, kind=text("text"), digit=text("[0-9]*"), start=text("start of day"), day=number(86400))
+
+
+def units_of_reals(places):
+    wanted = "CASE WHEN typeof({cell}) IN ({kinds}) THEN CAST(round({cell} * {unit}) AS INTEGER) ELSE {cell} END"
+    kinds = joined([text("integer"), text("real")])
+    return lambda cell: sql(wanted, cell=cell, kinds=kinds, unit=number(10**places))
+
+
+MOMENTS = day_or_moment("unixepoch({cell})")
+# The first word that is found in a declared type says how it is turned.
+BY_WORDS = (
+    ("INT", "int", lambda cell: cell),
+    ("BOOL", "int", lambda cell: cell),
+    ("TIMESTAMP", "int", MOMENTS),
+    ("DATETIME", "int", MOMENTS),
+    ("DATE", "int", day_or_moment("unixepoch({cell}, {start}) / {day}")),
+    ("CHAR", "text", lambda cell: cell),
+    ("CLOB", "text", lambda cell: cell),
+    ("TEXT", "text", lambda cell: cell),
+)
+DIGITS = re.compile(r"(?:NUMERIC|DECIMAL) *\( *(\d+) *(?:, *(\d+) *)?\)")
+
+
+def of_sqlite(told):
+    """How SQLite turns a column, or why it does not."""
+    declared = told.type.upper()
+    kind, found = next((how for word, *how in BY_WORDS if word in declared), (None, None))
+    if digits := DIGITS.fullmatch(declared):
+        if not int(digits[2] or 0) <= int(digits[1]) <= MOST_DIGITS["sqlite"]:
+            return refused(told, TOO_WIDE.format(most=MOST_DIGITS["sqlite"]))
+        kind, found = "int", units_of_reals(int(digits[2] or 0))
+    if found is None:
+        return refused(told, NEITHER)
+    null = number(NULL["int"]) if kind == "int" else text(NULL["text"])
+    return turned(told, kind, found(cell(told)), null, found is not MOMENTS)
+
+
+def again(said, row):
+    """What turns a cell, of another row than r: of `old` or `new` in a trigger."""
+    tokens, found = list(said.tokens), []
+    for at, token in enumerate(tokens):
+        is_row = token == word("r").tokens[0] and at + 1 < len(tokens) and tokens[at + 1].said == "."
+        found.append(row.tokens[0] if is_row else token)
+    return Sql(found)

@@ -1,0 +1,165 @@
+"""Writers beside nights: transactions that commit late, two nights at once, and a thousand small transactions that must not wait."""
+
+import random
+import re
+import sqlite3
+import subprocess
+import threading
+from pathlib import Path
+
+from whtools.databases.engines import Session
+from whtools.live_trials.cases import NEW_LINES, NEW_ORDER
+
+# A lock that is waited for longer than this is told by the server's log.
+LONGEST_MS = 10
+WATCHED = f"ALTER SYSTEM SET log_lock_waits = on; ALTER SYSTEM SET deadlock_timeout = {LONGEST_MS}; SELECT pg_reload_conf();"
+WAITED = re.compile(r"process (\d+) still waiting for (\w+ on .*) after ([\d.]+) ms")
+# So many small transactions, each timed from its first statement to the end of its COMMIT.
+WRITER = """
+CREATE TABLE IF NOT EXISTS took (number int, milliseconds float8);
+CREATE OR REPLACE PROCEDURE writes(many int) LANGUAGE plpgsql AS $$
+DECLARE began timestamptz; times float8[] := '{}';
+BEGIN
+  FOR n IN 1..many LOOP
+    began := clock_timestamp();
+    INSERT INTO orders (id, day, at, paid, region) VALUES (100000 + n, DATE '2026-01-01' + n % 7, now(), n % 2 = 0, 'region ' || n % 5);
+    INSERT INTO lines VALUES (100000 + n, 'product ' || 1 + n % 20, n % 5), (1 + n % 40, 'product ' || 1 + n % 7, 1);
+    UPDATE products SET price = n + 0.5 WHERE product = 'product ' || 1 + n % 20;
+    DELETE FROM orders WHERE id = 100000 + n - 10;
+    COMMIT;
+    times := times || extract(epoch FROM clock_timestamp() - began)::float8 * 1000;
+    IF n % 4 = 0 THEN PERFORM pg_sleep(0.001); END IF;
+  END LOOP;
+  INSERT INTO took SELECT row_number() OVER (), t FROM unnest(times) AS t;
+END $$;
+"""
+
+
+def late_mistakes(live):
+    """Transactions that are open while nights run: they do not wait, and each is wholly in the night after its COMMIT."""
+    wrong, database = live.fresh(), live.database
+    late, later = (Session(database.server, database.name) for _ in range(2))
+    late.asked("BEGIN;" + NEW_ORDER)
+    later.asked("BEGIN ISOLATION LEVEL SERIALIZABLE; SAVEPOINT a; UPDATE products SET price = 1 WHERE product = 'product 2';")
+    database.asked("UPDATE lines SET pieces = 2 WHERE id = 3;")
+    for said in (NEW_LINES, "UPDATE lines SET pieces = 5 WHERE id = 900;"):
+        told = live.night()
+        wrong += [f"beside an open transaction the night was told {told}"] if told else live.mistakes()
+        late.asked(said)
+    late.asked("COMMIT;")
+    wrong += [] if live.pending() else ["what was committed late is nowhere"]
+    told = live.night()
+    wrong += [f"after the COMMIT: {told}"] if told else live.mistakes()
+    later.asked("ROLLBACK TO a; UPDATE products SET price = 2 WHERE product = 'product 3'; COMMIT;")
+    told = live.night()
+    wrong += [f"after a savepoint: {told}"] if told else live.mistakes()
+    late.close()
+    later.close()
+    return [f"a late transaction: {text}" for text in wrong]
+
+
+def begun(live):
+    """A client that carries out a night."""
+    live.database.script.write_text(live.script)
+    words = live.database.server.asking(live.database.name, ("-v", "ON_ERROR_STOP=1", "-f", live.database.script))
+    return subprocess.Popen(words, stdout=subprocess.DEVNULL, stderr=subprocess.PIPE)
+
+
+def two_mistakes(live, times):
+    """Two nights at once, again and again."""
+    wrong = live.fresh()
+    for number in range(times):
+        live.database.asked(f"UPDATE lines SET pieces = {number % 5} WHERE id % 3 = 0; DELETE FROM orders WHERE id = {number + 1};")
+        told = [night.communicate(timeout=60)[1].decode() for night in [begun(live), begun(live)]]
+        wrong += [f"one of two nights was told {each}" for each in told if each] + live.mistakes()
+        wrong += ["changes stayed behind two nights"] if live.pending() else []
+    return [f"two nights at once: {text}" for text in wrong]
+
+
+# ---- a thousand small transactions
+
+
+def waits(server):
+    """Which process waited for what longer than it may, by the server's log."""
+    return WAITED.findall((Path(server.folder) / "log").read_text(errors="replace"))
+
+
+def torn(live):
+    """Transactions of the writer that a night has half of: each makes an order with its line, or takes both away."""
+    lines, orders = (f"SELECT id FROM {live.database.table(name)} WHERE id > 100000" for name in ("lines", "orders"))
+    half = live.database.answers(f"({lines} EXCEPT {orders}) UNION ALL ({orders} EXCEPT {lines})")[0]
+    return [f"a night had half of the transactions of {half[:3]}"] if half else []
+
+
+def written(live, many, nights):
+    """The writer beside so many nights: what went wrong, and the milliseconds of each of its transactions."""
+    database, wrong = live.database, []
+    database.asked(WRITER + "TRUNCATE took;")
+    writer = Session(database.server, database.name)
+    number = writer.asked("SELECT pg_backend_pid();")[0]
+    thread = threading.Thread(target=writer.asked, args=(f"CALL writes({many});",))
+    before = len(waits(database.server))
+    thread.start()
+    for _ in range(nights):
+        told = live.night()
+        wrong += [f"a night beside the writer was told {told}"] if told else torn(live)
+    thread.join()
+    writer.close()
+    waited = [f"it waited {took} ms for {what}" for process, what, took in waits(database.server)[before:] if process == number]
+    times = sorted(float(line) for line in database.asked("SELECT milliseconds FROM took;"))
+    return wrong + waited, times
+
+
+def told_times(times):
+    """The median, the thousandth longest and the longest."""
+    return f"{times[len(times) // 2]:.2f}, {times[-1 - len(times) // 1000]:.2f} and {times[-1]:.2f} ms"
+
+
+def writer_mistakes(live, many=1000, nights=10):
+    """What a writer of many small transactions meets beside nights, and what its transactions took with them and without."""
+    live.database.asked(WATCHED)
+    wrong = live.fresh()
+    _, without = written(live, many, 0)
+    wrong += live.fresh()
+    told, beside = written(live, many, nights)
+    last = live.night()
+    wrong += told + ([f"the last night: {last}"] if last else live.mistakes())
+    if len(beside) != many:
+        wrong.append(f"{len(beside)} of {many} transactions were timed")
+    shown = f"a writer's {many} transactions took {told_times(without)} alone, {told_times(beside)} beside {nights} nights (median, 99.9 %, longest)"
+    return [f"a writer beside nights: {text}" for text in wrong], shown
+
+
+# ---- SQLite, where a writer waits as for any other
+
+
+def sqlite_writer_mistakes(live, many, nights):
+    """A writer that waits its turn beside nights."""
+    wrong, source = live.fresh(), random.Random(many)
+    statements = [
+        "INSERT INTO lines SELECT id, 'product ' || ({n} % 20 + 1), {n} % 5 FROM orders WHERE id = {n} % 40 + 1",
+        "REPLACE INTO products (product, price) VALUES ('product ' || ({n} % 25), {n})",
+        "UPDATE OR IGNORE orders SET id = id + 1 WHERE id = {n} % 60",
+        "DELETE FROM lines WHERE rowid IN (SELECT rowid FROM lines WHERE id = {n} % 40 + 1 LIMIT 1)",
+    ]
+    told = []
+
+    def write():
+        database = sqlite3.connect(live.database.path, isolation_level=None, timeout=60)
+        database.execute("PRAGMA foreign_keys = 1")
+        for n in range(many):
+            database.execute("BEGIN IMMEDIATE")
+            for said in source.sample(statements, 2):
+                database.execute(said.format(n=n))
+            database.execute(source.choice(["COMMIT", "COMMIT", "ROLLBACK"]))
+        database.close()
+
+    script = "PRAGMA busy_timeout = 60000;\n" + live.script
+    thread = threading.Thread(target=write)
+    thread.start()
+    for _ in range(nights):
+        told.append(live.database.run(script))
+    thread.join()
+    told.append(live.night())
+    wrong += [f"a night was told {each}" for each in told if each and each.strip() != "60000"] + live.mistakes()
+    return [f"sqlite: a writer beside nights: {text}" for text in wrong]

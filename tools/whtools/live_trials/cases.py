@@ -1,0 +1,192 @@
+"""What applications do to their tables while these are captured, one case each: after the next night the views are what the tables give."""
+
+from typing import NamedTuple
+
+from whtools.databases.engines import Broken
+
+NEW_ORDER = "INSERT INTO orders (id, day, paid, region) VALUES (900, '2026-02-02', TRUE, 'region 9');"
+NEW_LINES = "INSERT INTO lines VALUES (900, 'product 2', 3), (900, 'product 3', 4);"
+
+
+class Case(NamedTuple):
+    """What is made beside the tables before they are captured; what the application says; what of it fails, by a word; how a night is
+    refused until the tables are captured anew, by a word."""
+
+    said: str
+    made: str = ""
+    fails: str = ""
+    refused: str = ""
+
+
+BOTH = {
+    "rows come": Case(NEW_ORDER + NEW_LINES),
+    "rows change": Case("UPDATE lines SET pieces = pieces + 1 WHERE id < 9; UPDATE products SET price = price * 2 WHERE price > 7;"),
+    "rows leave": Case("DELETE FROM lines WHERE pieces > 4; DELETE FROM products WHERE product = 'product 7';"),
+    "a key changes, and what refers to it": Case("UPDATE orders SET id = id + 1000 WHERE id % 3 = 0;"),
+    "what refers to a row leaves with it": Case("DELETE FROM orders WHERE id % 5 = 1;"),
+    "a column changes that no view has": Case("UPDATE orders SET note = 'seen'; UPDATE products SET about = 'good';"),
+    "NULLs come and go": Case(
+        "UPDATE orders SET region = NULL WHERE id < 12; UPDATE orders SET region = 'was NULL', at = NULL WHERE id % 4 = 0;"
+        " UPDATE products SET price = NULL WHERE product = 'product 3'; UPDATE products SET price = 3.07 WHERE product = 'product 10';"
+    ),
+    "nothing is left of it": Case("BEGIN;" + NEW_ORDER + NEW_LINES + "ROLLBACK;"),
+    "a savepoint": Case(
+        "BEGIN; SAVEPOINT a;" + NEW_ORDER + "ROLLBACK TO a; UPDATE lines SET pieces = 1 WHERE id = 3; SAVEPOINT b; DELETE FROM lines WHERE id = 4;"
+        " RELEASE b; COMMIT;"
+    ),
+    "one row again and again": Case("".join(f"UPDATE products SET price = {n} WHERE product = 'product 1';" for n in range(9))),
+    "a row that comes and leaves": Case(NEW_ORDER + "DELETE FROM orders WHERE id = 900;"),
+    "ON CONFLICT": Case(
+        "INSERT INTO products (product, price) VALUES ('product 1', 50), ('product 99', 51) ON CONFLICT (product) DO UPDATE SET price = 52;"
+        "INSERT INTO products (product, price) VALUES ('product 2', 50), ('product 98', 51) ON CONFLICT DO NOTHING;"
+    ),
+    "a statement that fails": Case("INSERT INTO products (product, price) VALUES ('new', 1), ('product 4', 2);", fails="product"),
+    "dates before 1970": Case("UPDATE orders SET day = '1969-12-30' WHERE id = 7; UPDATE orders SET day = '1901-05-06', at = '1960-01-01 01:02:03Z' WHERE id = 9;"),
+}  # fmt: skip
+
+PARTED = (
+    "ALTER TABLE lines RENAME TO old_lines; CREATE TABLE lines (id int NOT NULL, product text NOT NULL, pieces smallint NOT NULL) PARTITION BY"
+    " RANGE (id); CREATE TABLE low (pieces smallint NOT NULL, id int NOT NULL, product text NOT NULL); ALTER TABLE lines ATTACH PARTITION low FOR VALUES"
+    " FROM (0) TO (20); CREATE TABLE high PARTITION OF lines FOR VALUES FROM (20) TO (2000) PARTITION BY LIST (product);"
+    " CREATE TABLE others PARTITION OF high DEFAULT; INSERT INTO lines SELECT * FROM old_lines; DROP TABLE old_lines;"
+)
+ATTACHED = (
+    "CREATE TABLE more (id int NOT NULL, product text NOT NULL, pieces smallint NOT NULL); INSERT INTO more VALUES (2000, 'product 2', 5), (2001, 'product 3', 6);"
+    " ALTER TABLE lines ATTACH PARTITION more FOR VALUES FROM (2000) TO (3000);"
+    " INSERT INTO orders (id, day, region) VALUES (2000, '2026-03-03', 'region 7'), (2001, '2026-03-03', 'region 7');"
+)
+HEIRS = "CREATE TABLE special_lines (why text) INHERITS (lines); INSERT INTO special_lines VALUES (3, 'product 3', 3, 'gift');"
+OF_POSTGRESQL = {
+    "COPY": Case("COPY lines FROM PROGRAM 'printf \"1,product 2,7\\n2,product 3,8\\n\"' (FORMAT csv);"),
+    "MERGE": Case(
+        "MERGE INTO products AS p USING (VALUES ('product 1', 5.5), ('product 2', NULL), ('new', 7.25)) AS n (product, price) ON p.product = n.product"
+        " WHEN MATCHED AND n.price IS NULL THEN DELETE WHEN MATCHED THEN UPDATE SET price = n.price WHEN NOT MATCHED THEN INSERT VALUES (n.product, n.price);"
+    ),
+    "several statements in one": Case(
+        "WITH gone AS (DELETE FROM lines WHERE id < 5 RETURNING id, product, pieces), paid AS (UPDATE orders SET paid = NOT paid WHERE id < 3 RETURNING id)"
+        " INSERT INTO lines SELECT id + 10, product, pieces FROM gone;"
+    ),
+    "TRUNCATE": Case("TRUNCATE lines;"),
+    "TRUNCATE of what is referred to": Case("TRUNCATE orders CASCADE;" + NEW_ORDER + NEW_LINES),
+    "TRUNCATE that is taken back": Case("BEGIN; TRUNCATE lines; ROLLBACK;"),
+    "TRUNCATE of rows of one's own": Case("BEGIN;" + NEW_ORDER + NEW_LINES + "TRUNCATE lines;" + NEW_LINES + "COMMIT;"),
+    "TRUNCATE of a later isolation": Case("BEGIN ISOLATION LEVEL REPEATABLE READ; TRUNCATE lines; COMMIT;", fails="at READ COMMITTED alone"),
+    "without triggers, as one supposes": Case("SET session_replication_role = replica;" + NEW_ORDER + "SET session_replication_role = origin;"),
+    "no number, and no end of days": Case(
+        "UPDATE orders SET day = 'infinity', at = '-infinity' WHERE id = 2; UPDATE orders SET day = '-infinity', at = 'infinity' WHERE id = 3;"
+        " DELETE FROM lines WHERE id IN (2, 3); UPDATE orders SET day = '2026-01-01', at = NULL WHERE id IN (2, 3);"
+    ),
+    "someone without rights on the mirrors": Case(
+        "SET ROLE seller;" + NEW_ORDER + NEW_LINES + "UPDATE lines SET pieces = 1 WHERE id = 5; DELETE FROM lines WHERE id = 6; RESET ROLE;",
+        made="GRANT ALL ON ALL TABLES IN SCHEMA public TO seller; GRANT USAGE ON SCHEMA public TO seller;",
+    ),
+    "a writer with a path of its own": Case(
+        "CREATE FUNCTION public.floor(numeric) RETURNS numeric LANGUAGE sql AS 'SELECT 0.0'; SET search_path = public, pg_catalog;"
+        " UPDATE orders SET at = at + INTERVAL '1 day'; RESET search_path; DROP FUNCTION public.floor(numeric);"
+    ),
+    "a trigger that writes on": Case(
+        NEW_ORDER + "UPDATE orders SET paid = TRUE;",
+        made="CREATE FUNCTION f() RETURNS trigger LANGUAGE plpgsql AS $f$ BEGIN INSERT INTO lines VALUES (NEW.id, 'product 1', 1); RETURN NULL; END $f$;"
+             " CREATE TRIGGER a AFTER INSERT OR UPDATE ON orders FOR EACH ROW EXECUTE FUNCTION f();",
+    ),
+    "a trigger that changes what comes": Case(
+        NEW_ORDER + NEW_LINES,
+        made="CREATE FUNCTION f() RETURNS trigger LANGUAGE plpgsql AS $f$ BEGIN NEW.pieces := 6; RETURN NEW; END $f$;"
+             " CREATE TRIGGER z BEFORE INSERT ON lines FOR EACH ROW EXECUTE FUNCTION f();",
+    ),
+    "rows of partitions": Case(
+        "INSERT INTO orders (id, day, region) VALUES (1500, '2026-03-03', 'region 7'); INSERT INTO lines VALUES (1500, 'product 1', 1), (2, 'product 2', 2);"
+        " INSERT INTO low VALUES (5, 3, 'product 3'); UPDATE lines SET id = id + 15 WHERE id % 3 = 0; UPDATE others SET pieces = 9;"
+        " DELETE FROM high WHERE pieces = 9 AND id % 2 = 0; TRUNCATE low; INSERT INTO low VALUES (1, 4, 'product 4');",
+        made=PARTED,
+    ),
+    "TRUNCATE of a table in parts": Case("TRUNCATE lines; INSERT INTO lines VALUES (3, 'product 3', 3);", made=PARTED),
+    "a part that is attached": Case(ATTACHED, made=PARTED, refused="more has no triggers"),
+    "a part that is attached, and written to": Case(
+        ATTACHED + "INSERT INTO lines VALUES (2000, 'product 4', 1); DELETE FROM more WHERE id = 2001;", made=PARTED, refused="more has no triggers"
+    ),
+    "a new part": Case("CREATE TABLE more PARTITION OF lines FOR VALUES FROM (2000) TO (3000); INSERT INTO more VALUES (2000, 'product 2', 5);",
+                       made=PARTED, refused="more has no triggers"),
+    "a part that is detached": Case("ALTER TABLE lines DETACH PARTITION low;", made=PARTED, refused="low is no part of it any more"),
+    "a part that is detached, and written to": Case(
+        "ALTER TABLE lines DETACH PARTITION low; INSERT INTO low VALUES (1, 4, 'product 4');", made=PARTED, refused="low is no part of it any more"
+    ),
+    "a part that is dropped": Case("DROP TABLE low;", made=PARTED, refused="low is no part of it any more"),
+    "heirs": Case("UPDATE lines SET pieces = pieces + 1; INSERT INTO special_lines VALUES (4, 'product 4', 4, 'gift'); DELETE FROM ONLY lines WHERE id < 4;"
+                  " TRUNCATE ONLY lines;", made=HEIRS),
+    "a trigger that is disabled": Case("ALTER TABLE lines DISABLE TRIGGER ALL; DELETE FROM lines WHERE id = 3;", refused="lines has no triggers"),
+    "a column of another type": Case("ALTER TABLE lines ALTER pieces TYPE int; UPDATE lines SET pieces = 70000 WHERE id = 1;",
+                                     refused="its column pieces is of another type"),
+    "a table by another name": Case("ALTER TABLE lines RENAME TO positions; INSERT INTO positions VALUES (4, 'product 4', 4); ALTER TABLE positions RENAME TO lines;"),
+}  # fmt: skip
+OF_SQLITE = {
+    "REPLACE": Case("REPLACE INTO products (product, price) VALUES ('product 1', 9.5), ('new', 1.25); REPLACE INTO orders (id, day, region) VALUES (3, '2026-04-04', 'x');"),
+    "REPLACE with triggers": Case("PRAGMA recursive_triggers = ON; REPLACE INTO products (product, price) VALUES ('product 1', 9.5), ('product 1', 2), ('new', 1);"),
+    "REPLACE of two rows": Case(
+        "REPLACE INTO codes (a, b) VALUES (1, 20); REPLACE INTO lines (id, product, pieces) VALUES (3, 'product 1', 1);"
+        " UPDATE OR REPLACE lines SET pieces = 0 WHERE id = 5;",
+        made="CREATE TABLE codes (a INTEGER UNIQUE, b INTEGER UNIQUE); INSERT INTO codes VALUES (1, 10), (2, 20);"
+             " DELETE FROM lines WHERE rowid NOT IN (SELECT min(rowid) FROM lines GROUP BY id); CREATE UNIQUE INDEX one ON lines (id);",
+    ),
+    "UPDATE OR REPLACE": Case("UPDATE OR REPLACE products SET product = 'product 5', price = 3 WHERE product IN ('product 6', 'product 7');"
+                              "UPDATE OR REPLACE orders SET id = id + 1 WHERE id < 8;"),
+    "IGNORE and then REPLACE": Case(
+        "INSERT OR IGNORE INTO products (product, price) VALUES ('product 1', 7); UPDATE products SET price = 8 WHERE product = 'product 1';"
+        " REPLACE INTO products (product, price) VALUES ('product 1', 9); INSERT OR IGNORE INTO orders (id, day) VALUES (5, '2026-01-01');"
+        " UPDATE orders SET id = 5005 WHERE id = 5; INSERT INTO orders (id, day) VALUES (5, '2026-01-02');"
+    ),
+    "IGNORE and FAIL": Case("INSERT OR IGNORE INTO products (product, price) VALUES ('product 1', 7), ('b', 8);"
+                            " UPDATE OR IGNORE products SET product = 'product 9' WHERE product = 'product 8';"),
+    "an index that knows no case": Case(
+        "REPLACE INTO products (product, price) VALUES ('PRODUCT 1', 9.5);", made="CREATE UNIQUE INDEX one ON products (product COLLATE NOCASE);"
+    ),
+    "an index of some rows": Case(
+        "REPLACE INTO products (product, price) VALUES ('product 1', 1.25); REPLACE INTO products (product, price, about) VALUES ('q', 4.25, 'x');",
+        made="CREATE UNIQUE INDEX one ON products (price) WHERE price < 9;",
+    ),
+    "a row that gets its number": Case("INSERT INTO orders (id, day) VALUES (-1, '2026-01-01'); INSERT INTO orders (day, region) VALUES ('2026-01-01', 'new');"
+                                       "INSERT INTO orders (day, region) VALUES ('2026-01-02', 'new');"),
+    "a trigger that writes on": Case(
+        "REPLACE INTO orders (id, day, region) VALUES (3, '2026-04-04', 'x'), (4, '2026-04-04', 'x');",
+        made="CREATE TRIGGER a AFTER INSERT ON orders WHEN new.id < 100 BEGIN INSERT INTO lines VALUES (new.id, 'product 1', 1);"
+             " INSERT INTO orders (id, day) VALUES (new.id + 500, '2026-01-03'); END;",
+    ),
+    "a table that is made anew": Case(
+        "PRAGMA foreign_keys = OFF; CREATE TABLE l AS SELECT * FROM lines; DROP TABLE lines; CREATE TABLE lines (id INT NOT NULL, product TEXT NOT NULL,"
+        " pieces INT NOT NULL); INSERT INTO lines SELECT * FROM l; INSERT INTO lines VALUES (3, 'product 1', 8);", refused="its triggers are gone",
+    ),
+    "all rows leave": Case("DELETE FROM lines;"),
+}  # fmt: skip
+OF = {"postgresql": {**BOTH, **OF_POSTGRESQL}, "sqlite": {**BOTH, **OF_SQLITE}}
+
+
+def said(live, text, fails):
+    """What the application meets otherwise than it should."""
+    try:
+        live.database.asked(text)
+    except (Broken, Exception) as told:  # whatever an engine says
+        if live.engine == "postgresql" or not fails:
+            live.database.asked("SELECT 1;")
+        return [] if fails and fails in str(told) else [f"the application was told {str(told)[:300]}"]
+    return [f"the application was not told {fails}"] if fails else []
+
+
+def mistakes(live, case):
+    """What comes otherwise than it should of a case."""
+    wrong = live.fresh(case.made) + said(live, case.said, case.fails)
+    before = live.pending()
+    told = live.night()
+    if case.refused:
+        wrong += [] if told and case.refused in told else [f"the night was told {told!r}, and not {case.refused!r}"]
+        wrong += [] if live.pending() == before else ["a night that was refused took changes"]
+        told = live.capture() or live.night()
+    wrong += [f"the night was refused: {told}"] if told else live.mistakes()
+    wrong += [f"{live.pending()} changes stayed"] if live.pending() else []
+    told = live.night()
+    return wrong + ([f"the night after: {told}"] if told else live.mistakes())
+
+
+def case_mistakes(live, only=""):
+    """What is wrong with the cases of an engine, and how many there are."""
+    tried = {name: case for name, case in OF[live.engine].items() if only in name}
+    return [f"{live.engine}: {name}: {text}"[:900] for name, case in tried.items() for text in mistakes(live, case)], len(tried)

@@ -1,0 +1,154 @@
+"""The application of the trials: its tables with all types that are turned, the catalogue over them, and what its views have to be."""
+
+from collections import Counter
+from pathlib import Path
+
+from whtools.catalogue import views_of
+from whtools.databases.nights import written
+from whtools.warehouses import Warehouse
+
+CATALOGUE = """
+[[view]]
+name = "orders"
+columns = ["id", "day", "at", "paid", "region:text"]
+[[view]]
+name = "lines"
+columns = ["id", "product:text", "pieces"]
+[[view]]
+name = "products"
+columns = ["product:text", "price"]
+[[view]]
+name = "sales"
+over = ["orders", "lines", "products"]
+join = [["orders.id", "lines.id"], ["lines.product", "products.product"]]
+where = ["all", ["<>", "orders.region", { text = '\\N' }], ["<>", "products.price", -9223372036854775808]]
+keep = [
+  ["day", "orders.day"],
+  ["region", "orders.region"],
+  ["paid", "orders.paid"],
+  ["product", "lines.product"],
+  ["cost", ["*", "lines.pieces", "products.price"]],
+]
+[[view]]
+name = "daily"
+over = ["sales"]
+group = [["day", "sales.day"], ["region", "sales.region"]]
+count = "lines"
+sum = [["cost", "sales.cost"], ["paid", "sales.paid"]]
+[[view]]
+name = "moments"
+over = ["orders"]
+group = [["at", "orders.at"]]
+count = "orders"
+"""
+TABLES = {
+    "postgresql": """
+CREATE TABLE orders (note text, id int PRIMARY KEY, day date NOT NULL, at timestamptz, paid boolean NOT NULL DEFAULT FALSE, region varchar(20));
+CREATE TABLE lines (id int NOT NULL REFERENCES orders ON DELETE CASCADE ON UPDATE CASCADE, product text NOT NULL, pieces smallint NOT NULL);
+CREATE TABLE products (product text PRIMARY KEY, price numeric(10,2), about text);
+INSERT INTO orders SELECT NULL, i, DATE '2026-01-01' + i % 5, TIMESTAMPTZ '2026-01-01 00:00Z' + i * INTERVAL '0.4 second', i % 2 = 0,
+ CASE WHEN i % 4 > 0 THEN 'region ' || i % 4 END FROM generate_series(1, {rows}) AS i;
+INSERT INTO products (product, price) SELECT 'product ' || i, CASE WHEN i % 10 > 0 THEN i + 0.25 END FROM generate_series(1, 20) AS i;
+INSERT INTO lines SELECT i % {rows} + 1, 'product ' || (i % 20 + 1), i % 7 FROM generate_series(1, {rows} * 3) AS i;
+""",
+    "sqlite": """
+CREATE TABLE orders (note TEXT, id INTEGER PRIMARY KEY, day DATE NOT NULL, at DATETIME, paid BOOLEAN NOT NULL DEFAULT 0, region VARCHAR(20));
+CREATE TABLE lines (id INT NOT NULL REFERENCES orders ON DELETE CASCADE ON UPDATE CASCADE, product TEXT NOT NULL, pieces SMALLINT NOT NULL);
+CREATE TABLE products (product TEXT PRIMARY KEY NOT NULL, price DECIMAL(10,2), about TEXT);
+CREATE TEMP TABLE numbers (i INTEGER PRIMARY KEY);
+INSERT INTO numbers WITH RECURSIVE n (i) AS (SELECT 1 UNION ALL SELECT i + 1 FROM n WHERE i < {rows} * 3) SELECT i FROM n;
+INSERT INTO orders SELECT NULL, i, date('2026-01-01', (i % 5) || ' days'), datetime('2026-01-01', (i / 3) || ' seconds'), i % 2,
+ CASE WHEN i % 4 > 0 THEN 'region ' || (i % 4) END FROM numbers WHERE i <= {rows};
+INSERT INTO products (product, price) SELECT 'product ' || i, CASE WHEN i % 10 > 0 THEN i + 0.25 END FROM numbers WHERE i <= 20;
+INSERT INTO lines SELECT i % {rows} + 1, 'product ' || (i % 20 + 1), i % 7 FROM numbers;
+""",
+}
+# What the tables of the night have to be, from the application's own: a number for each type, and a sentinel for NULL.
+LEAST = -(2**63)
+SALES = " FROM orders AS o JOIN lines AS l ON l.id = o.id JOIN products AS p ON p.product = l.product WHERE o.region IS NOT NULL AND p.price IS NOT NULL"
+EXPECTED = {
+    "postgresql": {
+        "orders": f"SELECT id, day - DATE '1970-01-01', coalesce(floor(extract(epoch FROM at))::bigint, {LEAST}), paid::int,"
+        r" coalesce(region, '\N') FROM orders",
+        "lines": "SELECT id, product, pieces FROM lines",
+        "products": f"SELECT product, coalesce((price * 100)::bigint, {LEAST}) FROM products",
+        "sales": "SELECT o.day - DATE '1970-01-01', o.region, o.paid::int, l.product, (l.pieces * p.price * 100)::bigint" + SALES,
+        "daily": "SELECT o.day - DATE '1970-01-01', o.region, count(*), sum(l.pieces * p.price * 100)::bigint, sum(o.paid::int)"
+        + SALES + " GROUP BY o.day, o.region",
+        "moments": f"SELECT coalesce(floor(extract(epoch FROM at))::bigint, {LEAST}) AS s, count(*) FROM orders GROUP BY s",
+    },
+    "sqlite": {
+        "orders": rf"SELECT id, unixepoch(day) / 86400, coalesce(unixepoch(at), {LEAST}), paid, coalesce(region, '\N') FROM orders",
+        "lines": "SELECT id, product, pieces FROM lines",
+        "products": f"SELECT product, coalesce(CAST(round(price * 100) AS INTEGER), {LEAST}) FROM products",
+        "sales": "SELECT unixepoch(o.day) / 86400, o.region, o.paid, l.product, l.pieces * CAST(round(p.price * 100) AS INTEGER)" + SALES,
+        "daily": "SELECT unixepoch(o.day) / 86400, o.region, count(*), sum(l.pieces * CAST(round(p.price * 100) AS INTEGER)), sum(o.paid)"
+        + SALES + " GROUP BY o.day, o.region",
+        "moments": f"SELECT coalesce(unixepoch(at), {LEAST}) AS s, count(*) FROM orders GROUP BY s",
+    },
+}  # fmt: skip
+BASE = ("orders", "lines", "products")
+COUNTED = (*BASE, "sales")
+
+
+def folder(path):
+    """The folder that tools/sql is given."""
+    views = Warehouse(views_of(CATALOGUE))
+    (Path(path) / "catalogue.toml").write_text(CATALOGUE)
+    (Path(path) / "strategy.txt").write_bytes(views.listed(views.one_way()).partition(b"\n")[2])
+    return path
+
+
+class Live:
+    """The application's tables in a database, captured, with its views; nights, and what is wrong with what they left."""
+
+    def __init__(self, database, path, rows=40):
+        self.database, self.path, self.engine, self.rows = database, folder(path), database.engine, rows
+        self.columns = {view.name: [name for name, _ in view.columns] for view in views_of(CATALOGUE)}
+        self.script = self.words("--live")
+
+    def words(self, *words):
+        """What tools/sql writes; a fault of it is told as one."""
+        made = written("--engine", self.engine, "--database", self.database.address, *words, self.path)
+        if made.status:
+            raise ValueError(made.told)
+        return made.text
+
+    def capture(self):
+        return self.database.run(self.words("--capture"))
+
+    def fresh(self, *more):
+        """The tables, captured, with their views filled."""
+        self.database.fresh()
+        self.database.make([TABLES[self.engine].replace("{rows}", str(self.rows)), *more])
+        told = self.capture() or self.database.run(self.words("--live", "--open"))
+        return [f"capture: {told}"] if told else self.mistakes()
+
+    def night(self):
+        """What is told of a night, or None."""
+        return self.database.run(self.script)
+
+    def expected(self, name):
+        """A query for what a view's table has to have."""
+        return EXPECTED[self.engine][name]
+
+    def mistakes(self):
+        """What the mirrors and the views have otherwise than the application's tables give them."""
+        found, names = [], EXPECTED[self.engine]
+        answers = iter(self.database.answers(*(query for name in names for query in (self.expected(name), self.stored(name)))))
+        for name, wanted, rows in zip(names, answers, answers):
+            wanted, there = Counter(wanted), Counter()
+            for *row, count in rows:
+                there[tuple(row)] += count
+            if wanted != there:
+                found.append(f"{name} has {dict(there - wanted)}, and not {dict(wanted - there)}"[:600])
+        return found
+
+    def stored(self, name):
+        """A query for what a view's table has, and how often each row counts."""
+        columns = [*(f'"{column}"' for column in self.columns[name]), '"#"' if name in COUNTED else "1"]
+        return f"SELECT {', '.join(columns)} FROM {self.database.table(name)}"
+
+    def pending(self):
+        """How many rows stand in the tables of changes."""
+        return sum(map(len, self.database.answers(*(f"SELECT * FROM {self.database.table(name + '~changes')}" for name in BASE))))
