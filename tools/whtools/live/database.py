@@ -1,6 +1,7 @@
 """An application's database as it is asked: PostgreSQL through psql, which finds the server as it always does, or a file of SQLite."""
 
 import json
+import re
 import sqlite3
 import subprocess
 from pathlib import Path
@@ -10,12 +11,16 @@ from whtools.live.turned import DIGITS, Told
 from whtools.sql.tokens import END_OF_STATEMENT, Unfit, joined, name, sql, text
 
 
+# What stands between a view's name and its SELECT.
+AS = re.compile(r"\bAS\b", re.IGNORECASE)
+
+
 class Table(NamedTuple):
-    """An ordinary or partitioned table: its columns, and of its keys without NULLs the primary one or else the narrowest, by names."""
+    """An ordinary or partitioned table: its columns, and its keys without NULLs, the primary one first and then the narrowest, by names."""
 
     name: str
     columns: list
-    key: list
+    keys: list
 
 
 class PostgreSQLAsked:
@@ -42,11 +47,11 @@ class PostgreSQLAsked:
             raise Unfit(f"the database says: {' '.join(told)[:600]}")
         return ran.stdout.decode()
 
-    def rows(self, *queries):
-        """The rows of each query, whose columns are listed in it as an array of JSON."""
+    def rows(self, *queries, before=(), after=()):
+        """The rows of each query, whose columns are listed in it as an array of JSON, between other statements."""
         marked = [sql("{each}{end}", each=each, end=END_OF_STATEMENT) for query in queries for each in (query, sql("SELECT {mark}", mark=text("--")))]
         found = [[]]
-        for line in self.run(marked).split("\n")[:-1]:
+        for line in self.run([*before, *marked, *after]).split("\n")[:-1]:
             if line == "--":
                 found.append([])
             else:
@@ -66,9 +71,17 @@ class PostgreSQLAsked:
             digits = (modifier - 4) >> 16 & 0xFFFF if modifier >= 4 else None
             places = modifier - 4 & 0x7FF if modifier >= 4 else None
             found.setdefault(table, Table(table, [], [])).columns.append(Told(column, shown, type_name, digits, places, may_be_null))
-        for table, key in reversed(keys):
-            found[table] = found[table]._replace(key=key)
+        for table, key in keys:
+            found[table].keys.append(key)
         return found
+
+    def views(self, schema):
+        """The views of a schema with their texts, kept ones and others, by their names."""
+        query = sql(
+            "SELECT json_build_array(c.relname, pg_get_viewdef(c.oid)) FROM pg_class AS c JOIN pg_namespace AS s ON s.oid = c.relnamespace"
+            " WHERE s.nspname = {schema} AND c.relkind IN ({kinds}) ORDER BY c.relname", schema=text(schema), kinds=joined([text("v"), text("m")]),
+        )  # fmt: skip
+        return dict(self.rows(query)[0])
 
     def columns_query(self, of):
         """Each column by its base type: an enumeration's is told as such."""
@@ -124,6 +137,11 @@ class SQLiteAsked:
         own = [said for said, in listed if not said.startswith("sqlite_") and (names is None or said in names)]
         return {said: self.table(said) for said in own}
 
+    def views(self, _):
+        """The views of the file with their texts, by their names; what they call their columns stands in the text."""
+        made = self.rows(sql("SELECT s.name, s.sql FROM sqlite_master AS s WHERE s.type = {view} ORDER BY s.rowid", view=text("view")))[0]
+        return {said: AS.split(text_of, 1)[-1] for said, text_of in made}
+
     def table(self, said):
         columns, indexes = self.rows(
             sql("SELECT x.name, x.type, x.{notnull}, x.pk FROM pragma_table_xinfo({table}) AS x WHERE x.hidden <> 1 ORDER BY x.cid",
@@ -137,7 +155,7 @@ class SQLiteAsked:
         filled = {each.name for each in told if not each.may_be_null}
         keys = [primary] if primary and filled.issuperset(primary) else []
         keys += [key for key in map(self.indexed, [index for index, _, partial in indexes if not partial]) if key and filled.issuperset(key)]
-        return Table(said, told, keys[0] if keys else [])
+        return Table(said, told, keys)
 
     def indexed(self, index):
         """The columns of an index, or none where it is over more than columns."""

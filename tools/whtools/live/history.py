@@ -1,7 +1,7 @@
 """What each night leaves of itself: when it ran, the rows of each view before and after it and of its change, and how long each step took."""
 
 from whtools.sql.dialect import COUNT
-from whtools.sql.tokens import joined, name, number, sql, text
+from whtools.sql.tokens import joined, number, sql, text
 
 NIGHTS, SIZES, STEPS = "~nights", "~sizes", "~steps"
 MOMENTS = "night~moments"
@@ -96,3 +96,50 @@ class History:
         """The night is over."""
         ended = "UPDATE {target} SET ended = {moment} WHERE night = {night}"
         return sql(ended, target=self.target(NIGHTS), moment=self.dialect.moment, night=self.number())
+
+
+class SwiftHistory(History):
+    """The history of nights that count as they go, in variables of their block."""
+
+    def working_tables(self):
+        return []
+
+    def moment(self, step):
+        return sql("moments[{step}] := {now}", step=number(step), now=self.dialect.now)
+
+    def ended(self, told, works):
+        """The sizes of all views at once, each from its last ones; a view that has none yet is counted."""
+        views = self.script.views
+        rows = [sql("({view}, more{at}, moved{at})".replace("{at}", str(v)), view=self.dialect.text(view.name)) for v, view in enumerate(views)]
+        added = (
+            "INSERT INTO {target} (night, view, pre, post, change) SELECT {night}, l.view, p.post, p.post + l.more, l.moved"
+            " FROM (VALUES {rows}) AS l (view, more, moved) CROSS JOIN LATERAL (SELECT s.post FROM {target} AS s WHERE s.view = l.view"
+            " ORDER BY s.night DESC LIMIT 1) AS p"
+        )
+        all_at_once = sql(added, target=self.target(SIZES), night=self.number(), rows=joined(rows))
+        few = sql("touched < {many}", many=number(len(views)))
+        counted = self.dialect.only_where(few, [self.counted(v) for v in range(len(views))])
+        steps = [self.steps(told, works)] if told else []
+        return [all_at_once, sql("GET DIAGNOSTICS touched = ROW_COUNT"), *counted, *steps, self.closed()]
+
+    def counted(self, v):
+        """The sizes of a view that had none before."""
+        _, now = self.before(v)
+        view = text(self.script.views[v].name)
+        added = (
+            "INSERT INTO {target} (night, view, pre, post, change) SELECT {night}, {view}, g.rows - more{at}, g.rows, moved{at}"
+            " FROM (SELECT {now} AS rows) AS g ON CONFLICT DO NOTHING"
+        ).replace("{at}", str(v))
+        return sql(added, target=self.target(SIZES), night=self.number(), view=view, now=now)
+
+    def steps(self, told, works):
+        nothing = sql("NULL")
+        rows = [
+            sql("({at}, {said}, {work})", at=number(at), said=self.dialect.text(said), work=nothing if work is None else number(work))
+            for at, (said, work) in enumerate(zip(told, works), 1)
+        ]
+        added = (
+            "INSERT INTO {target} (night, step, told, work, seconds) SELECT {night}, l.step, l.told, CAST(l.work AS bigint),"
+            " moments[l.step] - moments[l.step - 1] FROM (VALUES {rows}) AS l (step, told, work)"
+        )
+        return sql(added, target=self.target(STEPS), night=self.number(), rows=joined(rows))

@@ -13,7 +13,7 @@ EVENTS = (
     ("delete", "AFTER DELETE ON ", " REFERENCING OLD TABLE AS gone"),
     ("truncate", "BEFORE TRUNCATE ON ", ""),
 )
-CAPTURED, COLUMNS, PARTS = "~captured", "~columns", "~parts"
+CAPTURED, COLUMNS, PARTS, JUDGED = "~captured", "~columns", "~parts", "~judged"
 # A source, its partitions and its heirs, as b. Whatever has no rows of its own is not truncated by itself.
 BELOW = (
     "(WITH RECURSIVE below (root, relation) AS (SELECT c.source::oid, c.source::oid FROM {state} AS c WHERE c.view = {view} UNION SELECT b.root,"
@@ -21,6 +21,23 @@ BELOW = (
 )
 FIRED = "(SELECT count(*) FROM pg_trigger AS t WHERE t.tgrelid = {relation} AND t.tgfoid = {function}::regprocedure AND t.tgenabled = {always})"
 WANTED = "(SELECT CASE c.relkind WHEN {ordinary} THEN 4 ELSE 3 END FROM pg_class AS c WHERE c.oid = {relation})"
+# The same of all sources at once; and what may be otherwise than it was captured, each a query for a sentence, with its words.
+ALL_BELOW = (
+    "(WITH RECURSIVE below (view, made, relation) AS (SELECT w.view, w.made, c.source::oid FROM {sources} JOIN {state} AS c ON c.view = w.view"
+    " UNION SELECT b.view, b.made, i.inhrelid FROM below AS b JOIN pg_inherits AS i ON i.inhparent = b.relation) SELECT * FROM below) AS b"
+)
+HOLES = (
+    ("SELECT format({told}, w.view, {why}) FROM {sources} WHERE NOT EXISTS (SELECT 1 FROM {state} AS c JOIN pg_class AS k ON k.oid = c.source"
+     " WHERE c.view = w.view AND c.filled)", "its table is gone, or was never filled"),
+    ("SELECT format({told}, b.view, format({why}, b.relation::regclass)) FROM {below} WHERE (SELECT count(*) FROM pg_trigger AS t"
+     " WHERE t.tgrelid = b.relation AND t.tgfoid = b.made AND t.tgenabled = {always}) < " + WANTED.replace("{relation}", "b.relation"),
+     "%s has no triggers"),
+    ("SELECT format({told}, p.view, format({why}, p.name)) FROM {noted} AS p JOIN {sources} ON w.view = p.view"
+     " WHERE NOT EXISTS (SELECT 1 FROM {below} WHERE b.view = p.view AND b.relation = p.part)", "%s is no part of it any more"),
+    ("SELECT format({told}, k.view, format({why}, k.name)) FROM {columns} AS k JOIN {sources} ON w.view = k.view JOIN {state} AS c ON c.view = k.view"
+     " LEFT JOIN pg_attribute AS a ON a.attrelid = c.source AND a.attname = k.name AND a.attnum > 0 AND NOT a.attisdropped"
+     " WHERE k.type IS DISTINCT FROM format_type(a.atttypid, a.atttypmod)", "its column %s is of another type"),
+)  # fmt: skip
 UNTRUNCATED = "a table whose changes are captured is truncated at READ COMMITTED alone: another isolation does not see all rows that go"
 BUSY = "somebody is writing to %s all the time, and its triggers wait for a moment without: run the script again"
 
@@ -35,6 +52,25 @@ class LivePostgreSQL(PostgreSQL):
 
     def captures(self, script):
         return Captures(script)
+
+
+class InSixtyFourBits(LivePostgreSQL):
+    """Formulas in numbers of 64 bits, which raise where one leaves them."""
+
+    def number(self, number):
+        return self.whole(number)
+
+    def cell(self, column):
+        return column
+
+    def value_tests(self, *_):
+        return []
+
+    def kept(self, computed, _):
+        return computed
+
+    def summand(self, value):
+        return value
 
 
 class Captures:
@@ -70,6 +106,7 @@ class Captures:
             (self.state, sql("view text PRIMARY KEY, source regclass NOT NULL, filled boolean NOT NULL"), []),
             (self.columns, sql("view text NOT NULL, name text NOT NULL, type text NOT NULL, PRIMARY KEY (view, name)"), []),
             (self.parts, sql("view text NOT NULL, part oid NOT NULL, name text NOT NULL, PRIMARY KEY (view, part)"), []),
+            (self.script.own(JUDGED), sql("print text NOT NULL"), []),
             *((self.script.own(said), columns, []) for said, columns in self.script.history.tables()),
             *(each for v in range(len(self.script.views)) for each in self.view_tables(v, sources)),
         ]
@@ -83,7 +120,7 @@ class Captures:
 
     def view_tables(self, v, sources):
         """The table of a view and that of its changes, which is not cut at its end: whoever writes there would wait for it."""
-        found = [(self.script.table(v), joined(self.script.keyed(v, sources[v].key if v in sources else [])), self.script.indexes_of(v))]
+        found = [(self.script.table(v), joined(self.script.columns_with_key(v, self.script.key_of(v, sources))), self.script.indexes_of(v))]
         if v in sources:
             changes, cut = self.script.table(v, "~changes"), word("vacuum_truncate")
             kept = sql("ALTER TABLE {changes} SET ({cut} = false)", changes=changes, cut=cut)
@@ -260,7 +297,7 @@ class Captures:
         """Triggers first, so that no writer meets a table that is gone."""
         base = self.script.steps.base()
         tables = [self.script.table(v) for v in range(len(self.script.views))] + [self.script.table(v, "~changes") for v in base]
-        tables += [self.state, self.columns, self.parts, *(self.script.own(said) for said, _ in self.script.history.tables())]
+        tables += [self.state, self.columns, self.parts, self.script.own(JUDGED), *(self.script.own(said) for said, _ in self.script.history.tables())]
         gone = [sql("DROP FUNCTION IF EXISTS {function}()", function=self.function(v)) for v in base]
         gone += [sql("DROP TABLE IF EXISTS {table}", table=table) for table in tables]
         schema = name(self.dialect.schema)
@@ -271,32 +308,53 @@ class Captures:
         gone += [self.dialect.where(is_empty, sql("DROP SCHEMA {schema}", schema=schema))]
         return [*(self.let_go(v) for v in base), *self.dialect.creation(gone)]
 
+    # ---- the tables of the night, which are judged where they changed
+
+    def print(self):
+        """What tells whether the night's tables are as they were: their columns, and whatever may act on their rows."""
+        names = [self.script.said(v) for v in range(len(self.script.views))]
+        names += [self.script.said(v, "~changes") for v in self.script.steps.base()]
+        return sql(
+            "(SELECT md5(string_agg(concat_ws({comma}, k.relname, k.relkind, k.relrowsecurity, k.relhasrules, k.relhassubclass, (SELECT"
+            " string_agg(concat_ws({comma}, a.attname, a.atttypid, a.atttypmod, a.attnotnull, a.attcollation, a.attgenerated, a.attidentity,"
+            " a.attisdropped), {comma} ORDER BY a.attnum) FROM pg_attribute AS a WHERE a.attrelid = k.oid AND a.attnum > 0),"
+            " (SELECT string_agg(concat_ws({comma}, t.tgname, t.tgtype, t.tgenabled, t.tgfoid), {comma} ORDER BY t.tgname) FROM pg_trigger AS t"
+            " WHERE t.tgrelid = k.oid)), {comma} ORDER BY k.relname)) FROM pg_class AS k WHERE k.relnamespace = to_regnamespace({schema})"
+            " AND k.relname IN ({names}))",
+            comma=text(","), schema=self.written(name(self.dialect.schema)), names=joined(list(map(text, names))),
+        )  # fmt: skip
+
+    def is_changed(self):
+        return sql("NOT EXISTS (SELECT 1 FROM {judged} AS j WHERE j.print = {print})", judged=self.script.own(JUDGED), print=self.print())
+
+    def noted_as_judged(self):
+        """The tables passed: no trigger on them may change what a night writes, since it does not look again."""
+        judged = self.script.own(JUDGED)
+        names = joined([text(self.script.said(v)) for v in range(len(self.script.views))])
+        acting = sql(
+            "SELECT format({told}, k.relname, t.tgname) FROM pg_trigger AS t JOIN pg_class AS k ON k.oid = t.tgrelid"
+            " WHERE k.relnamespace = to_regnamespace({schema}) AND k.relname IN ({names}) AND (t.tgtype & 2 = 2 OR NOT t.tgisinternal AND"
+            " t.tgconstraint <> 0 OR t.tgisinternal) LIMIT 1",
+            told=text("table %s does not fit: the trigger %s may change what a night writes; use one that is fired AFTER and writes elsewhere"),
+            schema=self.written(name(self.dialect.schema)), names=names,
+        )  # fmt: skip
+        return [
+            *self.dialect.refuse_with(acting),
+            sql("DELETE FROM {judged}", judged=judged),
+            sql("INSERT INTO {judged} VALUES ({print})", judged=judged, print=self.print()),
+        ]
+
     # ---- a night's look at them
 
     def whole(self):
-        """Refusals of a source that is not captured as it was, judged after its changes were taken: whatever has happened to it before is
+        """A refusal of a source that is not captured as it was, judged after its changes were taken: whatever has happened to it before is
         seen then."""
-        told = text(f"table %s is not captured as it was: %s; run tools/sql --capture")
-        return [
-            each
-            for v in self.script.steps.base()
-            for template, parts in self.holes()
-            for each in self.dialect.refuse_with(self.query(v, template, told=told, **parts))
-        ]
-
-    def holes(self):
-        """Queries for what is otherwise than it was captured, each giving a sentence."""
-        one = "SELECT format({told}, {view}::text, {why}) "
-        return [
-            (one + "WHERE NOT EXISTS (SELECT 1 FROM {state} AS c JOIN pg_class AS k ON k.oid = c.source WHERE c.view = {view} AND c.filled)",
-             {"why": text("its table is gone, or was never filled")}),
-            ("SELECT format({told}, {view}::text, format({why}, min(b.relation)::regclass)) FROM " + BELOW + " WHERE "
-             + FIRED.replace("{relation}", "b.relation") + " < " + WANTED.replace("{relation}", "b.relation") + " HAVING count(*) > 0",
-             {"why": text("%s has no triggers")}),
-            ("SELECT format({told}, {view}::text, format({why}, min(p.name))) FROM {noted} AS p WHERE p.view = {view}"
-             " AND p.part NOT IN (SELECT b.relation FROM " + BELOW + ") HAVING count(*) > 0", {"why": text("%s is no part of it any more")}),
-            ("SELECT format({told}, {view}::text, format({why}, min(w.name))) FROM {columns} AS w JOIN {state} AS c ON c.view = w.view"
-             " LEFT JOIN pg_attribute AS a ON a.attrelid = c.source AND a.attname = w.name AND a.attnum > 0 AND NOT a.attisdropped"
-             " WHERE w.view = {view} AND w.type IS DISTINCT FROM format_type(a.atttypid, a.atttypmod) HAVING count(*) > 0",
-             {"why": text("its column %s is of another type")}),
-        ]  # fmt: skip
+        base = self.script.steps.base()
+        functions = [self.written(sql("{function}()", function=self.function(v))) for v in base]
+        rows = [sql("({view}::text, {made}::regprocedure::oid)", view=self.view(v), made=made) for v, made in zip(base, functions)]
+        sources = sql("(VALUES {rows}) AS w (view, made)", rows=joined(rows))
+        told = text("table %s is not captured as it was: %s; run tools/sql --capture")
+        below = sql(ALL_BELOW, state=self.state, sources=sources)
+        own = {"state": self.state, "columns": self.columns, "noted": self.parts, "sources": sources, "below": below, "told": told, **self.texts}
+        queries = [sql("(" + query + " LIMIT 1)", why=text(why), **own) for query, why in HOLES]
+        return self.dialect.refuse_with(sql("SELECT coalesce({queries})", queries=joined(queries)))

@@ -84,10 +84,23 @@ class LiveScript(Script):
 
     # ---- tables
 
-    def keyed(self, v, key):
+    keys = {}
+
+    def key_of(self, v, sources):
+        """The names of the columns of a view's key: what the night goes by, or that of the table that it mirrors."""
+        if v in self.keys:
+            return [self.views[v].columns[place][0] for place in self.keys[v]]
+        return sources[v].key if v in sources else []
+
+    def columns_with_key(self, v, key):
         """The columns of a table, whose key is the source's where it has one."""
-        columns = [name(self.columns[v].of(said)) for said in key] or self.users(v)[: self.shape.groups(v)]
         found = [each for each in self.declared(v) if each.tokens[0] != word("CONSTRAINT").tokens[0]]
-        if 0 < len(columns) <= WIDEST_INDEX:
-            found.append(sql("CONSTRAINT {key} UNIQUE ({columns})", key=name(self.said(v, "~key")), columns=joined(columns)))
-        return found
+        constraint = self.constraint(v, key)
+        return [*found, constraint] if constraint else found
+
+    def constraint(self, v, key):
+        """That each key, or each row or group, stands once; nothing where that is of too many columns, or of none."""
+        columns = [name(self.columns[v].of(said)) for said in key] or self.users(v)[: self.shape.groups(v)]
+        if not 0 < len(columns) <= WIDEST_INDEX:
+            return None
+        return sql("CONSTRAINT {key} UNIQUE ({columns})", key=name(self.said(v, "~key")), columns=joined(columns))

@@ -35,8 +35,8 @@ def turned_by(engine, table):
     return {told.name: TURNS[engine](told) for told in table.columns}
 
 
-def source(engine, view, schema, table):
-    """The table that a base view mirrors, where its columns are turned as the view has them."""
+def source(engine, view, schema, table, wanted=()):
+    """The table that a base view mirrors, where its columns are turned as the view has them and a key is one that is wanted."""
     turned_columns, columns = turned_by(engine, table), []
     for said, kind in view.columns:
         found = turned_columns.get(said)
@@ -49,8 +49,11 @@ def source(engine, view, schema, table):
             wanted = said if found.kind == "int" else f"{said}:text"
             raise Unfit(f"{view.name}: {said} is turned into {kinds[found.kind]}; write it as {wanted!r} in the catalogue")
         columns.append(found)
-    is_apart = {column.name for column in columns if column.is_apart and not column.may_be_null}
-    return Source(schema, table.name, columns, table.key if is_apart.issuperset(table.key) else [])
+    apart = {column.name for column in columns if column.is_apart and not column.may_be_null}
+    keys = [key for key in table.keys if apart.issuperset(key)]
+    if wanted and not any(set(key) <= set(wanted) for key in keys):
+        raise Unfit(f"{view.name}: the catalogue has the key {', '.join(wanted)}, and the table {table.name} has no unique key of these columns")
+    return Source(schema, table.name, columns, keys[0] if keys else [])
 
 
 def sources(script, asked, schema):
@@ -62,5 +65,6 @@ def sources(script, asked, schema):
         view = script.views[v]
         if view.name not in tables:
             raise Unfit(f"{view.name}: there is no table {view.name} in {schema}; name the schema of the tables by --from")
-        found[v] = source(script.dialect.engine, view, schema, tables[view.name])
+        wanted = [view.columns[place][0] for place in script.keys.get(v, ())]
+        found[v] = source(script.dialect.engine, view, schema, tables[view.name], wanted)
     return found

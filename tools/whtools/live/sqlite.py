@@ -12,11 +12,15 @@ REPLACED = "~replaced"
 
 
 class LiveSQLite(SQLite):
-    """Nights find nobody else writing, and so take all changes. How long a step takes nothing tells while a statement runs."""
+    """Nights find nobody else writing, and so take all changes. How long a step takes nothing tells while a statement runs, but a function
+    of the process that runs it."""
 
     takes = False
     history_kinds = {"whole": sql("INTEGER"), "text": sql("TEXT"), "moment": sql("TEXT"), "seconds": sql("REAL")}
-    now = sql("NULL")
+
+    def __init__(self, schema=None, is_timed=False):
+        super().__init__(schema)
+        self.now = sql("moment()") if is_timed else sql("NULL")
 
     @property
     def moment(self):
@@ -47,7 +51,7 @@ class Captures:
         for said, columns in script.history.tables():
             found[f"{script.prefix}{said}"] = (columns, [])
         for v in range(len(script.views)):
-            found[script.said(v)] = (joined(script.keyed(v, sources[v].key if v in sources else [])), script.indexes_of(v))
+            found[script.said(v)] = (joined(script.columns_with_key(v, script.key_of(v, sources))), script.indexes_of(v))
         for v in sources:
             found[script.said(v, "~changes")] = (joined([*script.typed(v), sql("{count} INTEGER NOT NULL", count=COUNT)]), [])
             found[script.said(v, REPLACED)] = (joined([sql("place INTEGER PRIMARY KEY"), *script.cells(v)]), [])

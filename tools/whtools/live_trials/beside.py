@@ -118,7 +118,9 @@ def told_times(times):
 def writer_mistakes(live, many=1000, nights=10):
     """What a writer of many small transactions meets beside nights, and what its transactions took with them and without."""
     live.database.asked(WATCHED)
-    wrong = live.fresh()
+    wrong = live.fresh() + [told for told in [live.database.run(live.words("--uncapture"))] if told]
+    _, bare = written(live, many, 0)
+    wrong += live.fresh()
     _, without = written(live, many, 0)
     wrong += live.fresh()
     told, beside = written(live, many, nights)
@@ -126,7 +128,10 @@ def writer_mistakes(live, many=1000, nights=10):
     wrong += told + ([f"the last night: {last}"] if last else live.mistakes())
     if len(beside) != many:
         wrong.append(f"{len(beside)} of {many} transactions were timed")
-    shown = f"a writer's {many} transactions took {told_times(without)} alone, {told_times(beside)} beside {nights} nights (median, 99.9 %, longest)"
+    shown = (
+        f"a writer's {many} transactions took {told_times(bare)} without triggers, {told_times(without)} with them, and {told_times(beside)}"
+        f" beside {nights} nights (median, 99.9 %, longest)"
+    )
     return [f"a writer beside nights: {text}" for text in wrong], shown
 
 

@@ -11,6 +11,8 @@ CATALOGUE = """
 [[view]]
 name = "orders"
 columns = ["id", "day", "at", "paid", "region:text"]
+key = ["id"]
+nulls = ["at", "region"]
 [[view]]
 name = "lines"
 columns = ["id", "product:text", "pieces"]
@@ -35,6 +37,11 @@ over = ["sales"]
 group = [["day", "sales.day"], ["region", "sales.region"]]
 count = "lines"
 sum = [["cost", "sales.cost"], ["paid", "sales.paid"]]
+[[view]]
+name = "placed"
+over = ["orders"]
+where = ["<>", "orders.region", { text = '\\N' }]
+keep = [["region", "orders.region"], ["id", "orders.id"], ["double", ["*", "orders.paid", 2]]]
 [[view]]
 name = "moments"
 over = ["orders"]
@@ -73,6 +80,7 @@ EXPECTED = {
         "lines": "SELECT id, product, pieces FROM lines",
         "products": f"SELECT product, coalesce((price * 100)::bigint, {LEAST}) FROM products",
         "sales": "SELECT o.day - DATE '1970-01-01', o.region, o.paid::int, l.product, (l.pieces * p.price * 100)::bigint" + SALES,
+        "placed": "SELECT region, id, paid::int * 2 FROM orders WHERE region IS NOT NULL",
         "daily": "SELECT o.day - DATE '1970-01-01', o.region, count(*), sum(l.pieces * p.price * 100)::bigint, sum(o.paid::int)"
         + SALES + " GROUP BY o.day, o.region",
         "moments": f"SELECT coalesce(floor(extract(epoch FROM at))::bigint, {LEAST}) AS s, count(*) FROM orders GROUP BY s",
@@ -82,13 +90,14 @@ EXPECTED = {
         "lines": "SELECT id, product, pieces FROM lines",
         "products": f"SELECT product, coalesce(CAST(round(price * 100) AS INTEGER), {LEAST}) FROM products",
         "sales": "SELECT unixepoch(o.day) / 86400, o.region, o.paid, l.product, l.pieces * CAST(round(p.price * 100) AS INTEGER)" + SALES,
+        "placed": "SELECT region, id, paid * 2 FROM orders WHERE region IS NOT NULL",
         "daily": "SELECT unixepoch(o.day) / 86400, o.region, count(*), sum(l.pieces * CAST(round(p.price * 100) AS INTEGER)), sum(o.paid)"
         + SALES + " GROUP BY o.day, o.region",
         "moments": f"SELECT coalesce(unixepoch(at), {LEAST}) AS s, count(*) FROM orders GROUP BY s",
     },
 }  # fmt: skip
 BASE = ("orders", "lines", "products")
-COUNTED = (*BASE, "sales")
+COUNTED = (*BASE, "sales", "placed")
 
 
 def folder(path):

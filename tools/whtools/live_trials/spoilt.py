@@ -3,14 +3,14 @@
 from unittest import mock
 
 from whtools.live import command
-from whtools.live.script import LiveScript
 from whtools.live.sqlite import Captures as SQLiteCaptures
+from whtools.live.swift import SwiftScript
 from whtools.live_trials import beside, cases
 from whtools.sql.dialect import COUNT
 from whtools.sql.tokens import joined, sql
 
 
-class TableByTable(LiveScript):
+class TableByTable(SwiftScript):
     """A transaction may be in the night by one table and in the next by another."""
 
     def taken(self):
@@ -23,7 +23,7 @@ class TableByTable(LiveScript):
         return found
 
 
-class EmptiedLater(LiveScript):
+class EmptiedLater(SwiftScript):
     """What is committed between the reading and the emptying is lost."""
 
     def taken(self):
@@ -34,7 +34,7 @@ class EmptiedLater(LiveScript):
         return [*found, *(sql("DELETE FROM {changes}", changes=self.table(v, "~changes")) for v in self.steps.base())]
 
 
-class NotLookedAt(LiveScript):
+class NotLookedAt(SwiftScript):
     """A table that is not captured as it was is taken for one that is."""
 
     def __init__(self, catalogue, dialect, prefix=""):
@@ -42,9 +42,24 @@ class NotLookedAt(LiveScript):
         self.captures.whole = list
 
 
+class NoGroupChanges(SwiftScript):
+    """Groups that stay keep their sums."""
+
+    def groups_put(self, v):
+        left, stayed, came = super().groups_put(v)
+        return left, sql("{stayed} AND 1 = 0", stayed=stayed), came
+
+
+class NothingIsAbsent(SwiftScript):
+    """Whether a row that leaves is there is not looked at."""
+
+    def refused_where(self, test, told):
+        return super().refused_where(sql("1 = 0") if told.startswith("refused absent") else test, told)
+
+
 def unnoticed_beside(live, kind, times=5):
     """A spoilt night that a writer's transactions do not notice, tried again and again."""
-    with mock.patch.object(command, "LiveScript", kind):
+    with mock.patch.object(command, "SwiftScript", kind):
         live.script = live.words("--live")
     try:
         for _ in range(times):
@@ -63,12 +78,45 @@ def unnoticed_case(live, name, case):
     return [] if cases.mistakes(live, cases.OF[live.engine][case]) else [f"{live.engine}: {name} is not noticed"]
 
 
+def absent_mistakes(live):
+    """A row that leaves and is not there: the night is refused, and one that does not look is noticed."""
+    wrong = live.fresh()
+    noted = """INSERT INTO wh."lines~changes" VALUES (77, 'nothing', 1, -1);"""
+    live.database.asked(noted)
+    told = live.night()
+    wrong += [] if told and "refused absent lines" in told and live.pending() == 1 else [f"an absent row: the night was told {told!r}"]
+    with mock.patch.object(command, "SwiftScript", NothingIsAbsent):
+        told = live.database.run(live.words("--live"))
+    return wrong + ([] if told is None else [f"NothingIsAbsent is told {told!r}, and ought to be carried out"])
+
+
+ON_VIEWS = (
+    "CREATE FUNCTION noted() RETURNS trigger LANGUAGE plpgsql AS $f$ BEGIN INSERT INTO book VALUES (TG_OP); RETURN NEW; END $f$;"
+    " CREATE TABLE book (told text); CREATE TRIGGER noted {when} UPDATE ON wh.daily FOR EACH ROW EXECUTE FUNCTION noted();"
+)
+
+
+def trigger_mistakes(live):
+    """Triggers of somebody else's on a view: one that could change rows is refused, and one that writes elsewhere is not."""
+    wrong = []
+    for when, word in (("BEFORE", "table daily does not fit: the trigger noted"), ("AFTER", None)):
+        wrong += live.fresh()
+        live.database.asked(ON_VIEWS.format(when=when) + "UPDATE products SET price = price + 1 WHERE price > 2;")
+        told = live.night()
+        right = word in (told or "") if word else told is None and not live.mistakes()
+        wrong += [] if right else [f"a trigger {when} UPDATE of a view: the night was told {told!r}"]
+    return wrong
+
+
 def unnoticed(live):
     """The spoilt scripts of an engine that nothing notices."""
     if live.engine == "postgresql":
         found = [each for kind in (TableByTable, EmptiedLater) for each in unnoticed_beside(live, kind)]
-        with mock.patch.object(command, "LiveScript", NotLookedAt):
-            found += unnoticed_case(live, "NotLookedAt", "a part that is dropped")
+        for kind, case in ((NotLookedAt, "a part that is dropped"), (NoGroupChanges, "rows change")):
+            with mock.patch.object(command, "SwiftScript", kind):
+                found += unnoticed_case(live, kind.__name__, case)
+        live.script = live.words("--live")
+        found += absent_mistakes(live) + trigger_mistakes(live)
     else:
         with mock.patch.object(SQLiteCaptures, "noted", lambda *_: sql("SELECT 1")):
             found = unnoticed_case(live, "REPLACE that is not noted", "REPLACE")

@@ -183,9 +183,29 @@ def mistake(engine, case, kind=Script):
     return None if right else f"{told!r}, and {rows}"
 
 
+# Tables of which a key is said: whether its rows are paired by that, and what is told where it is none.
+TWO_KEYS = OWN.format("x BIGINT NOT NULL PRIMARY KEY, t TEXT NOT NULL UNIQUE, about TEXT NOT NULL DEFAULT 'none'")
+SAID = {
+    "a key that is said": ((0,), Case([KEYED, HELD, CHANGED], None, ABOUT, [["seven", "long"]], None)),
+    "a key that is said beside the primary one": (
+        (1,), Case([TWO_KEYS, HELD, CHANGED.replace("(7, 'seven', 1)", "(8, 'six', 1)")], None, ABOUT, [["six", "long"]], None)
+    ),
+    "a key that is none": ((1,), Case([KEYED, HELD, CHANGED], "--keyed wants", ABOUT, [["six", "long"]], None)),
+}  # fmt: skip
+
+
+def said_mistakes(engine):
+    """The same with keys that are said."""
+    found = []
+    for title, (places, case) in SAID.items():
+        told = mistake(engine, case, lambda *given, places=places: Script(*given, keyed={0: places}))
+        found += [f"{engine.dialect.engine}, {title}: {told}"] if told else []
+    return found
+
+
 def mistakes(engine):
     """The cases that an engine does otherwise, and the spoilt scripts that they do not notice."""
-    wrong, name = [], engine.dialect.engine
+    wrong, name = said_mistakes(engine), engine.dialect.engine
     for title, case in {**CASES, **OF[name]}.items():
         if told := mistake(engine, case):
             wrong.append(f"{name}, {title}: {told}")

@@ -11,6 +11,7 @@ from whtools.sizes import sizes_in
 from whtools.sql.tokens import Unfit
 from whtools.strategies import broken
 from whtools.warehouse.catalogue import Catalogue as LintedCatalogue
+from whtools.warehouse.nulls import null_findings
 from whtools.warehouse.packing import pack
 from whtools.warehouses import Warehouse
 
@@ -25,7 +26,7 @@ def text_of(path):
 
 
 def judged(text):
-    """The lines of a bundle's catalogue, which has no fault and no key that the program would not look at."""
+    """The lines of a bundle's catalogue, which has no fault and no key that nothing looks at; and what is told of NULLs in it."""
     headings = [line.rstrip(" \t\r") for line in text.split("\n") if line.startswith("@") and not line.startswith("@@")]
     twice = [heading for heading, times in Counter(headings).items() if times > 1 and heading.startswith(ONCE)]
     if twice or "@catalogue" not in headings:
@@ -33,18 +34,19 @@ def judged(text):
     content = "\n".join(parts_of(text)[0]["catalogue"]) + "\n"
     with TemporaryDirectory() as folder:
         (Path(folder) / "catalogue.toml").write_bytes(content.encode())
-        findings = LintedCatalogue(Path(folder)).findings
-    for finding in findings:
+        linted = LintedCatalogue(Path(folder))
+    for finding in linted.findings:
         if not finding.warns:
             raise Unfit(str(finding))
-    return content
+    return content, null_findings(linted)
 
 
 class Catalogue:
-    """The views with their formulas; the strategy; and of each view its sizes, where they are given."""
+    """The views with their formulas, and what is told of NULLs in them; the strategy; and of each view its sizes, where they are given."""
 
     def __init__(self, text):
-        content = judged(text)
+        content, self.warnings = judged(text)
+        self.content = content
         once, nights = parts_of(text)
         self.views = views_of(content)
         self.names = {view.name: v for v, view in enumerate(self.views)}

@@ -70,7 +70,7 @@ class Catalogued:
         view = self.views[v]
         if not self.shape.is_summary(v):
             return [formulas.value(formula) for formula in view.keep]
-        return [*map(formulas.column, view.group), *(self.dialect.summand(formulas.value(formula)) for formula in view.sums)]
+        return [*map(formulas.column, view.group), *(formulas.dialect.summand(formulas.value(formula)) for formula in view.sums)]
 
     def lost(self, v, formulas):
         """1 where an output has no value."""

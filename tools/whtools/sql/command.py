@@ -13,21 +13,31 @@ from whtools.sql.tokens import Unfit
 from whtools.warehouse.finding import Failure
 
 ENGINES = {"postgresql": PostgreSQL, "sqlite": SQLite}
+# What is said of tables that applications write to.
+LIVE = ("live", "capture", "uncapture", "catalogue", "sizes", "sizes-after", "plan", "dry", "costs")
 
 
 def asked(about):
     """The words of the command line."""
     words = argparse.ArgumentParser("tools/sql", description=about, formatter_class=argparse.RawDescriptionHelpFormatter)
     words.add_argument("--engine", choices=ENGINES, default="postgresql")
-    for name in ("create", "open", "night", "explain", "live", "capture", "uncapture"):
+    for name in ("create", "open", "night", "explain", *LIVE, "measured"):
         words.add_argument(f"--{name}", action="store_true")
     words.add_argument("--database", default="")
     words.add_argument("--from", dest="source")
+    words.add_argument("--program")
+    words.add_argument("--unproved", action="store_true")
+    words.add_argument("--inst-cost")
+    words.add_argument("--comp-cost")
     words.add_argument("--schema")
     words.add_argument("--plain", default="")
     words.add_argument("--counted", default="")
-    words.add_argument("path")
-    return words.parse_args()
+    words.add_argument("--keyed", default="")
+    words.add_argument("path", nargs="?")
+    found = words.parse_args()
+    if (found.path is None) != found.catalogue:
+        words.error("--catalogue is made of a database, and all else of a bundle or a folder")
+    return found
 
 
 def base_views(catalogue, listed):
@@ -40,6 +50,19 @@ def base_views(catalogue, listed):
     return [base[name] for name in names]
 
 
+def keyed_views(catalogue, listed):
+    """The places of the keys that are said, of each base view its columns: products=product,lines=id+product."""
+    found = {}
+    for each in filter(None, listed.split(",")):
+        said, _, key = each.partition("=")
+        (v,) = base_views(catalogue, said)
+        names = [column for column, _ in catalogue.views[v].columns]
+        if unknown := [column for column in key.split("+") if column not in names]:
+            raise Unfit(f"--keyed: {said} has no column {unknown[0] or '(none is named)'}; it has {', '.join(names)}")
+        found[v] = [names.index(column) for column in dict.fromkeys(key.split("+"))]
+    return found
+
+
 def plain_views(catalogue, words):
     """The numbers of the base views that have no column of counts."""
     counted = base_views(catalogue, words.counted)
@@ -48,10 +71,11 @@ def plain_views(catalogue, words):
 
 def written(words):
     """The text that is asked for."""
-    if words.live or words.capture or words.uncapture:
+    if any(getattr(words, name.replace("-", "_")) for name in LIVE):
         return live.written(words)
     catalogue, dialect = read(words.path), ENGINES[words.engine](words.schema)
-    script, comments = Script(catalogue, dialect, plain_views(catalogue, words)), Comments(catalogue)
+    script = Script(catalogue, dialect, plain_views(catalogue, words), keyed_views(catalogue, words.keyed))
+    comments = Comments(catalogue)
     if words.explain:
         return [comments.long(step) for step in script.steps.night(catalogue.correct())]
     found = script.create() if words.create else []

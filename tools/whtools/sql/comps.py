@@ -36,13 +36,17 @@ class Comps:
         operand, of = term[spot.child], f"t{spot.child + 1}"
         return (self.cells if operand.is_change else self.read)(operand.view, of)[spot.column]
 
+    def counts_once(self, operand):
+        """Whether a row of a table counts once, so that its count is not read."""
+        return not self.shape.is_counted(operand.view)
+
     def count(self, term):
         """How often a combined row counts."""
         counts = []
         for child, operand in enumerate(term, 1):
             if operand.is_change:
                 counts.append(sql("{of}.n", of=word("t", child)))
-            elif self.shape.is_counted(operand.view):
+            elif not self.counts_once(operand):
                 counts.append(self.dialect.read_count(sql("{of}.{count}", of=word("t", child), count=COUNT)))
         return joined(counts, "*") if counts else number(1)
 
@@ -64,11 +68,15 @@ class Comps:
         """What a combined row has to pass beside the joins."""
         return [first, Formulas(self.dialect, self.column(v, term)).holds(self.views[v].where)]
 
+    def formulas(self, v, term):
+        """What a combined row shows, in the dialect's words."""
+        return Formulas(self.dialect, self.column(v, term))
+
     # ---- terms
 
     def term(self, v, term):
         """The combined rows of one term."""
-        formulas = Formulas(self.dialect, self.column(v, term))
+        formulas = self.formulas(v, term)
         names = [*self.cells(v)[: self.shape.groups(v)], *(word("s", place) for place in range(2, self.shape.sums(v) + 1))]
         shown = [sql("{value} AS {name}", value=value, name=name) for value, name in zip(self.outputs(v, formulas), names)]
         shown += [sql("{count} AS n", count=self.count(term)), sql("{lost} AS lost", lost=self.lost(v, formulas))]

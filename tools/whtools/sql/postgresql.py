@@ -42,9 +42,10 @@ class PostgreSQL(Dialect):
     temporary = word("pg_temp")
     limit = 63
     writer = EscapingWriter()
+    variables = VARIABLES
     own_columns = ("tableoid", "xmin", "cmin", "xmax", "cmax", "ctid")
     kinds = {"int": sql("bigint"), "text": sql("text")}
-    declared = {"int": sql("bigint"), "text": sql("text COLLATE {c}", c=name("C"))}
+    declared = kinds
     free_number = sql("numeric")
     count_number = sql("bigint NOT NULL")
     id_kind, part_kind, place_kind = sql("bigint NOT NULL"), sql("oid"), sql("tid")
@@ -200,7 +201,7 @@ class PostgreSQL(Dialect):
 
     def block(self, made):
         """Statements as one. A column's name means the column, also where PL/pgSQL has a variable of that name."""
-        begun = sql("\n#variable_conflict use_column\nDECLARE{variables}\nBEGIN", variables=statements(VARIABLES, 1))
+        begun = sql("\n#variable_conflict use_column\nDECLARE{variables}\nBEGIN", variables=statements(self.variables, 1))
         program = sql("{begun}{made}\nEND{end}", begun=begun, made=statements([*SETTINGS, *KEPT, *made], 1), end=END_OF_STATEMENT)
         return sql("DO {body}{end}", body=body(program), end=END_OF_STATEMENT)
 

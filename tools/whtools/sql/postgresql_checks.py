@@ -104,25 +104,46 @@ class Checks:
             *self.dialect.filled(self.parts["tables"]),
             *self.dialect.filled(self.parts["columns"]),
             *self.dialect.filled(self.parts["parts"]),
+            *(each for v, places in self.script.keyed.items() for each in self.keyed(v, places)),
             self.keys(),
             self.spare(),
             self.referred(),
             self.query("INSERT INTO {touched} " + TOUCHED),
         ]
 
+    def keyed(self, v, places):
+        """The key that is said of a view: its table has to be an ordinary one with a unique key of these columns."""
+        said = [self.expected[v].columns[place][0] for place in places]
+        told = f"table %s does not fit: --keyed wants an ordinary table with a unique key of {', '.join(said)}"
+        unfit = self.query(
+            "SELECT format({told}, t.told) FROM {tables} AS t JOIN pg_class AS c ON c.oid = t.relation WHERE t.number = {v} AND (c.relkind <> {r}"
+            " OR EXISTS (SELECT 1 FROM pg_inherits AS i WHERE i.inhparent = c.oid OR i.inhrelid = c.oid) OR NOT EXISTS (SELECT 1"
+            " FROM pg_index AS i WHERE i.indrelid = c.oid AND i.indisunique AND i.indisvalid AND i.indpred IS NULL AND i.indexprs IS NULL"
+            " AND i.indnkeyatts = {many} AND NOT EXISTS (SELECT 1 FROM generate_series(0, i.indnkeyatts - 1) AS k JOIN pg_attribute AS a"
+            " ON a.attrelid = i.indrelid AND a.attnum = i.indkey[k] WHERE a.attname NOT IN ({listed}))))",
+            told=text(told), v=number(v), r=text("r"), many=number(len(said)), listed=joined(list(map(text, said))),
+        )  # fmt: skip
+        rows = joined([sql("({v}, {place})", v=number(v), place=number(place + 1)) for place in places])
+        return [*self.dialect.refuse_with(unfit), self.query("INSERT INTO {keys} VALUES {rows}", rows=rows)]
+
     def keys(self):
         """Of each base table the primary key, or else the least unique index, if all its columns are in the catalogue, not all of it."""
         return self.query(
             "INSERT INTO {keys} SELECT b.number, w.place FROM (SELECT DISTINCT ON (t.number) t.number, i.indrelid, i.indkey, i.indnkeyatts"
-            " FROM {tables} AS t JOIN pg_index AS i ON i.indrelid = t.relation WHERE t.role = {base} AND i.indisunique AND i.indisvalid"
+            " FROM {tables} AS t JOIN pg_index AS i ON i.indrelid = t.relation WHERE t.role = {base} {unsaid} AND i.indisunique AND i.indisvalid"
             " AND i.indpred IS NULL AND i.indexprs IS NULL AND (SELECT count(*) FROM generate_series(0, i.indnkeyatts - 1) AS k"
             " JOIN pg_attribute AS a ON a.attrelid = i.indrelid AND a.attnum = i.indkey[k] JOIN {columns} AS w ON w.number = t.number"
             " AND w.said = a.attname AND w.said <> {count}) = i.indnkeyatts AND i.indnkeyatts < (SELECT count(*) FROM {columns} AS w"
             " WHERE w.number = t.number AND w.said <> {count}) ORDER BY t.number, i.indisprimary DESC, i.indnkeyatts, i.indexrelid) AS b"
             " CROSS JOIN generate_series(0, b.indnkeyatts - 1) AS k JOIN pg_attribute AS a ON a.attrelid = b.indrelid"
             " AND a.attnum = b.indkey[k] JOIN {columns} AS w ON w.number = b.number AND w.said = a.attname",
-            base=text("base"), count=text("#"),
+            base=text("base"), count=text("#"), unsaid=self.unsaid(),
         )  # fmt: skip
+
+    def unsaid(self):
+        """Those whose key is said are not asked."""
+        said = joined(list(map(number, self.script.keyed)))
+        return sql("AND t.number NOT IN ({said})", said=said) if said else sql("")
 
     def spare(self):
         """Columns that the catalogue has not and that a new row has no value for."""

@@ -20,10 +20,12 @@ class Expected(NamedTuple):
 
 
 class Script(Comps, Changes, Insts, Catalogued):
-    """The statements over a catalogue in a dialect. `plain` has the base views whose tables have no column of counts."""
+    """The statements over a catalogue in a dialect. `plain` has the base views whose tables have no column of counts, `keyed` of base views
+    the places of a key that is said."""
 
-    def __init__(self, catalogue, dialect, plain=()):
+    def __init__(self, catalogue, dialect, plain=(), keyed=()):
         super().__init__(catalogue, dialect, plain)
+        self.keyed = dict(keyed)
         self.checked = dialect.checks(self)
 
     # ---- names

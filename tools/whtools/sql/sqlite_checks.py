@@ -103,6 +103,8 @@ class Checks:
     def keys(self, v):
         """The primary key of a base table, or else its least unique index, if all columns are in the catalogue, and not all of these."""
         parts = {"table": text(self.script.said(v)), "v": number(v), "width": number(self.script.shape.width(v)), "keys_target": name("night~keys")}
+        if v in self.script.keyed:
+            return self.keyed(v, self.script.keyed[v], parts)
         one = "EXISTS (SELECT 1 FROM {columns} AS c WHERE c.view = {v} AND c.place <= {width} AND c.said = x.name)"
         of_index = "FROM pragma_index_info(l.name, {schema}) AS x"
         return [
@@ -118,6 +120,22 @@ class Checks:
                 " WHERE NOT EXISTS (SELECT 1 FROM {keys} AS k WHERE k.view = {v})", unique=name("unique"), pk=text("pk"), **parts,
             ),
         ]  # fmt: skip
+
+    def keyed(self, v, places, parts):
+        """The key that is said of a view: its table has to have a unique key of these columns."""
+        said = [self.expected[v].columns[place][0] for place in places]
+        told = f"table {self.script.views[v].name} does not fit: --keyed wants an ordinary table with a unique key of {', '.join(said)}"
+        listed, rows = joined(list(map(text, said))), joined([sql("({v}, {place})", v=number(v), place=number(place + 1)) for place in places])
+        of_index = "(SELECT count(*) FROM pragma_index_info(l.name, {schema}) AS x"
+        unfit = (
+            "SELECT 1 WHERE NOT EXISTS (SELECT 1 FROM pragma_index_list({table}, {schema}) AS l WHERE l.{unique} = 1 AND l.partial = 0 AND "
+            + of_index + ") = {many} AND " + of_index + " WHERE x.name COLLATE NOCASE IN ({listed})) = {many}) AND NOT EXISTS (SELECT 1"
+            " FROM pragma_table_xinfo({table}, {schema}) AS x WHERE " + NUMBERED + " AND {many} = 1 AND x.name COLLATE NOCASE IN ({listed}))"
+        )
+        return [
+            *self.refuse(told, unfit, listed=listed, many=number(len(said)), unique=name("unique"), **parts),
+            self.query("INSERT INTO {keys_target} VALUES {rows}", rows=rows, **parts),
+        ]
 
     def spare(self):
         """Tables with a column that the catalogue has not and that a new row has no value for."""

@@ -8,7 +8,7 @@ from .formulas import MOST, MOST_COLUMNS, NAME, Formulas
 from .toml_places import places, top_place
 
 FILE = "catalogue.toml"
-OF_BASE, OF_JOINED = ("name", "columns"), ("name", "over", "join", "where", "keep")
+OF_BASE, OF_JOINED = ("name", "columns", "nulls", "key"), ("name", "over", "join", "where", "keep")
 OF_SUMMARY = ("name", "over", "join", "where", "group", "count", "sum")
 KEYS = tuple(dict.fromkeys(OF_BASE + OF_JOINED + OF_SUMMARY))
 MOST_CHILDREN, MOST_VIEWS, MOST_NESTED = 6, 64, 80

@@ -6,6 +6,7 @@ from ..kinds import shape_of, told
 from .folder import Folder
 from .given_sizes import GivenSizes
 from .limits import after, sizes_after
+from .nulls import null_findings
 from .status import BAD_INPUT, DONE
 from .strategy import FILE, Strategy
 
@@ -21,6 +22,8 @@ def strategy_findings(folder):
 
 def run(words):
     folder = Folder(words.folder, lenient=words.lenient)
+    if not any(not finding.warns for finding in folder.catalogue.findings):
+        folder.findings += null_findings(folder.catalogue)
     findings = folder.findings + strategy_findings(folder) + GivenSizes(folder.path, folder.views).findings
     findings += after(sizes_after(folder))
     for finding in sorted(findings):

@@ -1,0 +1,107 @@
+"""Tests of what is made of an application's tables without a database: columns that are turned, views that are read, keys that follow."""
+
+import unittest
+
+from whtools.live.keys import Keys
+from whtools.live.measured import Step, fitted, measured
+from whtools.live.parsed import NotTaken, parsed
+from whtools.live.sizes import within
+from whtools.live.turned import Told, Unturned, of_postgresql, of_sqlite
+from whtools.sql.catalogue import Catalogue
+from whtools.sql.shape import Shape
+from whtools.sql.tokens import Unfit
+from whtools.warehouse.nulls import left_out, references
+
+KEYED = """@catalogue
+[[view]]
+name = "sales"
+columns = ["id", "shop", "pieces"]
+key = ["id"]
+[[view]]
+name = "shops"
+columns = ["shop", "region:text"]
+{}
+[[view]]
+name = "sold"
+over = ["sales", "shops"]
+join = [["sales.shop", "shops.shop"]]
+keep = [["region", "shops.region"], ["id", "sales.id"]]
+[[view]]
+name = "by_region"
+over = ["sold"]
+group = [["region", "sold.region"]]
+count = "n"
+"""
+
+
+def keys(of_shops):
+    catalogue = Catalogue(KEYED.format(of_shops))
+    return Keys(catalogue, Shape(catalogue.views)).found
+
+
+class Turned(unittest.TestCase):
+    def test_columns_that_are_not_turned(self):
+        for told in (Told("x", "double precision", "float8", None, None, False), Told("x", "numeric", "numeric", None, None, False),
+                     Told("x", "numeric(20,2)", "numeric", 20, 2, False), Told("x", "jsonb", "jsonb", None, None, True)):  # fmt: skip
+            self.assertIsInstance(of_postgresql(told), Unturned)
+        for declared in ("REAL", "BLOB", "", "NUMERIC", "DECIMAL(16,2)", "DECIMAL(5,6)"):
+            self.assertIsInstance(of_sqlite(Told("x", declared, declared, None, None, False)), Unturned)
+
+    def test_kinds(self):
+        kinds = {"int4": "int", "bool": "int", "date": "int", "timestamptz": "int", "text": "text", "uuid": "text", "enum": "text"}
+        for type_name, kind in kinds.items():
+            self.assertEqual(of_postgresql(Told("x", type_name, type_name, None, None, False)).kind, kind)
+        self.assertFalse(of_postgresql(Told("x", "timestamp", "timestamp", None, None, False)).is_apart)
+
+
+class Parsed(unittest.TestCase):
+    def test_what_is_not_taken_is_told(self):
+        for text, word in {
+            "SELECT a.x FROM a LEFT JOIN b ON a.x = b.x": "outer join", "SELECT DISTINCT x FROM a": "DISTINCT", "SELECT x FROM a ORDER BY x": "ORDER BY",
+            "SELECT max(x) FROM a": "MAX", "SELECT lower(x) FROM a": "lower", "SELECT x || y FROM a": "||", "SELECT * FROM a": "*",
+            "SELECT x FROM (SELECT x FROM b) AS a": "SELECT in its FROM", "SELECT x FROM a WHERE x LIKE 'y'": "LIKE",
+            "SELECT CASE WHEN x = 1 THEN 2 END FROM a": "CASE", "SELECT x FROM f(1)": "function f", "SELECT x FROM a UNION SELECT y FROM b": "UNION",
+            "WITH a AS (SELECT 1) SELECT x FROM a": "WITH", "SELECT x FROM a LIMIT 3": "LIMIT", "SELECT x FROM a,": "its end",
+        }.items():  # fmt: skip
+            with self.assertRaises(NotTaken, msg=text) as told:
+                parsed(text)
+            self.assertIn(word, str(told.exception))
+
+    def test_conditions_in_brackets(self):
+        where = parsed("SELECT x FROM a WHERE ((x + 1) * 2) > 3 AND (y = 'it''s' OR NOT (z IS NULL))").where
+        self.assertEqual(where[0], "all")
+        self.assertEqual(where[2], ("any", ("compared", "=", ("column", None, "y"), ("text", "it's")), ("not", ("null", ("column", None, "z")))))
+
+
+class KeysThatFollow(unittest.TestCase):
+    def test_a_joined_view_has_the_key_of_its_facts(self):
+        self.assertEqual(keys('key = ["shop"]'), {0: (0,), 1: (0,), 2: (1,), 3: (0,)})
+
+    def test_without_a_key_of_the_other_table_rows_may_be_many(self):
+        self.assertEqual(keys(""), {0: (0,), 3: (0,)})
+        self.assertEqual(keys('key = ["region"]'), {0: (0,), 1: (1,), 3: (0,)})
+
+    def test_a_key_that_is_none(self):
+        with self.assertRaises(Unfit):
+            keys('key = ["town"]')
+
+
+class Measures(unittest.TestCase):
+    def test_costs_are_found_again(self):
+        rows = [{0: 1000, 1: 10}, {0: 10, 1: 1000}, {0: 500, 1: 700}]
+        each = fitted(rows, [0.001 + 1e-6 * row[0] + 3e-6 * row[1] for row in rows], 2)
+        self.assertTrue(2 < each[1] / each[0] < 4, each)
+
+    def test_without_steps_nothing_is_proposed(self):
+        self.assertIsNone(measured([None], [Step("comp", 0, {0: 5}, 0.1)]))
+
+    def test_sizes_stay_sizes(self):
+        self.assertEqual(within(5, -9, 3), (2, 3))
+        self.assertEqual(within(2, -9, 9), (0, 9))
+
+
+class Nulls(unittest.TestCase):
+    def test_what_is_left_out(self):
+        self.assertEqual(left_out(["all", ["<>", "a.x", -(2**63)], ["<>", {"text": "\\N"}, "a.t"]]), {"a.x", "a.t"})
+        self.assertEqual(left_out(["not", ["<>", "a.x", -(2**63)]]), set())
+        self.assertEqual(references(["+", "a.x", ["*", 2, "a.y"]]), ["a.x", "a.y"])

@@ -1,0 +1,55 @@
+"""The walk of docs/SQL.md, from live tables to a line of cron, each of its commands run as it is written."""
+
+import os
+import re
+import shutil
+import subprocess
+import tempfile
+from pathlib import Path
+
+from whtools.program import ROOT
+
+BLOCK = re.compile(r"```(sh|cron|)\n(.*?)```", re.DOTALL)
+WHERE = "/srv/warehouse"
+
+
+def blocks():
+    """The commands of both walks with their lines of cron, and what is printed."""
+    section = (ROOT / "docs/SQL.md").read_text().partition("### A walk")[2].partition("\n### ")[0]
+    found = {"sh": [], "cron": [], "": []}
+    for kind, text in BLOCK.findall(section):
+        found[kind].append(text)
+    return list(zip(("postgresql", "sqlite"), found["sh"], found["cron"])), found[""][0]
+
+
+def run(commands, folder, server):
+    """What commands print and say in a folder with the tools and the examples."""
+    more = {"PATH": f"{server.programs}:{os.environ['PATH']}", "PGHOST": str(server.folder), "PGUSER": "postgres"} if server else {}
+    words = ["bash", "-e", "-o", "pipefail", "-c", commands]
+    return subprocess.run(words, cwd=folder, capture_output=True, text=True, env={**os.environ, **more}, check=False)
+
+
+def walk_mistakes(engine, commands, cron, printed, started, server):
+    """What a walk prints otherwise than the page says, and what the line of cron does otherwise than a night."""
+    with tempfile.TemporaryDirectory() as folder:
+        shutil.copytree(ROOT / "tools", Path(folder) / "tools", ignore=shutil.ignore_patterns("tests", "edits"))
+        (Path(folder) / "examples").symlink_to(ROOT / "examples")
+        (Path(folder) / "tools/built").write_text(f"#!/bin/sh\necho '{started}'\n")
+        ran = run(commands, folder, server)
+        wrong = [] if (ran.stdout.replace("\r\n", "\n"), ran.returncode) == (printed, 0) else [f"it prints {ran.stdout}{ran.stderr}"]
+        said = [line for line in ran.stderr.splitlines() if not line.startswith(("tools/sql: sizes of ", "tools/sql: certified "))]
+        wrong += [] if said == ["tools/sql: dearest is not taken: it has MAX, which changes alone do not keep up to date"] else [f"it says {said}"]
+        *_, line = cron.strip().split(" ", 5)
+        line = line.replace(WHERE, folder)
+        ran = run(line + "; cat live/nights.log", folder, server)
+        wrong += [] if ran.returncode == 0 and "certified all work" in ran.stdout and "rror" not in ran.stdout else [f"cron: {ran.stdout}{ran.stderr}"]
+    return [f"docs/SQL.md by {engine}: {text}"[:1500] for text in wrong]
+
+
+def page_mistakes(started, server):
+    """What both walks do otherwise than the page says."""
+    walks, printed = blocks()
+    return [
+        each for engine, commands, cron in walks if server or engine == "sqlite"
+        for each in walk_mistakes(engine, commands, cron, printed, started, server if engine == "postgresql" else None)
+    ]  # fmt: skip

@@ -1,0 +1,207 @@
+"""What tools/sql makes of a database: catalogues, sizes, plans, dry nights and what work costs; and what it refuses."""
+
+from collections import Counter
+
+from whtools.databases.nights import written
+from whtools.live.command import DIALECTS
+from whtools.live.database import ASKED
+from whtools.live.proposed import DAY, MOMENT, TEXT, Proposed
+from whtools.live.turned import NULL
+from whtools.sql.tokens import Unfit
+
+# Views of the application, each with the word of the reason for which it is not taken, or none where it is.
+VIEWS = {
+    "sold": ("SELECT o.day, o.region, l.product, l.pieces * p.price AS cost FROM orders AS o JOIN lines AS l ON l.id = o.id"
+             " JOIN products AS p ON p.product = l.product WHERE p.price IS NOT NULL AND o.day >= '2026-01-02'", ""),
+    "by_region": ("SELECT region, count(*) AS many, sum(cost) AS cost, avg(cost) AS mean FROM sold GROUP BY region", ""),
+    "cheap": ("SELECT p.product, p.price FROM products AS p WHERE p.price < 7.5 OR NOT (p.price > 3 AND p.product <> 'product 12')", ""),
+    "few": ("SELECT l.product, sum(l.pieces) AS pieces FROM lines AS l WHERE l.pieces BETWEEN 1 AND 4 AND l.product IN ('product 1', 'product 2', 'product 3')"
+            " GROUP BY l.product", ""),
+    "paid_days": ("SELECT o.day, count(*) AS orders FROM orders AS o WHERE o.paid AND NOT o.region = 'region 1' GROUP BY o.day", ""),
+    "whole": ("SELECT count(*) AS many, sum(p.price * 2 + 1) AS doubled FROM products AS p WHERE p.price > 2.5", ""),
+    "regions": ("SELECT o.region, count(o.region) AS many FROM orders AS o WHERE o.region IS NOT NULL GROUP BY o.region", ""),
+    "late": ("SELECT o.id FROM orders AS o WHERE o.at >= '2026-01-01 00:00:05'", ""),
+    "outer_lines": ("SELECT o.id, l.pieces FROM orders AS o LEFT JOIN lines AS l ON l.id = o.id", "outer join"),
+    "first": ("SELECT l.product, min(l.pieces) AS least FROM lines AS l GROUP BY l.product", "MIN"),
+    "sums_nulls": ("SELECT p.product, sum(p.price) AS price FROM products AS p GROUP BY p.product", "may be NULL"),
+    "upper_names": ("SELECT upper(p.product) AS product FROM products AS p", "function upper"),
+    "in_order": ("SELECT p.product FROM products AS p ORDER BY p.product", "ORDER BY"),
+    "apart": ("SELECT DISTINCT o.region FROM orders AS o", "DISTINCT"),
+    "with_itself": ("SELECT a.id FROM lines AS a JOIN lines AS b ON a.id = b.id", "twice"),
+    "over_others": ("SELECT f.product FROM first AS f", "not taken"),
+    "moments_of": ("SELECT o.at, count(*) AS many FROM orders AS o GROUP BY o.at", "moment"),
+    "large": ("SELECT l.product, count(*) AS many FROM lines AS l GROUP BY l.product HAVING count(*) > 1", "HAVING"),
+}  # fmt: skip
+OF_COLUMN = {
+    "postgresql": {DAY: "({c} - DATE '1970-01-01')", MOMENT: "floor(extract(epoch FROM {c}))::bigint", TEXT: "{c}::text", "number": "({c} * {unit})::bigint"},
+    "sqlite": {DAY: "unixepoch({c}) / 86400", MOMENT: "unixepoch({c})", TEXT: "{c}", "number": "CAST(round({c} * {unit}) AS INTEGER)"},
+}
+
+
+def shown(engine, column):
+    """A column of the application's view as the night has it."""
+    null = "'" + NULL["text"] + "'" if column.kind == "text" else NULL["int"]
+    return f"coalesce({OF_COLUMN[engine][column.holds].format(c=column.name, unit=10**column.places)}, {null})"
+
+
+def asked(live, *words, program=None):
+    """What tools/sql says for words about the folder."""
+    more = ["--program", program] if program else []
+    return written("--engine", live.engine, "--database", live.database.address, *more, *words)
+
+
+def told(live, *words, program=None):
+    found = asked(live, *words, program=program)
+    if found.status:
+        raise ValueError(f"{words}: {found.told}")
+    return found
+
+
+# ---- catalogues
+
+
+def catalogue_mistakes(live):
+    """The catalogue of a database with views of many kinds: what is taken is the same as the view, and what is not has its reason."""
+    live.fresh()
+    live.database.run(live.words("--uncapture"))
+    live.database.make([f"CREATE VIEW {name} AS {text};" for name, (text, _) in VIEWS.items()])
+    found, wrong = told(live, "--catalogue"), []
+    for name, (_, reason) in VIEWS.items():
+        lines = [line for line in found.told.splitlines() if f" {name} is not taken" in line]
+        if bool(lines) != bool(reason) or (reason and reason not in lines[0]):
+            wrong.append(f"of {name} is told {lines}, and not {reason!r}")
+    path = live.path / "of the database"
+    path.mkdir(exist_ok=True)
+    (path / "catalogue.toml").write_text(found.text)
+    wrong += [] if wrong else same_views(live, path)
+    live.database.make([f"DROP VIEW {name};" for name in reversed(VIEWS)])
+    return [f"a catalogue: {text}" for text in wrong]
+
+
+def same_views(live, path):
+    """What the views that were taken have otherwise than the application's, once they are filled."""
+    for words in (["--capture"], ["--live", "--open"]):
+        script = told(live, *words, path)
+        if fault := live.database.run(script.text):
+            return [fault]
+    database = ASKED[live.engine](live.database.address, DIALECTS[live.engine]())
+    known = Proposed(live.engine, database.tables(database.own_schema), database.views(database.own_schema)).known
+    wrong = []
+    for name in (name for name, (_, reason) in VIEWS.items() if not reason):
+        there = [column for column in known[name] if not column.name.endswith("_sum") and column.name != "rows"]
+        own = f"SELECT {', '.join(shown(live.engine, column) for column in there)} FROM {name}"
+        has_counts = '"#"' if is_joined(live, name) else "1"
+        stored = f"SELECT {', '.join(column.name for column in there)}, {has_counts} FROM {live.database.table(name)}"
+        wanted, rows = live.database.answers(own, stored)
+        found = Counter()
+        for *row, count in rows:
+            found[tuple(row)] += count
+        wrong += [] if found == Counter(map(tuple, wanted)) else [f"{name} has {dict(found)}, and not {wanted}"[:500]]
+    return wrong + [fault for fault in [live.database.run(told(live, "--uncapture", path).text)] if fault]
+
+
+def is_joined(live, name):
+    return "GROUP BY" not in VIEWS[name][0] and "count(" not in VIEWS[name][0]
+
+
+# ---- sizes and plans
+
+
+def plan_mistakes(live, program):
+    """Sizes before a night and after it, a plan that is certified, a dry night that changes nothing, and what work costs."""
+    wrong, path = live.fresh(), live.path / "planned"
+    path.mkdir(exist_ok=True)
+    (path / "catalogue.toml").write_bytes((live.path / "catalogue.toml").read_bytes())
+    for number in range(3):
+        live.database.asked(f"UPDATE lines SET pieces = pieces + 1 WHERE id % 4 = {number}; DELETE FROM orders WHERE id = {number + 1};")
+        before = told(live, "--sizes", path).text
+        script = told(live, "--plan", path, program=program)
+        wrong += [] if "certified all work" in script.told else [f"--plan says {script.told}"]
+        state = live.database.state()
+        dry = told(live, "--plan", "--dry", path, program=program).text
+        wrong += [] if live.database.state() == state else ["a dry night changed something"]
+        wrong += dry_mistakes(dry)
+        fault = live.database.run(script.text)
+        wrong += [f"a planned night was told {fault}"] if fault else live.mistakes()
+        wrong += size_mistakes(live, before, told(live, "--sizes-after", path).text)
+    costs = asked(live, "--costs", path)
+    has_seconds = live.engine == "postgresql"
+    if bool(costs.status) == has_seconds or (has_seconds and not costs.text.startswith("# measured from ")):
+        wrong.append(f"--costs says {costs}")
+    if has_seconds:
+        live.database.asked("UPDATE lines SET pieces = 1 WHERE id = 9;")
+        fault = live.database.run(told(live, "--plan", "--measured", path, program=program).text)
+        wrong += [f"a night by what was measured was told {fault}"] if fault else live.mistakes()
+    return [f"a plan: {text}" for text in wrong]
+
+
+def dry_mistakes(text):
+    lines = text.splitlines()
+    ends = lines[-1] == "rolled back: nothing was changed" and lines[-2].startswith("all steps")
+    comps = [line.split() for line in lines if line.startswith(("comp ", "inst "))]
+    return [] if ends and comps and all(line[-3].isdecimal() and float(line[-1]) >= 0 for line in comps) else [f"a dry night says {text}"]
+
+
+def size_mistakes(live, before, after):
+    """Sizes that are not those of the tables, or before the night not those that base views have after it."""
+    records = [{line.split(",")[0]: tuple(map(int, line.split(",")[1:])) for line in text.splitlines()[1:]} for text in (before, after)]
+    wrong = []
+    for name, (_, post, _) in records[1].items():
+        rows = sum(count for *_, count in live.database.answers(live.stored(name))[0])
+        wrong += [] if post == rows else [f"{name} has {rows} rows, and --sizes-after says {post}"]
+    for name in ("orders", "lines", "products"):
+        wrong += [] if records[0][name] == records[1][name] else [f"{name}: --sizes says {records[0][name]}, and the night {records[1][name]}"]
+    return wrong
+
+
+# ---- going away, and refusals
+
+
+def uncapture_mistakes(live):
+    """What --uncapture leaves, once there were nights."""
+    live.fresh()
+    first = live.database.run(live.words("--uncapture"))
+    bare = live.database.state()
+    for words in (["--capture"], ["--live", "--open"], ["--live"], ["--uncapture"], ["--uncapture"]):
+        first = first or live.database.run(live.words(*words))
+    return [f"--uncapture: {text}" for text in ([first] if first else []) + bare.differences(live.database.state())]
+
+
+REFUSED = {
+    "CREATE TABLE other (id int)": ("[[view]]\nname = \"nowhere\"\ncolumns = [\"id\"]\n", "there is no table nowhere in"),
+    "ALTER TABLE lines ADD COLUMN weight double precision": ("[[view]]\nname = \"lines\"\ncolumns = [\"id\", \"weight\"]\n", "neither a whole number nor a text"),
+    "ALTER TABLE lines ADD COLUMN other int": ("[[view]]\nname = \"lines\"\ncolumns = [\"id\", \"colour\"]\n", "has no column colour"),
+    "ALTER TABLE lines ADD COLUMN more int": ("[[view]]\nname = \"orders\"\ncolumns = [\"day:text\"]\n", "write it as 'day' in the catalogue"),
+    "UPDATE orders SET region = '\\N' WHERE id = 3": ("[[view]]\nname = \"orders\"\ncolumns = [\"id\", \"region:text\"]\n", "stands for NULL"),
+}
+
+
+def refusal_mistakes(live):
+    """Captures that are refused in one line that says why, and change nothing."""
+    live.fresh()
+    live.database.run(live.words("--uncapture"))
+    path, wrong = live.path / "refused", []
+    path.mkdir(exist_ok=True)
+    for made, (catalogue, word) in REFUSED.items():
+        live.database.make([made + ";"])
+        (path / "catalogue.toml").write_text(catalogue)
+        before = live.database.state().definitions
+        found = asked(live, "--capture", path)
+        said = found.told if found.status else live.database.run(found.text) or ""
+        wrong += [] if word in said and "Traceback" not in said else [f"{made}: is told {said!r}, and not {word!r}"]
+        wrong += [] if not found.status or live.database.state().definitions == before else [f"{made}: something was changed"]
+        live.database.run(told(live, "--uncapture", path).text)
+    lost = written("--engine", live.engine, "--database", "/nowhere/at all", "--capture", live.path)
+    wrong += [] if lost.status and lost.told.startswith("tools/sql: ") else [f"a database that is not there: {lost}"]
+    return [f"refusals: {text}" for text in wrong]
+
+
+def mistakes(live, program):
+    """All of these."""
+    found = []
+    for tried in (catalogue_mistakes, lambda each: plan_mistakes(each, program), uncapture_mistakes, refusal_mistakes):
+        try:
+            found += tried(live)
+        except (ValueError, Unfit) as fault:
+            found.append(str(fault))
+    return [f"{live.engine}: {text}"[:900] for text in found]
