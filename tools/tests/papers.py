@@ -49,6 +49,19 @@ class Links(unittest.TestCase):
             self.assertIn(name, anchors(led), said)
 
 
+class Quotes(unittest.TestCase):
+    def test_what_a_crates_page_quotes_of_a_file_stands_in_it(self):
+        found = 0
+        for paper in sorted((ROOT / "crates").glob("*/README.md")):
+            head = paper.read_text().partition("<!-- Above this line by hand")[0]
+            for told, quoted in re.findall(r"^([^\n]*)\n\n```rust\n(.*?)^```", head, re.DOTALL | re.MULTILINE):
+                file = (paper.parent / LINK.findall(told)[-1]).resolve()
+                for function in re.split(r"\n(?=///)", quoted):
+                    self.assertIn(function.rstrip("\n"), file.read_text(), f"{paper.relative_to(ROOT)} quotes {file.name} as it is not")
+                    found += 1
+        self.assertGreaterEqual(found, 7)
+
+
 class Crates(unittest.TestCase):
     def test_readme_leads_to_each_once(self):
         text = (ROOT / "README.md").read_text().partition("\n## The crates\n")[2].partition("\n## ")[0]
