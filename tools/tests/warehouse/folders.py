@@ -176,7 +176,7 @@ class Laid(Kept):
         """The commands of docs/WAREHOUSE.md as they are written."""
         self.night()
         page = (TOOLS.parent / "docs/WAREHOUSE.md").read_text()
-        block = page.partition("**Readers.**")[2].partition("```\n")[2].partition("```")[0]
+        block = page.partition("**By files.**")[2].partition("```\n")[2].partition("```")[0]
         ran = subprocess.run(["bash", "-e", "-c", block], cwd=self.folder.parent, capture_output=True, check=True)
         self.assertEqual(ran.stdout, (self.folder / "versions/1/views/daily_by_region.csv").read_bytes())
 

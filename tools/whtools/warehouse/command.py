@@ -19,11 +19,26 @@ from .weights import KINDS
 
 HELPS = ("-h", "--help", "help")
 COMMANDS = ("pack", "unpack", "night", "lint", "check", "plan", "certify", "sizes", "diff", "explain", "graph")
+COMMANDS += ("report", "read", "serve", "init")
 WITH_A_VALUE = ("--program", "--keep", "--weights", "--comp-cost", "--inst-cost", "--budget", "--workers", "--readers", "--page-keys")
 WEIGHED = ("night", "check", "plan", "certify", "sizes", "explain", "graph")
 # The numbers that the program takes behind an option, from the least to the greatest.
 RANGES = {"--workers": (1, 16), "--readers": (0, 16), "--page-keys": (1, 256), "--budget": (1, 2**63 - 1)}
 RANGES |= dict.fromkeys(("--comp-cost", "--inst-cost"), (1, 1_000_000))
+# The options with a value that a command takes itself, each as often as it stands.
+OPTIONS = {
+    "read": ("--version", "--where", "--limit", "--format"),
+    "serve": ("--port", "--address", "--promise"),
+}
+# How many words a command takes besides its options, and what they are; where it is not one folder.
+OPERANDS = {
+    "diff": (2, 2, "two files"),
+    "report": (1, 2, "a folder, and perhaps a version"),
+    "read": (2, 2, "a folder and a view"),
+    "init": (2, sys.maxsize, "a folder and CSV files"),
+}
+# Commands that judge their folder themselves, and those that read versions, which a night under way or a stopped one do not change.
+JUDGE_THEMSELVES, READ_VERSIONS = ("unpack", "diff", "init"), ("night", "report", "read", "serve")
 GOES_THROUGH = {
     "night": ("--workers", "--readers", "--page-keys"),
     "check": ("--comp-cost", "--inst-cost"),
@@ -38,17 +53,18 @@ class Words:
     def __init__(self, words):
         given = list(words)
         self.named, self.unproved, self.commit, self.keep, self.lenient, self.through = None, False, False, None, False, []
-        self.weights = None
+        self.weights, self.options = None, {}
         self.command = given.pop(0) if given else ""
         if self.command not in COMMANDS:
             near = nearest(self.command, COMMANDS)
             raise Failure(BAD_WORDS, f"there is no command {self.command!r}; there are {', '.join(COMMANDS)}{near}")
-        folders = []
+        self.operands = []
         while given:
-            self.take(given, folders)
-        self.folders = list(map(Path, folders))
-        if len(folders) != (2 if self.command == "diff" else 1):
-            raise Failure(BAD_WORDS, "diff takes two files" if self.command == "diff" else f"{self.command} takes one folder")
+            self.take(given, self.operands)
+        least, most, what = OPERANDS.get(self.command, (1, 1, "one folder"))
+        if not least <= len(self.operands) <= most:
+            raise Failure(BAD_WORDS, f"{self.command} takes {what}")
+        self.folders = list(map(Path, self.operands))
         self.folder = self.folders[0]
         if self.named and self.unproved:
             raise Failure(BAD_WORDS, "--unproved and --program FILE name two programs; give one")
@@ -60,6 +76,13 @@ class Words:
         """The program, once it is needed."""
         return self.named or own(self.unproved)
 
+    def option(self, word, usual=None):
+        """The value of an option that stands once at most, or the usual one without it."""
+        values = self.options.get(word, [usual])
+        if len(values) > 1:
+            raise Failure(BAD_WORDS, f"{word} stands twice")
+        return values[0]
+
     def take(self, given, folders):
         """Takes the next word, and its value where it has one."""
         word = given.pop(0)
@@ -67,7 +90,7 @@ class Words:
             self.commit = True
         elif word == "--lenient" and self.command == "lint":
             self.lenient = True
-        elif word in WITH_A_VALUE and not given:
+        elif word in (*WITH_A_VALUE, *OPTIONS.get(self.command, ())) and not given:
             raise Failure(BAD_WORDS, f"{word} wants a value")
         elif word == "--program":
             self.named = Path(given.pop(0)).resolve()
@@ -79,6 +102,8 @@ class Words:
             self.weights = kind_of_weights(given.pop(0))
         elif word in GOES_THROUGH.get(self.command, ()):
             self.through += [word, number_of(word, given.pop(0), self.through)]
+        elif word in OPTIONS.get(self.command, ()):
+            self.options.setdefault(word, []).append(given.pop(0))
         elif word.startswith("-"):
             raise Failure(BAD_WORDS, f"{self.command} has no option {word}")
         else:
@@ -113,7 +138,7 @@ def judge_folder(words):
     """Refuses what is no folder, and for all but nights one in which a night was stopped; tells of one in which a night is at work."""
     if not words.folder.is_dir():
         raise Failure(BAD_WORDS, f"{words.folder} is no folder")
-    if words.command == "night":
+    if words.command in READ_VERSIONS:
         return
     stopped = is_stopped(words.folder) or is_pending(words.folder)
     who = at_work(words.folder)
@@ -136,7 +161,7 @@ def main(given, about):
     gc.disable()
     try:
         words = Words(given)
-        if words.command not in ("unpack", "diff"):
+        if words.command not in JUDGE_THEMSELVES:
             judge_folder(words)
         status = import_module(f"whtools.warehouse.{words.command}").run(words)
         sys.stdout.flush()

@@ -13,7 +13,7 @@ LETTER = 0.62
 NAME_SIZE, NOTE_SIZE, HEIGHT, CELL_HEIGHT, DOWN, MARGIN = 13, 11, 42, 20, 80, 20
 TIP = (
     '<defs><marker id="tip" markerWidth="8" markerHeight="8" refX="8" refY="4" orient="auto">'
-    '<path d="M0,0 L8,4 L0,8 z" fill="#345"/></marker></defs>'
+    '<path class="tip" d="M0,0 L8,4 L0,8 z" fill="#345"/></marker></defs>'
 )
 LEGEND = [
     "A box is a view: under its name the step that installs it, and how many rows that puts.",
@@ -86,7 +86,8 @@ class Picture:
         """A view's box with its name and its Inst."""
         top, middle = self.top(self.layers.levels[view.name]), self.middle(view.name)
         fill = "#eef3fb" if view.over else "#f6f1e4"
-        drawn = f'<rect x="{self.left(view):.1f}" y="{top}" width="{self.width(view):.1f}" height="{HEIGHT}" fill="{fill}" stroke="#345"/>'
+        place = f'x="{self.left(view):.1f}" y="{top}" width="{self.width(view):.1f}" height="{HEIGHT}"'
+        drawn = f'<rect class="{"derived" if view.over else "base"}" {place} fill="{fill}" stroke="#345"/>'
         note = self.named.get(view.name)
         name = self.text(middle, top + (17 if note else 26), view.name, NAME_SIZE)
         return drawn + name + (self.text(middle, top + 34, note, NOTE_SIZE) if note else "")
@@ -98,7 +99,8 @@ class Picture:
         width, cells = self.cells(view)
         for child, left in cells:
             words = self.edges.get((child, view.name), "")
-            drawn.append(f'<rect x="{left:.1f}" y="{top}" width="{width:.1f}" height="{CELL_HEIGHT}" fill="#fff" stroke="#345"/>')
+            place = f'x="{left:.1f}" y="{top}" width="{width:.1f}" height="{CELL_HEIGHT}"'
+            drawn.append(f'<rect class="cell" {place} fill="#fff" stroke="#345"/>')
             drawn.append(self.text(left + width / 2, top + 14, words, NOTE_SIZE))
             drawn.append(self.arrow(self.layers.ways[child, view.name], (left + width / 2, top + CELL_HEIGHT)))
         return "".join(drawn)
@@ -115,12 +117,18 @@ class Picture:
         corners = " ".join(f"{across:.1f},{down:.1f}" for across, down in self.line(way, end))
         return f'<polyline points="{corners}" fill="none" stroke="#345" marker-end="url(#tip)"/>'
 
-    def svg(self):
+    @property
+    def size(self):
+        """The width and the height."""
         width = max([self.layers.breadth, *(wide(words, NOTE_SIZE) for words in self.legend)]) + 2 * MARGIN
+        return round(width), self.bottom(0) + MARGIN + (MARGIN + 18 * len(self.legend) if self.legend else 0)
+
+    def svg(self):
+        width, height = self.size
         under = self.bottom(0) + 2 * MARGIN
-        height = under + 18 * len(self.legend)
-        head = f'<svg xmlns="http://www.w3.org/2000/svg" width="{width:.0f}" height="{height}" font-family="monospace">'
-        drawn = [TIP, f'<rect width="{width:.0f}" height="{height}" fill="#fff"/>']
+        box = f'width="{width}" height="{height}" viewBox="0 0 {width} {height}"'
+        head = f'<svg xmlns="http://www.w3.org/2000/svg" {box} font-family="monospace">'
+        drawn = [TIP, f'<rect class="paper" width="{width}" height="{height}" fill="#fff"/>']
         drawn += [self.comps(view) for view in self.views if view.over] + [self.box(view) for view in self.views]
         drawn += [
             f'<text x="{MARGIN}" y="{under + 18 * number}" font-size="{NOTE_SIZE}">{words}</text>'

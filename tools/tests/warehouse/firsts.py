@@ -1,0 +1,197 @@
+"""`init`: a first catalogue of CSV files, which lints clean, and what is told of files that are none."""
+
+import csv
+import io
+import random
+import subprocess
+import sys
+import tempfile
+import tomllib
+import unittest
+from pathlib import Path
+
+from whtools.tables import bag_of
+from whtools.warehouse.exports import Export, name_of, own_names
+from whtools.warehouse.folder import Folder
+from whtools.warehouse.proposals import catalogue_text, proposed
+
+from .shop import SHOP, TOOLS
+
+
+class Room(unittest.TestCase):
+    """A room for files, and the command."""
+
+    def setUp(self):
+        kept = tempfile.TemporaryDirectory()
+        self.addCleanup(kept.cleanup)
+        self.room = Path(kept.name)
+
+    def put(self, **files):
+        """Writes files by their names, and answers their paths."""
+        for name, text in files.items():
+            (self.room / f"{name}.csv").write_bytes(text if isinstance(text, bytes) else text.encode())
+        return [self.room / f"{name}.csv" for name in files]
+
+    def ran(self, *words):
+        command = [sys.executable, TOOLS / "warehouse", *words]
+        ran = subprocess.run(command, capture_output=True, text=True, cwd=self.room)
+        return ran.returncode, ran.stdout.splitlines(), ran.stderr.splitlines()
+
+    def made(self, **files):
+        """The catalogue of a folder that is made of these files, by the names of its views."""
+        status, told, errors = self.ran("init", "folder", *self.put(**files))
+        self.assertEqual((status, errors), (0, []))
+        self.assertEqual(self.ran("lint", "folder")[::2], (0, []))
+        views = tomllib.loads((self.room / "folder/catalogue.toml").read_text())["view"]
+        return {view["name"]: view for view in views}, told
+
+
+class First(Room):
+    """What a first catalogue has."""
+
+    def test_the_shops_files_make_its_views(self):
+        files = sorted((SHOP / "data").iterdir())
+        status, told, errors = self.ran("init", "new", *files)
+        self.assertEqual((status, errors), (0, []))
+        self.assertEqual(told[3], "lines_joined: lines joined by lines.id = orders.id, lines.product = products.product")
+        self.assertEqual(told[4], "lines_joined_by_day: lines_joined by day, with the sums of pieces, price")
+        found = Folder(self.room / "new")
+        self.assertEqual((found.findings, found.catalogue.names[:3]), ([], ["lines", "orders", "products"]))
+        self.assertEqual(dict(found.views[0].columns), {"id": "int", "product": "text", "pieces": "int"})
+        for file in files:
+            self.assertEqual(bag_of((self.room / "new/data" / file.name).read_text()), bag_of(file.read_text()))
+
+    def test_kinds_are_those_of_the_cells_and_what_looks_otherwise_is_told(self):
+        text = "whole,code,cents,gap,seen,never,day\n1,007,12.50,3,2026-01-02,,20260102\n-2,12,3,,2026-02-03,,20260203\n"
+        views, told = self.made(t=text)
+        kinds = ["whole", "code:text", "cents:text", "gap:text", "seen:text", "never:text", "day"]
+        self.assertEqual(views["t"]["columns"], kinds)
+        self.assertIn("    cents has parts behind the point, so it is a text; keep cents, such as 1250, to add it up", told)
+        self.assertIn("    seen has dates as texts, which compare for equality alone; write them as yyyymmdd to sort them", told)
+        self.assertIn("# gap has empty cells, so it is a text", (self.room / "folder/catalogue.toml").read_text())
+
+    def test_joins_are_proposed_where_names_and_values_agree(self):
+        orders = "id,customer_id,shop,note\n1,7,north,x\n2,8,south,x\n3,7,north,y\n4,7,north,y\n"
+        customers, shops = "id,name\n7,Ann\n8,Bob\n", "name,town\nnorth,A\nsouth,B\n"
+        views, _ = self.made(orders=orders, customers=customers, shops=shops)
+        joined = views["orders_joined"]
+        self.assertEqual(joined["over"], ["orders", "customers", "shops"])
+        self.assertEqual(joined["join"], [["orders.customer_id", "customers.id"], ["orders.shop", "shops.name"]])
+        self.assertEqual([name for name, _ in joined["keep"]], ["id", "customer_id", "shop", "note", "name", "town"])
+
+    def test_keys_that_have_a_general_name_alone_lead_nowhere(self):
+        views, _ = self.made(cats="id,name\n1,a\n2,b\n", dogs="id,name\n1,c\n2,d\n3,e\n")
+        self.assertEqual(set(views), {"cats", "dogs"})
+
+    def test_columns_whose_values_differ_lead_nowhere_and_rows_that_join_with_none_are_told(self):
+        views, _ = self.made(a="code_x,n\n1,1\n2,1\n9,1\n9,2\n", b="code_x,m\n1,1\n2,2\n")
+        self.assertNotIn("a_joined", views)
+        rows = "".join(f"{number % 20 + 1},{number}\n" for number in range(100))
+        keys = "".join(f"{number},{number % 3}\n" for number in range(1, 20))
+        self.put(uses=f"code_x,n\n{rows}", codes=f"code_x,m\n{keys}")
+        self.assertEqual(self.ran("init", "second", "uses.csv", "codes.csv")[0], 0)
+        text = (self.room / "second/catalogue.toml").read_text()
+        self.assertIn("# Of uses 5 rows have no row of codes, and are not in it.\n[[view]]\nname = \"uses_joined\"", text)
+
+    def test_a_way_goes_on_over_tables_that_lead_further(self):
+        files = {"lines": "order_id,n\n1,5\n1,6\n2,5\n", "orders": "id,city\n1,A\n2,B\n3,A\n", "cities": "city,country\nA,X\nB,X\n"}
+        views, _ = self.made(**files)
+        self.assertEqual(views["lines_joined"]["join"], [["lines.order_id", "orders.id"], ["orders.city", "cities.city"]])
+        self.assertNotIn("orders_joined", views)
+
+    def test_a_summary_adds_up_numbers_that_are_no_keys_and_no_dates(self):
+        rows = "".join(f"{number},{'ab'[number % 2]},{7 * number},2026010{number}\n" for number in range(1, 9))
+        views, _ = self.made(visits=f"visit_id,kind,minutes,day\n{rows}")
+        summary = views["visits_by_kind"]
+        self.assertEqual((summary["group"], summary["count"]), ([["kind", "visits.kind"]], "rows"))
+        self.assertEqual(summary["sum"], [["minutes", "visits.minutes"]])
+
+    def test_files_as_other_programs_write_them(self):
+        text = b'\xef\xbb\xbfOrder ID;Name;Name;;2nd\r\n1;"a;b";x;;"two\nlines"\r\n\r\n2;c;y;;z\r\n'
+        (self.room / "My Orders (2).csv").write_bytes(text)
+        status, _, errors = self.ran("init", "new", "My Orders (2).csv")
+        self.assertEqual((status, errors), (0, []))
+        made = (self.room / "new/data/my_orders_2.csv").read_text()
+        self.assertEqual(made, 'order_id,name,name_2,column_4,_2nd\n1,a;b,x,,"two\nlines"\n2,c,y,,z\n')
+
+    def test_counts_are_kept(self):
+        views, _ = self.made(t="#,a,b\n3,x,1\n2,y,1\n")
+        self.assertEqual(views["t"]["columns"], ["a:text", "b"])
+        self.assertEqual((self.room / "folder/data/t.csv").read_text(), "#,a,b\n3,x,1\n2,y,1\n")
+
+
+class Faults(Room):
+    """Files and words that nothing is made of."""
+
+    def judge(self, line, status=3, **files):
+        self.assertEqual(self.ran("init", "new", *self.put(**files)), (status, [], [line.replace("ROOM", str(self.room))]))
+        self.assertEqual(sorted(path.name for path in self.room.iterdir()), sorted(f"{name}.csv" for name in files))
+        for name in files:
+            (self.room / f"{name}.csv").unlink()
+
+    def test_what_is_no_table(self):
+        self.judge("ROOM/t.csv:1:1: this file is empty; a table has a header at least", t="")
+        self.judge("ROOM/t.csv:4:1: this record has 1 cells and the header has 2", t='a,b\n1,"x\ny"\n1\n')
+        self.judge("ROOM/t.csv:2:1: this is not CSV: unexpected end of data", t='a,b\n1,"x\n')
+        self.judge("ROOM/t.csv:2:1: this line is not UTF-8; iconv -f LATIN1 -t UTF-8 may make it so", t=b"a\n\xe4\n")
+        self.judge("ROOM/t.csv:1:1: this file has 65 columns; a view has 1 to 64", t=",".join(f"c{n}" for n in range(65)))
+        self.judge("ROOM/t.csv:1:1: the column # has counts, which are positive, and '-1' is none", t="#,a\n-1,2\n")
+
+    def test_words_that_nothing_can_be_made_of(self):
+        (self.room / "t.csv").write_text("a\n1\n")
+        (self.room / "T.csv").write_text("a\n1\n")
+        (self.room / "there").mkdir()
+        (self.room / "there/x").write_text("")
+        self.assertEqual(self.ran("init", "new"), (2, [], ["init takes a folder and CSV files"]))
+        self.assertEqual(self.ran("init", "new", "u.csv"), (3, [], ["there is no file u.csv"]))
+        self.assertEqual(self.ran("init", "there", "t.csv"), (2, [], ["there is there already; a new folder is made"]))
+        self.assertEqual(self.ran("init", "new", "t.csv", "T.csv"), (3, [], ["T.csv and t.csv would both be the view t; rename one"]))
+        many = (2, [], ["65 files are given, and a catalogue has 64 views at most"])
+        self.assertEqual(self.ran("init", "new", *["t.csv"] * 65), many)
+        self.assertFalse((self.room / "new").exists())
+
+
+class Drawn(Room):
+    """Files that are drawn, hostile ones too: what is made lints clean."""
+
+    HEADERS = ["id", "ID", "", "é", "a b", "x" * 80, "9", "rows", "count", 'q"q', "new\nline", "customer_id", "_", "#x"]
+    CELLS = ["", "0", "7", "-7", "007", "+1", "1.5", "9223372036854775807", "9223372036854775808", "tea, black", 'a "q"', "x\ny", "é", "@x", "1e3"]
+
+    def drawn(self, source):
+        """A table's text; one column in three is a key, or has values of few keys."""
+        width, rows = source.randint(1, 6), source.randint(0, 12)
+        kinds = [source.choice(["key", "few", "any"]) for _ in range(width)]
+        cells = {"key": lambda row: str(row), "few": lambda _: str(source.randrange(4)), "any": lambda _: source.choice(self.CELLS)}
+        written = io.StringIO()
+        writer = csv.writer(written, lineterminator=source.choice(["\n", "\r\n"]), delimiter=source.choice(",;\t"))
+        writer.writerow([source.choice(self.HEADERS[:1] + self.HEADERS) for _ in range(width)])
+        writer.writerows([cells[kind](row) for kind in kinds] for row in range(rows))
+        return written.getvalue()
+
+    def test_what_is_made_of_drawn_files_lints_clean(self):
+        source, joined = random.Random(17), 0
+        for _ in range(150):
+            paths = self.put(**{name: self.drawn(source) for name in source.sample(["orders", "customers", "t", "Lines", "a-b"], 3)})
+            try:
+                tables = [Export(path) for path in paths]
+            except Exception as refused:
+                self.assertEqual(type(refused).__name__, "Failure", refused)
+                continue
+            found = self.folder_of(tables)
+            self.assertEqual(found.findings, [], found.catalogue.content.decode())
+            joined += any(len(view.over) > 1 for view in found.views)
+        self.assertGreater(joined, 10)
+
+    def folder_of(self, tables):
+        """The folder that is made of tables, and is read as `lint` does."""
+        with tempfile.TemporaryDirectory(dir=self.room) as kept:
+            folder = Path(kept)
+            (folder / "data").mkdir()
+            (folder / "catalogue.toml").write_text(catalogue_text(tables, proposed(tables)))
+            for table in tables:
+                (folder / f"data/{table.name}.csv").write_text(table.text, newline="")
+            return Folder(folder)
+
+    def test_names_are_names(self):
+        self.assertEqual([name_of(text, "usual") for text in ("Order ID", "9x", "é", "", "a" * 70)], ["order_id", "_9x", "usual", "usual", "a" * 64])
+        self.assertEqual(own_names(["a", "A", "", "a_2", "a"]), ["a", "a_2", "column_3", "a_2_2", "a_3"])

@@ -1,0 +1,171 @@
+"""`read`: the rows of one version, all of them, a page, or those with a value; and versions that are held while they are read."""
+
+import fcntl
+import json
+import os
+import random
+import re
+import subprocess
+import sys
+from pathlib import Path
+from threading import Thread
+
+from whtools.warehouse import held
+from whtools.warehouse.finding import Failure
+from whtools.warehouse.reading import STEP, Table, selected
+
+from .folders import Kept
+from .shop import SHOP, TOOLS
+
+
+class Reads(Kept):
+    """`read`, of the shop's versions."""
+
+    def read(self, *words):
+        """What is printed."""
+        command = [sys.executable, TOOLS / "warehouse", "read", self.folder, *words]
+        ran = subprocess.run(command, capture_output=True, text=True)
+        self.assertEqual((ran.returncode, ran.stderr), (0, ""))
+        return ran.stdout
+
+    def test_a_view_of_the_current_version_and_of_an_older_one(self):
+        self.night()
+        self.put()
+        self.night()
+        self.assertEqual(self.read("sales"), (self.folder / "current/views/sales.csv").read_text())
+        self.assertEqual(self.read("orders"), (self.folder / "versions/2/data/orders.csv").read_text())
+        self.assertEqual(self.read("orders", "--version", "1"), (self.folder / "versions/1/data/orders.csv").read_text())
+        first = "#,product,price\n1,bread,300\n1,jam,450\n1,\"tea, black\",800\n"
+        self.assertEqual(self.read("products", "--version", "0"), first)
+
+    def test_rows_with_a_value_and_so_many_of_them(self):
+        self.night()
+        jam = '#,day,product,lines,pieces,cost\n1,Monday,jam,1,1,475\n'
+        self.assertEqual(self.read("daily_by_product", "--where", "product=jam"), jam)
+        tea = '#,id,product,pieces\n1,5,"tea, black",2\n1,7,"tea, black",2\n'
+        self.assertEqual(self.read("lines", "--where", "product=tea, black", "--where", "pieces=+2"), tea)
+        self.assertEqual(self.read("lines", "--limit", "1").count("\n"), 2)
+        self.assertEqual(self.read("lines", "--limit", "0"), "#,id,product,pieces\n")
+
+    def test_rows_as_json(self):
+        self.night()
+        found = json.loads(self.read("products", "--format", "json", "--limit", "2"))
+        rows = [{"#": 1, "product": "bread", "price": 300}, {"#": 1, "product": "honey", "price": 950}]
+        self.assertEqual(found, {"view": "products", "version": 1, "rows": rows})
+        self.assertEqual(json.loads(self.read("products", "--format", "json", "--where", "price=1"))["rows"], [])
+
+    def test_the_commands_of_the_docs(self):
+        self.night()
+        page = (TOOLS.parent / "docs/WAREHOUSE.md").read_text()
+        commands = re.findall(r"`tools/warehouse (read shop [^`]*|init shop [^`]*)`", page)
+        self.assertEqual([command.split()[0] for command in commands], ["read", "init"])
+        ran = subprocess.run([TOOLS / "warehouse", *commands[0].split()], cwd=self.folder.parent, capture_output=True, text=True, check=True)
+        self.assertEqual(len(ran.stdout.splitlines()), 5)
+        words = [word if word in ("init", "shop") else SHOP / "data" / word for word in commands[1].split()]
+        room = self.folder.parent / "room"
+        room.mkdir()
+        ran = subprocess.run([TOOLS / "warehouse", *words], cwd=room, capture_output=True, text=True, check=True)
+        self.assertTrue((room / "shop/catalogue.toml").is_file())
+
+    def test_what_there_is_not_is_told_in_one_line(self):
+        none = f"{self.folder} has no version yet; `tools/warehouse night {self.folder} --commit` makes the first ones"
+        self.assertEqual(self.ran("read", "sales"), (3, [none]))
+        self.night()
+        has = "orders, lines, products, sales, daily_by_product, daily_by_region"
+        cases = {
+            ("sale",): (2, f"version 1 has no view 'sale'; it has {has}; did you mean sales?"),
+            ("../data/orders",): (2, f"version 1 has no view '../data/orders'; it has {has}; did you mean orders?"),
+            ("sales", "--version", "9"): (3, f"there is no version 9 in {self.folder}; there are 0, 1"),
+            ("sales", "--version", "../1"): (2, f"--version is a number from 0 to {2**63 - 1:,}, and not '../1'"),
+            ("sales", "--limit", "-1"): (2, f"--limit is a number from 0 to {2**63 - 1:,}, and not '-1'"),
+            ("sales", "--limit", "1" * 30): (2, f"--limit is a number from 0 to {2**63 - 1:,}, and not '{'1' * 30}'"),
+            ("sales", "--limit", "1", "--limit", "2"): (2, "--limit stands twice"),
+            ("sales", "--limit"): (2, "--limit wants a value"),
+            ("sales", "--where", "day"): (2, "a column and its value are asked for as COLUMN=VALUE, and not as 'day'"),
+            ("sales", "--where", "dya=x"): (2, "sales has no column 'dya'; it has day, region, product, pieces, cost; did you mean day?"),
+            ("sales", "--where", "cost=1.5"): (2, "cost is a whole number of 64 bits, and '1.5' is none"),
+            ("sales", "--format", "xml"): (2, "--format is csv or json, and not 'xml'"),
+            (): (2, "read takes a folder and a view"),
+        }
+        for words, (status, line) in cases.items():
+            command = [sys.executable, TOOLS / "warehouse", "read", self.folder, *words]
+            ran = subprocess.run(command, capture_output=True, text=True)
+            self.assertEqual((ran.returncode, ran.stdout, ran.stderr.splitlines()), (status, "", [line]))
+
+    def test_a_stopped_night_and_one_at_work_are_no_hindrance(self):
+        self.night()
+        self.put()
+        with self.under_way("--commit"):
+            self.assertEqual(self.read("orders"), (self.folder / "versions/1/data/orders.csv").read_text())
+
+
+class Pages(Kept):
+    """Pages of a table, from whatever row on."""
+
+    def table(self, text):
+        file = Path(self.program.parent) / "table.csv"
+        file.write_bytes(text.encode())
+        return Table("table", file, {"number": "int"})
+
+    def test_pages_from_any_row_on_make_the_whole(self):
+        source = random.Random(12)
+        cells = ["x", "tea, black", "two\nlines", "a \"quote\"", "", "a\rreturn", "two\r\nends", "ä"]
+        rows = [(number, source.choice(cells)) for number in range(3 * STEP + 5)]
+        quoted = ('"' + text.replace('"', '""') + '"' for _, text in rows)
+        text = "#,number,text\n" + "".join(f"2,{number},{cell}\n" for (number, _), cell in zip(rows, quoted))
+        table = self.table(text)
+        for after in (0, 1, STEP - 1, STEP, STEP + 1, 2 * STEP, 3 * STEP + 4, 3 * STEP + 5, 10**9, 5, STEP):
+            found = list(selected(table, [], after, 7))
+            self.assertEqual(found, [(number + 1, (2, rows[number])) for number in range(after, min(after + 7, len(rows)))])
+        self.assertEqual([row for _, (_, row) in table.rows()], rows)
+
+    def test_a_table_of_a_first_version_is_read_as_it_was_written(self):
+        table = self.table("\ufeffnumber,text\r\n1,a\r\n\r\n+2,b\r3,c\r\n")
+        self.assertEqual([each for _, each in table.rows()], [(1, (1, "a")), (1, (2, "b")), (1, (3, "c"))])
+        self.assertEqual([each for _, each in selected(table, ["number=2"])], [(1, (2, "b"))])
+
+    def test_many_threads_share_a_table(self):
+        rows = 4 * STEP
+        table = self.table("#,number,text\n" + "".join(f"1,{number},t\n" for number in range(rows)))
+        wrong = []
+
+        def look(seed):
+            source = random.Random(seed)
+            for _ in range(10):
+                after = source.randrange(rows)
+                number, (_, row) = next(iter(selected(table, [], after, 1)))
+                if (number, row[0]) != (after + 1, after):
+                    wrong.append((after, number, row))
+
+        threads = [Thread(target=look, args=(seed,)) for seed in range(8)]
+        for thread in threads:
+            thread.start()
+        for thread in threads:
+            thread.join()
+        self.assertEqual(wrong, [])
+
+
+class Holding(Kept):
+    """Versions that are held."""
+
+    def test_a_night_lets_a_held_version_stay_and_one_that_is_let_go_is_pruned(self):
+        self.night()
+        with held.Held(self.folder) as kept:
+            self.assertEqual(kept.number, 1)
+            self.put()
+            self.night("--keep", "1")
+            self.assertEqual(self.versions(), ["1", "2"])
+        self.put(b"#,id,day,region\n1,9,Friday,south\n")
+        self.night("--keep", "1")
+        self.assertEqual(self.versions(), ["3"])
+        self.assertRaises(Failure, held.Held, self.folder, 1)
+
+    def test_nobody_waits_for_a_version_that_is_being_removed(self):
+        self.night()
+        handle = os.open(self.folder / "versions/0", os.O_RDONLY)
+        fcntl.flock(handle, fcntl.LOCK_EX)
+        self.assertIsNone(held.hold(self.folder / "versions/0"))
+        os.close(handle)
+        kept = held.hold(self.folder / "versions/0")
+        self.assertIsNotNone(kept)
+        os.close(kept)

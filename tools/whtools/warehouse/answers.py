@@ -1,0 +1,298 @@
+"""What a folder answers to those who read over the net: rows of one version, what there is, sessions, and pages of nights.
+
+A path is a view's name or one of a few others; it never leads to a file by itself.
+"""
+
+import io
+import json
+import os
+import re
+from contextlib import contextmanager
+from http import HTTPStatus
+from http.cookies import CookieError, SimpleCookie
+from itertools import islice
+from typing import NamedTuple
+from urllib.parse import parse_qsl, unquote, urlencode, urlsplit
+
+from .finding import Failure
+from .held import Held
+from .reading import Missing, Tables, as_object, csv_lines, selected, whole_number
+from .serve_page import page_of
+from .sessions import Full, Over, Sessions
+from .status import BAD_WORDS
+from .versions import named, whole
+
+USUAL, MOST, MOST_FIELDS, SHOWN = 1_000, 10_000, 20, 80
+FIELDS, SEVERAL = ("version", "after", "limit", "format", "session", "where"), ("where",)
+REPORT = re.compile(r"/reports/((?:0|[1-9][0-9]{0,18}|preview)\.html)")
+SESSION = re.compile(r"/session/([A-Za-z0-9_-]{1,64})")
+JSON, CSV, HTML = "application/json", "text/csv; charset=utf-8; header=present", "text/html; charset=utf-8"
+
+
+class Refused(Exception):
+    """A request that is refused, with its status and a line that says why."""
+
+    def __init__(self, status, text, **headers):
+        super().__init__(status, text)
+        self.status, self.text, self.headers = status, text, headers
+
+
+class Request(NamedTuple):
+    """A request: its method, its target, and the headers that are looked at."""
+
+    method: str
+    target: str
+    cookie: str = ""
+    accept: str = ""
+
+
+class Answer(NamedTuple):
+    """An answer: its status, what its body is, the body, and further headers."""
+
+    status: int
+    kind: str
+    body: bytes
+    headers: dict = {}
+
+
+def as_json(status, found, **headers):
+    return Answer(status, JSON, (json.dumps(found, ensure_ascii=False) + "\n").encode(), headers)
+
+
+def shown(text):
+    """A text of the request as a line of an answer has it."""
+    return repr(text[:SHOWN])
+
+
+def fields_of(query):
+    """The fields of a query, each once at most, but for those that may stand several times."""
+    try:
+        pairs = parse_qsl(query, keep_blank_values=True, strict_parsing=bool(query), max_num_fields=MOST_FIELDS, errors="strict")
+    except ValueError:
+        raise Refused(HTTPStatus.BAD_REQUEST, "the query is not NAME=VALUE&NAME=VALUE, or has too many of these") from None
+    found = {}
+    for name, value in pairs:
+        if name not in FIELDS:
+            raise Refused(HTTPStatus.BAD_REQUEST, f"there is no field {shown(name)}; there are {', '.join(FIELDS)}")
+        if name in found and name not in SEVERAL:
+            raise Refused(HTTPStatus.BAD_REQUEST, f"{name} stands twice")
+        found.setdefault(name, []).append(value)
+    return {name: values if name in SEVERAL else values[0] for name, values in found.items()}
+
+
+def cookie_of(text):
+    """The session that a browser's cookie names, or None."""
+    try:
+        cookie = SimpleCookie(text[:4096]).get("session")
+    except CookieError:
+        return None
+    return cookie.value if cookie else None
+
+
+@contextmanager
+def refusing():
+    """Has what a command would refuse be refused over the net."""
+    try:
+        yield
+    except Missing as failure:
+        raise Refused(HTTPStatus.NOT_FOUND, str(failure.lines[0])) from None
+    except Failure as failure:
+        status = HTTPStatus.BAD_REQUEST if failure.status == BAD_WORDS else HTTPStatus.SERVICE_UNAVAILABLE
+        raise Refused(status, str(failure.lines[0])) from None
+
+
+class Answers:
+    """What is answered of a folder."""
+
+    def __init__(self, folder, promise):
+        self.folder, self.sessions, self.kept = folder, Sessions(folder, promise), {}
+
+    def answer(self, request):
+        """The answer to a request, whatever it is."""
+        try:
+            parts = urlsplit(request.target)
+            path = unquote(parts.path, errors="strict")
+            return self.route(request, path, fields_of(parts.query))
+        except Refused as refused:
+            return as_json(refused.status, {"error": refused.text}, **refused.headers)
+        except Over as over:
+            return as_json(HTTPStatus.GONE, {"error": self.over_text(over), "version": over.version}, **cookie("", 0))
+        except ValueError:
+            return as_json(HTTPStatus.BAD_REQUEST, {"error": "the target is no path with a query"})
+
+    def route(self, request, path, fields):
+        """Finds what is asked for by the path and the method."""
+        found = SESSION.fullmatch(path)
+        if request.method == "POST" and path == "/session":
+            return self.begin(request)
+        if request.method == "POST" and path == "/session/leave":
+            return self.leave(request, fields.get("session") or cookie_of(request.cookie) or "")
+        if request.method == "DELETE" and found:
+            return self.leave(request, found[1])
+        if request.method not in ("GET", "HEAD"):
+            more = "DELETE" if found else "POST" if path in ("/session", "/session/leave") else ""
+            allowed = ", ".join(filter(None, ("GET", "HEAD", more)))
+            raise Refused(HTTPStatus.METHOD_NOT_ALLOWED, f"{request.method[:SHOWN]} is not answered here", Allow=allowed)
+        if path == "/":
+            return self.page(request, fields)
+        if path == "/versions.json":
+            return self.versions(request, fields)
+        if found:
+            return self.told_session(found[1])
+        report = REPORT.fullmatch(path)
+        return self.report(report[1]) if report else self.rows(request, path.removeprefix("/"), fields)
+
+    # ---- sessions
+
+    def begin(self, request):
+        """Opens a session at the current version."""
+        try:
+            with refusing():
+                session = self.sessions.begin()
+        except Full:
+            raise Refused(HTTPStatus.SERVICE_UNAVAILABLE, "there are as many sessions as there may be; try again later") from None
+        headers = cookie(session.name, int(self.sessions.promise))
+        if "text/html" in request.accept:
+            return Answer(HTTPStatus.SEE_OTHER, HTML, b"", headers | {"Location": "/"})
+        return as_json(HTTPStatus.CREATED, self.about(session), Location=f"/session/{session.name}", **headers)
+
+    def leave(self, request, name):
+        """Ends a session."""
+        is_browser = "text/html" in request.accept
+        try:
+            is_left = self.sessions.leave(name)
+        except Over:
+            if not is_browser:
+                raise
+            is_left = True
+        if is_browser:
+            return Answer(HTTPStatus.SEE_OTHER, HTML, b"", {"Location": "/", **cookie("", 0)})
+        if not is_left:
+            raise Refused(HTTPStatus.NOT_FOUND, f"there is no session {shown(name)}")
+        return as_json(HTTPStatus.OK, {"left": name}, **cookie("", 0))
+
+    def about(self, session):
+        return {"session": session.name, "version": session.pin.number, "seconds": int(self.sessions.left(session))}
+
+    def told_session(self, name):
+        session = self.sessions.find(name)
+        if session is None:
+            raise Refused(HTTPStatus.NOT_FOUND, f"there is no session {shown(name)}")
+        return as_json(HTTPStatus.OK, self.about(session))
+
+    def over_text(self, over):
+        """That a session is over, and why."""
+        why = "left" if over.has_left else f"had its promised time, {self.sessions.promise:,} seconds"
+        return f"this session {why}; it pinned version {over.version}, and another one is opened by POST /session"
+
+    def session_of(self, request, fields):
+        """The session that a request is of, or None."""
+        name = fields.get("session") or cookie_of(request.cookie)
+        if not name:
+            return None
+        session = self.sessions.find(name)
+        if session is None and "session" in fields:
+            raise Refused(HTTPStatus.NOT_FOUND, f"there is no session {shown(name)}")
+        return session
+
+    # ---- versions
+
+    def held(self, request, fields):
+        """The version that is read: the session's, one that is asked for, or the current one; held by the request itself."""
+        session, asked = self.session_of(request, fields), fields.get("version")
+        with refusing():
+            number = None if asked is None else whole_number(asked, "version", 0, 2**63 - 1)
+        if session and number not in (None, session.pin.number):
+            text = f"this session pins version {session.pin.number}, and version {number} is asked for; leave it first"
+            raise Refused(HTTPStatus.CONFLICT, text)
+        number = session.pin.number if session else number
+        try:
+            return Held(self.folder, number)
+        except Failure as failure:
+            raise self.lost(number, failure) from None
+
+    def lost(self, number, failure):
+        """Why a version cannot be read."""
+        newest = max(whole(self.folder), default=-1)
+        if number is None:
+            return Refused(HTTPStatus.SERVICE_UNAVAILABLE, str(failure.lines[0]))
+        if number < newest:
+            return Refused(HTTPStatus.GONE, f"version {number} is no longer kept")
+        return Refused(HTTPStatus.NOT_FOUND, f"there is no version {number}")
+
+    def tables(self, held):
+        """The tables of a held version, which are the same as long as it is there."""
+        found = os.fstat(held.handle)
+        key = held.number, found.st_dev, found.st_ino, found.st_ctime_ns
+        if key not in self.kept:
+            there = set(whole(self.folder))
+            self.kept = {each: tables for each, tables in list(self.kept.items()) if each[0] in there}
+            self.kept[key] = Tables(self.folder, held.number)
+        return self.kept[key]
+
+    # ---- what is read
+
+    def rows(self, request, name, fields):
+        """A page of a view."""
+        with refusing():
+            after = whole_number(fields.get("after", "0"), "after", 0, 2**63 - 1)
+            limit = whole_number(fields.get("limit", str(USUAL)), "limit", 1, MOST)
+        kind = fields.get("format", "csv" if "text/csv" in request.accept else "json")
+        if kind not in ("json", "csv"):
+            raise Refused(HTTPStatus.BAD_REQUEST, f"format is json or csv, and not {shown(kind)}")
+        with self.held(request, fields) as held:
+            with refusing():
+                table = self.tables(held).table(name)
+                found = list(islice(selected(table, fields.get("where", ()), after), limit + 1))
+            following = found[limit - 1][0] if len(found) > limit else None
+            return self.page_of_rows(held.number, table, found[:limit], (fields, after, limit, following), kind)
+
+    def page_of_rows(self, version, table, found, asked, kind):
+        """The answer that has these rows."""
+        fields, after, limit, following = asked
+        headers = {"X-Version": str(version)}
+        if following is not None:
+            again = {**fields, "version": version, "after": following, "limit": limit}
+            headers |= {"X-Next": str(following), "Link": f'</{table.name}?{urlencode(again, doseq=True)}>; rel="next"'}
+        if kind == "csv":
+            return Answer(HTTPStatus.OK, CSV, "".join(csv_lines(table, found)).encode(), headers)
+        rows = [as_object(table, counted) for _, counted in found]
+        return as_json(HTTPStatus.OK, {"view": table.name, "version": version, "after": after, "next": following, "rows": rows}, **headers)
+
+    def versions(self, request, fields):
+        """The versions that there are, and the views of the one that is read."""
+        with self.held(request, fields) as held, refusing():
+            tables = self.tables(held)
+            views = {name: tables.table(name).columns for name in tables.paths}
+            told = {name: dict(zip(columns.names, columns.kinds)) for name, columns in views.items()}
+            found = {"current": named(self.folder), "versions": whole(self.folder), "version": held.number, "views": told}
+        return as_json(HTTPStatus.OK, found)
+
+    def page(self, request, fields):
+        """The page for a browser."""
+        over = None
+        try:
+            session = self.session_of(request, fields)
+        except Over as found:
+            session, over, request = None, found, request._replace(cookie="")
+            fields = {name: value for name, value in fields.items() if name != "session"}
+        with self.held(request, fields) as held, refusing():
+            left = self.sessions.left(session) if session else None
+            told = self.over_text(over) if over else ""
+            text = page_of(self.folder, self.tables(held), left, self.sessions.promise, told)
+        return Answer(HTTPStatus.OK, HTML, text.encode(), cookie("", 0) if over else {})
+
+    def report(self, name):
+        """A page of a night, which `report` made; a link is none."""
+        try:
+            handle = os.open(self.folder / "reports" / name, os.O_RDONLY | os.O_NOFOLLOW)
+        except OSError:
+            made = f"`tools/warehouse report {self.folder} {name.removesuffix('.html')}` makes it"
+            raise Refused(HTTPStatus.NOT_FOUND, f"there is no report {name}; {made}") from None
+        with io.FileIO(handle) as file:
+            return Answer(HTTPStatus.OK, HTML, file.readall())
+
+
+def cookie(name, seconds):
+    """The header by which a browser keeps a session, or forgets it."""
+    return {"Set-Cookie": f"session={name}; HttpOnly; SameSite=Strict; Path=/; Max-Age={seconds}"}

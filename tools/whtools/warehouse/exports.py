@@ -1,0 +1,155 @@
+"""CSV files as other programs write them, read as base tables: their names, columns, kinds and rows."""
+
+import csv
+import io
+import re
+from functools import cached_property
+
+from .finding import Failure
+from .formulas import MOST_COLUMNS, NAME
+from .packing import MARK
+from .records import MOST
+from .status import BAD_INPUT
+
+# A whole number that is written as nights write it again: with zeros before it, or a plus, it is a text, such as a postcode.
+WHOLE, DECIMAL = re.compile(r"0|-?[1-9][0-9]{0,18}"), re.compile(r"[+-]?[0-9]+[.,][0-9]+")
+DATE = re.compile(r"[0-9]{4}-[0-9]{2}-[0-9]{2}([ T].*)?|[0-9]{1,2}[./][0-9]{1,2}[./][0-9]{4}")
+DAY = re.compile(r"(19|20)[0-9]{2}(0[1-9]|1[0-2])(0[1-9]|[12][0-9]|3[01])")
+DELIMITERS = ",;\t|"
+
+
+def name_of(text, usual):
+    """A text as the name of a view or of a column."""
+    name = re.sub(r"[^A-Za-z0-9_]+", "_", text.strip()).strip("_").lower()
+    if name[:1].isdigit():
+        name = f"_{name}"
+    return name[:64] if NAME.fullmatch(name[:64]) else usual
+
+
+def free(name, taken):
+    """A name that is not taken: this one, or with the first number behind it that makes it one."""
+    others = (f"{name[:60]}_{number}" for number in range(2, len(taken) + 3))
+    return next(each for each in (name, *others) if each not in taken)
+
+
+def own_names(texts):
+    """The columns' names, each once."""
+    found = []
+    for number, text in enumerate(texts, 1):
+        found.append(free(name_of(text, f"column_{number}"), found))
+    return found
+
+
+class Column:
+    """A column of an export: its name, its cells, and what these are."""
+
+    def __init__(self, name, cells):
+        self.name, self.cells = name, cells
+
+    @cached_property
+    def values(self):
+        return set(self.cells)
+
+    @cached_property
+    def kind(self):
+        """Numbers where each cell is one and there is one at all."""
+        is_number = self.values and all(WHOLE.fullmatch(cell) and -MOST <= int(cell) < MOST for cell in self.values)
+        return "int" if is_number else "text"
+
+    @cached_property
+    def is_key(self):
+        """Whether no two rows have the same value, and none is empty."""
+        return len(self.values) == len(self.cells) > 0 and "" not in self.values
+
+    @cached_property
+    def is_date(self):
+        """Whether each number is a date, written as yyyymmdd."""
+        return self.kind == "int" and all(DAY.fullmatch(cell) for cell in self.values)
+
+    @property
+    def written(self):
+        return f'"{self.name}"' if self.kind == "int" else f'"{self.name}:text"'
+
+    @cached_property
+    def note(self):
+        """What a reader of the catalogue should know of a text that looks like a number or a date."""
+        filled = self.values - {""}
+        if self.kind == "int" or not filled:
+            return ""
+        if "" in self.values and all(map(WHOLE.fullmatch, filled)):
+            return f"{self.name} has empty cells, so it is a text; put a number that nothing else has into them to have numbers"
+        if all(DECIMAL.fullmatch(cell) or WHOLE.fullmatch(cell) for cell in filled) and any(map(DECIMAL.fullmatch, filled)):
+            return f"{self.name} has parts behind the point, so it is a text; keep cents, such as 1250, to add it up"
+        if all(map(DATE.fullmatch, filled)):
+            return f"{self.name} has dates as texts, which compare for equality alone; write them as yyyymmdd to sort them"
+        return ""
+
+
+class Export:
+    """A CSV file: the name of its view, its columns, and how often each row counts where that is told."""
+
+    def __init__(self, path):
+        self.path, self.name = path, name_of(path.name.removesuffix(".csv").removesuffix(".CSV"), "table")
+        records = self.records()
+        header = next(records, None)
+        if header is None:
+            raise Failure(BAD_INPUT, f"{path}:1:1: this file is empty; a table has a header at least")
+        self.is_counted, width, rows = header[:1] == ["#"], len(header), []
+        for line, record in self.numbered(records):
+            if len(record) != width:
+                raise Failure(BAD_INPUT, f"{path}:{line}:1: this record has {len(record)} cells and the header has {width}")
+            rows.append(record)
+        if width - self.is_counted > MOST_COLUMNS or width == self.is_counted:
+            raise Failure(BAD_INPUT, f"{path}:1:1: this file has {width - self.is_counted} columns; a view has 1 to {MOST_COLUMNS}")
+        columns = list(zip(*rows)) or [()] * width
+        self.counts = self.judged_counts(columns.pop(0)) if self.is_counted else None
+        self.columns = [Column(name, cells) for name, cells in zip(own_names(header[self.is_counted :]), columns)]
+
+    def records(self):
+        """The records, with the delimiter that the header has most."""
+        try:
+            text = self.path.read_bytes().removeprefix(MARK).decode()
+        except UnicodeDecodeError as error:
+            line = self.path.read_bytes()[: error.start].count(b"\n") + 1
+            raise Failure(BAD_INPUT, f"{self.path}:{line}:1: this line is not UTF-8; iconv -f LATIN1 -t UTF-8 may make it so") from None
+        first = text.partition("\n")[0]
+        delimiter = max(DELIMITERS, key=first.count)
+        self.reader = csv.reader(io.StringIO(text, newline=""), delimiter=delimiter, strict=True)
+        return filter(None, self.read())
+
+    def read(self):
+        """The records; a quote that is not closed or stands within a cell is told with its line."""
+        try:
+            yield from self.reader
+        except csv.Error as error:
+            raise Failure(BAD_INPUT, f"{self.path}:{self.reader.line_num}:1: this is not CSV: {error}") from None
+
+    def numbered(self, records):
+        """The records, each with the line that it begins at."""
+        line = self.reader.line_num + 1
+        for record in records:
+            yield line, record
+            line = self.reader.line_num + 1
+
+    def judged_counts(self, cells):
+        for cell in cells:
+            if not (cell.isascii() and cell.isdecimal() and 0 < int(cell) < MOST):
+                raise Failure(BAD_INPUT, f"{self.path}:1:1: the column # has counts, which are positive, and {cell[:40]!r} is none")
+        return cells
+
+    @property
+    def rows(self):
+        return len(self.columns[0].cells)
+
+    def column(self, name):
+        return next(column for column in self.columns if column.name == name)
+
+    @property
+    def text(self):
+        """The table as a folder has it."""
+        written = io.StringIO()
+        writer = csv.writer(written, lineterminator="\n")
+        columns = [column.cells for column in self.columns]
+        writer.writerow(["#"] * self.is_counted + [column.name for column in self.columns])
+        writer.writerows(zip(*([self.counts] if self.is_counted else []), *columns))
+        return written.getvalue()

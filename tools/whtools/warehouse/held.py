@@ -1,0 +1,72 @@
+"""Versions that are held while they are read. Nothing here waits: a version that is being removed is one that is gone."""
+
+import fcntl
+import os
+
+from .finding import Failure
+from .status import BAD_INPUT
+from .versions import VERSIONS, named, place, whole
+
+
+def hold(version):
+    """A handle by which nights let a version stay, or None where it is gone or is being removed."""
+    try:
+        handle = os.open(version, os.O_RDONLY | os.O_DIRECTORY)
+    except OSError:
+        return None
+    try:
+        fcntl.flock(handle, fcntl.LOCK_SH | fcntl.LOCK_NB)
+        if version.is_dir():
+            return handle
+    except BlockingIOError:
+        pass
+    os.close(handle)
+    return None
+
+
+def hold_current(folder):
+    """The number of the current version, and the handle that holds it. Where a night turned meanwhile it is the newer one."""
+    tried = None
+    while True:
+        number = named(folder)
+        if number is None:
+            raise Failure(BAD_INPUT, f"{folder} has no version yet; `tools/warehouse night {folder} --commit` makes the first ones")
+        handle = hold(place(folder, number))
+        if handle is not None:
+            return number, handle
+        if number == tried:
+            raise Failure(BAD_INPUT, f"{folder / 'current'} names {VERSIONS}/{number}, which is not there")
+        tried = number
+
+
+def hold_one(folder, number):
+    """The same of a version that is asked for."""
+    handle = hold(place(folder, number))
+    if handle is None:
+        there = ", ".join(map(str, whole(folder))) or "none"
+        raise Failure(BAD_INPUT, f"there is no version {number} in {folder}; there are {there}")
+    return number, handle
+
+
+class Held:
+    """A version of a folder, the current one where none is asked for, which stays until it is let go."""
+
+    def __init__(self, folder, number=None):
+        self.folder = folder
+        self.number, self.handle = hold_current(folder) if number is None else hold_one(folder, number)
+
+    @property
+    def path(self):
+        return place(self.folder, self.number)
+
+    def release(self):
+        """Lets the version go."""
+        if self.handle is not None:
+            os.close(self.handle)
+            self.handle = None
+
+    def __enter__(self):
+        return self
+
+    def __exit__(self, *_):
+        self.release()

@@ -1,0 +1,43 @@
+"""The nights of a folder as small curves."""
+
+from html import escape
+
+from .report_page import element
+
+WIDTH, HEIGHT, EDGE = 240, 56, 5
+# How many views have a curve of their own at most.
+MOST = 24
+
+
+def places(values):
+    """Where each value stands in the picture, from left to right; the least at its foot and the greatest at its head."""
+    least, most = min(values), max(values)
+    across = (WIDTH - 2 * EDGE) / max(len(values) - 1, 1)
+    for number, value in enumerate(values):
+        up = (value - least) / (most - least) if most > least else 0.5
+        yield EDGE + number * across, HEIGHT - EDGE - up * (HEIGHT - 2 * EDGE)
+
+
+def curve(name, versions, values):
+    """One curve, with its last value, and what it goes between."""
+    points = [f"{across:.1f},{down:.1f}" for across, down in places(values)]
+    across, down = points[-1].split(",")
+    said = f"{name}, {versions[0]} to {versions[-1]}: {', '.join(f'{value:,}' for value in values)}"
+    drawn = f'<polyline points="{" ".join(points)}" vector-effect="non-scaling-stroke"/><circle cx="{across}" cy="{down}" r="3.5"/>'
+    box = f'<svg viewBox="0 0 {WIDTH} {HEIGHT}" role="img" aria-label="{escape(said)}">{drawn}</svg>'
+    least, most = min(values), max(values)
+    between = f"{least:,} to {most:,}" if most > least else "the same each night"
+    return element("figure", f"<b>{values[-1]:,}</b>{escape(name)}{box}" + element("figcaption", between))
+
+
+def curves(history, bases, views):
+    """The curves of all nights: their work, what changed, and the rows of the views, those first that changed most."""
+    versions, nights = list(history), list(history.values())
+    drawn = [curve("work, in rows", versions, [night.work for night in nights])]
+    drawn.append(curve("changed rows of base views", versions, [night.changed(bases) for night in nights]))
+    derived = [name for name in views if name not in bases]
+    drawn.append(curve("changed rows of derived views", versions, [night.changed(derived) for night in nights]))
+    there = [name for name in views if all(name in night.sizes for night in nights)]
+    there.sort(key=lambda name: -sum(night.sizes[name][2] for night in nights))
+    drawn += [curve(f"rows of {name}", versions, [night.sizes[name][1] for night in nights]) for name in there[:MOST]]
+    return element("div", "\n".join(drawn), class_="curves"), max(len(there) - MOST, 0)

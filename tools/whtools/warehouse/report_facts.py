@@ -1,0 +1,162 @@
+"""What a night's report is made of: its steps, the views' sizes, where the tables before and after it lie, and the nights before it."""
+
+import re
+import time
+from contextlib import ExitStack
+from typing import NamedTuple
+
+from .catalogue import Catalogue
+from .explain import Step
+from .finding import Failure
+from .held import Held
+from .inputs import CHANGES, by_view
+from .reading import catalogue_of, records
+from .sizes import HEADER
+from .status import BAD_INPUT
+from .strategy import Strategy
+from .versions import named, place, whole
+
+STEP = re.compile(r"(comp \w+ from [\w ]+|inst \w+): ([0-9]+)(?:, ([0-9.]+) s\b)?")
+
+
+class Told(NamedTuple):
+    """What a report.txt says: how the strategy was come by, its lines, the rows of each step and its seconds where they are told, the
+    sizes, and what readers saw.
+    """
+
+    how: str
+    strategy: str
+    rows: list
+    seconds: list
+    sizes: dict
+    readers: list
+
+    @property
+    def work(self):
+        return sum(self.rows)
+
+    def changed(self, names):
+        """How many rows of these views the night changed."""
+        return sum(self.sizes[name][2] for name in names if name in self.sizes)
+
+
+def sizes_in(text):
+    """The sizes that a report ends with. How many rows a view had before a first night may be left open."""
+    records = list(filter(None, text.partition(f"{HEADER}\n")[2].splitlines()))
+    cells = (record.split(",")[:4] for record in records)
+    return {name: tuple(int(cell) if cell else None for cell in numbers) for name, *numbers in cells}
+
+
+def told(text):
+    """What the text of a report says."""
+    found = [match for match in map(STEP.match, text.splitlines()) if match]
+    strategy = "".join(f"{match[1]}\n" for match in found)
+    readers = [line for line in text.splitlines() if line.startswith("reader ")]
+    how = text.partition("\n")[0]
+    rows, seconds = [int(match[2]) for match in found], [match[3] and float(match[3]) for match in found]
+    return Told("" if STEP.match(how) else how, strategy, rows, seconds, sizes_in(text), readers)
+
+
+def counted(table):
+    """How many rows a table has that a night wrote or the program printed."""
+    return sum(int(line.partition(b",")[0]) for line in records(table) if line)
+
+
+class Night:
+    """A night: a version with the one before it, or the preview in new/. Both are held until they are let go."""
+
+    def __init__(self, folder, number=None):
+        self.folder, self.number, self.kept = folder, number, ExitStack()
+        if number is None:
+            self.number = named(folder)
+        if self.number is None and not (folder / "new/report.txt").is_file():
+            raise Failure(BAD_INPUT, f"there is no night in {folder} yet; `tools/warehouse night {folder} --commit` carries one out")
+        if self.number is not None:
+            self.kept.enter_context(Held(folder, self.number))
+        before = number_before(folder, self.number)
+        self.before = None if before is None else self.held(before)
+        self.report = self.root / "report.txt"
+        if not self.report.is_file():
+            raise Failure(BAD_INPUT, f"version {self.number} of {folder} is of before its first night, and has no report")
+        self.told = told(self.report.read_text())
+        self.catalogue = Catalogue(folder, lenient=True) if self.number is None else catalogue_of(folder, self.number)
+        self.views = [view for view in self.catalogue.views if view.name in self.told.sizes]
+        self.strategy = Strategy(self.told.strategy, self.views)
+
+    def count(self, tables):
+        """Counts how many rows the views had before the night, where its report leaves that open and their tables of then are known."""
+        sizes = dict(self.told.sizes)
+        for view in self.views:
+            if sizes[view.name][0] is None and view.name in tables:
+                sizes[view.name] = (counted(tables[view.name]), *sizes[view.name][1:])
+        self.told = self.told._replace(sizes=sizes)
+
+    @property
+    def knows_sizes(self):
+        """Whether it is known of each view how many rows it had."""
+        return all(before is not None for before, _, _ in self.told.sizes.values())
+
+    def held(self, number):
+        """The place of the version before, which is held as well; None where it is no longer there."""
+        try:
+            return self.kept.enter_context(Held(self.folder, number)).path
+        except Failure:
+            return None
+
+    @property
+    def root(self):
+        return self.folder / "new" if self.number is None else place(self.folder, self.number)
+
+    @property
+    def title(self):
+        return "preview" if self.number is None else f"version {self.number}"
+
+    @property
+    def made(self):
+        """When the night's report was written."""
+        return time.strftime("%Y-%m-%d %H:%M", time.localtime(self.report.stat().st_mtime))
+
+    @property
+    def bases(self):
+        return [view.name for view in self.views if view.is_base]
+
+    def steps(self):
+        """The steps, by the sizes that the night had."""
+        return [Step(self.strategy, number, self.told.sizes) for number in range(len(self.strategy.expressions))]
+
+    # ---- files
+
+    def table_after(self, view):
+        kind = "data" if view.is_base else "views"
+        return self.root / f"{view.name}.csv" if self.number is None else self.root / kind / f"{view.name}.csv"
+
+    def table_before(self, view):
+        """The table of before the night, or None where it is no longer there or never was."""
+        kind = "data" if view.is_base else "views"
+        root = self.before or (self.folder if self.number is None and named(self.folder) is None else None)
+        file = root / kind / f"{view.name}.csv" if root else None
+        return file if file and file.is_file() else None
+
+    def changes(self, view):
+        """The files of changes of a view that the version keeps."""
+        delta = self.root / "deltas" / f"{view.name}.csv"
+        if delta.is_file():
+            return [delta]
+        return [source.path for source in by_view(self.root / "changes", "changes", CHANGES).get(view.name, ())]
+
+    def history(self):
+        """What each night that is kept said, up to this one, by its version."""
+        numbers = [each for each in whole(self.folder) if self.number is None or each <= self.number]
+        files = [(each, place(self.folder, each) / "report.txt") for each in numbers]
+        found = {}
+        for number, file in files:
+            try:
+                found[number] = told(file.read_text())
+            except OSError:
+                continue
+        return found if self.number is not None else found | {"preview": self.told}
+
+
+def number_before(folder, number):
+    """The number of the version before a night, which is the current one before a preview."""
+    return named(folder) if number is None else number - 1 if number else None

@@ -1,0 +1,138 @@
+"""The first rows that a night changed in a view, each old row beside the new one that took its place."""
+
+import csv
+import io
+import os
+from typing import NamedTuple
+
+from ..bundle import part, unpack
+from . import program
+from .finding import Failure
+from .packing import MARK
+from .reading import records, value_of
+from .strategy import at_once, written
+
+FIRST, CANDIDATES = 8, 400
+
+
+class Changed(NamedTuple):
+    """The first changed rows as pairs of an old and a new row, of which one may be missing, each row with its count; and how many
+    rows differ in all."""
+
+    pairs: list
+    differ: int
+
+
+def rows_of(lines, columns, is_counted=True):
+    """The rows that these records are, with their counts."""
+    text = "\n".join(line.decode(errors="replace") for line in lines)
+    for record in filter(None, csv.reader(io.StringIO(text, newline=""))):
+        count = int(record.pop(0)) if is_counted else 1
+        yield tuple(value_of(cell, kind) for cell, (_, kind) in zip(record, columns)), count
+
+
+def is_written(content):
+    """Whether a table is as nights write it, so that a line of two tables is a row with one count."""
+    return content.startswith((b"#,", b"#\n")) and b"\r" not in content
+
+
+def names_in(content):
+    """The columns of a table, without that of the counts."""
+    header = next(csv.reader(io.StringIO(content.removeprefix(MARK).partition(b"\n")[0].decode(errors="replace"))), [])
+    return header[header[:1] == ["#"] :]
+
+
+def differences(before, after, columns):
+    """The rows whose counts differ between the texts of two tables, each with its count before and after."""
+    contents = [content.removeprefix(MARK) for content in (before, after)]
+    tables = [records(content if is_written(content) else content.replace(b"\r\n", b"\n")) for content in contents]
+    if all(map(is_written, contents)):
+        old, new = map(set, tables)
+        tables = [old - new, new - old]
+    found = {}
+    for place, (content, lines) in enumerate(zip(contents, tables)):
+        for row, count in rows_of(lines, columns, content.startswith((b"#", b'"#"'))):
+            found.setdefault(row, [0, 0])[place] += count
+    return {row: counts for row, counts in found.items() if counts[0] != counts[1]}
+
+
+def of_changes(files, columns):
+    """What files of changes add up to: a row that leaves was there as often, and one that comes is there afterwards."""
+    found = {}
+    for file in files:
+        for row, count in rows_of(records(file.read_bytes()), columns):
+            found[row] = found.get(row, 0) + count
+    return {row: [max(-count, 0), max(count, 0)] for row, count in found.items() if count}
+
+
+def alike(one, other):
+    """How many cells of two rows are the same."""
+    return sum(left == right for left, right in zip(one, other))
+
+
+def partner(row, others, groups):
+    """The row that stands beside one that left: of a summary that of its group, otherwise the one most like it, of which a third of the
+    cells may differ, and one in any case."""
+    if groups is not None:
+        return next((other for other in others if other[:groups] == row[:groups]), None)
+    best = max(others, key=lambda other: alike(row, other), default=None)
+    return best if best is not None and len(row) - alike(row, best) <= max(1, len(row) // 3) < len(row) else None
+
+
+def by_value(row):
+    """What rows are sorted by; a column that was a text before stands behind numbers."""
+    return [(isinstance(cell, str), cell) for cell in row]
+
+
+def paired(found, groups):
+    """Pairs of an old and a new row, by what they show. A row of which more or fewer are there stands on both sides."""
+    rows = sorted(found, key=by_value)[:CANDIDATES]
+    coming = [row for row in rows if not found[row][0]]
+    pairs = []
+    for row in rows:
+        before, after = found[row]
+        if not before:
+            continue
+        other = row if after else partner(row, coming, groups)
+        if other in coming:
+            coming.remove(other)
+        pairs.append(((row, before), other and (other, found[other][1])))
+    pairs += [(None, (row, found[row][1])) for row in coming]
+    return sorted(pairs, key=lambda pair: by_value((pair[0] or pair[1])[0]))
+
+
+def found_in(night, view, opening):
+    """The rows of a view that differ, with their counts before and after, or None where they cannot be told any more."""
+    before, after, files = night.table_before(view), night.table_after(view), night.changes(view)
+    if before and os.path.samefile(before, after):
+        return {}
+    old, new = opening.get(view.name) or (before.read_bytes() if before else None), after.read_bytes()
+    if old is not None:
+        return differences(old, new, view.columns) if names_in(old) == names_in(new) else None
+    return of_changes(files, view.columns) if files else None
+
+
+def changed(night, view, opening):
+    """The first rows of a view that a night changed, or None. `opening` has tables of before the night that no version has."""
+    found = found_in(night, view, opening)
+    if found is None:
+        return None
+    groups = None if view.is_base or "keep" in view.table else len(view.table["group"])
+    return Changed(paired(found, groups)[:FIRST], len(found))
+
+
+def opening(night, words):
+    """The derived views' tables before a night, where the version before it has none: a night without changes makes them. None of them
+    where the program gives none.
+    """
+    without = [view for view in night.views if not view.is_base and not night.table_before(view) and not night.changes(view)]
+    tables = {view.name: night.table_before(view) for view in night.views if view.is_base}
+    if not without or not all(tables.values()):
+        return {}
+    bundle = [part("catalogue", night.catalogue.content), part("strategy", written(at_once(night.views)).encode())]
+    bundle += [part(f"data {name}", path.read_bytes()) for name, path in tables.items()]
+    try:
+        found = unpack(program.answer(words.program, "night", b"".join(bundle)))
+    except Failure:
+        return {}
+    return {view.name: found[view.name] for view in without if view.name in found}

@@ -1,0 +1,75 @@
+"""The page of `serve` for a browser: the views of the version that is read, the versions, their reports, and the session."""
+
+import os
+import time
+from html import escape
+
+from .report_facts import told
+from .report_page import element, page, row, scrolling, section, table
+from .report_parts import number
+from .versions import named, place, whole
+
+REST = "GET /VIEW?version=N&after=A&limit=L&format=json|csv&where=COLUMN=VALUE"
+
+
+def report_of(folder, version):
+    """What the report of a version says, or None without one."""
+    try:
+        return told((place(folder, version) / "report.txt").read_text())
+    except OSError:
+        return None
+
+
+def view_row(tables, name, sizes):
+    """A view, with its columns and the ways to its rows."""
+    view, version = tables.views.get(name), tables.number
+    columns = ", ".join(f"{column} {kind}" for column, kind in (view.columns or [])) if view else ""
+    kind = "" if view is None else "base" if view.is_base else f"over {', '.join(view.over)}"
+    ways = (element("a", text, href=f"/{name}?version={version}&format={text.lower()}") for text in ("JSON", "CSV"))
+    rows = f"{sizes[name][1]:,}" if name in sizes else ""
+    cells = [(element("code", escape(name)), "fit"), (rows, "number fit"), escape(kind), (escape(columns), "soft")]
+    return row([*cells, (" ".join(ways), "fit")])
+
+
+def version_row(folder, version, current, shown):
+    """A version, with what its night came to; nothing where it was pruned meanwhile."""
+    found = report_of(folder, version)
+    try:
+        made = time.strftime("%Y-%m-%d %H:%M", time.localtime(place(folder, version).stat().st_mtime))
+    except OSError:
+        return ""
+    marks = [word for word, is_it in (("current", version == current), ("shown here", version == shown)) if is_it]
+    tags = " ".join(element("span", mark, class_="tag") for mark in marks)
+    name = element("a", f"version {version}", href=f"/?version={version}")
+    report = element("a", "report", href=f"/reports/{version}.html") if (folder / f"reports/{version}.html").is_file() else ""
+    numbers = [number(found.work), number(sum(size[2] for size in found.sizes.values()))] if found else ["", ""]
+    return row([(name, "fit"), tags, (made, "fit"), *numbers, (report, "fit")])
+
+
+def session_box(tables, left, promise, said):
+    """The session of this browser, if it has one, and how to open or to leave one."""
+    if left is not None:
+        text = f"Your session pins version {tables.number} for {left / 60:.0f} more minutes, whatever nights do meanwhile."
+        button = element("form", '<button>Leave it</button>', method="post", action="/session/leave")
+    else:
+        text = f"Each request reads one version whole. A session pins the current one for {promise / 60:g} minutes."
+        button = element("form", '<button>Open a session</button>', method="post", action="/session")
+    told_of = element("p", element("strong", escape(said[:1].upper() + said[1:] + "."))) if said else ""
+    return section("session", "Your session", told_of + element("p", text) + button)
+
+
+def page_of(folder, tables, left, promise, said):
+    """The page."""
+    name, found = os.path.basename(os.path.abspath(folder)), report_of(folder, tables.number)
+    sizes, current = found.sizes if found else {}, named(folder)
+    views = [view_row(tables, each, sizes) for each in tables.paths]
+    heads = ["view", ("rows", "number"), "", "columns", "read"]
+    versions = [version_row(folder, each, current, tables.number) for each in reversed(whole(folder))]
+    rest, following, after = (element("code", escape(text)) for text in (REST, "next", "after"))
+    about = element("p", f"Programs read by {rest}; a page's {following} is the {after} of the next one.", class_="soft")
+    parts = [section("views", f"The views of version {tables.number}", about + scrolling(table(heads, views), "the views"))]
+    heads = ["version", "", "made", ("work", "number"), ("changed rows", "number"), ""]
+    parts.append(session_box(tables, left, promise, said))
+    parts.append(section("versions", "The versions", scrolling(table(heads, versions), "the versions")))
+    header = element("header", element("h1", escape(name)) + element("p", f"Version {tables.number} of this warehouse.", class_="soft"))
+    return page(name, header + element("main", "\n".join(parts), id="content"))
