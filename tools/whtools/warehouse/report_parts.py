@@ -79,6 +79,7 @@ class Noted(NamedTuple):
     view: str
     sources: object
     rows: object
+    changed: object
 
 
 def listed_steps(night):
@@ -88,7 +89,9 @@ def listed_steps(night):
 def graph(night):
     """The views, with the step that each took."""
     told = zip(listed_steps(night), night.told.rows)
-    named, edges = notes([(line, Noted(step.view, step.sources, lambda rows=rows: rows)) for (line, step), rows in told])
+    named, edges = notes(
+        [(line, Noted(step.view, step.sources, lambda rows=rows: rows, step.changed)) for (line, step), rows in told]
+    )
     kind = kind_told(shape_of(night.views))
     picture = Picture(night.views, named, edges, kind)
     legend, picture.legend = picture.legend, []
