@@ -1,1 +1,1 @@
-"""What tools/sql writes: a catalogue and a strategy as a script, in the words of PostgreSQL or SQLite."""
+"""What tools/sql writes: a catalogue and a strategy as a script, in the words of PostgreSQL, SQLite or ClickHouse."""

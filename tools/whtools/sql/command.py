@@ -5,14 +5,16 @@ import sys
 
 from whtools.live import command as live
 from whtools.sql.catalogue import read
+from whtools.sql.clickhouse import ClickHouse
 from whtools.sql.comments import Comments
 from whtools.sql.postgresql import PostgreSQL
 from whtools.sql.script import Script
+from whtools.sql.slots import Slots, split_of
 from whtools.sql.sqlite import SQLite
 from whtools.sql.tokens import Unfit
 from whtools.warehouse.finding import Failure
 
-ENGINES = {"postgresql": PostgreSQL, "sqlite": SQLite}
+ENGINES = {"postgresql": PostgreSQL, "sqlite": SQLite, "clickhouse": ClickHouse}
 # What is said of tables that applications write to.
 LIVE = ("live", "capture", "uncapture", "catalogue", "sizes", "sizes-after", "plan", "dry", "costs")
 
@@ -32,6 +34,8 @@ def asked(about):
     words.add_argument("--schema")
     words.add_argument("--plain", default="")
     words.add_argument("--counted", default="")
+    words.add_argument("--shard", action="append", default=[])
+    words.add_argument("--cluster")
     words.add_argument("--keyed", default="")
     words.add_argument("path", nargs="?")
     found = words.parse_args()
@@ -69,16 +73,30 @@ def plain_views(catalogue, words):
     return [v for v in base_views(catalogue, words.plain) if v not in counted]
 
 
+def script_of(catalogue, words):
+    """The script in the words of an engine; words of another engine are refused."""
+    if words.engine == "clickhouse":
+        if words.plain or words.counted or words.keyed:
+            raise Unfit("with --engine clickhouse each row has its count: there is no --plain, --counted and --keyed")
+        split = split_of(catalogue, words.shard)
+        return Slots(catalogue, ClickHouse(words.schema, words.cluster or words.schema or ClickHouse.own_schema), split, servers=2 if split else 1)
+    if words.shard or words.cluster:
+        raise Unfit("--shard and --cluster go with --engine clickhouse")
+    return Script(catalogue, ENGINES[words.engine](words.schema), plain_views(catalogue, words), keyed_views(catalogue, words.keyed))
+
+
 def written(words):
     """The text that is asked for."""
     if any(getattr(words, name.replace("-", "_")) for name in LIVE):
+        if words.engine == "clickhouse":
+            raise Unfit(f"{', '.join(f'--{name}' for name in LIVE)} go with --engine postgresql or sqlite")
         return live.written(words)
-    catalogue, dialect = read(words.path), ENGINES[words.engine](words.schema)
-    script = Script(catalogue, dialect, plain_views(catalogue, words), keyed_views(catalogue, words.keyed))
-    comments = Comments(catalogue)
+    catalogue = read(words.path)
+    script, comments = script_of(catalogue, words), Comments(catalogue)
+    dialect = script.dialect
     if words.explain:
         return [comments.long(step) for step in script.steps.night(catalogue.correct())]
-    found = script.create() if words.create else []
+    found = script.creation() if words.create else []
     found += script.open(comments.short) if words.open else []
     if words.night or not (words.create or words.open):
         found += script.night(catalogue.correct(), Comments(catalogue).short)

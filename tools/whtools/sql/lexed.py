@@ -9,11 +9,13 @@ MARK = r"""(?P<word>[A-Za-z_][A-Za-z0-9_]*|::|:=|\|\||<=|>=|<>|>>|[(),.*=<>+\-/%
 OF_POSTGRESQL = r"""|(?P<body>\$(?P<tag>[A-Za-z_]*)\$(?P<inner>.*?)\$(?P=tag)\$)|(?P<escaped>E'(?:[^'\\]|\\.)*')"""
 OF_POSTGRESQL += r"""|(?P<text>'(?:[^']|'')*')|"""
 OF_SQLITE = r"""|(?P<text>'(?:[^']|'')*')|"""
+OF_CLICKHOUSE = r"""(?P<blank>[ \n]+)|(?P<comment>--[^\n]*)|(?P<slashed>"(?:[^"\\]|\\.)+"|'(?:[^'\\]|\\.)*')|(?P<number>[0-9]+)|(?P<end>;)|"""
 RULES = {
+    "clickhouse": re.compile(OF_CLICKHOUSE + MARK, re.DOTALL),
     "postgresql": re.compile(COMMON + OF_POSTGRESQL + MARK, re.DOTALL),
     "sqlite": re.compile(COMMON + OF_SQLITE + MARK, re.DOTALL),
 }
-ESCAPED = {"\\n": "\n", "\\r": "\r", "\\'": "'", "\\\\": "\\"}
+ESCAPED = {"\\n": "\n", "\\r": "\r", "\\t": "\t", "\\b": "\b", "\\f": "\f", "\\'": "'", '\\"': '"', "\\\\": "\\"}
 
 
 def said(piece, engine):
@@ -23,6 +25,8 @@ def said(piece, engine):
         return BODY, lexed(piece["inner"], engine)
     if kind == "name":
         return kind, text[1:-1].replace('""', '"')
+    if kind == "slashed":
+        return "name" if text[0] == '"' else "text", re.sub(r"\\.", lambda found: ESCAPED[found[0]], text[1:-1])
     if kind == "escaped":
         return "text", re.sub(r"\\.", lambda found: ESCAPED[found[0]], text[2:-1])
     if kind == "text":

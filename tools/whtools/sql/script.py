@@ -63,6 +63,10 @@ class Script(Comps, Changes, Insts, Catalogued):
             found.append(Expected("changes", f"{self.views[v].name}~changes", self.said(v, "~changes"), [*columns, ("#", "count")]))
         return found
 
+    def creation(self):
+        """What --create writes."""
+        return self.create()
+
     def create(self):
         """The transaction that makes the tables and indexes that do not pass with a night."""
         found = []

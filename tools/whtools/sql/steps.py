@@ -36,7 +36,7 @@ class Steps:
 
     def whole(self, view):
         """The one term of a view from scratch."""
-        return (tuple(Operand(u, False) for u in self.views[view].over),)
+        return (tuple(Operand(u, False, bool(self.views[u].over)) for u in self.views[view].over),)
 
     def base(self):
         return [v for v, view in enumerate(self.views) if not view.over]

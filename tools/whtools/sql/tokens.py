@@ -150,8 +150,8 @@ def line(depth=0):
 
 
 def joined(parts, between=","):
-    """Parts with a word or a mark between them."""
-    mark, found = word(between) if between else None, []
+    """Parts with words or a mark between them."""
+    mark, found = sql(between) if between else None, []
     for part in parts:
         found += [mark, part] if mark and found else [part]
     return Sql.of(found)

@@ -1,0 +1,101 @@
+"""Warehouses that are drawn, nights in a row over each, and what the program makes of every one."""
+
+from collections import Counter
+
+from whtools.drawn import WORDS
+from whtools.evaluator import added
+from whtools.nights import carried, draw_views
+from whtools.sql.nights import HOSTILE, LargeDrawer, rename
+from whtools.warehouses import Warehouse as Bundled
+
+# Texts that a line of an engine's format or a literal would end at, and one with a byte that is no letter.
+SHARP = ["tab\there", "two\nlines", "back\\slash\\", "zero\0byte", "\\N", "\\t", "'quoted'", "\r", "", "ÿ", "\x01\x08\x0c"]
+# How many warehouses have cells near 64 bits, and counts whose products go far.
+LARGE_PART = 0.4
+LARGE_COUNTS = [2**19, 2**28, 2**40, 2**55]
+
+
+class DrawnWords:
+    """While it lasts, these texts are drawn, where there are any."""
+
+    def __init__(self, words):
+        self.words = words
+
+    def __enter__(self):
+        self.before = list(WORDS)
+        WORDS[:] = self.words or WORDS
+
+    def __exit__(self, *_):
+        WORDS[:] = self.before
+
+
+class DrawnWarehouse:
+    """Views with a strategy, and base tables that nights change; of each night it knows what the program says."""
+
+    def __init__(self, source, started):
+        self.source, self.started = source, started
+        hostile = source.random() < 0.15
+        with DrawnWords(HOSTILE if hostile else None):
+            drawer = LargeDrawer(source)
+            drawer.is_large = source.random() < LARGE_PART
+            draw_views(drawer)
+        if source.random() < 0.2:
+            rename(drawer.views)
+        self.words = DrawnWords(HOSTILE if hostile else SHARP if source.random() < 0.2 else None)
+        self.drawer, self.views, self.bundled = drawer, drawer.views, Bundled(drawer.views)
+        self.has_large_counts = source.random() < 0.2
+        with self.words:
+            self.tables = [Counter() if view.over else self.first(view) for view in self.views]
+        self.names = {view.name: v for v, view in enumerate(self.views)}
+        self.derived, self.told = self.answered([Counter() for _ in self.views])
+
+    def first(self, view):
+        return added((row, count) for row, count in self.drawer.records(view))
+
+    def base(self):
+        return [v for v, view in enumerate(self.views) if not view.over]
+
+    def strategy(self):
+        while True:
+            if found := self.bundled.walked(self.source):
+                return found
+
+    def bundle(self, changes, strategy):
+        data = [list(table.items()) for table in self.tables]
+        parts = self.bundled.tables("data", data) + self.bundled.tables("changes", [list(each.items()) for each in changes])
+        return self.bundled.catalogue() + parts + self.bundled.listed(strategy)
+
+    def answered(self, changes, strategy=None):
+        """The derived views after a night of these changes, or the words of its refusal."""
+        return carried(self.started, self.views, self.bundle(changes, strategy or self.strategy()))
+
+    def drawn_changes(self):
+        """Netted changes of all views, of which some are of rows that are not there and some too large."""
+        with self.words:
+            found = [Counter() if view.over else self.changes_of(view, self.tables[v]) for v, view in enumerate(self.views)]
+        if self.source.random() < 0.06:
+            v = self.source.choice(self.base())
+            found[v][self.drawer.row(self.views[v])] -= 9
+        return [added(change.items()) for change in found]
+
+    def changes_of(self, view, table):
+        records = [(row, min(count, 3)) for row, count in table.items()]
+        change = added((row, count) for row, count in self.drawer.changes(view, records))
+        for row in list(change):
+            if change[row] > 0 and self.has_large_counts and self.source.random() < 0.2:
+                change[row] = self.source.choice(LARGE_COUNTS)
+            elif change[row] < 0 and self.source.random() < 0.3:
+                change[row] = -table[row]
+        return change
+
+    def contents(self):
+        """All tables as they are."""
+        return [self.derived[view.name] if view.over else table for view, table in zip(self.views, self.tables)]
+
+    def night(self, changes, strategy):
+        """What the program makes of a night, after which the tables are the new ones where it is done. Answers its refusal."""
+        after, told = self.answered(changes, strategy)
+        if told is None:
+            self.tables = [added([*table.items(), *change.items()]) for table, change in zip(self.tables, changes)]
+            self.derived = after
+        return told

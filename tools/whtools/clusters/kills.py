@@ -1,0 +1,150 @@
+"""Servers and clients killed at drawn moments of nights, folds and sweeps: what is there then, and after going on."""
+
+import os
+import signal
+import threading
+import time
+from unittest.mock import patch
+
+from whtools.cluster import keeping, nights
+from whtools.cluster.keeping import Sweep
+from whtools.cluster.servers import Lost, Server, Told
+from whtools.warehouse.finding import Failure
+
+from .scenarios import SHARES
+from .small import STRATEGY, Small
+
+ACTIONS = ("night", "night", "commit", "fold", "sweep")
+# So long after a statement was sent the blow falls at most.
+AMID = 0.03
+
+
+class Blow:
+    """Something that falls at the statement with this number, before it is sent, amid it or behind it."""
+
+    def __init__(self, at, how, delay, strike):
+        self.at, self.how, self.delay, self.strike, self.sent, self.lock = at, how, delay, strike, 0, threading.Lock()
+
+    def around(self, sent):
+        def struck(server, said, rows=b""):
+            with self.lock:
+                self.sent += 1
+                is_due = self.sent == self.at
+            if is_due and self.how == "before":
+                self.strike()
+            if is_due and self.how == "amid":
+                threading.Timer(self.delay, self.strike).start()
+            found = sent(server, said, rows)
+            if is_due and self.how == "behind":
+                self.strike()
+            return found
+
+        return struck
+
+
+class Killed:
+    """A small warehouse on servers some of which, or whose client, are killed in the middle of something."""
+
+    def __init__(self, source, processes):
+        self.source, self.processes = source, processes
+        self.small, self.number, self.wrong, self.struck = Small(processes.servers(), SHARES), 0, [], 0
+
+    def changes(self):
+        """Changes of a night, which no other has."""
+        self.number += 1
+        gone = self.source.choice(sorted(self.small.tables[0]))
+        return self.small.changes({(self.source.randint(1, 4), 100 + self.number): 1, gone: -1}, {(2, f"t{self.number}"): 1})
+
+    def action(self, what, changes):
+        """What is to be done, as a call."""
+        warehouse = self.small.client()
+        if what in ("night", "commit"):
+            return lambda: nights.night(warehouse, changes, STRATEGY)
+        if what == "fold":
+            return lambda: keeping.fold(warehouse)
+        return lambda: Sweep(warehouse, self.source.choice([-1, 10**6])).run()
+
+    def statements(self, what, changes):
+        """How many statements it takes, by one that changes nothing."""
+        return {"night": 32, "commit": 32, "fold": 22, "sweep": 16}[what]
+
+    def moment(self, what, strike):
+        last = self.statements(what, None)
+        at = self.source.randint(last - 6, last) if what == "commit" else self.source.randint(1, last)
+        return Blow(at, self.source.choice(["before", "amid", "behind"]), self.source.random() * AMID, strike)
+
+    def once(self, is_client):
+        """One blow. Notes what is otherwise then, and after going on."""
+        what, changes = self.source.choice(ACTIONS), self.changes()
+        ended = (self.kill_client if is_client else self.kill_server)(what, changes)
+        self.processes.restart()
+        where = f"{'client' if is_client else 'server'} killed in a {what} ({ended})"
+        done = self.settle(what, changes, ended, where)
+        if not done:
+            self.go_on(where)
+
+    def settle(self, what, changes, ended, where):
+        """The newest version is whole: the tables of before, or of after where it was a night. Answers whether something is wrong."""
+        before = self.small.differs(None, where)
+        if what in ("fold", "sweep"):
+            self.wrong += before
+            return bool(before)
+        kept = {v: rows.copy() for v, rows in self.small.tables.items()}
+        self.small.changed(changes)
+        after = self.small.differs(None, where)
+        if after:
+            self.small.tables = kept
+        if (before and after) or (ended == "answered" and after):
+            self.wrong += after
+            return True
+        return False
+
+    def go_on(self, where):
+        """`give-up` where there is something to give up, and a night."""
+        if self.small.versions.alive(self.small.versions.newest().night, "night"):
+            nights.give_up(self.small.warehouse)
+        version, told = self.small.night({(1, 1000 + self.number): 1}, {(1, f"u{self.number}"): 1})
+        self.wrong += [f"{where}: {told}"] if told else self.small.differs(version.seq, f"{where}, after going on")
+
+    def kill_server(self, what, changes):
+        """Kills a server while this client is at work."""
+        victim, do = self.source.choice(self.processes.all), self.action(what, changes)
+        blow = self.moment(what, victim.kill)
+        try:
+            with patch.object(Server, "sent", blow.around(Server.sent)):
+                do()
+            ended = "answered"
+        except (Failure, Told, Lost):
+            ended = "an error"
+        time.sleep(AMID)
+        self.struck += blow.sent >= blow.at
+        return ended
+
+    def kill_client(self, what, changes):
+        """Kills a client, which is a process of its own."""
+        do = self.action(what, changes)
+        blow = self.moment(what, lambda: os.kill(os.getpid(), signal.SIGKILL))
+        child = os.fork()
+        if child == 0:
+            status = 3
+            try:
+                with patch.object(Server, "sent", blow.around(Server.sent)):
+                    do()
+                status = 0
+            finally:
+                os._exit(status)
+        _, status = os.waitpid(child, 0)
+        self.struck += os.WIFSIGNALED(status)
+        return "answered" if os.WIFEXITED(status) and os.WEXITSTATUS(status) == 0 else "killed" if os.WIFSIGNALED(status) else "an error"
+
+
+def killed(source, processes, servers, clients):
+    """So many blows of each kind. Answers what went wrong, and how many fell."""
+    trial = Killed(source, processes)
+    for number in range(servers + clients):
+        try:
+            trial.once(number >= servers)
+        except Exception as error:  # noqa: BLE001
+            processes.restart()
+            trial.wrong.append(f"blow {number}: {error!r}")
+    return trial.wrong, trial.struck

@@ -1,0 +1,334 @@
+"""What clients and servers meet, step by step, each with what has to come of it. A scenario answers what came otherwise, in a list."""
+
+import threading
+from collections import Counter
+from contextlib import contextmanager
+from http.server import BaseHTTPRequestHandler, ThreadingHTTPServer
+from unittest.mock import patch
+
+from whtools.cluster import keeping, nights
+from whtools.cluster.keeping import Sweep
+from whtools.cluster.reading import Session
+from whtools.cluster.servers import Lost, Server, Told
+from whtools.cluster.versions import Versions
+from whtools.warehouse.finding import Failure
+
+from .small import A, J, STRATEGY, Small
+
+SHARES = ["a:k", "b:t"]
+# Everything that was followed goes.
+AT_ONCE = -1
+
+
+def ends(do, *words):
+    """That a command ends with a failure that says these words, in a list of what is otherwise."""
+    try:
+        found = do()
+    except (Failure, Told, Lost) as failure:
+        said = " ".join(failure.lines) if isinstance(failure, Failure) else str(failure)
+        return [] if all(word in said for word in words) else [f"it ends with {said!r}, without {words}"]
+    return [f"it answers {found!r}, and should have ended with {words}"]
+
+
+def refusals(servers):
+    """Nights that are done and refused, also by sums and counts that leave 64 bits, with the contents after each."""
+    small, wrong = Small(servers, SHARES), []
+    cases = [
+        ({(2, 7): -1, (1, 5): 1, (9, 1): 1}, {(1, "oak"): -1, (1, "yew"): 1, (9, "oak"): 2}, None),
+        ({(7, 7): -1}, {}, "refused absent a"),
+        ({(1, 2**62): 1}, {}, "refused range j"),
+        ({(1, 2**61): 2}, {(1, "oak"): 1, (3, "yew"): 3}, None),
+        ({(3, 2**61): 2}, {}, "refused range s"),
+        ({(8, 2**62): 1, (2, 13): 4}, {(1, "yew"): -1, (1, "oak"): -1}, None),
+        ({(8, 2**62): -1}, {}, None),
+        ({}, {(8, "oak"): 1}, None),
+        ({(5, 5): 2**30}, {(5, "ash"): 2**30}, "refused large j"),
+        ({(5, 6): 2**63 - 1}, {}, "refused large j"),
+        ({}, {(3, "yew"): -1}, None),
+        ({}, {}, None),
+    ]
+    for a, b, meant in cases:
+        version, told = small.night(a, b)
+        wrong += [] if told == meant else [f"{a}, {b}: {told!r}, and not {meant!r}"]
+        wrong = wrong or small.differs(version.seq, f"after {a}, {b}")
+        if wrong:
+            break
+    return wrong
+
+
+def committed_whole(servers):
+    """What a reader is given in the very moment of the commit."""
+    small, wrong = Small(servers, SHARES), []
+    created = Versions.created
+
+    def watched(versions, made):
+        done = created(versions, made)
+        wrong.extend(small.differs(made.seq, "at the commit"))
+        return done
+
+    changes = small.changes({(1, 6): 1}, {(2, "elm"): -1})
+    small.changed(changes)
+    with patch.object(Versions, "created", watched):
+        nights.night(small.client(), changes, STRATEGY)
+    return wrong
+
+
+def twice_at_once(servers):
+    """Two clients whose nights began over one version: one of them commits."""
+    small = Small(servers)
+    one, two = small.changes({(1, 6): 1}), small.changes({(1, 8): 1})
+    first = small.begun(one)
+    with patch.object(Versions, "alive", lambda *_: None):
+        second = small.begun(two, small.client())
+    first()
+    small.changed(one)
+    return ends(second, "another client was first") + small.differs()
+
+
+def work_is_told(servers):
+    """A client is told that another one is at work."""
+    small = Small(servers)
+    small.begun(small.changes({(1, 6): 1}))
+    wrong = ends(lambda: small.night({(1, 7): 1}), "somebody is at work", "give-up")
+    nights.give_up(small.warehouse)
+    small.night({(1, 7): 1})
+    return wrong + small.differs() + ends(lambda: nights.give_up(small.warehouse), "nothing to give up")
+
+
+def given_up(servers):
+    """Who worked on an attempt that was given up can no longer commit, and its slot is nobody's."""
+    small = Small(servers)
+    commit = small.begun(small.changes({(1, 6): 1}))
+    nights.give_up(small.warehouse)
+    wrong = ends(commit, "another client was first") + small.differs()
+    small.night({(1, 7): 1}, {(2, "elm"): 1})
+    return wrong + small.differs() + ends(commit, "another client was first")
+
+
+def folded_between(servers):
+    """A night commits behind a fold; where the version that it read was swept, it does not."""
+    small = Small(servers, SHARES)
+    changes = small.changes({(1, 6): 1}, {(2, "elm"): 1})
+    commit = small.begun(changes)
+    keeping.fold(small.warehouse)
+    wrong = small.differs(None, "after the fold")
+    Sweep(small.warehouse, 10**6).run()
+    commit()
+    small.changed(changes)
+    wrong += small.differs(None, "after the night behind the fold")
+    commit = small.begun(small.changes({(1, 7): 1}))
+    keeping.fold(small.warehouse)
+    Sweep(small.warehouse, AT_ONCE).run()
+    return wrong + ends(commit, "was swept") + small.differs(None, "after a fold and a sweep")
+
+
+def swept_in_a_night(servers):
+    """A sweep amid a night takes nothing of it, not even where the night begins amid the sweep."""
+    small = Small(servers, SHARES)
+    small.night({(2, 8): 1})
+    small.begun(small.changes({(1, 9): 1}))
+    nights.give_up(small.warehouse)
+    changes, begun = small.changes({(1, 6): 1}, {(2, "elm"): 1}), []
+    asked = Versions.merged
+
+    def slow(versions, template, **parts):
+        found = asked(versions, template, **parts)
+        if not begun:
+            begun.append(None)
+            begun.append(small.begun(changes, small.client()))
+        return found
+
+    with patch.object(Versions, "merged", slow):
+        Sweep(small.warehouse, 10**6).run()
+    Sweep(small.warehouse, 10**6).run()
+    begun[1]()
+    small.changed(changes)
+    wrong = small.differs(None, "after a sweep amid a night")
+    small.begun(small.changes({(1, 6): 1}))
+    keeping.fold(small.warehouse)
+    Sweep(small.warehouse, AT_ONCE).run()
+    return wrong + small.differs(None, "after a fold and a sweep amid a night")
+
+
+def behind_a_fold(servers):
+    """A sweep behind a fold takes nothing of a night that began before the fold."""
+    small = Small(servers, SHARES)
+    small.night({(2, 8): 1})
+    changes = small.changes({(1, 6): 1}, {(2, "elm"): 1})
+    commit = small.begun(changes)
+    keeping.fold(small.warehouse)
+    Sweep(small.warehouse, 10**6).run()
+    commit()
+    small.changed(changes)
+    return small.differs()
+
+
+def reader_and_sweep(servers):
+    """A session whose version is swept is told so, at whatever step of the sweep it reads."""
+    wrong = []
+    for step in ("drop_versions", "remove", "forget"):
+        small = Small(servers, SHARES)
+        small.night({(2, 8): 1}, {(3, "oak"): -1, (3, "yew"): 1})
+        session, before = Session(small.warehouse, small.versions.newest().seq), small.contents()
+        keeping.fold(small.warehouse)
+        done = getattr(Sweep, step)
+
+        def watched(sweep, *given, done=done, session=session, before=before, wrong=wrong, step=step):
+            found = done(sweep, *given)
+            try:
+                rows = Counter(dict(session.read(J)))
+                wrong += [] if rows == Counter(before[J]) else [f"a session read {rows} after {step}, and no error"]
+            except Failure as told:
+                wrong += [] if "is gone" in told.lines[0] else [f"a session is told {told.lines}"]
+            return found
+
+        with patch.object(Sweep, step, watched):
+            Sweep(small.warehouse, AT_ONCE).run()
+        if wrong:
+            break
+    return wrong
+
+
+def sleeper(servers):
+    """A client sleeps before its commit while five versions are made and the first four swept: it does not commit, and nobody reads it."""
+    small = Small(servers, SHARES)
+    commit_late = small.begun(small.changes({(1, 6): 1}))
+    base = small.versions.newest()
+    late = [commit_late, base]
+    with patch.object(nights, "judge_base", lambda *_: None):
+        nights.give_up(small.warehouse)
+        for number in range(4):
+            small.night({(1, 20 + number): 1})
+        Sweep(small.warehouse, AT_ONCE).run()
+        seen, created = [], Versions.created
+
+        def watched(versions, made):
+            done = created(versions, made)
+            seen.append(ends(lambda: Session(small.warehouse, made.seq), "is gone") if done else [])
+            return done
+
+        with patch.object(Versions, "created", watched):
+            wrong = ends(late[0], "was swept")
+    numbers = small.versions.numbers("v")
+    return [*wrong, *(told for each in seen for told in each), *([] if len(numbers) == 1 else [f"versions {numbers} are there"]), *small.differs()]
+
+
+class Losing(Server):
+    """A server whose answer to one statement is lost after it was carried out."""
+
+    words, times = "INSERT", 1
+
+    def sent(self, said, rows=b""):
+        found = super().sent(said, rows)
+        if said.startswith(self.words) and self.times:
+            self.times -= 1
+            raise Lost(f"{self}: no whole answer came")
+        return found
+
+
+def losing(servers, words):
+    """The same servers, of which the first loses an answer."""
+    found = [Losing(server.address) for server in servers]
+    for server in found:
+        server.learn()
+        server.words, server.times = words, 1 if server is found[0] else 0
+    return found
+
+
+def lost_insert(servers):
+    """The answer to an INSERT is lost: it is not sent again, and the next client goes on."""
+    wrong = []
+    for words in ("INSERT INTO", 'INSERT INTO "'):
+        small = Small(servers, SHARES)
+        wrong += ends(lambda: small.night({(1, 6): 1, (2, 5): 1}, client=small.client(losing(servers, words))), "no whole answer")
+        wrong += small.differs(None, "after a lost answer")
+        nights.give_up(small.warehouse)
+        small.night({(1, 6): 1}, {(1, "oak"): 1})
+        wrong += small.differs(None, "after a lost answer and a night")
+    return wrong
+
+
+def lost_commit(servers):
+    """The answer to a commit is lost: the night is there once, and its client knows."""
+    small = Small(servers)
+    small.night({(1, 6): 1}, {(1, "oak"): 1}, client=small.client(losing(servers, f'CREATE VIEW "{small.database}"."~v')))
+    newest = small.versions.newest()
+    return small.differs() + ([] if newest.seq == 3 else [f"version {newest.seq} is the newest"])
+
+
+def by_hand(servers):
+    """Rows that somebody puts into a slot are told of: of one that is to come before a night, of one that is listed by readers and folds."""
+    small = Small(servers)
+    server, dialect = servers[0], small.warehouse.dialect
+    put = lambda slot: server.carried(f'INSERT INTO "{dialect.schema}"."a" ("k", "x", "#", "~s") VALUES (1, 77, 1, {slot})')  # noqa: E731
+    put(small.versions.numbers("a")[-1] + 1)
+    wrong = ends(lambda: small.night({(1, 6): 1}), "a on", "put there by hand")
+    nights.give_up(small.warehouse)
+    small.night({(1, 6): 1})
+    wrong += small.differs()
+    put(small.versions.newest().slots[-1])
+    wrong += ends(lambda: Session(small.warehouse).read(A), "changed its tables by hand")
+    return wrong + ends(lambda: keeping.fold(small.warehouse), "a has", "changed its tables by hand")
+
+
+# ---- servers that answer wrongly
+
+
+class Answers(BaseHTTPRequestHandler):
+    """Answers with what its server has been told."""
+
+    def do_POST(self):  # noqa: N802
+        self.rfile.read(int(self.headers["Content-Length"]))
+        status, length, content = self.server.answer
+        self.send_response(status)
+        self.send_header("Content-Length", str(len(content) + length))
+        self.end_headers()
+        self.wfile.write(content)
+
+    def log_message(self, *_):
+        pass
+
+
+@contextmanager
+def answering(status, content, more=0):
+    """A server that gives this answer, of which so many bytes do not come."""
+    fake = ThreadingHTTPServer(("127.0.0.1", 0), Answers)
+    fake.answer, fake.daemon_threads = (status, more, content), True
+    thread = threading.Thread(target=fake.serve_forever)
+    thread.start()
+    try:
+        yield Server(f"127.0.0.1:{fake.server_address[1]}", seconds=20)
+    finally:
+        fake.shutdown()
+        fake.server_close()
+        thread.join()
+
+
+LATE = b'{"meta": [], "data": [["1", "2"],\nCode: 241, e.displayText() = DB::Exception: Memory limit, e.what() = DB::Exception\n'
+WHOLE = b'{"meta": [], "data": [["1", "2"]], "rows": 1}'
+ANSWERS = [
+    (200, LATE, 0, "not whole"),
+    (200, b"1\t2\nCode: 241, e.displayText() = DB::Exception: Memory limit, e.what() = DB::Exception\n", 0, "not whole"),
+    (200, b'{"data": [["1", "2"]], "rows": 2}', 0, "not whole"),
+    (200, WHOLE[:-9], 9, "no whole answer"),
+    (500, b"Code: 9999, e.displayText() = DB::Exception: no such thing, e.what() = DB::Exception", 0, "code 9999"),
+    (503, b"busy", 0, "status 503"),
+    (200, b"Code: 394, e.displayText() = DB::Exception: Query was cancelled, e.what() = DB::Exception\n", 0, "code 394"),
+]
+
+
+def wrong_answers(_=None):
+    """An answer that ends in an error, in the middle or with an unknown code is never taken for rows."""
+    wrong = []
+    for status, content, more, told in ANSWERS:
+        with answering(status, content, more) as server:
+            wrong += [f"{content!r}: {each}" for each in ends(lambda server=server: server.asked("SELECT 1"), told)]
+    with answering(200, WHOLE) as server:
+        wrong += [] if server.asked("SELECT 1") == [["1", "2"]] else ["a whole answer is not taken"]
+    return wrong + ends(lambda: Server(server.address, seconds=5).asked("SELECT 1"), "no whole answer")
+
+
+SCENARIOS = [
+    refusals, committed_whole, twice_at_once, work_is_told, given_up, folded_between, swept_in_a_night, behind_a_fold, reader_and_sweep,
+    sleeper, lost_insert, lost_commit, by_hand, wrong_answers,
+]  # fmt: skip
