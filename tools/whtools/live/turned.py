@@ -5,9 +5,8 @@ from typing import NamedTuple
 
 from whtools.sql.dialect import LEAST, MOST
 from whtools.sql.tokens import Sql, joined, name, number, sql, text, word
+from whtools.warehouse.nulls import NULL
 
-# What stands for NULL. It equals itself, so that joins and groups take all NULLs for one value: `where` has to leave them out.
-NULL = {"int": LEAST, "text": "\\N"}
 # What is no number, and a day or a moment without end, come after all others; those without a beginning before them.
 LAST, FIRST = MOST - 1, LEAST + 1
 # So many digits fit 64 bits, or a REAL of SQLite.

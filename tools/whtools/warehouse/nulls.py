@@ -1,7 +1,9 @@
 """Columns in which a number or a text stands for NULL: where a view joins by one, computes with it or sums it, and does not leave it out."""
 
-from ..live.turned import NULL
 from .finding import Finding, nearest
+
+# What stands for NULL. It equals itself, so that joins and groups take all NULLs for one value: `where` has to leave them out.
+NULL = {"int": -(2**63), "text": "\\N"}
 
 
 def references(formula):
