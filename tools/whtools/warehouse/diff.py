@@ -13,6 +13,7 @@ from functools import cached_property
 from .by_lines import has_whole_lines, is_formed
 from .finding import MARK, Failure
 from .status import BAD_INPUT, DONE
+from .written import text_of
 
 
 class Export:
@@ -85,9 +86,6 @@ def run(words):
         raise Failure(BAD_INPUT, f"{after.path}:1:1: the header is {','.join(after.columns)}, and it was {','.join(before.columns)}")
     old, new = rows_apart(before, after)
     counts = {row: new[row] - old[row] for row in old.keys() | new.keys()}
-    written = io.StringIO()
-    writer = csv.writer(written, lineterminator="\n")
-    writer.writerow(["#", *before.columns])
-    writer.writerows([count, *row] for row, count in sorted(counts.items()) if count)
-    sys.stdout.buffer.write(written.getvalue().encode("utf-8", errors="surrogateescape"))
+    text = text_of([["#", *before.columns], *([count, *row] for row, count in sorted(counts.items()) if count)])
+    sys.stdout.buffer.write(text.encode("utf-8", errors="surrogateescape"))
     return DONE

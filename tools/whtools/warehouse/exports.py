@@ -10,6 +10,7 @@ from .formulas import MOST_COLUMNS, NAME
 from .packing import MARK
 from .records import MOST
 from .status import BAD_INPUT
+from .written import text_of
 
 # A whole number that is written as nights write it again: with zeros before it, or a plus, it is a text, such as a postcode.
 WHOLE, DECIMAL = re.compile(r"0|-?[1-9][0-9]{0,18}"), re.compile(r"[+-]?[0-9]+[.,][0-9]+")
@@ -147,9 +148,6 @@ class Export:
     @property
     def text(self):
         """The table as a folder has it."""
-        written = io.StringIO()
-        writer = csv.writer(written, lineterminator="\n")
         columns = [column.cells for column in self.columns]
-        writer.writerow(["#"] * self.is_counted + [column.name for column in self.columns])
-        writer.writerows(zip(*([self.counts] if self.is_counted else []), *columns))
-        return written.getvalue()
+        header = ["#"] * self.is_counted + [column.name for column in self.columns]
+        return text_of([header, *zip(*([self.counts] if self.is_counted else []), *columns)])

@@ -14,6 +14,7 @@ from ..bundle import part
 from .catalogue import Catalogue
 from .finding import MARK
 from .inputs import CHANGES, Inputs, by_view
+from .written import text_of
 
 AFTER = ("sizes.csv", "plan.txt", "schedule.txt")
 READ = ("catalogue.toml", "strategy.txt", *AFTER, "graph.dot", "graph.svg")
@@ -35,10 +36,7 @@ def merged(contents):
         header = records[0]
         for count, *cells in records[1:]:
             rows[tuple(cells)] += int(count)
-    written = io.StringIO()
-    writer = csv.writer(written, lineterminator="\n")
-    writer.writerows([header, *([count, *row] for row, count in rows.items() if count)])
-    return written.getvalue().encode(errors="surrogateescape")
+    return text_of([header, *([count, *row] for row, count in rows.items() if count)]).encode(errors="surrogateescape")
 
 
 def nights(folder):

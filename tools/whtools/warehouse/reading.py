@@ -12,6 +12,7 @@ from .packing import MARK
 from .records import MOST, NUMBER
 from .status import BAD_WORDS
 from .versions import place, whole
+from .written import lines_of
 
 # At each how many rows the place in a file is noted, from which a later page goes on.
 STEP = 1024
@@ -174,13 +175,7 @@ def whole_number(word, what, least, most):
 
 def csv_lines(table, rows):
     """The rows as CSV, with their counts, a record each."""
-    written = io.StringIO()
-    writer = csv.writer(written, lineterminator="\n")
-    for cells in chain([("#", *table.columns.names)], ((count, *row) for _, (count, row) in rows)):
-        writer.writerow(cells)
-        yield written.getvalue()
-        written.seek(0)
-        written.truncate()
+    return lines_of(chain([("#", *table.columns.names)], ((count, *row) for _, (count, row) in rows)))
 
 
 def as_object(table, counted):

@@ -5,12 +5,13 @@ import io
 import re
 from collections import Counter
 from functools import cached_property
-from types import SimpleNamespace
+from itertools import chain
 
 from . import quotes
 from .by_lines import Lines, NotSorted, columns_of, counted, has_whole_lines, in_order, is_sound, line_of, standing
 from .finding import MARK, Finding, Place
 from .packing import merged
+from .written import text_of
 
 NUMBER = re.compile(r"[+-]?[0-9]+")
 MOST = 2**63
@@ -269,13 +270,10 @@ def added(rows, counts):
 
 def table_text(columns, rows):
     """A table sorted by what it shows, with `#`."""
-    listed, lines = [(row, count) for row, count in rows.items() if count], []
-    # A cell is put in quotes where it has a letter of a line's end, and each line ends by one of them.
-    writer = csv.writer(SimpleNamespace(write=lines.append), lineterminator="\r\n")
-    writer.writerow(["#", *(name for name, _ in columns)])
+    listed = [(row, count) for row, count in rows.items() if count]
     cells = ([row[place] for row, _ in listed] for place in range(len(columns)))
-    writer.writerows([listed[number][1], *listed[number][0]] for number in in_order(cells, len(listed)))
-    return "".join([f"{line[:-2]}\n" for line in lines]).encode()
+    records = ([listed[number][1], *listed[number][0]] for number in in_order(cells, len(listed)))
+    return text_of(chain([["#", *(name for name, _ in columns)]], records)).encode()
 
 
 def absent(data, changes):

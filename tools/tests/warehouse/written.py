@@ -1,0 +1,22 @@
+"""Records that are written are read back."""
+
+import csv
+import io
+import unittest
+
+from whtools.warehouse.packing import merged
+from whtools.warehouse.written import lines_of, text_of
+
+CELLS = ("", " a", "a,b", 'a"b', "a\nb", "a\r\nb", "a\rb", "\r")
+
+
+class Written(unittest.TestCase):
+    def test_each_cell_is_read_back(self):
+        records = [["1", cell, cell] for cell in CELLS]
+        text = text_of(records)
+        self.assertEqual(list(csv.reader(io.StringIO(text, newline=""))), records)
+        self.assertEqual("".join(lines_of(records)), text)
+
+    def test_a_line_end_within_a_cell_outlives_the_merging_of_files(self):
+        first, second = b'#,t\n1,"a\rb"\n2,c\n', b'#,t\n1,"a\rb"\n-2,c\n'
+        self.assertEqual(merged([first, second]), b'#,t\n2,"a\rb"\n')
