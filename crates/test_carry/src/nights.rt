@@ -13,5 +13,6 @@ mod opened;
 mod product;
 mod steps;
 mod waves;
+mod wide;
 
 use test_given::{catalogs, tables};

@@ -29,6 +29,7 @@ mod NoRows
 pub mod OldRows
 mod OneRow
 mod OpenedContents
+mod Parts
 pub mod Products
 pub mod RuledOut
 pub mod SizeBounds

@@ -3,6 +3,7 @@ pub mod Comp
 pub mod Fault
 pub mod Finishing
 pub mod Fit
+pub mod Hands
 pub mod NewSums
 pub mod Opening
 pub mod Refused

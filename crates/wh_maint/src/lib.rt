@@ -7,6 +7,7 @@
 
 mod asked;
 mod base_change;
+mod beside;
 mod both_sums;
 mod column;
 mod combined;
@@ -15,6 +16,7 @@ mod evaluated;
 mod fault;
 mod finished;
 mod group_change;
+mod hands;
 mod installed;
 mod laws;
 mod opening;
@@ -22,6 +24,7 @@ mod pending;
 mod size;
 mod term;
 mod wants;
+mod wide;
 
 pub use asked::{are_bags, are_sources, is_fit};
 pub use base_change::changed;
@@ -39,7 +42,8 @@ pub use laws::{
     sizes_multiply, summaries_show_accumulators, tables_have_width, terms_are_within,
     terms_give_values, terms_meet_old_or_new_rows, values_are_fit,
 };
-pub use opening::opening_contents;
+pub use opening::{opening_contents, opening_contents_wide};
 pub use pending::Pending;
 pub use size::operand_rows;
 pub use wants::Wants;
+pub use wide::{comp_wide, evaluate_wide};

@@ -1,6 +1,6 @@
 //! What the Comps of a view have added so far.
 
-ghost use Rattle.std.specs.Prelude.{◌≡◌, ℕ, suc, ◌<◌, ◌≤◌, ℤ, pos, ◌+ℤ◌, ◌*ℤ◌, FitsSigned, length, map, IfOk, IfErr, OnOk, OnErr, slice_index_or};
+ghost use Rattle.std.specs.Prelude.{◌≡◌, ℕ, suc, ◌<◌, ◌≤◌, ℤ, pos, ◌+ℤ◌, ◌*ℤ◌, FitsSigned, List, IsTrue, length, map, IfOk, IfErr, OnOk, OnErr, slice_index_or};
 ghost use Rattle.std.specs.List.{range_with_len};
 ghost use mir.Syntax.{w64, w128};
 ghost use Rattle.wh_row.specs.Bag.{count as count_of, written, empty, plus};
@@ -103,6 +103,37 @@ impl Pending {
         Ok(())
     }
 
+    /// Takes in what others added of the same view: as [`Pending::merge`] does, and by no more than a move where nothing was
+    /// added yet.
+    pub(crate) fn take_in(&mut self, other: Pending) -> Result<(), RowFault>
+        requires view { other.view ≡ self.old.view }
+        requires columns { length other.columns ≡ length self.old.columns }
+        requires fits { MergedFit self.old.columns other.columns }
+        ensures view { self.new.view ≡ self.old.view }
+        ensures columns { length self.new.columns ≡ length self.old.columns }
+        ensures sum { OnOk result ((j : ℕ) (q : List ℤ) → count_of (bag_at self.new.columns j) q ≡ count_of (bag_at self.old.columns j) q +ℤ count_of (bag_at other.columns j) q) }
+        ensures memory { OnErr result (result ≡ Err RowFault.Memory) }
+    {
+        if self.is_nothing() {
+            *self = other;
+            return Ok(());
+        }
+        match self.merge(&other) {
+            Ok(()) => Ok(()),
+            Err(MaintFault::Memory) => Err(RowFault::Memory),
+            Err(MaintFault::Large(_)) => unreachable!(),
+            Err(MaintFault::Range(_)) => unreachable!(),
+            Err(MaintFault::Absent(_, _)) => unreachable!(),
+        }
+    }
+
+    /// Whether nothing was added.
+    fn is_nothing(&self) -> bool
+        ensures { IsTrue result → (j : ℕ) → bag_at self.now.columns j ≡ empty }
+    {
+        self.counts.is_empty() && are_empty(self.sums.as_slice())
+    }
+
     /// Adds to a count.
     pub(crate) fn add_count(&mut self, row: &[i64], count: i64) -> Result<(), RowFault>
         requires { FitsSigned w64 (count_of (bag_at self.old.columns 0) row.now +ℤ count) }
@@ -159,6 +190,16 @@ impl Pending {
         ensures { result ≡ bag_at self.columns 0 }
     {
         self.counts
+    }
+}
+
+/// Whether each of these columns is empty.
+fn are_empty(sums: &[Sums]) -> bool
+    ensures { IsTrue result → (j : ℕ) → slice_index_or sums.now j empty ≡ empty }
+{
+    match sums {
+        [] => true,
+        [first, rest @ ..] => first.is_empty() && are_empty(rest),
     }
 }
 

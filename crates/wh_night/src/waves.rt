@@ -1,6 +1,7 @@
 //! Waves: the changes of their sources first, then what each job computes, and then all of it is added.
 
 ghost use Rattle.std.specs.Prelude.{◌≡◌, ◌≢◌, ◌⊎◌, ◌+◌, ◌<◌, ◌≤◌, ◌++◌, ◌∷◌, [], ◌^◌, ℕ, List, true, length, map, OnOk, IfOk, IfErr, Err};
+ghost use Rattle.std.specs.Thread.{IsSync};
 ghost use Rattle.wh_dag.specs.Shape.{has, children_of};
 ghost use Rattle.wh_dag.specs.Catalog.{definition_of, is_base};
 ghost use Rattle.wh_strategy.specs.declared.expression.Expression.{Expression as Step};
@@ -70,8 +71,10 @@ fn finish_sources<F: RowTest, G: RowValue>(
     state.finish(alloc, catalog, views.as_slice())
 }
 
-/// Computes what a job adds.
-fn added_by<F: RowTest, G: RowValue, T: Gate>(
+/// Computes what a job adds, by so many threads.
+fn added_by<F: RowTest, G: RowValue, T: Gate, R: Threads + Sync>(
+    rt: &R,
+    threads: usize,
     alloc: Global,
     catalog: &Catalog<F, G>,
     number: usize,
@@ -86,13 +89,22 @@ fn added_by<F: RowTest, G: RowValue, T: Gate>(
     ensures refused { IfErr result (IsCompFaultIn catalog.now (kept state.now) job.now.view job.now.from) }
 {
     gate.taken(number);
-    let added = state.compute(alloc, catalog, job.view, job.from.as_slice());
+    let added = state.compute_wide(
+        rt,
+        threads,
+        alloc,
+        catalog,
+        job.view,
+        job.from.as_slice(),
+    );
     gate.finished(number);
     added
 }
 
-/// Computes what the job of this number adds.
-fn added_at<F: RowTest, G: RowValue, T: Gate>(
+/// Computes what the job of this number adds, by so many threads.
+fn added_at<F: RowTest, G: RowValue, T: Gate, R: Threads + Sync>(
+    rt: &R,
+    threads: usize,
     alloc: Global,
     catalog: &Catalog<F, G>,
     jobs: &[Job],
@@ -107,7 +119,16 @@ fn added_at<F: RowTest, G: RowValue, T: Gate>(
     ensures added { IfOk result (IsAddedAt catalog.now (kept state.now) jobs.now number) }
     ensures refused { IfErr result (IsRefusedAt catalog.now (kept state.now) jobs.now number) }
 {
-    added_by(alloc, catalog, number, &jobs[number], state, gate)
+    added_by(
+        rt,
+        threads,
+        alloc,
+        catalog,
+        number,
+        &jobs[number],
+        state,
+        gate,
+    )
 }
 
 /// Why a wave is refused.
@@ -130,9 +151,22 @@ fn of_jobs(fault: WaveFault) -> MaintFault
     }
 }
 
+/// How many workers draw jobs, and how many threads do one: a job that is alone is done by all of them.
+fn shared_out(jobs: usize, workers: usize) -> (usize, usize)
+    requires { 1 ≤ workers }
+    ensures least { 1 ≤ result.0 }
+    ensures most { result.0 ≤ workers }
+{
+    if jobs == 1 {
+        return (1, workers);
+    }
+    (workers, 1)
+}
+
 /// Computes what each job of a wave adds, over the tables and the changes of a night, where those of the jobs' sources are known. The
 /// jobs are drawn by 1 to 16 workers, each in a thread, of which the caller's is one; what they add comes in the order of the jobs.
-/// The gate is told of each job in the worker's thread. All jobs are done, so that the refusal of the lowest number is answered,
+/// The gate is told of each job in the worker's thread. A wave of one job is drawn by the caller, and its rows are made by as many
+/// threads as there are workers. All jobs are done, so that the refusal of the lowest number is answered,
 /// whichever came first. A wave of no jobs is not refused.
 pub fn run_wave<F: RowTest, G: RowValue, T: Gate + Sync, R: Threads + Sync>(
     rt: &R,
@@ -154,12 +188,13 @@ pub fn run_wave<F: RowTest, G: RowValue, T: Gate + Sync, R: Threads + Sync>(
     if jobs.is_empty() {
         return Ok(Vec::new(alloc));
     }
+    let (drawing, threads) = shared_out(jobs.len(), workers);
     let compute = move |number: usize| -> Result<Pending, MaintFault>
-        requires { (number < length jobs.now) × IsStageIn catalog.now (stage.Wave jobs.now) × SourcesAreKnown (kept state.now) jobs.now × HaveParts catalog.now state.now }
+        requires { IsSync R.row × (number < length jobs.now) × IsStageIn catalog.now (stage.Wave jobs.now) × SourcesAreKnown (kept state.now) jobs.now × HaveParts catalog.now state.now }
         ensures added { IfOk result (IsAddedAt catalog.entry.now (kept state.entry.now) jobs.entry.now number) }
         ensures refused { IfErr result (IsRefusedAt catalog.entry.now (kept state.entry.now) jobs.entry.now number) }
-    { added_at(alloc, catalog, jobs, number, state, gate) };
-    match do_jobs(rt, alloc, jobs.len(), workers, &compute) {
+    { added_at(rt, threads, alloc, catalog, jobs, number, state, gate) };
+    match do_jobs(rt, alloc, jobs.len(), drawing, &compute) {
         Ok(added) => Ok(added),
         Err(JobsFault::Memory) => Err(WaveFault::Maint(MaintFault::Memory)),
         Err(JobsFault::Refused(_, fault)) => Err(WaveFault::Maint(fault)),

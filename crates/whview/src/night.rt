@@ -27,7 +27,7 @@ use wh_carry::CarryFault;
 use wh_dag::{Catalog, Shape};
 use wh_formula::{Expr, Native, Pred, RowTest, RowValue};
 use wh_load::{Dict, GivenNight, NightInput, Opening, WrittenView, read_for_night};
-use wh_maint::{MaintFault, opening_contents};
+use wh_maint::{MaintFault, opening_contents_wide};
 use wh_night::{NoWatch, Options, Readers, Served, serve_night};
 use wh_strategy::{CheckFault, Rule, check};
 
@@ -113,7 +113,7 @@ fn decide<F: RowTest, G: RowValue, R: Threads + Wait + Sync>(
         Err(CheckFault::Broken { rule, place }) => return Ok(Outcome::Broken { rule, place }),
         Err(CheckFault::Memory) => return Err(AllocError),
     };
-    let tables = match opening_contents(alloc, catalog, tables) {
+    let tables = match opening_contents_wide(rt, how.workers, alloc, catalog, tables) {
         Ok(tables) => tables,
         Err(fault) => return no_contents(fault),
     };

@@ -3,11 +3,12 @@ ghost use Rattle.std.specs.Prelude.{◌≡◌};
 
 use std::alloc::{AllocError, Global};
 use std::process::Abort;
+use std::thread::Threads;
 use wh_dag::Catalog;
 use wh_formula::{RowTest, RowValue};
 use wh_maint::{
-    MaintFault, Pending, Wants, are_bags, are_sources, comp, evaluate, finish, is_fit,
-    opening_contents, operand_rows,
+    MaintFault, Pending, Wants, are_bags, are_sources, comp, comp_wide, evaluate, evaluate_wide,
+    finish, is_fit, opening_contents, operand_rows,
 };
 use wh_row::Bag;
 
@@ -89,6 +90,43 @@ pub(crate) fn value_of<F: RowTest, G: RowValue>(
     assert!(rt; !catalog.is_base(view));
     assert!(rt; are_bags(catalog, tables));
     evaluate(alloc, catalog, view, tables)
+}
+
+/// What so many threads answer to a Comp.
+pub(crate) fn comp_of_threads<R: Threads + Abort + Sync, F: RowTest, G: RowValue>(
+    rt: &R,
+    threads: usize,
+    alloc: Global,
+    catalog: &Catalog<F, G>,
+    asked: &Asked<'_>,
+) -> Result<Pending, MaintFault> {
+    let Asked {
+        view,
+        sources,
+        tables,
+        changes,
+    } = *asked;
+    assert!(rt; view < catalog.shape().len());
+    assert!(rt; !catalog.is_base(view));
+    assert!(rt; are_sources(catalog, view, sources));
+    assert!(rt; are_bags(catalog, tables));
+    assert!(rt; are_bags(catalog, changes));
+    comp_wide(rt, threads, alloc, catalog, view, sources, tables, changes)
+}
+
+/// The value of a view, by so many threads.
+pub(crate) fn value_of_threads<R: Threads + Abort + Sync, F: RowTest, G: RowValue>(
+    rt: &R,
+    threads: usize,
+    alloc: Global,
+    catalog: &Catalog<F, G>,
+    view: usize,
+    tables: &[Bag],
+) -> Result<Bag, MaintFault> {
+    assert!(rt; view < catalog.shape().len());
+    assert!(rt; !catalog.is_base(view));
+    assert!(rt; are_bags(catalog, tables));
+    evaluate_wide(rt, threads, alloc, catalog, view, tables)
 }
 
 /// The contents of a base.
