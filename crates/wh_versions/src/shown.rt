@@ -1,6 +1,6 @@
 //! What a version shows of the rows of a view.
 
-ghost use Rattle.std.specs.Prelude.{◌≡◌, ◌≢◌, ◌≤◌, ◌*◌, ◌++◌, ◌↔◌, [], take, length, nat_le, IsTrue, IfOk, OnOk, OnErr};
+ghost use Rattle.std.specs.Prelude.{◌≡◌, ◌≢◌, ◌<◌, ◌≤◌, ◌*◌, ◌++◌, ◌↔◌, [], take, length, nat_le, IsTrue, IfOk, OnOk, OnErr};
 ghost use Rattle.wh_pieces.specs.Flat.{flat};
 ghost use Rattle.wh_row.specs.Bag.{empty};
 ghost use Rattle.wh_versions.specs.Inner.Pages.{leading};
@@ -12,16 +12,36 @@ use std::alloc::{AllocError, Global};
 use wh_pieces::{Entries, Pieces};
 use wh_row::{Bag, BagFault, Records};
 
-/// How many rows are read at a time: time alone hangs on it.
-const RUN: usize = 64;
+/// How many rows are read at a time, where many and where few are asked for: time alone hangs on it.
+const MANY: usize = 256;
+
+const FEW: usize = 8;
 
 /// The first of these rows that a version shows, at most so many, and whether it shows none after them.
 pub(crate) fn first_shown<const N: usize>(
+    alloc: Global,
+    entries: Entries<'_, VersionRow<N>>,
+    version: u64,
+    limit: usize,
+) -> Result<(Records, bool), AllocError>
+    ensures rows { IfOk result (λ page. page.0 ≡ take limit (shown_of version entries.entry)) }
+    ensures last { IfOk result (λ page. page.1 ≡ nat_le (length (shown_of version entries.entry)) limit) }
+    ensures memory { OnErr result (take limit (shown_of version entries.entry) ≢ []) }
+{
+    if limit <= FEW {
+        return shown_by_runs::<FEW, N>(alloc, entries, version, limit);
+    }
+    shown_by_runs::<MANY, N>(alloc, entries, version, limit)
+}
+
+/// The same, where so many rows are read at a time.
+fn shown_by_runs<const RUN: usize, const N: usize>(
     alloc: Global,
     mut entries: Entries<'_, VersionRow<N>>,
     version: u64,
     limit: usize,
 ) -> Result<(Records, bool), AllocError>
+    requires run { (0 < RUN) × (RUN ≤ MANY) }
     ensures rows { IfOk result (λ page. page.0 ≡ take limit (shown_of version entries.entry)) }
     ensures last { IfOk result (λ page. page.1 ≡ nat_le (length (shown_of version entries.entry)) limit) }
     ensures memory { OnErr result (take limit (shown_of version entries.entry) ≢ []) }
@@ -32,20 +52,22 @@ pub(crate) fn first_shown<const N: usize>(
         let Some((width, cells, pairs)) = entries.run(most) else {
             return Ok((rows, true));
         };
-        add_shown(&mut rows, width, cells, pairs, version)?;
+        add_shown::<RUN, N>(&mut rows, limit, width, cells, pairs, version)?;
     }
     Ok((rows, is_none_shown(entries, version)))
 }
 
-/// Adds those of a run's rows that a version shows.
-fn add_shown<const N: usize>(
+/// Adds those of a run's rows that a version shows, the first rows with room for so many.
+fn add_shown<const RUN: usize, const N: usize>(
     rows: &mut Records,
+    room: usize,
     width: usize,
     cells: &[i64],
     pairs: &[VersionRow<N>],
     version: u64,
 ) -> Result<(), AllocError>
     requires even { length cells.now ≡ width * length pairs.now }
+    requires run { RUN ≤ MANY }
     requires few { length pairs.now ≤ RUN }
     ensures ok { OnOk result (rows.new ≡ rows.old ++ shown_of version (flat width cells.now pairs.now)) }
     ensures memory { OnErr result (shown_of version (flat width cells.now pairs.now) ≢ []) }
@@ -54,7 +76,9 @@ fn add_shown<const N: usize>(
     let mut from = 0;
     while from < pairs.len() {
         let to = from + read_leading(&mut counts, &pairs[from..], version);
-        rows.append(
+        add_run(
+            rows,
+            room,
             width,
             &cells[width * from..width * to],
             &counts[..to - from],
@@ -62,6 +86,27 @@ fn add_shown<const N: usize>(
         from = to + 1;
     }
     Ok(())
+}
+
+/// Adds records of one width, the first with room for so many.
+fn add_run(
+    rows: &mut Records,
+    room: usize,
+    width: usize,
+    cells: &[i64],
+    counts: &[i64],
+) -> Result<(), AllocError>
+    requires { length cells.now ≡ width * length counts.now }
+    ensures ok { OnOk result (rows.new ≡ rows.old ++ flat width cells.now counts.now) }
+    ensures memory { OnErr result (counts.now ≢ []) }
+{
+    if counts.is_empty() {
+        return Ok(());
+    }
+    if rows.is_empty() {
+        rows.reserve(width, room)?;
+    }
+    rows.append(width, cells, counts)
 }
 
 /// Reads what a version counts of the rows before the first that it does not show, and says how many these are.

@@ -22,13 +22,13 @@ overflow_mul-width-in-loop-from g c =
     let here = within c.args.version c.args.pairs.now c.loop-from.from c.read_leading.result c.read_leading.ensures.few (omega (arith, c.loop-from-test.true)) in
     omega (arith, place_within c.args.width (c.loop-from.from + c.read_leading.result) (length c.args.pairs.now) here, c.requires.even)
 
-pub slice_bounds-append-end : goal.slice_bounds-append-end
-slice_bounds-append-end g c =
+pub slice_bounds-add_run-end : goal.slice_bounds-add_run-end
+slice_bounds-add_run-end g c =
     let here = within c.args.version c.args.pairs.now c.loop-from.from c.read_leading.result c.read_leading.ensures.few (omega (arith, c.loop-from-test.true)) in
     omega (arith, place_within c.args.width (c.loop-from.from + c.read_leading.result) (length c.args.pairs.now) here, c.requires.even)
 
-pub returns-in_err-append-clause-memory : goal.returns-in_err-append-clause-memory
-returns-in_err-append-clause-memory g c =
+pub returns-in_err-add_run-clause-memory : goal.returns-in_err-add_run-clause-memory
+returns-in_err-add_run-clause-memory g c =
     let s = c.args.version in
     let w = c.args.width in
     let cells = c.args.cells.now in
@@ -39,7 +39,7 @@ returns-in_err-append-clause-memory g c =
     let counts = c.read_leading.new.counts in
     let k : from + n - from ≡ n = omega arith in
     let is : take (from + n - from) counts ≡ leading s (drop from ps) = ap (λ m. take m counts) k ∙ c.read_leading.ensures.counts ∙ ap (leading s) (behind ps from) in
-    let some : 0 < length (leading s (drop from ps)) = omega (arith, are_some (take (from + n - from) counts) c.in_err-append.ensures.memory, ap (λ (xs : List ℤ). length xs) is) in
+    let some : 0 < length (leading s (drop from ps)) = omega (arith, are_some (take (from + n - from) counts) c.in_err-add_run.ensures.memory, ap (λ (xs : List ℤ). length xs) is) in
     told (some_more c.loop-from.rows (shown_of s (drop from all)) c.args.rows.now (shown_of s all) c.loop-from.invariant.so_far c.loop-from.invariant.longer (some_shown s w cells ps from some)) c.from_residual.result
 
 pub loop-from-preserved : goal.loop-from-preserved
@@ -59,11 +59,11 @@ loop-from-preserved g c =
     let is = c.read_leading.ensures.counts ∙ ap (leading s) (behind ps from) in
     let many = c.read_leading.ensures.few ∙ ap (λ (qs : List Pairs). length (leading s qs)) (behind ps from) in
     let here = within s ps from n c.read_leading.ensures.few (omega (arith, c.loop-from-test.true)) in
-    let parts = run_parts s w cells ps from c.loop-from.rows c.append.new.self before cut ns c.loop-from.invariant.so_far (cut_run w from n cells counts lead many is) c.in_ok-append.ensures.ok in
+    let parts = run_parts s w cells ps from c.loop-from.rows c.add_run.new.rows before cut ns c.loop-from.invariant.so_far (cut_run w from n cells counts lead many is) c.in_ok-add_run.ensures.ok in
     record {
       within = omega (arith, here);
-      so_far = ap (λ k. c.append.new.self ++ shown_of s (drop (from + k + 1) all)) many ∙ parts;
-      longer = omega (arith, ap (λ (xs : Counted). length xs) c.in_ok-append.ensures.ok, length-append c.loop-from.rows (flat w cut ns), c.loop-from.invariant.longer);
+      so_far = ap (λ k. c.add_run.new.rows ++ shown_of s (drop (from + k + 1) all)) many ∙ parts;
+      longer = omega (arith, ap (λ (xs : Counted). length xs) c.in_ok-add_run.ensures.ok, length-append c.loop-from.rows (flat w cut ns), c.loop-from.invariant.longer);
     }
 
 pub returns-clause-ok : goal.returns-clause-ok

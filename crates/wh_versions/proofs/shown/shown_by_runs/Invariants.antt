@@ -1,6 +1,6 @@
 use Rattle.std.proofs.Common.{◌≡◌, ◌≤◌, ◌++◌, length}
 use Rattle.wh_versions.specs.Pages.{shown_of}
-use Rattle.wh_versions.proofs.shown.first_shown.Given as goal
+use Rattle.wh_versions.proofs.shown.shown_by_runs.Given as goal
 
 abbrev pub invariant-loop-rows : goal.invariant-loop-rows
 invariant-loop-rows g l =

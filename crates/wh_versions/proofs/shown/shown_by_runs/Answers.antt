@@ -5,7 +5,7 @@ use Rattle.wh_row.specs.Weigh.{Counted}
 use Rattle.wh_versions.specs.Pages.{shown_of}
 use Rattle.wh_versions.proofs.PageLaws.{told}
 use Rattle.wh_versions.proofs.RunLaws.{shown-append, shown_few, page_needs}
-use Rattle.wh_versions.proofs.shown.first_shown.Goals as goal
+use Rattle.wh_versions.proofs.shown.shown_by_runs.Goals as goal
 
 pub loop-rows-smaller : goal.loop-rows-smaller
 loop-rows-smaller g c =
