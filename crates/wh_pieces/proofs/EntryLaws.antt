@@ -4,7 +4,9 @@ use Rattle.std.proofs.lemmas.List.{drop-drop, take-append-drop, take-append-le, 
 use Rattle.std.specs.List.{AllByRecursion}
 use Rattle.std.specs.List.Sorted.{IsStrictlySortedBy}
 use Rattle.std.specs.Map.{keys_of}
-use Rattle.std.specs.declared.cmp.Ordering.TheVariants.{Less}
+use Rattle.std.specs.declared.cmp.Ordering.{Ordering}
+use Rattle.std.specs.declared.cmp.Ordering.TheVariants.{Less, Equal, Greater}
+use Rattle.std.specs.Ordering.{is_le}
 use Rattle.wh_pieces.specs.Row.{Row, row_cmp}
 use Rattle.wh_pieces.specs.Place.{AreRisingRows, IsAbove}
 use Rattle.wh_pieces.specs.Inner.Place.{IsBelowFirst, IsFirst, IsAt, IsGapFor}
@@ -169,3 +171,21 @@ above-few row (e ∷ es) = elim (is_lt (row_cmp row e.0)) as (λ b. length (cond
 -- a piece is no longer than all
 pub piece_short : {T : Type 0} (ls : List (List (Row × T))) (nth : ℕ) → nth < length ls → length (piece_at ls nth) ≤ length (all_of ls)
 piece_short ls nth l = omega (arith, ap length (all-split ls nth l), length-append (all_of (take nth ls)) (piece_at ls nth ++ all_of (drop (suc nth) ls)), length-append (piece_at ls nth) (all_of (drop (suc nth) ls)))
+
+-- no entry is from the row on where the row is above all, and there alone
+pub none_from : {T : Type 0} (row : Row) (es : List (Row × T)) → IsAbove row es → from row es ≡ []
+none_from row [] h = refl
+none_from row (e ∷ es) h = (λ i. cond (is_le (h.0 i)) (e ∷ from row es) (from row es)) ∙ none_from row es h.1
+
+pub no_length : {T : Type 0} (e : Row × T) (es : List (Row × T)) → e ∷ es ≡ [] → ⊥
+no_length e es n = omega (arith, ap length n)
+
+pub above_none : {T : Type 0} (row : Row) (es : List (Row × T)) → from row es ≡ [] → IsAbove row es
+above_none row [] h = tt
+above_none {T} row (e ∷ es) h =
+    let P : Ordering → Type 0 = λ o. cond (is_le o) (e ∷ from row es) (from row es) ≡ [] → row_cmp row e.0 ≡ o → IsAbove row (e ∷ es) in
+    elim (row_cmp row e.0) as P [
+      | Less ↦ λ n is. absurd (no_length e (from row es) n)
+      | Equal ↦ λ n is. absurd (no_length e (from row es) n)
+      | Greater ↦ λ n is. (is, above_none row es n)
+    ] h refl

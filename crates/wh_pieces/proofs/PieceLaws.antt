@@ -556,3 +556,16 @@ counted_pushed {T} row v ls ms n c a e h small = record {
   exact = omega (arith, c.exact, ap length e, length-append (all_of ls) ((row, v) ∷ []));
   small = small;
 }
+
+-- pieces behind pieces whose rows are all below
+pub counted_joined : {T : Type 0} (ls ms ns : List (List (Row × T))) (a b : ℕ) → AreCounted ls a → AreCounted ms b → ns ≡ ls ++ ms → AreRisingRows (all_of ls ++ all_of ms) → a + b < 2 ^ 63 → AreCounted ns (a + b)
+counted_joined {T} ls ms ns a b c d is rising small =
+    let all : all_of ns ≡ all_of ls ++ all_of ms = ap all_of is ∙ all-append ls ms in
+    record {
+      pieces = record {
+        rising = subst (λ (es : List (Row × T)). AreRisingRows es) (sym all) rising;
+        some = subst (λ (xs : List (List (Row × T))). AreNotEmpty xs) (sym is) (some-append ls ms c.pieces.some d.pieces.some);
+      };
+      exact = omega (arith, c.exact, d.exact, ap length all, length-append (all_of ls) (all_of ms));
+      small = small;
+    }

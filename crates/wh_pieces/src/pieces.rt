@@ -245,6 +245,41 @@ impl<T: Copy + Drop> Pieces<T> {
         }
     }
 
+    /// Whether all rows of another map are above these.
+    pub fn is_below(&self, other: &Pieces<T>) -> bool
+        ensures { IsTrue result ↔ AreRisingRows (self.now ++ other.now) }
+    {
+        // Told by the map: its rows rise.
+        let _ = self.len();
+        let Some((row, _)) = other.entries().first() else {
+            return true;
+        };
+        match self.entries_from(row).first() {
+            Some(_) => false,
+            None => true,
+        }
+    }
+
+    /// Puts another map's rows, which are all above these, behind them. Its pieces are moved, and no row is looked at.
+    pub fn put_above(&mut self, other: Pieces<T>) -> Result<(), AllocError>
+        requires { AreRisingRows (self.old ++ other) }
+        ensures ok { OnOk result (self.new ≡ self.old ++ other) }
+        ensures err { OnErr result (self.new ≡ self.old) }
+        ensures memory { OnErr result (other ≢ []) }
+    {
+        let more = other.len();
+        if more == 0 {
+            return Ok(());
+        }
+        if LARGEST - self.len < more {
+            return Err(AllocError);
+        }
+        let mut pieces = other.pieces;
+        self.pieces.append(&mut pieces)?;
+        self.len += more;
+        Ok(())
+    }
+
     /// Adds a row that is above all others.
     pub fn push(&mut self, row: &[i64], value: T) -> Result<(), AllocError>
         requires { IsAbove row.now self.old }

@@ -8,6 +8,7 @@ pub mod OneRow
 pub mod BagLaws
 mod Machine
 mod MapLaws
+mod AboveLaws
 mod AddLaws
 mod RaiseLaws
 mod OrderLaws

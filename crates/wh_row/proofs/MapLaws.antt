@@ -34,7 +34,7 @@ none-cond true o = refl
 none-cond false o = refl
 
 -- the bag counts a row as the map's look-up does
-count-from_counts : (es : Counted) (q : Row) → count (from_counts es) q ≡ unwrap_or (found q es) (pos 0)
+pub count-from_counts : (es : Counted) (q : Row) → count (from_counts es) q ≡ unwrap_or (found q es) (pos 0)
 count-from_counts [] q = ap number (fin.get-empty row_cmp q)
 count-from_counts (e ∷ es) q =
     count-set_count (from_counts es) e.0 e.1 q

@@ -13,6 +13,19 @@ pub(crate) struct Kept {
 }
 
 impl Kept {
+    /// What is kept of two bags together that have no row in common.
+    pub(crate) fn and(self, other: Kept) -> Kept
+        requires small { self.total + other.total < 2 ^ 128 }
+        requires few { self.below + other.below < 2 ^ 64 }
+        ensures total { result.total ≡ self.total + other.total }
+        ensures below { result.below ≡ self.below + other.below }
+    {
+        Kept {
+            total: self.total + other.total,
+            below: self.below + other.below,
+        }
+    }
+
     /// What is kept once a row that counted `before` counts `after`.
     pub(crate) fn changed(self, before: i64, after: i64) -> Kept
         requires total { unsigned_abs before ≤ self.total }
