@@ -15,7 +15,7 @@ use Rattle.wh_row.specs.Weigh.{Counted, count_in}
 use Rattle.wh_row.specs.Bag.{Bag, count, empty, number, sum_of, SumFits, HasRowsOf}
 use Rattle.wh_row.specs.declared.fault.BagFault as bag
 use Rattle.wh_row.specs.declared.fault.BagFault.TheVariants as bag_fault
-use Rattle.wh_row.proofs.BagLaws.{itself}
+use Rattle.wh_row.proofs.BagLaws.{itself, count-sum_of}
 use Rattle.wh_maint.specs.Comp.{bag_at, merged, PendingOf}
 use Rattle.wh_maint.specs.Inner.Fault.{bag_fault_of}
 use Rattle.wh_maint.specs.Refused.{SumsTogetherFit, MergedFit, BringsNothing, IsMergeFault}
@@ -142,3 +142,20 @@ pub columns_bring : (xs ys us vs : List Bag) → xs ≡ us → ys ≡ vs → Bri
 columns_bring xs ys us vs e f none j =
     subst (λ (bags : List Bag). HasRowsOf (bag_at bags j) (bag_at ys j)) (sym e)
     (subst (λ (bags : List Bag). HasRowsOf (bag_at us j) (bag_at bags j)) (sym f) (none j))
+
+-- ---- counts alone
+
+one_alone : (cs : List Bag) → length cs ≡ 1 → (j : ℕ) → bag_at cs (suc j) ≡ empty
+one_alone [] e j = absurd (omega (arith, e))
+one_alone (b ∷ []) e j = refl
+one_alone (b ∷ d ∷ cs) e j = absurd (omega (arith, e))
+
+pub alone_summed : (mine others all : List Bag) → length mine ≡ 1 → length others ≡ 1 → length all ≡ 1 → bag_at all 0 ≡ sum_of (bag_at mine 0) (bag_at others 0)
+    → (j : ℕ) (q : Row) → count (bag_at all j) q ≡ count (bag_at mine j) q +ℤ count (bag_at others j) q
+alone_summed mine others all m o a is zero q = ap (λ b. count b q) is ∙ count-sum_of (bag_at mine 0) (bag_at others 0) q
+alone_summed mine others all m o a is (suc j) q =
+    let none : count empty q ≡ pos 0 = none_in q in
+    let sum : pos 0 +ℤ pos 0 ≡ pos 0 = refl in
+    ap (λ b. count b q) (one_alone all a j) ∙ none ∙ sym sum
+    ∙ (λ i. sym none i +ℤ sym none i)
+    ∙ (λ i. count (sym (one_alone mine m j) i) q +ℤ count (sym (one_alone others o j) i) q)

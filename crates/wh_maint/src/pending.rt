@@ -3,7 +3,7 @@
 ghost use Rattle.std.specs.Prelude.{◌≡◌, ℕ, suc, ◌<◌, ◌≤◌, ℤ, pos, ◌+ℤ◌, ◌*ℤ◌, FitsSigned, List, IsTrue, length, map, IfOk, IfErr, OnOk, OnErr, slice_index_or};
 ghost use Rattle.std.specs.List.{range_with_len};
 ghost use mir.Syntax.{w64, w128};
-ghost use Rattle.wh_row.specs.Bag.{count as count_of, written, empty, plus};
+ghost use Rattle.wh_row.specs.Bag.{count as count_of, written, empty, plus, sum_of, SumFits};
 ghost use Rattle.wh_maint.specs.Comp.{bag_at, merged};
 ghost use Rattle.wh_maint.specs.Refused.{MergedFit, BringsNothing, IsMergeFault};
 
@@ -104,7 +104,7 @@ impl Pending {
     }
 
     /// Takes in what others added of the same view: as [`Pending::merge`] does, and by no more than a move where nothing was
-    /// added yet.
+    /// added yet, or where all rows of a joined view are above these.
     pub(crate) fn take_in(&mut self, other: Pending) -> Result<(), RowFault>
         requires view { other.view ≡ self.old.view }
         requires columns { length other.columns ≡ length self.old.columns }
@@ -118,12 +118,32 @@ impl Pending {
             *self = other;
             return Ok(());
         }
+        if self.sums.is_empty() {
+            self.take_counts_in(other.into_counts())?;
+            return Ok(());
+        }
         match self.merge(&other) {
             Ok(()) => Ok(()),
             Err(MaintFault::Memory) => Err(RowFault::Memory),
             Err(MaintFault::Large(_)) => unreachable!(),
             Err(MaintFault::Range(_)) => unreachable!(),
             Err(MaintFault::Absent(_, _)) => unreachable!(),
+        }
+    }
+
+    /// Takes in counts alone.
+    fn take_counts_in(&mut self, counts: Bag) -> Result<(), RowFault>
+        requires one { length self.old.columns ≡ 1 }
+        requires fits { SumFits (bag_at self.old.columns 0) counts }
+        ensures view { self.new.view ≡ self.old.view }
+        ensures columns { length self.new.columns ≡ 1 }
+        ensures sum { OnOk result (bag_at self.new.columns 0 ≡ sum_of (bag_at self.old.columns 0) counts) }
+        ensures memory { OnErr result (result ≡ Err RowFault.Memory) }
+    {
+        match self.counts.take_in(counts) {
+            Ok(()) => Ok(()),
+            Err(BagFault::Memory) => Err(RowFault::Memory),
+            Err(BagFault::Large) => unreachable!(),
         }
     }
 
