@@ -9,6 +9,7 @@ pub mod BagLaws
 mod Machine
 mod MapLaws
 mod AboveLaws
+mod ShareLaws
 mod AddLaws
 mod RaiseLaws
 mod OrderLaws

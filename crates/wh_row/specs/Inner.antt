@@ -4,4 +4,5 @@ pub mod Kept
 pub mod Keyed
 pub mod Laid
 pub mod Room
+pub mod Shares
 pub mod Stored

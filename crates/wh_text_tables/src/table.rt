@@ -20,18 +20,24 @@ use crate::table::header::Content;
 use crate::table::rows::{RowsRead, RowsReader};
 use std::alloc::Global;
 use std::mem;
-use wh_row::{Bag, Records, RecordsFault};
+use std::thread::Threads;
+use wh_row::{Bag, Hands, Records, RecordsFault};
 use wh_text::{Column, Dict, LoadFault};
 pub use write::write_table;
 
 /// The bag that the entries add up to, or the first fault: a sum that leaves i64 comes before a fault that ended the reading.
-fn sum_up(alloc: Global, counted: &Records, read: Result<(), LoadFault>) -> Result<Bag, LoadFault>
+fn sum_up<R: Threads + Sync>(
+    hands: &Hands<'_, R>,
+    alloc: Global,
+    counted: &Records,
+    read: Result<(), LoadFault>,
+) -> Result<Bag, LoadFault>
     requires { length counted.now + 1 < 2 ^ 64 }
     ensures ok { IfOk result (λ bag. bag ≡ bag_of counted.now) }
     ensures fits { OnOk result (EachSumFits counted.now × (result_err read ≡ None)) }
     ensures err { IfErr result (λ f. (f ≡ LoadFault.Memory) ⊎ EndsSum counted.now (result_err read) f) }
 {
-    match Bag::from_records(alloc, counted) {
+    match Bag::from_records_wide(hands, alloc, counted) {
         Ok(bag) => {
             read?;
             Ok(bag)
@@ -42,7 +48,8 @@ fn sum_up(alloc: Global, counted: &Records, read: Result<(), LoadFault>) -> Resu
 }
 
 /// What the text gives; where it has a fault, some of its texts may have got numbers.
-fn read_counted(
+fn read_counted<R: Threads + Sync>(
+    hands: &Hands<'_, R>,
     alloc: Global,
     content: Content,
     columns: &[Column],
@@ -60,11 +67,12 @@ fn read_counted(
         columns,
     };
     let read = read_part(alloc, &reader, text, rows);
-    sum_up(alloc, &rows.counted, read)
+    sum_up(hands, alloc, &rows.counted, read)
 }
 
 /// The same, but a fault leaves the dictionary as it was.
-fn read_table_part(
+fn read_table_part<R: Threads + Sync>(
+    hands: &Hands<'_, R>,
     alloc: Global,
     content: Content,
     columns: &[Column],
@@ -81,7 +89,7 @@ fn read_table_part(
         counted: Records::new(alloc),
         row: Vec::new(alloc),
     };
-    let outcome = read_counted(alloc, content, columns, text, &mut rows);
+    let outcome = read_counted(hands, alloc, content, columns, text, &mut rows);
     let RowsRead { dict: read, .. } = rows;
     *dict = read;
     if outcome.is_err() {
@@ -97,7 +105,8 @@ fn read_table_part(
 /// The first fault, record by record, the header being record 1: `Csv` (its length or UTF-8), `Header`, `Number` (a cell
 /// of the wrong form, a count not allowed, or equal rows whose sum leaves i64 here). After an error the dictionary is as
 /// before.
-pub fn read_table(
+pub fn read_table<R: Threads + Sync>(
+    hands: &Hands<'_, R>,
     alloc: Global,
     columns: &[Column],
     text: &[u8],
@@ -109,12 +118,13 @@ pub fn read_table(
     ensures err { IfErr result (λ f. (f ≡ LoadFault.Memory) ⊎ (text_gives Table columns.now dict.old text.now ≡ Err f)) }
     ensures kept { OnErr result (dict.new ≡ dict.old) }
 {
-    read_table_part(alloc, Content::Table, columns, text, dict)
+    read_table_part(hands, alloc, Content::Table, columns, text, dict)
 }
 
 /// The changes to a table of these columns that the text writes: as [`read_table`], but the header always has `#`, and a
 /// count is any number but zero, below zero for rows that leave. A row whose counts cancel is not among the changes.
-pub fn read_changes(
+pub fn read_changes<R: Threads + Sync>(
+    hands: &Hands<'_, R>,
     alloc: Global,
     columns: &[Column],
     text: &[u8],
@@ -125,7 +135,7 @@ pub fn read_changes(
     ensures err { IfErr result (λ f. (f ≡ LoadFault.Memory) ⊎ (text_gives Changes columns.now dict.old text.now ≡ Err f)) }
     ensures kept { OnErr result (dict.new ≡ dict.old) }
 {
-    read_table_part(alloc, Content::Changes, columns, text, dict)
+    read_table_part(hands, alloc, Content::Changes, columns, text, dict)
 }
 
 /// A law of the definitions: a table that was written is read back as it was, and leaves the dictionary as it is. It asks

@@ -29,6 +29,7 @@ use wh_formula::{Expr, Native, Pred, RowTest, RowValue};
 use wh_load::{Dict, GivenNight, NightInput, Opening, WrittenView, read_for_night};
 use wh_maint::{MaintFault, opening_contents_wide};
 use wh_night::{NoWatch, Options, Readers, Served, serve_night};
+use wh_row::Hands;
 use wh_strategy::{CheckFault, Rule, check};
 
 /// What is decided of a night.
@@ -234,7 +235,11 @@ pub fn answer<R: Threads + Wait + Sync>(
 ) -> Result<Answer, AllocError>
     ensures { IfOk result (λ a. IsNightOutput how.readers bytes.now a.text.items (status_number a.status)) }
 {
-    match read_for_night(alloc, bytes) {
+    let hands = Hands {
+        rt,
+        threads: how.workers,
+    };
+    match read_for_night(&hands, alloc, bytes) {
         Ok(input) => answer_of(rt, alloc, how, input),
         Err(fault) => Answer::fault(alloc, &fault),
     }

@@ -42,7 +42,7 @@ fn command_answer<E: Threads + Wait + Sync>(
         Asked::Plan { costs, budget, .. } => plan::answer(alloc, *costs, *budget, bytes),
         Asked::Certify { costs, .. } => certify::answer(alloc, *costs, bytes),
         Asked::Night { how, .. } => night::answer(rt, alloc, *how, bytes),
-        Asked::Replay { .. } => replay::answer(alloc, bytes),
+        Asked::Replay { .. } => replay::answer(rt, alloc, bytes),
     }
 }
 

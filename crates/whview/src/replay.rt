@@ -24,12 +24,13 @@ use crate::catalogue::catalog_with;
 use crate::status::Status;
 use reply::replies_text;
 use std::alloc::{AllocError, Global};
+use std::thread::Threads;
 use wh_core::{Cause, Core, Event, Reply};
 use wh_dag::{Catalog, Shape};
 use wh_formula::{Expr, Native, Pred, RowTest, RowValue};
 use wh_load::{GivenNight, Opening, ReplayInput, Schedule, ScheduledEvent, read_for_replay};
 use wh_maint::opening_contents;
-use wh_row::Bag;
+use wh_row::{Bag, Hands};
 use wh_strategy::{CheckFault, Correct, check};
 
 /// The nights with their strategies judged over this shape. The fault is that of the first night whose strategy is not correct.
@@ -223,11 +224,12 @@ fn answer_of(alloc: Global, input: ReplayInput) -> Result<Answer, AllocError>
     )
 }
 
-/// What `replay` answers for the bytes of a bundle.
-pub fn answer(alloc: Global, bytes: &[u8]) -> Result<Answer, AllocError>
+/// What `replay` answers for the bytes of a bundle. It starts no thread.
+pub fn answer<R: Threads + Sync>(rt: &R, alloc: Global, bytes: &[u8]) -> Result<Answer, AllocError>
     ensures { IfOk result (λ a. IsReplayOutput bytes.now a.text.items (status_number a.status)) }
 {
-    match read_for_replay(alloc, bytes) {
+    let hands = Hands { rt, threads: 1 };
+    match read_for_replay(&hands, alloc, bytes) {
         Ok(input) => answer_of(alloc, input),
         Err(fault) => Answer::fault(alloc, &fault),
     }

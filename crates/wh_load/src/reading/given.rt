@@ -10,13 +10,15 @@ use super::inputs::GivenNight;
 use super::rows::{changes_in, tables_in};
 use super::views::KnownViews;
 use std::alloc::Global;
-use wh_row::Bag;
+use std::thread::Threads;
+use wh_row::{Bag, Hands};
 use wh_text::{Dict, LoadFault};
 use wh_text_bundle::Bundle;
 use wh_text_lines::read_strategy;
 
 /// The tables of these views, where all rows are of base views.
-pub fn tables_of(
+pub fn tables_of<R: Threads + Sync>(
+    hands: &Hands<'_, R>,
     alloc: Global,
     bundle: &Bundle<'_>,
     known: &KnownViews<'_>,
@@ -27,12 +29,13 @@ pub fn tables_of(
     ensures err { IfErr result (λ f. (f ≡ LoadFault.Memory) ⊎ (tables_of bundle.now known.now.names.now (map shown_view known.now.views.now) texts.old ≡ Err f)) }
 {
     only_base_parts(alloc, bundle, known)?;
-    let tables = tables_in(alloc, bundle, known, texts)?;
+    let tables = tables_in(hands, alloc, bundle, known, texts)?;
     Ok(tables)
 }
 
 /// What is given of the night of this number, which counts from 0: its changes and the strategy that the text says.
-pub fn given_of(
+pub fn given_of<R: Threads + Sync>(
+    hands: &Hands<'_, R>,
     alloc: Global,
     bundle: &Bundle<'_>,
     night: usize,
@@ -44,7 +47,7 @@ pub fn given_of(
     ensures fit { IfOk result (λ given. AreReadRows (ChangeRows 0) (map shown_view known.now.views.now) given.changes.items) }
     ensures err { IfErr result (λ f. (f ≡ LoadFault.Memory) ⊎ (given_of bundle.now known.now.names.now (map shown_view known.now.views.now) night strategy.now texts.old ≡ Err f)) }
 {
-    let changes = changes_in(alloc, bundle, night, known, texts)?;
+    let changes = changes_in(hands, alloc, bundle, night, known, texts)?;
     let strategy = read_strategy(alloc, known.names, strategy)?;
     Ok(GivenNight { changes, strategy })
 }

@@ -11,8 +11,9 @@ use super::inputs::{GivenNight, NightInput, Opening};
 use super::parts::{bundle_of, text_of};
 use super::views::KnownViews;
 use std::alloc::Global;
+use std::thread::Threads;
 use wh_dag::Shape;
-use wh_row::Bag;
+use wh_row::{Bag, Hands};
 use wh_text::{Dict, LoadFault, Names};
 use wh_text_bundle::{Bundle, Heading, Nights};
 use wh_text_catalogue::{Written, WrittenView, read_definitions, read_shape};
@@ -25,7 +26,8 @@ struct Rows {
 }
 
 /// The tables of these views, and what is given of the night.
-fn rows_in(
+fn rows_in<R: Threads + Sync>(
+    hands: &Hands<'_, R>,
     alloc: Global,
     bundle: &Bundle<'_>,
     shape: &Shape,
@@ -46,13 +48,14 @@ fn rows_in(
         names: &names,
         views,
     };
-    let tables = tables_of(alloc, bundle, &known, texts)?;
-    let given = given_of(alloc, bundle, 0, &known, texts, strategy)?;
+    let tables = tables_of(hands, alloc, bundle, &known, texts)?;
+    let given = given_of(hands, alloc, bundle, 0, &known, texts, strategy)?;
     Ok(Rows { tables, given })
 }
 
 /// What a night over these views is given.
-fn night_over(
+fn night_over<R: Threads + Sync>(
+    hands: &Hands<'_, R>,
     alloc: Global,
     bundle: &Bundle<'_>,
     shape: Shape,
@@ -67,7 +70,7 @@ fn night_over(
     ensures err { IfErr result (λ f. (f ≡ LoadFault.Memory) ⊎ (night_over bundle.now shape (map shown_view views.items) texts strategy.now ≡ Err f)) }
 {
     let mut texts = texts;
-    let rows = rows_in(alloc, bundle, &shape, &views, &mut texts, strategy)?;
+    let rows = rows_in(hands, alloc, bundle, &shape, &views, &mut texts, strategy)?;
     let Rows { tables, given } = rows;
     Ok(NightInput {
         shape,
@@ -81,7 +84,11 @@ fn night_over(
 }
 
 /// What the parts of a bundle say of its first night, or the first fault.
-fn night_in(alloc: Global, bundle: &Bundle<'_>) -> Result<NightInput, LoadFault>
+fn night_in<R: Threads + Sync>(
+    hands: &Hands<'_, R>,
+    alloc: Global,
+    bundle: &Bundle<'_>,
+) -> Result<NightInput, LoadFault>
     ensures ok { IfOk result (λ n. night_in bundle.now ≡ Ok (shown_night n)) }
     ensures fit { IfOk result IsReadNight }
     ensures err { IfErr result (λ f. (f ≡ LoadFault.Memory) ⊎ (night_in bundle.now ≡ Err f)) }
@@ -92,7 +99,7 @@ fn night_in(alloc: Global, bundle: &Bundle<'_>) -> Result<NightInput, LoadFault>
     let mut texts = Dict::new(alloc);
     let written = read_definitions(alloc, &catalogue, &shape, &mut texts)?;
     let Written { views } = written;
-    let night = night_over(alloc, bundle, shape, views, texts, &strategy)?;
+    let night = night_over(hands, alloc, bundle, shape, views, texts, &strategy)?;
     Ok(night)
 }
 
@@ -101,11 +108,15 @@ fn night_in(alloc: Global, bundle: &Bundle<'_>) -> Result<NightInput, LoadFault>
 /// of the tables, view by view; of the changes; of the strategy's text. Memory may come at any point.
 ///
 /// What is read makes a catalogue over the shape, and there are a table and changes of each view, of its columns.
-pub fn read_for_night(alloc: Global, bytes: &[u8]) -> Result<NightInput, LoadFault>
+pub fn read_for_night<R: Threads + Sync>(
+    hands: &Hands<'_, R>,
+    alloc: Global,
+    bytes: &[u8],
+) -> Result<NightInput, LoadFault>
     ensures ok { IfOk result (λ n. night_read bytes.now ≡ Ok (shown_night n)) }
     ensures fit { IfOk result IsReadNight }
     ensures err { IfErr result (λ f. (f ≡ LoadFault.Memory) ⊎ (night_read bytes.now ≡ Err f)) }
 {
     let bundle = bundle_of(alloc, bytes, Nights::First)?;
-    night_in(alloc, &bundle)
+    night_in(hands, alloc, &bundle)
 }

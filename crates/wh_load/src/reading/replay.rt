@@ -14,8 +14,9 @@ use super::parts::{bundle_of, text_of};
 use super::views::KnownViews;
 use std::alloc::Global;
 use std::borrow::CowSlice;
+use std::thread::Threads;
 use wh_dag::Shape;
-use wh_row::Bag;
+use wh_row::{Bag, Hands};
 use wh_text::{Dict, LoadFault, Names};
 use wh_text_bundle::{Bundle, Heading, Nights};
 use wh_text_catalogue::{Written, WrittenView, read_definitions, read_shape};
@@ -35,7 +36,8 @@ fn strategies_in<'a>(alloc: Global, bundle: &Bundle<'a>) -> Result<Vec<CowSlice<
 }
 
 /// What is given of the nights with these strategies, in order.
-fn nights_in(
+fn nights_in<R: Threads + Sync>(
+    hands: &Hands<'_, R>,
     alloc: Global,
     bundle: &Bundle<'_>,
     known: &KnownViews<'_>,
@@ -50,7 +52,7 @@ fn nights_in(
 {
     let mut nights = Vec::new(alloc);
     for strategy in strategies {
-        let own = given_of(alloc, bundle, nights.len(), known, texts, strategy)?;
+        let own = given_of(hands, alloc, bundle, nights.len(), known, texts, strategy)?;
         nights.push(own)?;
     }
     Ok(nights)
@@ -65,7 +67,8 @@ struct Rows {
 }
 
 /// The tables of these views, what is given of the nights, and the schedule.
-fn rows_in(
+fn rows_in<R: Threads + Sync>(
+    hands: &Hands<'_, R>,
     alloc: Global,
     bundle: &Bundle<'_>,
     shape: &Shape,
@@ -88,8 +91,8 @@ fn rows_in(
         names: &names,
         views,
     };
-    let tables = tables_of(alloc, bundle, &known, texts)?;
-    let nights = nights_in(alloc, bundle, &known, texts, strategies)?;
+    let tables = tables_of(hands, alloc, bundle, &known, texts)?;
+    let nights = nights_in(hands, alloc, bundle, &known, texts, strategies)?;
     let schedule = read_schedule(alloc, &names, schedule)?;
     Ok(Rows {
         tables,
@@ -99,7 +102,8 @@ fn rows_in(
 }
 
 /// What is replayed over these views.
-fn replay_over(
+fn replay_over<R: Threads + Sync>(
+    hands: &Hands<'_, R>,
     alloc: Global,
     bundle: &Bundle<'_>,
     shape: Shape,
@@ -117,7 +121,7 @@ fn replay_over(
 {
     let mut texts = texts;
     let rows = rows_in(
-        alloc, bundle, &shape, &views, &mut texts, strategies, schedule,
+        hands, alloc, bundle, &shape, &views, &mut texts, strategies, schedule,
     )?;
     let Rows {
         tables,
@@ -137,7 +141,11 @@ fn replay_over(
 }
 
 /// What the parts of a bundle say of its nights, or the first fault.
-fn replay_in(alloc: Global, bundle: &Bundle<'_>) -> Result<ReplayInput, LoadFault>
+fn replay_in<R: Threads + Sync>(
+    hands: &Hands<'_, R>,
+    alloc: Global,
+    bundle: &Bundle<'_>,
+) -> Result<ReplayInput, LoadFault>
     ensures ok { IfOk result (λ r. replay_in bundle.now ≡ Ok (shown_replay r)) }
     ensures fit { IfOk result IsReadReplay }
     ensures err { IfErr result (λ f. (f ≡ LoadFault.Memory) ⊎ (replay_in bundle.now ≡ Err f)) }
@@ -149,7 +157,16 @@ fn replay_in(alloc: Global, bundle: &Bundle<'_>) -> Result<ReplayInput, LoadFaul
     let mut texts = Dict::new(alloc);
     let written = read_definitions(alloc, &catalogue, &shape, &mut texts)?;
     let Written { views } = written;
-    let replay = replay_over(alloc, bundle, shape, views, texts, &strategies, &schedule)?;
+    let replay = replay_over(
+        hands,
+        alloc,
+        bundle,
+        shape,
+        views,
+        texts,
+        &strategies,
+        &schedule,
+    )?;
     Ok(replay)
 }
 
@@ -159,11 +176,15 @@ fn replay_in(alloc: Global, bundle: &Bundle<'_>) -> Result<ReplayInput, LoadFaul
 /// strategy's text; of the schedule's text. Memory may come at any point.
 ///
 /// What is read makes a catalogue over the shape, and there are a table and, in each night, changes of each view, of its columns.
-pub fn read_for_replay(alloc: Global, bytes: &[u8]) -> Result<ReplayInput, LoadFault>
+pub fn read_for_replay<R: Threads + Sync>(
+    hands: &Hands<'_, R>,
+    alloc: Global,
+    bytes: &[u8],
+) -> Result<ReplayInput, LoadFault>
     ensures ok { IfOk result (λ r. replay_of bytes.now ≡ Ok (shown_replay r)) }
     ensures fit { IfOk result IsReadReplay }
     ensures err { IfErr result (λ f. (f ≡ LoadFault.Memory) ⊎ (replay_of bytes.now ≡ Err f)) }
 {
     let bundle = bundle_of(alloc, bytes, Nights::All)?;
-    replay_in(alloc, &bundle)
+    replay_in(hands, alloc, &bundle)
 }

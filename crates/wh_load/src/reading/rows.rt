@@ -6,14 +6,16 @@ ghost use Rattle.wh_load.specs.ReadingNight.{AreReadRows, ChangeRows, TableRows,
 
 use super::views::KnownViews;
 use std::alloc::Global;
-use wh_row::Bag;
+use std::thread::Threads;
+use wh_row::{Bag, Hands};
 use wh_text::{Dict, LoadFault};
 use wh_text_bundle::{Bundle, Heading, Piece};
 use wh_text_catalogue::WrittenView;
 use wh_text_tables::{read_changes, read_table};
 
 /// The table of a view: of a base view what its part writes, and no rows where there is none.
-fn table_of(
+fn table_of<R: Threads + Sync>(
+    hands: &Hands<'_, R>,
     alloc: Global,
     bundle: &Bundle<'_>,
     name: &[u8],
@@ -29,14 +31,15 @@ fn table_of(
     match bundle.find(&Heading::Data(Piece::new(name)), 0) {
         Some(part) => {
             let text = part.text(alloc)?;
-            read_table(alloc, &view.columns, &text, texts)
+            read_table(hands, alloc, &view.columns, &text, texts)
         }
         None => Ok(Bag::new(alloc)),
     }
 }
 
 /// The changes of a view in a night: of a base view what its part writes, and none where there is none.
-fn changes_of(
+fn changes_of<R: Threads + Sync>(
+    hands: &Hands<'_, R>,
     alloc: Global,
     bundle: &Bundle<'_>,
     night: usize,
@@ -53,14 +56,15 @@ fn changes_of(
     match bundle.find(&Heading::Changes(Piece::new(name)), night) {
         Some(part) => {
             let text = part.text(alloc)?;
-            read_changes(alloc, &view.columns, &text, texts)
+            read_changes(hands, alloc, &view.columns, &text, texts)
         }
         None => Ok(Bag::new(alloc)),
     }
 }
 
 /// The tables of these views, in the order of the views. Without views no memory is taken.
-pub fn tables_in(
+pub fn tables_in<R: Threads + Sync>(
+    hands: &Hands<'_, R>,
     alloc: Global,
     bundle: &Bundle<'_>,
     known: &KnownViews<'_>,
@@ -73,14 +77,15 @@ pub fn tables_in(
     let mut tables = Vec::new(alloc);
     for view in known.views {
         let name = known.names.name(tables.len()).as_bytes();
-        let own = table_of(alloc, bundle, name, view, texts)?;
+        let own = table_of(hands, alloc, bundle, name, view, texts)?;
         tables.push(own)?;
     }
     Ok(tables)
 }
 
 /// The changes of these views in a night, which counts from 0, in the order of the views. Without views no memory is taken.
-pub fn changes_in(
+pub fn changes_in<R: Threads + Sync>(
+    hands: &Hands<'_, R>,
     alloc: Global,
     bundle: &Bundle<'_>,
     night: usize,
@@ -94,7 +99,7 @@ pub fn changes_in(
     let mut changes = Vec::new(alloc);
     for view in known.views {
         let name = known.names.name(changes.len()).as_bytes();
-        let own = changes_of(alloc, bundle, night, name, view, texts)?;
+        let own = changes_of(hands, alloc, bundle, night, name, view, texts)?;
         changes.push(own)?;
     }
     Ok(changes)

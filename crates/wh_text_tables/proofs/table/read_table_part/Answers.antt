@@ -4,7 +4,7 @@ use Rattle.wh_text_tables.proofs.table.read_table_part.Goals as goal
 use Rattle.wh_text_tables.proofs.table.read_table_part.Goals.{then-is_err, else-is_err}
 
 pub returns-clause-kept : goal.returns-clause-kept
-returns-clause-kept c =
+returns-clause-kept g c =
     let begins = rw c.replace.ensures.value at c.read_counted-outcome.ensures.begins in
     elim c.if-is_err.branch [
       | then-is_err w ↦ back-on-err c.read_counted-outcome.result c.args.dict.now c.if-is_err.dict

@@ -9,7 +9,7 @@ use Rattle.wh_load.proofs.ReadingRows.{night_from}
 use Rattle.wh_load.proofs.reading.night.night_in.Goals as goal
 
 pub returns-clause-ok : goal.returns-clause-ok
-returns-clause-ok c =
+returns-clause-ok g c =
     night_from c.args.bundle.now (cow_slice_items c.in_ok-catalogue.catalogue) (cow_slice_items c.in_ok-strategy.strategy) c.in_ok-shape.shape (map shown_view c.in_ok-written.written.views.items) c.read_definitions.new.texts
     (shown_night c.in_ok-night.night) c.in_ok-catalogue.ensures.ok c.in_ok-strategy.ensures.ok
     (subst (λ t. shape_of t ≡ Ok c.in_ok-shape.shape) c.deref.ensures.value c.in_ok-shape.ensures.ok)
