@@ -1,10 +1,10 @@
 // Bags: the worked examples, and that ample memory is enough.
 
-use std::alloc::Global;
+use std::alloc::{AllocError, Global};
 use std::process::Abort;
 use std::test::Fail;
 use test_given::tables::bag as bag_of;
-use wh_row::{Bag, BagFault, Keyed, Records, RecordsFault};
+use wh_row::{Bag, BagFault, Hands, Keyed, Records, RecordsFault};
 
 /// Asserts that the bag lists these rows, with these counts, in this order.
 fn assert_lists(rt: &impl Abort, bag: &Bag, wanted: &[(&[i64], i64)]) {
@@ -94,6 +94,57 @@ fn records_are_refused_where_a_running_sum_leaves_i64(rt: HostRuntime) -> Result
         assert_eq!(rt; fault, RecordsFault::Large(1));
         assert_eq!(rt; fault.number(), 2);
     }
+    Ok(())
+}
+
+/// How many rows there are for threads.
+const MANY: usize = 25_000;
+
+/// Records whose rows come in no order: each row (x, x mod 7) twice, once with 1 and once with 2.
+fn shuffled(alloc: Global) -> Result<Records, AllocError> {
+    let mut records = Records::new(alloc);
+    for count in [1, 2] {
+        for place in 0..MANY {
+            let x = (place * 7919 % MANY) as i64;
+            records.push(&[x, x % 7], count)?;
+        }
+    }
+    Ok(records)
+}
+
+#[test]
+fn threads_add_up_records_in_any_order(rt: HostRuntime) -> Result<(), Fail> {
+    let records = shuffled(rt.alloc())?;
+    for threads in [0, 1, 2, 3, 16] {
+        let hands = Hands { rt: &rt, threads };
+        let bag = Bag::from_records_wide(&hands, rt.alloc(), &records)?;
+        assert_eq!(&rt; bag.len(), 25_000);
+        assert_eq!(&rt; bag.total(), 75_000);
+        assert_eq!(&rt; bag.count(&[0, 0]), 3);
+        assert_eq!(&rt; bag.count(&[24_999, 2]), 3);
+        assert_eq!(&rt; bag.count(&[24_999, 3]), 0);
+    }
+    Ok(())
+}
+
+#[test]
+fn rows_that_are_above_are_taken_in(rt: HostRuntime) -> Result<(), Fail> {
+    let mut bag = bag_of(rt.alloc(), &[(&[1], 5), (&[2], -1)])?;
+    bag.take_in(bag_of(rt.alloc(), &[(&[3], 2), (&[4], -7)])?)?;
+    assert_lists(&rt, &bag, &[(&[1], 5), (&[2], -1), (&[3], 2), (&[4], -7)]);
+    assert_eq!(&rt; bag.total(), 15);
+    bag.take_in(bag_of(rt.alloc(), &[(&[0], 1), (&[4], 7)])?)?;
+    assert_lists(&rt, &bag, &[(&[0], 1), (&[1], 5), (&[2], -1), (&[3], 2)]);
+    Ok(())
+}
+
+#[test]
+fn room_holds_no_record(rt: HostRuntime) -> Result<(), Fail> {
+    let mut records = Records::new(rt.alloc());
+    records.reserve(2, 100)?;
+    assert!(&rt; records.is_empty());
+    records.append(2, &[1, 5], &[3])?;
+    assert_records(&rt, &records, &[(&[1, 5], 3)]);
     Ok(())
 }
 

@@ -6,8 +6,10 @@ use crate::texts::{
 };
 use std::alloc::{AllocError, Global};
 use std::process::Abort;
+use std::thread::Threads;
 use wh_dag::Shape;
 use wh_load::{LoadFault, Names, Nights, read_shape};
+use wh_row::Hands;
 
 /// What a text is read as.
 #[derive(Clone, Copy)]
@@ -62,7 +64,13 @@ pub(crate) fn fault_line(alloc: Global, fault: &LoadFault) -> Result<String, All
 }
 
 /// What a reader makes of a text, as lines.
-fn outcome(alloc: Global, reads: Reads, text: &[u8]) -> Result<String, AllocError> {
+fn outcome<R: Threads + Sync>(
+    rt: &R,
+    alloc: Global,
+    reads: Reads,
+    text: &[u8],
+) -> Result<String, AllocError> {
+    let hands = Hands { rt, threads: 2 };
     match reads {
         Reads::Bundle(nights) => bundles::outcome(alloc, nights, text),
         Reads::Shape => catalogues::outcome(alloc, text),
@@ -71,9 +79,9 @@ fn outcome(alloc: Global, reads: Reads, text: &[u8]) -> Result<String, AllocErro
         Reads::Strategy => strategies::outcome(alloc, text),
         Reads::Plan => plans::outcome(alloc, text),
         Reads::Schedule => schedules::outcome(alloc, text),
-        Reads::Replay => replays::outcome(alloc, text),
-        Reads::Table(columns) => tables::table_outcome(alloc, columns, text),
-        Reads::Changes(columns) => tables::changes_outcome(alloc, columns, text),
+        Reads::Replay => replays::outcome(&hands, alloc, text),
+        Reads::Table(columns) => tables::table_outcome(&hands, alloc, columns, text),
+        Reads::Changes(columns) => tables::changes_outcome(&hands, alloc, columns, text),
     }
 }
 
@@ -86,8 +94,8 @@ fn parted(case: &str) -> (&str, &str) {
 }
 
 /// Compares what a case says with what is wanted of it.
-fn agree_in(
-    rt: &impl Abort,
+fn agree_in<R: Abort + Threads + Sync>(
+    rt: &R,
     alloc: Global,
     reads: Reads,
     before: &str,
@@ -96,14 +104,14 @@ fn agree_in(
     let (want, text) = parted(case);
     let text = format!(in alloc; "{before}{text}")?;
     let bytes = bytes_of(alloc, &text)?;
-    let found = outcome(alloc, reads, &bytes)?;
+    let found = outcome(rt, alloc, reads, &bytes)?;
     assert_eq!(rt; found.as_str(), want, "{text}");
     Ok(())
 }
 
 /// Each text of the table, with this text before it, says what is wanted of it.
-pub(crate) fn agree(
-    rt: &impl Abort,
+pub(crate) fn agree<R: Abort + Threads + Sync>(
+    rt: &R,
     alloc: Global,
     reads: Reads,
     before: &str,
@@ -147,8 +155,8 @@ fn is_told(found: &str, faults: &[&str]) -> bool {
 }
 
 /// Each beginning of the text is read, or has a fault of one of these numbers.
-pub(crate) fn beginnings(
-    rt: &impl Abort,
+pub(crate) fn beginnings<R: Abort + Threads + Sync>(
+    rt: &R,
     alloc: Global,
     reads: Reads,
     text: &str,
@@ -158,7 +166,7 @@ pub(crate) fn beginnings(
         let Some(cut) = text.as_bytes().get(..end) else {
             return Ok(());
         };
-        let found = outcome(alloc, reads, cut)?;
+        let found = outcome(rt, alloc, reads, cut)?;
         assert!(rt; is_told(&found, faults), "{end}: {found}");
     }
     Ok(())

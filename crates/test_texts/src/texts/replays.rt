@@ -7,10 +7,11 @@ use crate::texts::definitions::dict_lines;
 use crate::texts::schedules::schedule_lines;
 use given::{FAULTS, NIGHTS, NO_NIGHT};
 use std::alloc::{AllocError, Global};
+use std::thread::Threads;
 use wh_load::{
     Dict, GivenNight, Names, ReplayInput, WrittenView, read_for_replay, write_strategy, write_table,
 };
-use wh_row::Bag;
+use wh_row::{Bag, Hands};
 
 /// The tables of these views, as they are written.
 fn rows_text(
@@ -58,8 +59,12 @@ fn input_text(alloc: Global, input: &ReplayInput) -> Result<String, AllocError> 
 }
 
 /// The texts that cells stand for, the tables, the changes and the strategy of each night, and the schedule; or the fault.
-pub(crate) fn outcome(alloc: Global, text: &[u8]) -> Result<String, AllocError> {
-    match read_for_replay(alloc, text) {
+pub(crate) fn outcome<R: Threads + Sync>(
+    hands: &Hands<'_, R>,
+    alloc: Global,
+    text: &[u8],
+) -> Result<String, AllocError> {
+    match read_for_replay(hands, alloc, text) {
         Ok(input) => input_text(alloc, &input),
         Err(fault) => fault_line(alloc, &fault),
     }

@@ -10,8 +10,9 @@ use given::{
 };
 use std::alloc::{AllocError, Global};
 use std::test::Fail;
+use std::thread::Threads;
 use wh_load::{Column, Dict, Kind, LoadFault, read_changes, read_table, write_table};
-use wh_row::Bag;
+use wh_row::{Bag, Hands};
 
 /// Columns by their names: with `:` behind a name one of texts, without one of numbers.
 fn columns_of(alloc: Global, names: &str) -> Result<Vec<Column>, AllocError> {
@@ -44,26 +45,28 @@ fn written(
 }
 
 /// The table as it is written, or the fault.
-pub(crate) fn table_outcome(
+pub(crate) fn table_outcome<R: Threads + Sync>(
+    hands: &Hands<'_, R>,
     alloc: Global,
     columns: &str,
     text: &[u8],
 ) -> Result<String, AllocError> {
     let columns = columns_of(alloc, columns)?;
     let mut dict = Dict::new(alloc);
-    let read = read_table(alloc, &columns, text, &mut dict);
+    let read = read_table(hands, alloc, &columns, text, &mut dict);
     written(alloc, &columns, read, &dict)
 }
 
 /// The changes as a table is written, or the fault.
-pub(crate) fn changes_outcome(
+pub(crate) fn changes_outcome<R: Threads + Sync>(
+    hands: &Hands<'_, R>,
     alloc: Global,
     columns: &str,
     text: &[u8],
 ) -> Result<String, AllocError> {
     let columns = columns_of(alloc, columns)?;
     let mut dict = Dict::new(alloc);
-    let read = read_changes(alloc, &columns, text, &mut dict);
+    let read = read_changes(hands, alloc, &columns, text, &mut dict);
     written(alloc, &columns, read, &dict)
 }
 
@@ -101,17 +104,32 @@ fn counts(alloc: Global, table: &Bag, delta: &Bag) -> Result<String, AllocError>
 }
 
 /// The counts of a table and a change that are read one after another.
-fn two_table_night(alloc: Global) -> Result<String, LoadFault> {
+fn two_table_night<R: Threads + Sync>(
+    hands: &Hands<'_, R>,
+    alloc: Global,
+) -> Result<String, LoadFault> {
     let columns = columns_of(alloc, "x y")?;
     let mut dict = Dict::new(alloc);
-    let table = read_table(alloc, &columns, b"x,y\n1,10\n2,10\n", &mut dict)?;
-    let delta = read_changes(alloc, &columns, b"#,x,y\n-1,2,10\n1,3,10\n", &mut dict)?;
+    let table = read_table(hands, alloc, &columns, b"x,y\n1,10\n2,10\n", &mut dict)?;
+    let delta = read_changes(
+        hands,
+        alloc,
+        &columns,
+        b"#,x,y\n-1,2,10\n1,3,10\n",
+        &mut dict,
+    )?;
     Ok(counts(alloc, &table, &delta)?)
 }
 
 #[test]
 fn the_rows_of_two_table_night_are_read(rt: HostRuntime) -> Result<(), Fail> {
-    let counts = two_table_night(rt.alloc())?;
+    let counts = two_table_night(
+        &Hands {
+            rt: &rt,
+            threads: 1,
+        },
+        rt.alloc(),
+    )?;
     assert_eq!(&rt; counts.as_str(), "0 0;1 0;1 -1;0 1;");
     Ok(())
 }
@@ -130,13 +148,18 @@ static PARTS: [&str; 3] = [
 ];
 
 /// What is read of each part, with one dictionary for all of them.
-fn read_in_turn(alloc: Global, columns: &[Column], dict: &mut Dict) -> Result<String, AllocError> {
+fn read_in_turn<R: Threads + Sync>(
+    hands: &Hands<'_, R>,
+    alloc: Global,
+    columns: &[Column],
+    dict: &mut Dict,
+) -> Result<String, AllocError> {
     let mut text = String::new(alloc);
     for part in &PARTS {
         let read = if part.starts_with("#") {
-            read_changes(alloc, columns, part.as_bytes(), dict)
+            read_changes(hands, alloc, columns, part.as_bytes(), dict)
         } else {
-            read_table(alloc, columns, part.as_bytes(), dict)
+            read_table(hands, alloc, columns, part.as_bytes(), dict)
         };
         text.push_str(written(alloc, columns, read, dict)?.as_str())?;
     }
@@ -152,18 +175,22 @@ fn note_literals(alloc: Global, dict: &mut Dict) -> bool {
 }
 
 /// What is read of each part after the catalogue with texts.
-fn numbered(alloc: Global) -> Result<String, AllocError> {
+fn numbered<R: Threads + Sync>(hands: &Hands<'_, R>, alloc: Global) -> Result<String, AllocError> {
     let mut dict = Dict::new(alloc);
     if !note_literals(alloc, &mut dict) {
         return String::from_str(alloc, "no catalogue");
     }
-    numbered_after(alloc, &mut dict)
+    numbered_after(hands, alloc, &mut dict)
 }
 
 /// The parts, and the texts that have numbers then.
-fn numbered_after(alloc: Global, dict: &mut Dict) -> Result<String, AllocError> {
+fn numbered_after<R: Threads + Sync>(
+    hands: &Hands<'_, R>,
+    alloc: Global,
+    dict: &mut Dict,
+) -> Result<String, AllocError> {
     let columns = columns_of(alloc, "k:text n")?;
-    let mut text = read_in_turn(alloc, &columns, dict)?;
+    let mut text = read_in_turn(hands, alloc, &columns, dict)?;
     text.push_str(dict_lines(alloc, dict)?.as_str())?;
     Ok(text)
 }
@@ -187,6 +214,16 @@ z
 y
 x
 ";
-    assert_eq!(&rt; numbered(rt.alloc())?.as_str(), want);
+    assert_eq!(&rt;
+        numbered(
+            &Hands {
+                rt: &rt,
+                threads: 3
+            },
+            rt.alloc()
+        )?
+        .as_str(),
+        want
+    );
     Ok(())
 }
