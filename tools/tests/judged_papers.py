@@ -1,0 +1,178 @@
+"""Tests of tools/papers: a small tree passes, and each way in which it is spoilt is told at its line."""
+
+import subprocess
+import sys
+import tempfile
+import unittest
+from contextlib import contextmanager
+from importlib.machinery import SourceFileLoader
+from importlib.util import module_from_spec, spec_from_loader
+from pathlib import Path
+
+from whtools.papers.counts import number_of
+
+TOOL = Path(__file__).resolve().parents[1] / "papers"
+README = """# Shop
+
+It keeps tables, by `put_row` and `Shop::count_of` of [`low`](crates/low/README.md); [ways](docs/WAYS.md#two-ways-on) lead on.
+`tools/sell --all 3` sells, `crates/NAME/README.md` has each crate, and `specs/Kept.antt` says `IsKept` of `night_*`.
+`rt plant --deep` and `SELECT COUNT(*)` are no names of ours, and neither is ``a ` b``. `tools/` has 12 crates, `fault toml N` is told.
+
+```
+tools/sell --all examples/shop.bundle > sold
+cp -r nowhere somewhere
+```
+"""
+WAYS = """# Ways
+
+## Two ways on
+
+There are 14 examples, twenty-one bundles, 31 edits in `must-fail/` and 35 edits in all; `low` has 11 calls.
+`tools/try_live` tries 66 cases: the planned ones. [Back](../README.md). `low::put_row`: `kept` and `rows`, and `IsKept`: `low`.
+
+| Call | Clauses |
+|---|---|
+| `put_row` (`low`) | `kept`; of `low` `rows` |
+| `IsKept` | `low` |
+
+## Two ways on
+
+See [the second](#two-ways-on-1).
+"""
+PAGE = """# `low`: rows
+
+It has rows. Begin with [`src/lib.rt`](src/lib.rt).
+
+<!-- Above this line by hand; below it by tools/calls --write. -->
+
+11 calls and 2 laws: of each `no_such_word` is not looked at here.
+"""
+LIB = """// A comment that names gone_call.
+pub struct Shop { rows: u8 }
+impl Shop {
+    pub fn count_of(&self) {}
+}
+pub fn put_row(row: u8)
+    requires { row < 9 }
+    ensures kept { True } // ensures gone_clause {
+    ensures rows { True }
+{ say("fault toml"); }
+"""
+CASES = "BOTH = {'a': 1, 'b': 2}\n" + f"REST = {{{', '.join(f'{n}: 0' for n in range(62))}}}\nOF = {{'x': {{**BOTH, **REST}}, 'y': {{**BOTH}}}}\n"
+FILES = {
+    "README.md": README,
+    "docs/WAYS.md": WAYS,
+    "docs/PLANTED.md": "[Back](WAYS.md).\n",
+    "crates/low/README.md": PAGE,
+    "crates/low/src/lib.rt": LIB,
+    "crates/low/specs/Kept.antt": "-- gone_definition\nIsKept : Set\n",
+    "crates/low/proofs/put_row/Answers.antt": "lemma_of_proofs = refl\n",
+    "crates.txt": "# rows\nlow:\n\n# high\n" + "".join(f"high{n}:\n" for n in range(11)),
+    "tools/sell": "add_argument('--all')\n",
+    "tools/try_live": "",
+    "tools/whtools/live_trials/cases.py": CASES,
+    "tools/tests/tests.py": "made_up_name = 1\n",
+    "tools/tests/bundles/night_a.bundle": "",
+    "examples/shop.bundle": "",
+    "examples/other.md": "[Back](../README.md)\n",
+}
+FILES |= {f"crates/low/must-fail/turns{n}.edit": "" for n in range(31)} | {f"tools/edits/low/turns{n}x.edit": "" for n in range(4)}
+FILES |= {f"examples/shop{n}.bundle": "" for n in range(13)} | {f"tools/tests/bundles/b{n}.bundle": "" for n in range(6)}
+FILES["README.md"] += "[It](docs/PLANTED.md), [others](examples/other.md).\n"
+# The file, the text in it, what stands there instead, and what is told.
+SPOILT = [
+    ("README.md", "crates/low/README.md", "crates/gone/README.md", "README.md:3: leads to crates/gone/README.md, which is not there"),
+    ("README.md", "#two-ways-on", "#no-way-on", "README.md:3: leads to docs/WAYS.md#no-way-on, where no heading has that name"),
+    ("README.md", "(docs/PLANTED.md)", "(../outside.md)", "README.md:11: leads to ../outside.md, which is outside of the tree"),
+    ("README.md", "(examples/other.md)", "(examples)", "examples/other.md:1: no links lead here from README.md"),
+    ("docs/WAYS.md", "#two-ways-on-1", "#two-ways-on-2", "docs/WAYS.md:15: leads to #two-ways-on-2, where no heading has that name"),
+    ("README.md", "`put_row`", "`gone_call`", "README.md:3: `gone_call`: nothing is named gone_call"),
+    ("README.md", "`IsKept`", "`IsKept a gone_definition`", "nothing is named gone_definition"),
+    ("README.md", "`IsKept`", "`lemma_of_proofs`", "nothing is named lemma_of_proofs"),
+    ("README.md", "`IsKept`", "`made_up_name`", "nothing is named made_up_name"),
+    ("README.md", "`night_*`", "`noon_*`", "nothing is named noon_"),
+    ("README.md", "Shop::count_of", "Shop::IsKept", "README.md:3: `Shop::IsKept`: Shop has no IsKept"),
+    ("README.md", "Shop::count_of", "low::IsKept", "low has no IsKept"),
+    ("docs/WAYS.md", "`tools/try_live` tries", "It tries", "tools/try_live:1: no paper names this tool"),
+    ("README.md", "`tools/sell --all 3`", "`tools/buy --all 3`", "README.md:4: `tools/buy --all 3`: there is no tools/buy"),
+    ("README.md", "`tools/sell --all 3`", "`tools/sell --none 3`", "no tool takes --none"),
+    ("README.md", "tools/sell --all examples", "tools/buy --all examples", "README.md:8: `tools/buy --all examples/shop.bundle > sold`: there is no tools/buy"),
+    ("README.md", "examples/shop.bundle", "examples/gone.bundle", "there is no examples/gone.bundle"),
+    ("README.md", "--all examples", "--none examples", "no tool takes --none"),
+    ("README.md", "specs/Kept.antt", "specs/Gone.antt", "there is no specs/Gone.antt"),
+    ("README.md", "`specs/Kept.antt`", "`src/gone`", "there is no src/gone"),
+    ("README.md", "12 crates", "13 crates", "README.md:5: says '13 crates', where 1 or 11 or 12 are counted"),
+    ("docs/WAYS.md", "14 examples", "fifteen examples", "docs/WAYS.md:5: says 'fifteen examples', where 14 or 21 are counted"),
+    ("docs/WAYS.md", "twenty-one bundles", "twenty-two bundles", "says 'twenty-two bundles', where 7 or 14 or 21 are counted"),
+    ("docs/WAYS.md", "31 edits", "32 edits", "says '32 edits', where 4 or 31 or 35 are counted"),
+    ("docs/WAYS.md", "11 calls", "1,011 calls", "says '1,011 calls', where 11 are counted"),
+    ("docs/WAYS.md", "`kept` and `rows`", "`kept` and `low`", "docs/WAYS.md:6: put_row: no clause is named low"),
+    ("docs/WAYS.md", "`kept`; of `low` `rows`", "`kept`, `low`", "docs/WAYS.md:10: put_row: no clause is named low"),
+    ("docs/WAYS.md", "66 cases", "67 cases", "docs/WAYS.md:6: says '67 cases', where 66 are counted"),
+    ("docs/PLANTED.md", "[Back]", "x" * 12 * 1024 + " [Back]", "docs/PLANTED.md:1: it has 12,306 bytes, and may have 12,288"),
+    ("crates/low/README.md", "It has rows.", "It has rows." * 100, "crates/low/README.md:1: its part by hand has 1,"),
+    ("docs/WAYS.md", "the planned ones", "the wide forms", "docs/WAYS.md:6: says 'wide forms': of forms"),
+    ("docs/WAYS.md", "the planned ones", "to be given later", "says 'to be given later': of what was to come"),
+    ("docs/WAYS.md", "the planned ones", "No command uses it yet", "says 'No command uses it yet'"),
+    ("docs/WAYS.md", "the planned ones", "| planned |", "says '| planned |': of what was to come"),
+    ("docs/WAYS.md", "the planned ones", "see promises.md", "says 'promises.md': a file outside of the repository"),
+    ("docs/WAYS.md", "the planned ones", "see /work/there", "says '/work/t': a place outside of the repository"),
+    ("docs/WAYS.md", "the planned ones", "of issue 47", "says 'issue 47': the number of an issue"),
+]
+
+
+def load():
+    loader = SourceFileLoader("papers", str(TOOL))
+    module = module_from_spec(spec_from_loader("papers", loader))
+    loader.exec_module(module)
+    return module
+
+
+class JudgedPapers(unittest.TestCase):
+    @contextmanager
+    def tree(self, files):
+        """A tree of these files, beside which a paper lies."""
+        with tempfile.TemporaryDirectory() as room:
+            root = Path(room).resolve() / "tree"
+            for name, text in files.items():
+                (root / name).parent.mkdir(parents=True, exist_ok=True)
+                (root / name).write_text(text)
+            (root.parent / "outside.md").write_text("")
+            yield root
+
+    def told(self, files):
+        """What is told of a tree of these files."""
+        with self.tree(files) as root:
+            return [str(each) for each in load().judged(root) if each.fault]
+
+    def test_the_last_line_and_the_status_say_whether_all_passed(self):
+        for change, last, status in (("", r"\A[1-9]\d+ passed, 0 failed\n\Z", 0), ("`gone_call`", r"gone_call\n[1-9]\d+ passed, 1 failed\n\Z", 1)):
+            with self.tree(FILES | {"docs/PLANTED.md": f"[Back](WAYS.md). {change}\n"}) as root:
+                ran = subprocess.run([sys.executable, "-B", TOOL, root], capture_output=True, text=True)
+            self.assertRegex(ran.stdout, last)
+            self.assertEqual((ran.stderr, ran.returncode), ("", status))
+
+    def test_a_tree_that_is_as_its_papers_say_passes(self):
+        self.assertEqual(self.told(FILES), [])
+
+    def test_each_spoilt_paper_is_told(self):
+        for file, old, new, said in SPOILT:
+            with self.subTest(said):
+                self.assertEqual(FILES[file].count(old), 1, old)
+                told = self.told(FILES | {file: FILES[file].replace(old, new)})
+                self.assertTrue(any(said in line for line in told), told)
+
+    def test_what_goes_from_the_tree_is_told_of_the_papers(self):
+        for gone, said in (
+            ("tools/sell", "README.md:4: `tools/sell --all 3`: there is no tools/sell, no tool takes --all"),
+            ("crates/low/specs/Kept.antt", "nothing is named IsKept"),
+            ("crates/low/must-fail/turns7.edit", "says '31 edits', where 4 or 30 or 34 are counted"),
+            ("tools/tests/bundles/night_a.bundle", "nothing is named night_"),
+        ):
+            with self.subTest(gone):
+                told = self.told({file: text for file, text in FILES.items() if file != gone})
+                self.assertTrue(any(said in line for line in told), told)
+
+    def test_numbers_in_words(self):
+        said = {"ten": 10, "nineteen": 19, "Twenty": 20, "thirty-four": 34, "ninety-nine": 99, "1,234": 1234, "66": 66}
+        self.assertEqual({word: number_of(word) for word in said}, said)

@@ -1,0 +1,1 @@
+"""What tools/papers judges papers by."""
