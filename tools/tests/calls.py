@@ -49,7 +49,8 @@ impl<'a> Model for Stack<'a> {
 }
 
 impl<'a> Stack<'a> {
-    /// Puts a number on top.
+    /// Puts a number on top. It takes O(log (rows + 1)) steps,
+    /// and O(rows) memory.
     pub fn push<F: Fn(&[u8]) -> bool>(&mut self, keep: &F, mut number: u8) -> Result<(), u8>
         requires { number < 64 }
         ensures ok { OnOk result (λ s. { s } ≡ s) } // of { one
@@ -99,9 +100,9 @@ EDITS = {
     "file: src/stack.rt\nold: put(self, 1)\nnew: put(self, 2)\nfile: specs/Stack.antt\nold: one\nnew: two\n",
 }
 HIGH_PAGE = [
-    "| `push(&mut self, keep, number)` | Puts a number on top. | one clause | one clause, `ok`, `err` | *apart* `turns_twice` |",
-    "| `is_empty(&self)` | Whether there is no number. |  | one clause |  |",
-    "| `Lower::lowest(&self)` | The lowest number. |  | as `Lower` |  |",
+    "| `push(&mut self, keep, number)` | Puts a number on top. | O(log (rows + 1)), O(rows) | one clause | one clause, `ok`, `err` | *apart* `turns_twice` |",
+    "| `is_empty(&self)` | Whether there is no number. |  |  | one clause |  |",
+    "| `Lower::lowest(&self)` | The lowest number. |  |  | as `Lower` |  |",
     "| `pushes_add_up()` | What is pushed is there. | one clause |",
     "| `LIMIT` | The most numbers. |",
     "| `src/stack.rt` | `put(stack, number)` | one clause | `pushes_nothing` |",
@@ -144,6 +145,25 @@ class Calls(unittest.TestCase):
         self.assertNotIn("hidden", "\n".join(lines))
         self.assertNotIn("a_test_is_no_call", "\n".join(lines))
         self.assertNotIn("lent", "\n".join(lines))
+
+    def test_types_and_traits_are_told_apart(self):
+        self.assertIn("Types: `Stack`.", self.calls.written(self.crates["high"], self.crates).split("\n"))
+        self.assertIn("Traits: `Lower`.", self.calls.written(self.crates["low"], self.crates).split("\n"))
+
+    def with_example(self, names):
+        """The page of a crate whose head names an example."""
+        line = f"An example that is run: {names} of [`stack.rt`](../high/src/stack.rt)."
+        (self.root / "crates/low/README.md").write_text(f"# low\n\n{line}\n\n{self.calls.MARK}\n")
+        return self.calls.written(self.crates["low"], self.crates)
+
+    def test_an_example_is_quoted_as_it_stands(self):
+        wanted = "\n\n".join([STACK[STACK.index("fn put(") :].rstrip(), STACK[STACK.index("/// The most") :].partition("\n\n")[0]])
+        head = "## An example\n\nFrom [`high/src/stack.rt`](../high/src/stack.rt), as the gate runs it:"
+        self.assertIn(f"{head}\n\n```rust\n{wanted}\n```\n", self.with_example("`put`, `LIMIT`"))
+
+    def test_an_example_that_is_gone_is_told(self):
+        with self.assertRaisesRegex(SystemExit, "crates/high/src/stack.rt has no gone to be an example"):
+            self.with_example("`put`, `gone`")
 
     def test_a_trait_has_its_own_clauses(self):
         self.assertIn("| `lowest(&self)` | The lowest number. | `low` |", self.calls.written(self.crates["low"], self.crates).split("\n"))
