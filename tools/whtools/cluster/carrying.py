@@ -51,7 +51,7 @@ class Carrying:
         self.more, self.changed, self.gross, self.computed, self.installed = [0] * count, [0] * count, [0] * count, set(), set()
 
     def script(self, netted):
-        return self.warehouse.script(self.base.slots, self.slot, netted)
+        return self.warehouse.script(self.base.slots, self.slot, netted, [self.total(v) for v in range(len(self.views))])
 
     def run(self, steps):
         """Carries the steps out. Answers of each view how many rows it has then, and how many the slot has."""

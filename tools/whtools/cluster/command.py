@@ -14,8 +14,8 @@ from pathlib import Path
 from types import SimpleNamespace
 
 from whtools.sql.tokens import Unfit
-from whtools.warehouse.finding import Failure, Place, nearest, of_system, warn
-from whtools.warehouse.inputs import CHANGES, TABLE, by_view
+from whtools.warehouse.finding import Failure, Finding, Place, nearest, of_system, warn
+from whtools.warehouse.inputs import CHANGES, FORMS, TABLE, by_view, entries, stranger
 from whtools.warehouse.records import Changes, Records
 from whtools.warehouse.status import SIGNALLED
 from whtools.warehouses import line
@@ -28,6 +28,7 @@ from .warehouse import Warehouse, catalogue_of
 COMMANDS = ("create", "load", "open", "night", "give-up", "versions", "read", "fold", "sweep")
 ADDRESS = re.compile(r"(?:[A-Za-z0-9_.-]+|\[[0-9A-Fa-f:.]+\]):([0-9]{1,5})")
 TIME = re.compile(r"([0-9]+)(s|m|h|d)?")
+LONGEST = 10**7
 SECONDS = {None: 1, "s": 1, "m": 60, "h": 3600, "d": 86400}
 
 
@@ -71,8 +72,13 @@ def judged(words):
             refused_words(f"{option} goes with {command}")
     if words.command == "sweep" and not (words.keep and TIME.fullmatch(words.keep)):
         refused_words(f"sweep wants --keep TIME, such as 90s, 10m, 8h or 2d{', and not ' + repr(words.keep) if words.keep else ''}")
-    if words.seconds < 1:
-        refused_words(f"--seconds is how long an answer may take, and not {words.seconds}")
+    if not 0 < words.seconds <= LONGEST:
+        refused_words(f"--seconds is how long an answer may take, 1 to {LONGEST}, and not {words.seconds}")
+    for option, said in (("--user", words.user), ("--database", words.database), ("--cluster", words.cluster or words.database)):
+        if not (said.isprintable() and 0 < len(said.encode()) <= 80):
+            refused_words(f"{option} is a name of letters that are printed, and not {said!r}")
+    if "." in words.database:
+        refused_words(f"--database is a name without a full stop, and not {words.database!r}")
     if words.ca and not words.https:
         refused_words("--ca goes with --https")
     if not words.folder.is_dir():
@@ -114,23 +120,29 @@ def warehouse_of(words):
 
 
 def files_of(warehouse, folder, form, are_changes):
-    """The rows of a folder's files by the numbers of their views, where none has a fault; and a digest of their bytes."""
-    kind = "changes" if are_changes else "data"
+    """The rows of a folder's files by the numbers of their views, where none has a fault; and a digest of the bytes that they were read from."""
+    kind, names = "changes" if are_changes else "data", warehouse.catalogue.names
     bases = {view.name: v for v, view in enumerate(warehouse.catalogue.views) if not view.over}
-    found, findings, told = {}, [], hashlib.sha256()
+    found, findings, told = {}, unread(folder / kind, kind, form), hashlib.sha256()
     for name, sources in sorted(by_view(folder / kind, kind, form).items()):
         if name not in bases:
-            findings.append(f"{Place(sources[0].told)[0]}:1:1: {name} is no base view{nearest(name, bases)}")
+            findings.append(Finding(Place(sources[0].told), stranger(name, bases, names)))
             continue
         view = SimpleNamespace(name=name, columns=warehouse.catalogue.views[bases[name]].columns)
         records = Changes(sources, view) if are_changes else Records(sources[0], view, False)
         findings += records.findings
         found[bases[name]] = Counter({row: count for row, count in records.rows.items() if count})
-        for source in sources:
-            told.update(f"{source.told}\0".encode() + hashlib.sha256(source.path.read_bytes()).digest())
+        for each in records.files if are_changes else [records]:
+            told.update(f"{each.file}\0".encode() + hashlib.sha256(each.content).digest())
     if findings:
         raise Failure(BAD_INPUT, *map(str, findings))
     return found, told.hexdigest()
+
+
+def unread(folder, kind, form):
+    """What is in a folder and would not be read."""
+    told = f"this is not read: {kind}/ has files {FORMS[kind]} alone; move it away"
+    return [Finding(Place(f"{kind}/{path.name}"), told) for path in entries(folder) if not (form.fullmatch(path.name) and path.is_file())]
 
 
 def tables_of(warehouse, folder):

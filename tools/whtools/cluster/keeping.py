@@ -1,6 +1,7 @@
 """`fold` and `sweep`: what keeps nights short and takes away what no version that is kept lists."""
 
 import time
+from itertools import pairwise
 
 from whtools.sql.slots import SLOT
 from whtools.sql.tokens import joined, number, sql, text
@@ -23,12 +24,12 @@ def fold(warehouse):
         made = script.folded(v)
         said = warehouse.written(made.said)
         warehouse.servers.of(made.where).each(lambda server, said=said: server.carried(said))
-        total, passed = warehouse.versions.asked(script.total(v, number(slot)).said)[0]
-        if int(total) != base.totals[v]:
+        total, passed = map(int, warehouse.versions.asked(script.total(v).said)[0])
+        if total != base.totals[v]:
             judge_base(versions, base)
             told = f"{view.name} has {total} rows in version {base.seq}, which says {base.totals[v]}: somebody changed its tables by hand"
             raise Failure(REFUSED, f"tools/cluster: {told}; nothing is changed")
-        gross.append(int(passed))
+        gross.append(passed)
     judge_base(versions, base)
     empty = base._replace(gross=(0,) * len(gross))
     return versions.commit(empty, slot, base.night, base.stage, "fold", gross=gross, alone=True)
@@ -47,15 +48,17 @@ class Sweep:
         slots = self.unwanted(self.dead_slots())
         self.remove(slots)
         self.wait(slots)
+        for seq in self.versions.numbers("x"):
+            self.versions.dropped("x", seq)
         return gone, self.forget(slots)
 
     def drop_versions(self):
         """In rising order, so that a version is there only if all later ones are; never the newest."""
-        rows, now, gone = self.versions.all(), self.versions.now(), 0
-        for row, after in zip(rows, rows[1:]):
-            if now - after.at <= self.keep:
+        made, now, gone = self.versions.followed(), self.versions.now(), 0
+        for seq, after in pairwise(sorted(made)):
+            if now - made[after] <= self.keep:
                 break
-            self.versions.dropped("v", row.seq)
+            self.versions.taken_away(seq)
             gone += 1
         return gone
 
@@ -108,5 +111,6 @@ class Sweep:
 
     def strangers(self):
         """Slots with rows that are yet to come."""
+        there = set().union(*self.slots_there())
         last = self.versions.numbers("a")[-1]
-        return sorted(slot for slot in set().union(*self.slots_there()) if slot > last)
+        return sorted(slot for slot in there if slot > last)

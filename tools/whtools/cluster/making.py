@@ -12,8 +12,8 @@ from .servers import TAKEN, Told
 from .status import FAILED, REFUSED
 from .versions import CREATED, LOADED, OPENED, Version
 
-# Settings of a table that make its rows safe from a loss of power, where the server has them.
-DURABLE = ("fsync_after_insert", "fsync_part_directory")
+# Settings of a table that make its rows safe from a loss of power, also where parts are put together, where the server has them.
+DURABLE = ("fsync_after_insert", "fsync_part_directory", "min_rows_to_fsync_after_merge")
 MOST_COUNT = 2**63 - 1
 
 

@@ -46,6 +46,7 @@ def carried(warehouse, base, changes, steps, how, digest=""):
             netted = True
             continue
         except Refusal as refusal:
+            judge_base(versions, base)
             return versions.commit(base, None, base.night + 1, base.stage, str(refusal)), str(refusal)
         judge_base(versions, base)
         return versions.commit(base, slot, base.night + 1, OPENED, how, totals, gross, digest=digest), None

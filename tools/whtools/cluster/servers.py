@@ -12,6 +12,7 @@ from whtools.warehouse.finding import Failure
 
 from .status import FAILED
 
+OVERFLOWS = "read read_leaf group_by sort result timeout timeout_leaf set join transfer distinct".split()
 # What a statement rests on, whatever a profile says; each is sent where the server has it.
 WANTED = {
     "insert_distributed_sync": 1,
@@ -22,6 +23,17 @@ WANTED = {
     "joined_subquery_requires_alias": 0,
     "prefer_column_name_to_alias": 0,
     "mutations_sync": 0,
+    "async_insert": 0,
+    "fsync_metadata": 1,
+    "data_type_default_nullable": 0,
+    "use_query_cache": 0,
+    # Rows that are left out without a word: of a server that is down, of what is more than a limit, of what cannot be read.
+    "skip_unavailable_shards": 0,
+    **{f"{what}_overflow_mode": "throw" for what in OVERFLOWS},
+    "input_format_allow_errors_num": 0,
+    "input_format_allow_errors_ratio": 0,
+    "limit": 0,
+    "offset": 0,
     "max_query_size": 2**30,
     "max_ast_depth": 10**6,
     "max_ast_elements": 10**7,
@@ -31,10 +43,12 @@ WANTED = {
     # What a fold or a read of a large table adds up and sorts goes over the disk from here on.
     "max_bytes_before_external_group_by": 2**28,
     "max_bytes_before_external_sort": 2**28,
+    "distributed_aggregation_memory_efficient": 1,
 }
 CODE = re.compile(rb"Code: (\d+)[.,] (?:e\.displayText\(\) = )?(?:DB::Exception: )?(.*?)(?:, e\.what\(\).*)?\s*", re.DOTALL)
-# Codes of a server: a name is taken, is not there, a test raised; a table went while a question was begun.
-TAKEN, GONE, RAISED = 57, (60, 36, 218), 395
+# Codes of a server: a name is taken; a table is not there, or went while a question was begun; of several that are asked none is there;
+# a test raised.
+TAKEN, GONE, NONE_THERE, RAISED = 57, (60, 218), 36, 395
 
 
 # How long a server may take to be reached, and then to answer a statement.
@@ -81,7 +95,7 @@ class Server:
             connection.request("POST", "/?" + urlencode(words), said.encode() + (b"\n" + rows if rows else b""), headers)
             answer = connection.getresponse()
             content = answer.read()
-        except (OSError, HTTPException) as error:
+        except (OSError, HTTPException, UnicodeError) as error:
             raise Lost(f"{self}: no whole answer came ({error or type(error).__name__})") from error
         finally:
             connection.close()
@@ -93,7 +107,7 @@ class Server:
         if code and (status != 200 or content.startswith(b"Code: ")):
             raise Told(self, int(code[1]), code[2].decode(errors="replace").strip()[:300])
         if status != 200:
-            raise Told(self, status, f"an answer of status {status}: {content[:120].decode(errors='replace')!r}")
+            raise Lost(f"{self}: no server's answer, of status {status}: {content[:120].decode(errors='replace')!r}")
         return content
 
     def carried(self, said, rows=b""):

@@ -6,6 +6,7 @@ known for what it is: no later one has its mark.
 """
 
 import os
+import re
 import secrets
 import socket
 from contextlib import suppress
@@ -15,7 +16,7 @@ from whtools.sql.slots import NO_SLOT
 from whtools.sql.tokens import joined, number, sql, text
 from whtools.warehouse.finding import Failure
 
-from .servers import GONE, TAKEN, Lost, Told
+from .servers import GONE, NONE_THERE, TAKEN, Lost, Told
 from .status import FAILED, REFUSED
 
 # So many versions back a version knows those before it.
@@ -100,7 +101,7 @@ class Versions:
             try:
                 return self.asked(said)
             except Told as told:
-                if told.code not in GONE or more == MANY - 1:
+                if told.code not in (*GONE, NONE_THERE) or more == MANY - 1:
                     raise
         return None
 
@@ -116,7 +117,7 @@ class Versions:
     def numbers(self, letter):
         """The numbers of the views of versions, v, or attempts, a."""
         rows = self.asked_again(sql("SELECT name FROM system.tables WHERE database = {schema}", schema=text(self.dialect.schema)))
-        return sorted(int(said[2:]) for said, in rows if said.startswith(f"~{letter}") and said[2:].isdigit())
+        return sorted(int(said[2:]) for said, in rows if re.fullmatch(f"~{letter}(0|[1-9][0-9]*)", said))
 
     def row(self, seq):
         """A version's row, or None where it is not there."""
@@ -129,30 +130,39 @@ class Versions:
         return Version.of(found[0])
 
     def newest(self):
-        """The newest version. Where it is swept between two questions there is a newer one."""
-        while True:
-            numbers = self.numbers("v")
-            if not numbers:
-                raise Failure(REFUSED, f"tools/cluster: {self.server} has no version in {self.dialect.schema}; was `create` cut off?")
-            if found := self.row(numbers[-1]):
+        """The newest version, which is the newest still when its row has been read: one who slept may have made a number again that was
+        swept, but never the highest."""
+        numbers = self.numbers("v")
+        while numbers:
+            highest = numbers[-1]
+            found, numbers = self.row(highest), self.numbers("v")
+            if found and numbers[-1:] == [highest]:
                 return found
+        raise Failure(REFUSED, f"tools/cluster: {self.server} has no version in {self.dialect.schema}; was `create` cut off?")
 
     def genuine(self, seq):
         """A version that is there and that the later ones came from; None for one that is gone or was made again by one who slept."""
-        numbers, found = self.numbers("v"), self.row(seq)
-        if found is None or seq == numbers[-1]:
+        found = self.row(seq)
+        if found is None or [seq] == self.numbers("v")[-1:]:
             return found
         after = self.row(seq + 1)
         return found if after and after.lineage[1:2] == found.lineage[:1] else None
 
     def all(self):
-        """The rows of all versions that are there, in rising order; one that goes meanwhile is left out."""
-        rows = [self.row(seq) for seq in self.numbers("v")]
-        return [row for row in rows if row]
+        """The rows of all versions that are there at one moment, in rising order: by one question, so that the newest is among them."""
+        return [Version.of(row) for row in self.merged("SELECT {columns} FROM {versions} ORDER BY seq", columns=sql(COLUMNS))]
+
+    def followed(self):
+        """By each version's number when it was made at the latest: its client may have slept between the clock and the commit."""
+        rows, said = self.all(), sql(
+            "SELECT name, toUInt32(metadata_modification_time) FROM system.tables WHERE database = {schema}", schema=text(self.dialect.schema)
+        )  # fmt: skip
+        made = {name: int(at) for name, at in self.asked_again(said)}
+        return {row.seq: max(row.at, made.get(f"~v{row.seq}", 0)) for row in rows}
 
     def merged(self, template, **parts):
         """A question about all attempts or versions."""
-        return self.asked_again(sql(template, attempts=self.dialect.merged("^~a"), versions=self.dialect.merged("^~v"), **parts))
+        return self.asked_again(sql(template, attempts=self.dialect.numbered("a"), versions=self.dialect.numbered("v"), **parts))
 
     def alive(self, night, what):
         """An attempt over this night that can still commit, or None."""
@@ -172,10 +182,10 @@ class Versions:
     # ---- what is made
 
     def attempt(self, night, what):
-        """Takes a slot that nobody had before."""
+        """Takes a slot that nobody had before. Where there is a higher one by now, it may have been had and forgotten meanwhile."""
         while True:
             slot = self.numbers("a")[-1] + 1
-            if self.made("a", slot, self.attempt_row(slot, night, what)):
+            if self.made("a", slot, self.attempt_row(slot, night, what)) and self.numbers("a")[-1] == slot:
                 return slot
 
     def attempt_row(self, slot, night, what):
@@ -196,6 +206,16 @@ class Versions:
 
     def dropped(self, letter, seq):
         self.carried(sql("DROP TABLE IF EXISTS {view}", view=self.view(letter, seq)))
+
+    def taken_away(self, seq):
+        """A version is none from here on. It keeps another name for a while, x, since who has just found it by the old one is about to read
+        it, and would be told an error if it were dropped."""
+        self.dropped("x", seq)
+        try:
+            self.carried(sql("RENAME TABLE {old} TO {new}", old=self.view("v", seq), new=self.view("x", seq)))
+        except Told as told:
+            if told.code not in (*GONE, TAKEN):
+                raise
 
     # ---- the commit
 
@@ -220,6 +240,10 @@ class Versions:
         for more in range(TRIES):
             try:
                 return self.made("v", made.seq, made.literals()) or (more > 0 and self.is_ours(made))
+            except Told:
+                if self.is_ours(made):
+                    return True
+                raise
             except Lost as lost:
                 if more == TRIES - 1:
                     told = f"whether version {made.seq} was made is not known: `versions` tells, when the server answers"
@@ -232,7 +256,11 @@ class Versions:
 
     def looked_at(self, made):
         """The version, where later ones come from it. One who slept while the number was swept has made it for nothing."""
-        newest = self.newest()
+        try:
+            newest = self.newest()
+        except (Told, Lost) as error:
+            told = f"version {made.seq} was made, and whether it is kept is not known: `versions` tells, when the server answers"
+            raise Failure(FAILED, f"tools/cluster: {error}; {told}") from error
         if made.lineage[0] in newest.lineage:
             return made
         if newest.seq - made.seq > REMEMBERED:

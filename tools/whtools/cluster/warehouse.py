@@ -75,8 +75,8 @@ class Warehouse:
         self.plain = self.script()
         self.steps = self.plain.steps
 
-    def script(self, slots=None, slot=None, netted=False):
-        return Slots(self.catalogue, self.dialect, self.split, slots, slot, len(self.servers), netted)
+    def script(self, slots=None, slot=None, netted=False, rows=()):
+        return Slots(self.catalogue, self.dialect, self.split, slots, slot, len(self.servers), netted, rows)
 
     def written(self, said):
         return self.dialect.written([said])[0]

@@ -80,9 +80,9 @@ class ClickHouse(Dialect):
         key = [sql("cityHash64({column})", column=column)] if column else []
         return sql("Distributed({parts})", parts=joined([*parts, *key]))
 
-    def merged(self, pattern):
-        """The rows of all tables of these names."""
-        return sql("merge({schema}, {pattern})", schema=text(self.schema), pattern=text(pattern))
+    def numbered(self, letter):
+        """The rows of all views of versions, v, or of attempts, a."""
+        return sql("merge({schema}, {pattern})", schema=text(self.schema), pattern=text(f"^~{letter}[0-9]+$"))
 
 
 def alias(kind, *numbers):

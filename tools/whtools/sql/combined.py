@@ -164,16 +164,23 @@ class Combined:
 
     def filtered(self, v, term, child, before):
         """A child's rows that can meet those before it."""
-        join = next(each for each in self.shape.joins(v, term) if each.child == child)
+        join = next(each for each in self.joins(v, term) if each.child == child)
         earlier = before[: before.index(child)] if child in before else before
         return self.child(v, term, child, self.meets(v, term, join, earlier))
 
     # ---- joins
 
+    def joins(self, v, term):
+        """The children in their order. Where nothing changes, the one of the most rows is gone through, and the others are held in memory."""
+        own = [child for child in range(len(term)) if self.is_local(v, child)]
+        if not self.rows or not own or any(operand.is_change for operand in term):
+            return self.shape.joins(v, term)
+        return self.shape.joins(v, term, max(own, key=lambda child: self.rows[self.views[v].over[child]]))
+
     def joined_rows(self, v, term):
         """The combined rows of a term, and what is left to be tested of its joins."""
         found, columns, before, left = None, [], [], []
-        for join in self.shape.joins(v, term):
+        for join in self.joins(v, term):
             rows = self.filtered(v, term, join.child, before)
             own = self.columns_of_child(v, join.child)
             keys = [(a, b) for a, b in join.pairs if a.child != b.child]

@@ -81,9 +81,10 @@ class Shape:
                 found.setdefault((one.child, other.child), set()).add(one.column)
         return found
 
-    def order(self, v, term):
-        """The children of a term: first a change, and then those that equalities lead to, changes before tables."""
-        classes, left, found = [{spot.child for spot in each} for each in self.classes[v]], list(range(len(term))), []
+    def order(self, v, term, first=None):
+        """The children of a term: first the one that is said, or else a change, and then those that equalities lead to, changes before tables."""
+        classes, found = [{spot.child for spot in each} for each in self.classes[v]], [] if first is None else [first]
+        left = [child for child in range(len(term)) if child != first]
         while left:
             bound = {child: sum(child in each and not each.isdisjoint(found) for each in classes) for child in left}
             best = max(left, key=lambda child: (min(bound[child], 1), term[child].is_change, bound[child], -child))
@@ -91,9 +92,9 @@ class Shape:
             left.remove(best)
         return found
 
-    def joins(self, v, term):
+    def joins(self, v, term, first=None):
         """The children in their order, each joined by one equality for each class with a column that stands before."""
-        order = self.order(v, term)
+        order = self.order(v, term, first)
         pairs = {child: [] for child in order}
         for each in self.classes[v]:
             first, *others = sorted(each, key=lambda spot: (order.index(spot.child), spot.column))

@@ -31,10 +31,12 @@ class Statement(NamedTuple):
 
 class Slots(Catalogued, Combined):
     """The statements over a catalogue. `split` has of each base view that is shared out its column; `slots` are those of a version and
-    `slot` is the night's own; where the states are `netted`, rows that cancel are not gone through. There are so many `servers`."""
+    `slot` is the night's own; where the states are `netted`, rows that cancel are not gone through. There are so many `servers`, and of
+    each view so many `rows`, where that is known."""
 
-    def __init__(self, catalogue, dialect, split=None, slots=None, slot=None, servers=1, netted=False):
+    def __init__(self, catalogue, dialect, split=None, slots=None, slot=None, servers=1, netted=False, rows=()):
         super().__init__(catalogue, dialect)
+        self.rows = rows
         self.split = {} if servers == 1 else dict(split or {})
         self.servers, self.netted = servers, netted
         self.before = joined(map(number, slots)) if slots is not None else word("SLOTS")
@@ -135,9 +137,10 @@ class Slots(Catalogued, Combined):
         return self.dialect.distributed(self.said(v), name(column) if column else None)
 
     def now(self, v):
-        """What a reader reads who asks for nothing else than the newest version."""
-        versions = self.dialect.merged("^~v")
-        slots = sql("SELECT arrayJoin(slots) FROM (SELECT slots FROM {versions} ORDER BY seq DESC LIMIT 1)", versions=versions)
+        """What a reader reads who asks for nothing else than the newest version. Its slots are one value, which is worked out before the
+        rows are read: a SELECT that took them from a subquery would hold the views of versions, and a sweep would wait for its end."""
+        newest = sql("SELECT slots FROM {versions} ORDER BY seq DESC LIMIT 1", versions=self.dialect.numbered("v"))
+        slots = sql("SELECT arrayJoin(({newest}))", newest=newest)
         rows = sql("{table} WHERE {slot} {within} ({slots})", table=self.whole(v), slot=SLOT, within=self.within(v), slots=slots)
         return sql("CREATE VIEW {view} AS {contents}", view=self.table(v, "~now"), contents=self.shown(v, rows))
 
@@ -222,12 +225,14 @@ class Slots(Catalogued, Combined):
 
     def changed_rows(self, v):
         inner = sql(
-            "SELECT sum({count}) AS {n}, sum(abs({count})) AS {gross} FROM {rows} {grouped}",
-            count=COUNT, n=alias("n"), gross=alias("gross"), rows=self.rows_in(v, self.slot, self.whole(v)), grouped=self.grouped(self.groups(v)),
+            "SELECT sum({count}) AS {n}, sum({passed}) AS {gross} FROM {rows} {grouped}",
+            count=COUNT, n=alias("n"), passed=gone_through(COUNT), gross=alias("gross"), rows=self.rows_in(v, self.slot, self.whole(v)),
+            grouped=self.grouped(self.groups(v)),
         )  # fmt: skip
         return sql(
-            "SELECT sum({n}) AS {more}, sum(abs({n})) AS {changed}, sum({gross}) AS {all}, 0 AS {lost} FROM ({inner})",
-            n=alias("n"), more=alias("more"), changed=alias("changed"), gross=alias("gross"), all=alias("all"), lost=alias("lost"), inner=inner,
+            "SELECT sum({n}) AS {more}, sum({each}) AS {changed}, sum({gross}) AS {all}, 0 AS {lost} FROM ({inner})",
+            n=exact(alias("n")), each=gone_through(alias("n")), more=alias("more"), changed=alias("changed"), gross=alias("gross"),
+            all=alias("all"), lost=alias("lost"), inner=inner,
         )  # fmt: skip
 
     def changed_groups(self, v):
@@ -282,19 +287,29 @@ class Slots(Catalogued, Combined):
         )  # fmt: skip
         return Statement(EACH, f"fold {self.views[v].name}", said)
 
-    def total(self, v, slots=None):
-        """How many rows a view has, and how many Comps go through to read it: the groups of a summary are added up before."""
-        rows, counted = self.rows_in(v, slots or self.before, self.whole(v)), self.sums(v)[0]
-        inner = sql(
-            "SELECT sum({counted}) AS {n}, sum(abs({counted})) AS {gross} FROM {rows} {grouped}",
-            counted=counted, n=alias("n"), gross=alias("gross"), rows=rows, grouped=self.grouped(self.groups(v)),
-        )  # fmt: skip
-        count = sql("toInt64({n} > 0)" if self.shape.is_summary(v) else "{n}", n=alias("n"))
-        said = sql(
-            "SELECT sum({count}) AS {all}, sum({gross}) AS {passed} FROM ({inner})",
-            count=count, all=alias("all"), gross=count if self.shape.is_summary(v) else alias("gross"), passed=alias("passed"), inner=inner,
-        )  # fmt: skip
+    def total(self, v):
+        """How many rows a view has by a fold's slot, and how many Comps go through to read it: the groups of a summary are added up before,
+        and each server's own rows count by themselves. They may be more than 64 bits count."""
+        rows, counted = self.rows_in(v, self.slot, self.whole(v)), self.sums(v)[0]
+        if self.shape.is_summary(v):
+            groups = sql("SELECT sum({n}) AS {all} FROM {rows} {grouped} HAVING {all} > 0", n=counted, all=alias("n"), rows=rows,
+                         grouped=self.grouped(self.groups(v)))  # fmt: skip
+            said = sql("SELECT count() AS {all}, {all} AS {passed} FROM ({groups})", all=alias("all"), passed=alias("passed"), groups=groups)
+        else:
+            said = sql(
+                "SELECT sum({n}) AS {all}, sum({gross}) AS {passed} FROM {rows}",
+                n=exact(counted), gross=gone_through(counted), all=alias("all"), passed=alias("passed"), rows=rows,
+            )  # fmt: skip
         return Statement(ONE, f"total {self.views[v].name}", said)
+
+
+def exact(counted):
+    """A count that can be added up to 128 bits."""
+    return sql("toDecimal128({counted}, 0)", counted=counted)
+
+
+def gone_through(counted):
+    return exact(sql("abs({counted})", counted=counted))
 
 
 def split_of(catalogue, words):
