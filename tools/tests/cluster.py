@@ -3,12 +3,16 @@
 import os
 import re
 import subprocess
+import sys
 import unittest
 from pathlib import Path
 from tempfile import TemporaryDirectory
+from types import SimpleNamespace
 
 from whtools.cluster.carrying import tsv
 from whtools.cluster.command import password
+from whtools.cluster.making import durable
+from whtools.cluster.servers import Lost, Server, Told
 from whtools.cluster.versions import REMEMBERED, Version
 from whtools.clusters import scenarios
 from whtools.clusters.inputs import Folder, of_explained, one_line
@@ -50,9 +54,24 @@ class Statements(unittest.TestCase):
         self.assertNotIn('IN (0, 4, 7) AND "id"', first)
         self.assertRegex(second, r'"w"\."orders" WHERE "~s" IN \(0, 4, 7\)')
 
+    def test_an_opening_goes_through_the_child_of_the_most_rows(self):
+        sales = self.catalogue.names["sales"]
+        children = [self.catalogue.views[u].name for u in self.catalogue.views[sales].over]
+        step = next(step for step in self.script.steps.opening() if step.view == sales)
+        for largest in children:
+            rows = [9 if view.name == largest else 5 for view in self.catalogue.views]
+            script = Slots(self.catalogue, ClickHouse("w"), rows=rows)
+            said = script.dialect.written([script.comp(step)[0].said])[0]
+            self.assertEqual(re.findall(r'FROM "w"\."(\w+)"', said)[0], largest)
+
     def test_an_operand_is_after_its_inst(self):
         found = [step for step in Steps(self.catalogue.views).night(self.catalogue.correct()) if step.kind == "comp"]
         self.assertEqual([operand.is_after for operand in found[1].terms[0]], [True, False, False])
+
+    def test_a_fold_counts_rows_without_adding_them_up_one_by_one(self):
+        for v in range(len(self.catalogue.views)):
+            said = self.script.dialect.written([self.script.total(v).said])[0]
+            self.assertEqual("GROUP BY" in said, self.script.shape.is_summary(v), said)
 
     def test_tools_sql_prints_them(self):
         with TemporaryDirectory() as path:
@@ -63,6 +82,14 @@ class Statements(unittest.TestCase):
         self.assertIn('ENGINE = Distributed(\'whview\', \'whview\', \'lines\', cityHash64("id"))', said)
         refused = subprocess.run([ROOT / "tools/sql", "--shard", "lines:id", SHOP], capture_output=True, text=True)
         self.assertEqual((refused.returncode, refused.stderr), (1, "tools/sql: --shard and --cluster go with --engine clickhouse\n"))
+
+
+    def test_a_table_is_as_durable_as_its_server_can_have_it(self):
+        has = lambda *names: SimpleNamespace(asked=lambda _: [[each] for each in names])  # noqa: E731
+        settings = durable(has("index_granularity", "fsync_after_insert", "fsync_part_directory", "min_rows_to_fsync_after_merge"))
+        said = self.script.dialect.written([self.script.create(settings)[0].said])[0]
+        self.assertTrue(said.endswith(" SETTINGS fsync_after_insert = 1, fsync_part_directory = 1, min_rows_to_fsync_after_merge = 1"), said)
+        self.assertFalse(durable(has("index_granularity")))
 
 
 class Client(unittest.TestCase):
@@ -80,6 +107,13 @@ class Client(unittest.TestCase):
         written = ClickHouse().written([made.literals()])[0]
         self.assertEqual(len(re.findall(r" AS (\w+)", written)), len(Version._fields))
 
+    def test_what_no_server_answers_is_not_known(self):
+        for status, content in ((502, b""), (504, b"<html>Gateway Time-out</html>"), (302, b"elsewhere")):
+            with self.assertRaises(Lost):
+                Server("127.0.0.1:1").judged(status, content)
+        with self.assertRaises(Told):
+            Server("127.0.0.1:1").judged(500, b"Code: 57. DB::Exception: Table w.`~v3` already exists. (TABLE_ALREADY_EXISTS) (version 23.8.1)")
+
     def test_words_that_are_wrong_get_one_line(self):
         with TemporaryDirectory() as path:
             folder = Folder(path, ["127.0.0.1:1"], "w")
@@ -90,6 +124,13 @@ class Client(unittest.TestCase):
                 (folder.told("night", servers=["a:99999"]), 2, "HOST:PORT"),
                 (folder.told("night", "--ca", "x"), 2, "--ca goes with --https"),
                 (folder.told("night", "--seconds", "0"), 2, "--seconds"),
+                (folder.told("night", "--seconds", str(10**12)), 2, "--seconds"),
+                (folder.told("night", more=["--user", "two\nlines"]), 2, "--user"),
+                (folder.told("night", more=["--database", "a.b"]), 2, "without a full stop"),
+                (folder.told("night", more=["--database", "two\nlines"]), 2, "--database"),
+                (folder.told("night", more=["--cluster", ""]), 4, "no whole answer came"),
+                (folder.told("night", servers=["a..b:1"]), 4, "no whole answer came"),
+                (folder.told("night", servers=["a" * 70 + ":1"]), 4, "no whole answer came"),
                 (folder.told("fold", "--version", "1"), 2, "--version goes with read"),
                 (folder.told("night"), 4, "no whole answer came"),
             ]
@@ -99,6 +140,12 @@ class Client(unittest.TestCase):
             (folder.path / "catalogue.toml").unlink()
             wrong += one_line(folder.told("night"), 3, "there is no catalogue.toml")
         self.assertEqual(wrong, [])
+
+    def test_where_the_server_cannot_be_had_its_parts_are_skipped(self):
+        with TemporaryDirectory() as path:
+            ran = subprocess.run([sys.executable, ROOT / "tools/try_cluster"], capture_output=True, text=True, env={"PATH": path})
+        told = "cluster: 8 parts skipped: there is no clickhouse-server here and it could not be installed; 0 failed\n"
+        self.assertEqual((ran.stdout, ran.stderr, ran.returncode), (told, "", 0))
 
     def test_a_password_is_nobody_elses(self):
         with TemporaryDirectory() as path:

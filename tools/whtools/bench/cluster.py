@@ -2,8 +2,9 @@
 
 The star of tools/star, with a tenth of `--facts`, as many, and ten times as many in turn, is made on the servers; then nights of 1,000 and
 of 10,000 changed facts are carried out, over one slot and over eleven, with the facts alone changing and with a shop and two prices
-besides. What is printed are medians in seconds: of the night, of the views from scratch, and of a read of the summary. Three servers on
-one machine show no speed-up: they share its processors.
+besides. What is printed are medians in seconds, by the clock and, in brackets, of the processor's, the servers' and the client's together:
+of the night, of the views from scratch, and of a read of the summary. No parts are put together meanwhile, and no views go. Three servers
+on one machine show no speed-up: they share its processors.
 """
 
 import statistics
@@ -19,6 +20,9 @@ from whtools.clusters.processes import NAME, Processes, clickhouse
 from whtools.sql.catalogue import Catalogue
 
 ROUNDS = 3
+# So long it is waited for at most until the servers are at rest.
+REST = 30
+AT_WORK = "SELECT 1 FROM system.merges"
 CHANGED, SLOTS, SCALES = (1_000, 10_000), (1, 11), (0.1, 1, 10)
 SALES, SHOPS, PRODUCTS = range(3)
 FACTS = "SELECT toInt64(number), toInt64(number % 20), toInt64(intDiv(number, 20) % 100), toInt64(number % 5 + 1), 1, {slot} FROM numbers({count})"
@@ -32,7 +36,8 @@ def sale(number):
 class Star:
     """The star on servers, with so many facts that stand there from the beginning on."""
 
-    def __init__(self, servers, facts):
+    def __init__(self, processes, facts):
+        self.processes, servers = processes, processes.servers()
         self.catalogue = Catalogue(star.CATALOGUE + star.STRATEGY)
         shards = ["sales:id"] if len(servers) > 1 else []
         self.warehouse, self.next, self.first, self.moved = Warehouse(self.catalogue, servers, f"star{facts}", shards, NAME), facts, 0, 0
@@ -71,14 +76,22 @@ class Star:
                 products.update({self.product(number, old): -1, self.product(number, new): 1})
         return {SALES: sales, SHOPS: Counter({r: n for r, n in shops.items() if n}), PRODUCTS: Counter({r: n for r, n in products.items() if n})}
 
+    def timed(self, do):
+        """What is done when the servers are at rest, and how long it takes by the clock and by the processor."""
+        end = time.monotonic() + REST
+        while time.monotonic() < end and any(self.warehouse.servers.each(lambda server: server.asked(AT_WORK))):
+            time.sleep(0.1)
+        began = time.monotonic(), self.processes.seconds() + time.process_time()
+        found = do()
+        return found, (time.monotonic() - began[0], self.processes.seconds() + time.process_time() - began[1])
+
     def night(self, count, with_others=False):
         """How long a night takes."""
         changes = self.changes(count, with_others)
-        began = time.monotonic()
-        _, refusal = nights.night(self.warehouse, changes, self.catalogue.correct())
+        (_, refusal), took = self.timed(lambda: nights.night(self.warehouse, changes, self.catalogue.correct()))
         if refusal:
             sys.exit(f"a night of {count} changes: {refusal}")
-        return time.monotonic() - began
+        return took
 
     def slots(self, count):
         """Has the newest version lie in so many slots."""
@@ -91,14 +104,10 @@ class Star:
         warehouse = self.warehouse
         base = warehouse.versions.newest()
         carrying = Carrying(warehouse, base._replace(totals=(*base.totals[:3], 0, 0)), nights.attempted(warehouse, base, "fold"))
-        began = time.monotonic()
-        carrying.run(warehouse.steps.opening())
-        return time.monotonic() - began
+        return self.timed(lambda: carrying.run(warehouse.steps.opening()))[1]
 
     def read(self):
-        began = time.monotonic()
-        reading.Session(self.warehouse).read(4)
-        return time.monotonic() - began
+        return self.timed(lambda: reading.Session(self.warehouse).read(4))[1]
 
 
 def measured(stars, rounds, slots, count):
@@ -110,7 +119,7 @@ def measured(stars, rounds, slots, count):
         found[3].append(stars.read())
         found[0].append(stars.night(count))
         found[1].append(stars.night(count, True))
-    return [statistics.median(times) for times in found]
+    return [tuple(map(statistics.median, zip(*times))) for times in found]
 
 
 def measure(asked):
@@ -123,8 +132,8 @@ def measure(asked):
     for servers in (1, 3):
         for facts in (int(asked.facts * scale) for scale in SCALES):
             with Processes(program, servers) as processes:
-                stars = Star(processes.servers(), facts)
+                stars = Star(processes, facts)
                 for slots in SLOTS:
                     for count in CHANGED:
                         times = measured(stars, asked.rounds, slots, count)
-                        print(servers, facts, slots, count, *(f"{each:.2f}" for each in times), sep="  ", flush=True)
+                        print(servers, facts, slots, count, *(f"{wall:.2f} ({used:.2f})" for wall, used in times), sep="  ", flush=True)

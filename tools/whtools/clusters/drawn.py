@@ -5,7 +5,7 @@ from collections import Counter
 from whtools.drawn import WORDS
 from whtools.evaluator import added
 from whtools.nights import carried, draw_views
-from whtools.sql.nights import HOSTILE, LargeDrawer, rename
+from whtools.sql.nights import HOSTILE, LARGE, LargeDrawer, rename
 from whtools.warehouses import Warehouse as Bundled
 
 # Texts that a line of an engine's format or a literal would end at, and one with a byte that is no letter.
@@ -13,6 +13,9 @@ SHARP = ["tab\there", "two\nlines", "back\\slash\\", "zero\0byte", "\\N", "\\t",
 # How many warehouses have cells near 64 bits, and counts whose products go far.
 LARGE_PART = 0.4
 LARGE_COUNTS = [2**19, 2**28, 2**40, 2**55]
+# This part of the nights is drawn until one is refused as was wished, in so many tries.
+REFUSED_PART, TRIES = 0.6, 12
+REFUSALS = ("absent", "range", "range", "range", "large")
 
 
 class DrawnWords:
@@ -77,6 +80,35 @@ class DrawnWarehouse:
             v = self.source.choice(self.base())
             found[v][self.drawer.row(self.views[v])] -= 9
         return [added(change.items()) for change in found]
+
+    def drawn_night(self):
+        """Changes and a strategy. For some a refusal is wished; where none comes of it, the last draw is taken as it is."""
+        changes, strategy = self.drawn_changes(), self.strategy()
+        if self.source.random() >= REFUSED_PART:
+            return changes, strategy
+        wished = self.source.choice(REFUSALS)
+        for _ in range(TRIES):
+            changes, strategy = self.hard_changes(wished), self.strategy()
+            _, told = self.answered(changes, strategy)
+            if told and told.startswith(f"refused {wished}"):
+                break
+        return changes, strategy
+
+    def hard_changes(self, wished):
+        """Changes that may be refused as is wished: more leaves than is there, cells near 64 bits come, or rows that count far."""
+        found = self.drawn_changes()
+        for v in self.source.sample(self.base(), self.source.randint(1, len(self.base()))):
+            with self.words:
+                row = self.drawer.row(self.views[v])
+            if wished == "absent":
+                row = self.source.choice([row, *sorted(self.tables[v])[:3]])
+                found[v][row] = -self.tables[v].get(row, 0) - self.source.choice([1, 1, 9, 2**62])
+            elif wished == "range":
+                cells = zip(row, self.views[v].columns)
+                found[v][tuple(self.source.choice([cell, *LARGE]) if kind == "int" else cell for cell, (_, kind) in cells)] = 1
+            else:
+                found[v][row] = self.source.choice([*LARGE_COUNTS, 2**63 - 1])
+        return found
 
     def changes_of(self, view, table):
         records = [(row, min(count, 3)) for row, count in table.items()]

@@ -18,8 +18,8 @@ from whtools.program import ROOT
 from whtools.warehouses import line
 
 from .processes import NAME, free_ports
-from .scenarios import AT_ONCE, answering
-from .small import STRATEGY, TEXT, Small
+from .scenarios import answering
+from .small import AT_ONCE, STRATEGY, TEXT, Small
 
 # Names that ClickHouse has for itself, in one place or another.
 TAKEN = """[[view]]
@@ -101,7 +101,10 @@ def of_files(folder):
         ("changes/a.csv", "#,k,x\n1,2,9223372036854775808\n", "changes/a.csv:2:5", "64 bits"),
         ("changes/a.csv", "#,k,x\n0,2,3\n", "changes/a.csv:2:1", "not zero"),
         ("changes/b.csv", b"#,k,t\n1,2,a\xffb\n", "changes/b.csv:2:6", "UTF-8"),
-        ("changes/j.csv", "#,t\n", "changes/j.csv:1:1", "no base view"),
+        ("changes/j.csv", "#,t\n", "changes/j.csv:1:1", "j is derived"),
+        ("changes/c.csv", "#,k,x\n", "changes/c.csv:1:1", "there is no view c"),
+        ("changes/a.CSV", "#,k,x\n1,2,3\n", "changes/a.CSV:1:1", "this is not read"),
+        ("changes/b.csv.new", "#,k,t\n", "changes/b.csv.new:1:1", "this is not read"),
     ]
     for name, text, *words in faults:
         folder.write(name, text)

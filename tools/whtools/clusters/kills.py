@@ -8,11 +8,12 @@ from unittest.mock import patch
 
 from whtools.cluster import keeping, nights
 from whtools.cluster.keeping import Sweep
+from whtools.cluster.reading import Session
 from whtools.cluster.servers import Lost, Server, Told
 from whtools.warehouse.finding import Failure
 
 from .scenarios import SHARES
-from .small import STRATEGY, Small
+from .small import A, STRATEGY, Small
 
 ACTIONS = ("night", "night", "commit", "fold", "sweep")
 # So long after a statement was sent the blow falls at most.
@@ -77,8 +78,9 @@ class Killed:
         """One blow. Notes what is otherwise then, and after going on."""
         what, changes = self.source.choice(ACTIONS), self.changes()
         ended = (self.kill_client if is_client else self.kill_server)(what, changes)
-        self.processes.restart()
         where = f"{'client' if is_client else 'server'} killed in a {what} ({ended})"
+        self.wrong += [f"{where}: {told}" for told in self.read_meanwhile()]
+        self.processes.restart()
         done = self.settle(what, changes, ended, where)
         if not done:
             self.go_on(where)
@@ -98,6 +100,16 @@ class Killed:
             self.wrong += after
             return True
         return False
+
+    def read_meanwhile(self):
+        """What a reader is told while a server may be down: a whole table, or an error of a server's. No rows are left out."""
+        try:
+            Session(self.small.client()).read(A)
+        except (Told, Lost):
+            return []
+        except Failure as failure:
+            return failure.lines
+        return []
 
     def go_on(self, where):
         """`give-up` where there is something to give up, and a night."""

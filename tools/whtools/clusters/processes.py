@@ -26,8 +26,10 @@ CONFIG = """<yandex><logger><level>warning</level><log>{folder}/log</log></logge
 """
 SHARD = "<shard><replica><host>127.0.0.1</host><port>{tcp}</port></replica></shard>"
 USERS = """<yandex><profiles><default><max_memory_usage>{memory}</max_memory_usage><max_threads>1</max_threads>
-<background_pool_size>2</background_pool_size></default></profiles>
+<background_pool_size>2</background_pool_size><skip_unavailable_shards>1</skip_unavailable_shards></default>
+<hasty><max_threads>1</max_threads><max_rows_to_group_by>1</max_rows_to_group_by><group_by_overflow_mode>any</group_by_overflow_mode></hasty></profiles>
 <users><default><password></password><networks><ip>127.0.0.1</ip></networks><profile>default</profile><quota>default</quota></default>
+<hasty><password></password><networks><ip>127.0.0.1</ip></networks><profile>hasty</profile><quota>default</quota></hasty>
 <clerk><password>se'cret \\ word</password><networks><ip>127.0.0.1</ip></networks><profile>default</profile><quota>default</quota></clerk>
 </users><quotas><default></default></quotas></yandex>
 """
@@ -36,8 +38,9 @@ PR_SET_PDEATHSIG = 1
 
 
 def installed():
-    """The server's program, or None."""
-    return shutil.which("clickhouse-server", path=f"{os.environ.get('PATH', '')}:/usr/sbin:/usr/bin")
+    """The server's program, or None. Where the system's programs are looked for, those of /usr/sbin are too."""
+    path = os.environ.get("PATH", "")
+    return shutil.which("clickhouse-server", path=f"{path}:/usr/sbin" if "/usr/bin" in path.split(":") else path)
 
 
 def clickhouse():

@@ -13,11 +13,10 @@ from whtools.cluster.servers import Lost, Server, Told
 from whtools.cluster.versions import Versions
 from whtools.warehouse.finding import Failure
 
-from .small import A, J, STRATEGY, Small
+from .asleep import ASLEEP
+from .small import A, AT_ONCE, B, J, STRATEGY, Small
 
 SHARES = ["a:k", "b:t"]
-# Everything that was followed goes.
-AT_ONCE = -1
 
 
 def ends(do, *words):
@@ -30,9 +29,18 @@ def ends(do, *words):
     return [f"it answers {found!r}, and should have ended with {words}"]
 
 
+def ended(small, cases):
+    """Nights by their changes of a and b, each of which is done or has to be refused in these words; the first that differs is told."""
+    for a, b, meant in cases:
+        version, told = small.night(a, b)
+        wrong = [] if told == meant else [f"{a}, {b}: {told!r}, and not {meant!r}"]
+        if wrong := wrong or small.differs(version.seq, f"after {a}, {b}"):
+            return wrong
+    return []
+
+
 def refusals(servers):
     """Nights that are done and refused, also by sums and counts that leave 64 bits, with the contents after each."""
-    small, wrong = Small(servers, SHARES), []
     cases = [
         ({(2, 7): -1, (1, 5): 1, (9, 1): 1}, {(1, "oak"): -1, (1, "yew"): 1, (9, "oak"): 2}, None),
         ({(7, 7): -1}, {}, "refused absent a"),
@@ -47,13 +55,7 @@ def refusals(servers):
         ({}, {(3, "yew"): -1}, None),
         ({}, {}, None),
     ]
-    for a, b, meant in cases:
-        version, told = small.night(a, b)
-        wrong += [] if told == meant else [f"{a}, {b}: {told!r}, and not {meant!r}"]
-        wrong = wrong or small.differs(version.seq, f"after {a}, {b}")
-        if wrong:
-            break
-    return wrong
+    return ended(Small(servers, SHARES), cases)
 
 
 def committed_whole(servers):
@@ -123,25 +125,14 @@ def folded_between(servers):
 
 
 def swept_in_a_night(servers):
-    """A sweep amid a night takes nothing of it, not even where the night begins amid the sweep."""
+    """A sweep amid a night takes nothing of it."""
     small = Small(servers, SHARES)
-    small.night({(2, 8): 1})
     small.begun(small.changes({(1, 9): 1}))
     nights.give_up(small.warehouse)
-    changes, begun = small.changes({(1, 6): 1}, {(2, "elm"): 1}), []
-    asked = Versions.merged
-
-    def slow(versions, template, **parts):
-        found = asked(versions, template, **parts)
-        if not begun:
-            begun.append(None)
-            begun.append(small.begun(changes, small.client()))
-        return found
-
-    with patch.object(Versions, "merged", slow):
-        Sweep(small.warehouse, 10**6).run()
+    changes = small.changes({(1, 6): 1}, {(2, "elm"): 1})
+    commit = small.begun(changes, small.client())
     Sweep(small.warehouse, 10**6).run()
-    begun[1]()
+    commit()
     small.changed(changes)
     wrong = small.differs(None, "after a sweep amid a night")
     small.begun(small.changes({(1, 6): 1}))
@@ -214,24 +205,24 @@ def sleeper(servers):
 
 
 class Losing(Server):
-    """A server whose answer to one statement is lost after it was carried out."""
+    """A server whose answer to one statement is lost, or is an error, after it was carried out."""
 
-    words, times = "INSERT", 1
+    words, times, error = "INSERT", 1, Lost("no whole answer came")
 
     def sent(self, said, rows=b""):
         found = super().sent(said, rows)
         if said.startswith(self.words) and self.times:
             self.times -= 1
-            raise Lost(f"{self}: no whole answer came")
+            raise self.error
         return found
 
 
-def losing(servers, words):
+def losing(servers, words, error=Losing.error):
     """The same servers, of which the first loses an answer."""
     found = [Losing(server.address) for server in servers]
     for server in found:
         server.learn()
-        server.words, server.times = words, 1 if server is found[0] else 0
+        server.words, server.times, server.error = words, 1 if server is found[0] else 0, error
     return found
 
 
@@ -249,11 +240,53 @@ def lost_insert(servers):
 
 
 def lost_commit(servers):
-    """The answer to a commit is lost: the night is there once, and its client knows."""
-    small = Small(servers)
-    small.night({(1, 6): 1}, {(1, "oak"): 1}, client=small.client(losing(servers, f'CREATE VIEW "{small.database}"."~v')))
-    newest = small.versions.newest()
-    return small.differs() + ([] if newest.seq == 3 else [f"version {newest.seq} is the newest"])
+    """The answer to a commit is lost, or is an error: the night is there once, and its client knows."""
+    small, wrong = Small(servers), []
+    for number, error in enumerate((Losing.error, Told(servers[0], 241, "Memory limit exceeded"))):
+        client = small.client(losing(servers, f'CREATE VIEW "{small.database}"."~v', error))
+        small.night({(1, 6 + number): 1}, {(1, "oak"): 1}, client=client)
+        newest = small.versions.newest()
+        wrong += small.differs() + ([] if newest.seq == 3 + number else [f"version {newest.seq} is the newest"])
+    return wrong
+
+
+def past_64_bits(servers):
+    """A table whose rows count more together than 64 bits hold is folded, and goes on."""
+    small, most = Small(servers, SHARES), 2**63 - 1
+    steps = [({}, {row: -1 for row in small.tables[B]}), ({(7, 1): most, (7, 2): most, (7, 3): most}, {}), ({(7, 1): -most, (7, 4): 3}, {})]
+    wrong = []
+    for a, b in steps:
+        version, told = small.night(a, b)
+        wrong += [f"{a}, {b}: {told}"] if told else small.differs(version.seq, f"after {a}, {b}")
+        keeping.fold(small.warehouse)
+        wrong += small.differs(None, f"after a fold behind {a}, {b}")
+    return wrong + ([] if small.versions.newest().gross == small.versions.newest().totals else ["a fold's rows are not as many as there are"])
+
+
+def at_the_limits(servers):
+    """A product of counts is refused above 2^56, and a cell or a sum beyond 64 bits, and neither one before."""
+    counts = [({(99, 1): 2**54 - 4}, {}, "refused large j"), ({(99, 1): 2**54 - 5}, {}, None), ({(99, 1): 1}, {}, "refused large j")]
+    cells = [
+        ({(1, -(2**62)): 2}, {}, None),
+        ({(3, -14): 1}, {}, None),
+        ({(3, -1): 1}, {}, "refused range s"),
+        ({(4, -(2**62) - 1): 1}, {}, "refused range j"),
+        ({(2, 7): -2, (2, 2**62 - 1): 2, (2, 1): 1}, {}, None),
+        ({(2, 1): 1}, {}, "refused range s"),
+        ({(4, 2**63 - 1): 1, (98, 2**63 - 1): 1, (98, -(2**63)): 1}, {(4, "fir"): -1}, "refused range j"),
+        ({(98, 2**63 - 1): 1, (98, -(2**63)): 1}, {(4, "fir"): -1}, None),
+        ({(4, 2**63 - 1): 1, (4, 11): -1}, {}, None),
+    ]
+    return ended(Small(servers, SHARES), counts) or ended(Small(servers, SHARES), cells)
+
+
+def hasty(servers):
+    """A profile that leaves rows out where a limit is reached gives whole answers, or errors."""
+    small = Small(servers, SHARES)
+    found = [Server(server.address, ("hasty", "")) for server in servers]
+    for server in found:
+        server.learn()
+    return ends(lambda: Session(small.client(found)).read(J), "Limit for rows") + small.differs()
 
 
 def by_hand(servers):
@@ -278,6 +311,7 @@ class Answers(BaseHTTPRequestHandler):
     """Answers with what its server has been told."""
 
     def do_POST(self):  # noqa: N802
+        self.server.times += 1
         self.rfile.read(int(self.headers["Content-Length"]))
         status, length, content = self.server.answer
         self.send_response(status)
@@ -291,9 +325,9 @@ class Answers(BaseHTTPRequestHandler):
 
 @contextmanager
 def answering(status, content, more=0):
-    """A server that gives this answer, of which so many bytes do not come."""
+    """A server that gives this answer, of which so many bytes do not come. Nobody may send it a statement twice."""
     fake = ThreadingHTTPServer(("127.0.0.1", 0), Answers)
-    fake.answer, fake.daemon_threads = (status, more, content), True
+    fake.answer, fake.daemon_threads, fake.times = (status, more, content), True, 0
     thread = threading.Thread(target=fake.serve_forever)
     thread.start()
     try:
@@ -302,6 +336,8 @@ def answering(status, content, more=0):
         fake.shutdown()
         fake.server_close()
         thread.join()
+    if fake.times != 1:
+        raise RuntimeError(f"{fake.times} statements were sent, and not one")
 
 
 LATE = b'{"meta": [], "data": [["1", "2"],\nCode: 241, e.displayText() = DB::Exception: Memory limit, e.what() = DB::Exception\n'
@@ -313,6 +349,8 @@ ANSWERS = [
     (200, WHOLE[:-9], 9, "no whole answer"),
     (500, b"Code: 9999, e.displayText() = DB::Exception: no such thing, e.what() = DB::Exception", 0, "code 9999"),
     (503, b"busy", 0, "status 503"),
+    (200, b"", 1, "no whole answer"),
+    (504, b"<html>Gateway Time-out</html>", 0, "no server's answer"),
     (200, b"Code: 394, e.displayText() = DB::Exception: Query was cancelled, e.what() = DB::Exception\n", 0, "code 394"),
 ]
 
@@ -330,5 +368,5 @@ def wrong_answers(_=None):
 
 SCENARIOS = [
     refusals, committed_whole, twice_at_once, work_is_told, given_up, folded_between, swept_in_a_night, behind_a_fold, reader_and_sweep,
-    sleeper, lost_insert, lost_commit, by_hand, wrong_answers,
+    sleeper, lost_insert, lost_commit, by_hand, at_the_limits, past_64_bits, hasty, wrong_answers, *ASLEEP,
 ]  # fmt: skip

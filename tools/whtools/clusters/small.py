@@ -39,6 +39,8 @@ join = [["s.t", "b.t"]]
 keep = [["t", "b.t"], ["n", "s.n"], ["x", "s.x"]]
 """
 A, B, J, S, U = range(5)
+# How long a sweep keeps what was followed, so that everything goes.
+AT_ONCE = -1
 # Both children of `j` one after the other, so that one Comp reads a table as after its Inst.
 STRATEGY = [(J, (A,)), (A, None), (J, (B,)), (S, (J,)), (J, None), (U, (B,)), (B, None), (U, (S,)), (S, None), (U, None)]
 NUMBERS = itertools.count()

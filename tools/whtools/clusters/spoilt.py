@@ -1,21 +1,25 @@
 """Scripts and clients that go against one rule each, and the scenario that has to notice it."""
 
 import json
+import sys
 from contextlib import ExitStack
 from typing import NamedTuple
 from unittest.mock import patch
 
-from whtools.cluster import nights
+from whtools.cluster import nights, servers
 from whtools.cluster.carrying import Carrying, Refusal
 from whtools.cluster.keeping import Sweep
 from whtools.cluster.reading import Session
-from whtools.cluster.servers import Lost, Server
+from whtools.cluster.servers import Lost, Server, Told
 from whtools.cluster.versions import Versions
+from whtools.sql import slots
 from whtools.sql.slots import Slots
 from whtools.sql.tokens import sql
+from whtools.warehouse.finding import Failure
 
-from . import scenarios
+from . import asleep, scenarios
 from .scenarios import Losing
+from .waiting import read_beside_sweeps, waited
 
 
 class Spoilt(NamedTuple):
@@ -163,13 +167,67 @@ def one_term(carrying, step):
     COMP(carrying, step._replace(terms=step.terms[:-1]))
 
 
+# ---- what is looked at by itself, while others may be at work between
 
+
+JUDGE_BASE = nights.judge_base
+
+
+def unlooked_refusal(versions, base):
+    """The version that was read is looked at where a night is done, and not where it is refused."""
+    if sys.exc_info()[0] is not Refusal:
+        JUDGE_BASE(versions, base)
+
+
+def first_come(versions, night, what):
+    """A slot is whose name could be made, whatever came meanwhile."""
+    while True:
+        slot = versions.numbers("a")[-1] + 1
+        if versions.made("a", slot, versions.attempt_row(slot, night, what)):
+            return slot
+
+
+def one_by_one(versions):
+    rows = [versions.row(seq) for seq in versions.numbers("v")]
+    return [row for row in rows if row]
+
+
+def by_number(versions):
+    """The newest version is what has the highest number that was seen."""
+    while True:
+        if found := versions.row(versions.numbers("v")[-1]):
+            return found
+
+
+def by_clients(versions):
+    """When a version was made is what its client says."""
+    return {row.seq: row.at for row in versions.all()}
+
+
+def held(script, v):
+    """V~now takes its slots from a subquery."""
+    versions = script.dialect.numbered("v")
+    listed = sql("SELECT arrayJoin(slots) FROM (SELECT slots FROM {versions} ORDER BY seq DESC LIMIT 1)", versions=versions)
+    rows = sql("{table} WHERE {slot} {within} ({listed})", table=script.whole(v), slot=slots.SLOT, within=script.within(v), listed=listed)
+    return sql("CREATE VIEW {view} AS {contents}", view=script.table(v, "~now"), contents=script.shown(v, rows))
+
+
+def dropped_at_once(versions, seq):
+    versions.dropped("v", seq)
+
+
+def waits(on):
+    """What waits for a SELECT."""
+    return waited(on)[0]
+
+
+UNSAID = {name: value for name, value in servers.WANTED.items() if not name.endswith("_overflow_mode")}
 
 SPOILT = [
     Spoilt("commit before the last Comp", [(Carrying, "run", last_comp_late(Carrying.run))], scenarios.committed_whole),
     Spoilt("a slot had twice", [(Versions, "attempt", slot_twice)], scenarios.given_up),
     Spoilt("alive by version instead of night", [(Versions, "attempt", by_version), (Versions, "dead", dead_by_version)], scenarios.behind_a_fold),
-    Spoilt("dead attempts by two questions", [(Versions, "dead", dead_by_two_questions)], scenarios.swept_in_a_night),
+    Spoilt("dead attempts by two questions", [(Versions, "dead", dead_by_two_questions)], asleep.a_sweep_asleep),
     Spoilt("sweep before the views are dropped", [(Sweep, "run", swept_first)], scenarios.reader_and_sweep),
     Spoilt("the session's look at the end left out", [(Session, "end", lambda _: None)], scenarios.reader_and_sweep),
     Spoilt("an INSERT sent again", [(Losing, "carried", sent_again)], scenarios.lost_insert),
@@ -186,16 +244,25 @@ SPOILT = [
     Spoilt("no look after the commit", [(Versions, "looked_at", lambda _, made: made)], scenarios.sleeper),
     Spoilt("a version told by its name alone", [(Versions, "genuine", Versions.row)], scenarios.sleeper),
     Spoilt("no look at the base before the commit", [(nights, "judge_base", lambda *_: None)], scenarios.folded_between),
+    Spoilt("no look at the base before a refusal", [(nights, "judge_base", unlooked_refusal)], asleep.a_night_beside_folds),
+    Spoilt("a slot of one who slept", [(Versions, "attempt", first_come)], asleep.a_night_beside_others),
+    Spoilt("versions listed one by one", [(Versions, "all", one_by_one)], asleep.a_sweep_asleep),
+    Spoilt("the newest version by a number seen before", [(Versions, "newest", by_number)], asleep.a_reader_asleep),
+    Spoilt("a version's time by its client", [(Versions, "followed", by_clients)], asleep.slept_before_the_commit),
+    Spoilt("what a profile leaves out", [(servers, "WANTED", UNSAID)], scenarios.hasty),
+    Spoilt("counts of 64 bits", [(slots, "exact", lambda counted: counted)], scenarios.past_64_bits),
+    Spoilt("readers that hold versions", [(Slots, "now", held)], waits),
+    Spoilt("versions dropped as they are read", [(Versions, "taken_away", dropped_at_once)], read_beside_sweeps),
 ]  # fmt: skip
 
 
-def is_noticed(spoilt, servers):
-    """Whether the scenario finds it, by what it tells or by an error."""
+def is_noticed(spoilt, on):
+    """Whether the scenario finds it on these servers, by what it tells or by an end with an error that a client is told."""
     with ExitStack() as stack:
         for of, method, instead in spoilt.instead:
             stack.enter_context(patch.object(of, method, instead))
         stack.callback(patch.stopall)
         try:
-            return bool(spoilt.scenario(servers))
-        except Exception:  # noqa: BLE001
+            return bool(spoilt.scenario(on))
+        except (Failure, Told, Lost):
             return True

@@ -2,14 +2,19 @@
 
 from collections import Counter
 from types import SimpleNamespace
+from unittest.mock import patch
 
-from whtools.cluster import keeping, making, nights
+from whtools.cluster import carrying, keeping, making, nights
 from whtools.cluster.carrying import Carrying
 from whtools.cluster.reading import Session
 from whtools.cluster.warehouse import Warehouse
 from whtools.sql import lexed
 from whtools.sql.tokens import name, sql
 from whtools.warehouse.finding import Failure
+
+
+# So many rows go over at once.
+AT_A_TIME = 4
 
 
 def catalogue_of(drawn):
@@ -64,7 +69,7 @@ class Tried:
 
     def night(self):
         """A drawn night, which has to end as the program says."""
-        changes, strategy = self.drawn.drawn_changes(), self.drawn.strategy()
+        changes, strategy = self.drawn.drawn_night()
         version, told = nights.night(self.warehouse, {v: changes[v] for v in self.drawn.base()}, strategy)
         meant = self.drawn.night(changes, strategy)
         self.ends[" ".join((meant or "carried out").split()[:2])] += 1
@@ -77,9 +82,9 @@ class Tried:
         """A night that stops anywhere, and is given up."""
         changes, steps = self.drawn.drawn_changes(), self.warehouse.steps.night(self.drawn.strategy())
         base = nights.idle(self.warehouse)
-        carrying = Carrying(self.warehouse, base, nights.attempted(self.warehouse, base, "night"), changes)
+        begun = Carrying(self.warehouse, base, nights.attempted(self.warehouse, base, "night"), changes)
         try:
-            carrying.run(steps[: self.drawn.source.randrange(len(steps))])
+            begun.run(steps[: self.drawn.source.randrange(len(steps))])
         except Exception as error:  # noqa: BLE001
             self.ends[f"given up after {type(error).__name__}"] += 1
         nights.give_up(self.warehouse)
@@ -95,6 +100,13 @@ class Tried:
         keeping.Sweep(self.warehouse, keep).run()
         self.ends["sweeps"] += 1
 
+    def merge(self):
+        """Has the engine put the parts of each slot together, as it does by itself sooner or later."""
+        for v in range(len(self.drawn.views)):
+            said = self.warehouse.written(sql("OPTIMIZE TABLE {table} FINAL", table=self.warehouse.plain.table(v)))
+            self.warehouse.servers.each(lambda server, said=said: server.carried(said))
+        self.ends["merges"] += 1
+
     def between(self):
         """Something that changes no contents, or nothing."""
         choice = self.drawn.source.random()
@@ -104,6 +116,8 @@ class Tried:
             self.sweep(0 if self.drawn.source.random() < 0.3 else 10**6)
         elif choice < 0.42:
             self.given_up()
+        elif choice < 0.57:
+            self.merge()
 
     # ---- what is there
 
@@ -146,11 +160,17 @@ class Tried:
 
 def same_words(meant, told):
     """Whether a refusal is the program's."""
-    return told is None if meant is None else told is not None and told in meant
+    return told is None if meant is None else told is not None and told.split() == meant.split()[:3]
 
 
 def row_of(tried, most):
-    """A warehouse with so many nights at most, from its beginning to its end. Answers the first thing that differs, or None."""
+    """A warehouse with so many nights at most, whose rows go over a few at a time, from its beginning to its end. Answers the first thing
+    that differs, or None."""
+    with patch.object(carrying, "BATCH", AT_A_TIME):
+        return nights_of(tried, most)
+
+
+def nights_of(tried, most):
     if told := tried.begin():
         return told
     if not tried.is_opened:

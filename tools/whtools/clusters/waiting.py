@@ -8,21 +8,23 @@ from whtools.cluster import keeping, nights
 from whtools.cluster.carrying import Carrying
 from whtools.cluster.keeping import Sweep
 from whtools.cluster.reading import Session
-from whtools.cluster.servers import Server
+from whtools.cluster.servers import Server, Told
 
 from .scenarios import SHARES
-from .small import J, Small
+from .small import AT_ONCE, J, Small
 
+# So many reads of the newest version are made beside sweeps.
+READS = 200
 # What waits for the SELECT takes two seconds at least; what does not, 0.3 where the machine is free. On a busy one that is tried again.
 LONG, MOST, WAITED, TRIES = 2.5, 0.3, 1.5, 4
 
 
 class Slow:
-    """A SELECT over each of the tables that sleeps; they run side by side."""
+    """A SELECT that sleeps over each of the tables, and over each view of the newest version; they run side by side."""
 
     def __init__(self, small):
         script, server = small.warehouse.plain, small.servers[0]
-        tables = [small.warehouse.written(script.table(v)) for v in range(5)]
+        tables = [small.warehouse.written(script.table(v, kind)) for v in range(5) for kind in ("", "~now")]
         asked = [f"SELECT count(), sum(sleep({LONG})) FROM {table}" for table in tables]
         self.threads = [threading.Thread(target=server.asked, args=(said,)) for said in asked]
 
@@ -73,7 +75,7 @@ def doings(small):
         versions.commit(newest, None, newest.night + 1, newest.stage, "give-up")
 
     return {
-        "insert": insert, "commit": commit, "fold": lambda: keeping.fold(warehouse), "sweep": lambda: Sweep(warehouse, -1).run(),
+        "insert": insert, "commit": commit, "fold": lambda: keeping.fold(warehouse), "sweep": lambda: Sweep(warehouse, AT_ONCE).run(),
         "SELECT": lambda: Session(warehouse).read(J),
     }  # fmt: skip
 
@@ -91,6 +93,27 @@ def beside(small):
     were_beside = slow.is_alive()
     slow.join()
     return found if were_beside else None
+
+
+def read_beside_sweeps(servers):
+    """Whoever reads the newest version as each one is swept that was followed is given it, and no error."""
+    small, wrong, read = Small(servers, SHARES), [], []
+    said = f"SELECT count() FROM {small.warehouse.written(small.warehouse.plain.table(J, '~now'))}"
+
+    def reads():
+        while len(read) < READS and not wrong:
+            try:
+                read.append(servers[0].asked(said))
+            except Told as told:
+                wrong.append(f"a SELECT over j~now beside a sweep: {told}")
+
+    readers = [threading.Thread(target=reads) for _ in range(3)]
+    for each in readers:
+        each.start()
+    while any(each.is_alive() for each in readers):
+        doings(small)["commit"]()
+        Sweep(small.warehouse, AT_ONCE).run()
+    return wrong
 
 
 def waited(servers):
