@@ -2,7 +2,7 @@
 
 import unittest
 
-from whtools.cuts import Certified, Checked, Replayed
+from whtools.cuts import CarriedBesideReaders, Certified, Checked, Replayed
 
 CHECKED = """@catalogue
 [[view]]
@@ -52,6 +52,16 @@ class Beginnings(unittest.TestCase):
             "work 4\n": ("broken S2 at 1\n", 1), "work 4\ninst": ("fault plan 3\n", 3), "inst A\n": ("certified all work 4\n", 0),
         })  # fmt: skip
         self.assertEqual(given.expected(given.given.replace("work 4", "work 5")), ("rejected work\n", 1))
+
+    def test_words_with_options(self):
+        given = CarriedBesideReaders("a night", "")
+        for words, taken in {
+            "": False, "nigh": False, "night": True, "night ": True, "night -": False, "night --": True, "night --w": False,
+            "night --workers": False, "night --workers ": False, "night --workers 2": True, "night --workers 2 --": True,
+            "night --workers 2 --readers": False, "night --workers 2 --readers 2": True,
+        }.items():  # fmt: skip
+            with self.subTest(words=words):
+                self.assertEqual(given.expected(words), ("fault part catalogue\n", 3) if taken else ("", 2))
 
     def test_a_replay(self):
         given = Replayed("a replay", REPLAYED, ["a"])

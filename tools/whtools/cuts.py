@@ -23,12 +23,19 @@ class Told(Exception):
 
 
 class Input:
-    """An input of one command: which headings it has, and which of them it wants, in the order in which one is missed."""
+    """An input of one command, perhaps with options of a number each: which headings it has, and which of them it wants, in the
+    order in which one is missed."""
 
-    command, headings, wanted = "", (), ()
+    command, options, headings, wanted = "", (), (), ()
 
     def __init__(self, what, bundle):
-        self.what, self.given = what, f"{self.command}\n{bundle}"
+        self.what, self.given = what, f"{' '.join([self.command, *self.options])}\n{bundle}"
+
+    def are_taken(self, words):
+        """Whether a beginning of the words is taken: it is whole, and so is its last option. A bare `--` may end it."""
+        command, *options = words.split() or [""]
+        whole = options[:-1] if options[-1:] == ["--"] else options
+        return command == self.command and len(whole) % 2 == 0 and whole == list(self.options[: len(whole)])
 
     def parts(self, bundle):
         """The parts that stand once, and those of each night."""
@@ -45,7 +52,7 @@ class Input:
     def expected(self, cut):
         """The text and the status for a beginning of the input. What the command line parser prints is not fixed: none with a status 2."""
         words, _, bundle = cut.partition("\n")
-        if words != self.command:
+        if not self.are_taken(words):
             return "", 2
         try:
             return self.verdict(bundle, *self.parts(bundle))
@@ -213,7 +220,12 @@ class Carried(Input):
         for view, table in zip(night.views, night.new):
             if any(count < 0 for count in table.values()):
                 raise Told(f"refused absent {view.name}\nleft untouched", 1)
-        return night.report(strategy) + night.shown(), 0
+        return night.report(strategy) + night.shown() + self.after(night), 0
+
+    @staticmethod
+    def after(_):
+        """What is printed behind the tables."""
+        return ""
 
     def night(self, once, parts):
         records = [records_in(once.get(f"data {name}"), columns, False) for name, columns in self.bases.items()]
@@ -221,6 +233,16 @@ class Carried(Input):
         views = [View(name, [(column, "int") for column in columns]) for name, columns in self.bases.items()]
         views.append(View("v", [("x", "int"), ("z", "int")], [0, 1], [(1, 2)], keep=[Place(0), Place(3)]))
         return nights.Night(views, [*records, []], [*changes, []])
+
+
+class CarriedBesideReaders(Carried):
+    """The same night by two workers, and beside two readers."""
+
+    options = ("--workers", "2", "--readers", "2")
+
+    @staticmethod
+    def after(night):
+        return night.readers(2)
 
 
 class Replayed(Input):

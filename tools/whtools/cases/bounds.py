@@ -4,6 +4,7 @@ budgets, trees, long predicates, a long text and words that are not UTF-8. The a
 import random
 
 from whtools.cases import Case
+from whtools.program import ROOT
 from whtools.sizes import part_of
 
 MOST, LEAST = 2**63 - 1, -(2**63)
@@ -158,6 +159,12 @@ def certified(tree):
     return f"@catalogue\n{views}@sizes\n{sizes}@plan\n{plan}{''.join(lines)}", plan.count("\n"), len(branches)
 
 
+def tree_of(lines):
+    """The bundle of `certify_tree` with these lines in place of its tree."""
+    bundle = (ROOT / "tools/tests/bundles/certify_tree.bundle").read_text()
+    return bundle[: bundle.index("branch")] + lines
+
+
 def trees():
     """Trees as deep as they may be, leaning either way, and one deeper."""
     right = ("certified one-way work 0\n", 0)
@@ -169,6 +176,8 @@ def trees():
     yield "a tree 1,000 deep of one couple", "certify", bundle, ("rejected at 2\n", 1)
     bundle, head, _ = certified(lambda branches: branches[:1] * 1000 + ["bound\n"] * 1001)
     yield "a tree 1,001 deep", "certify", bundle, (f"fault plan {head + 1001}\n", 3)
+    yield "a plan of ten lines and a tree 1,001 deep", "certify", tree_of("branch B C\n" * 1001), ("fault plan 1011\n", 3)
+    yield "the same without its deepest line", "certify", tree_of("branch B C\n" * 1000), ("fault plan 1011\n", 3)
     for work, answer in ((2**128 - 1, ("rejected work\n", 1)), (2**128, ("fault plan 2\n", 3))):
         yield f"work {work}", "certify", bundle_of_no_work(work), answer
 
