@@ -1,9 +1,11 @@
 """Cases: words and an input, and what the program has to answer. A module for each group of them."""
 
 import os
+import resource
+import signal
 import subprocess
 from dataclasses import dataclass
-from tempfile import TemporaryDirectory
+from tempfile import TemporaryDirectory, TemporaryFile
 from typing import Callable, Optional
 
 SECONDS = 60
@@ -53,14 +55,26 @@ class BesideAFile(Case):
 class AByteAtATime(Case):
     """A case whose input comes a byte at a time."""
 
+    def between(self, child):
+        """What is done between two bytes."""
+
     def ran(self, started):
         kept = {"stdin": subprocess.PIPE, "stdout": subprocess.PIPE, "stderr": subprocess.PIPE, "bufsize": 0}
         with subprocess.Popen([started, *self.words], **kept) as child:
             for byte in self.given:
                 child.stdin.write(bytes([byte]))
+                self.between(child)
             child.stdin.close()
             text, said = child.stdout.read(), child.stderr.read()
         return subprocess.CompletedProcess([], child.returncode, text, said)
+
+
+class BetweenSignals(AByteAtATime):
+    """The same where the program is stopped and goes on, and gets signals that mean nothing to it, between two bytes."""
+
+    def between(self, child):
+        for sent in (signal.SIGSTOP, signal.SIGCONT, signal.SIGWINCH, signal.SIGURG, signal.SIGCHLD):
+            child.send_signal(sent)
 
 
 class FromAFolder(Case):
@@ -83,10 +97,61 @@ class Endless(Case):
         return ran
 
 
-class TakenByNobody(Case):
+class WithoutInput(Case):
+    """A case whose standard input is closed."""
+
+    def ran(self, started):
+        return subprocess.run([started, *self.words], stdin=None, capture_output=True, timeout=SECONDS, preexec_fn=lambda: os.close(0))
+
+
+class Unwritten(Case):
+    """A case whose output cannot be written: its status is known, and nothing is on standard error."""
+
+    def ended(self, started, out, before=None):
+        """How a run ends whose standard output is this."""
+        given = {"input": self.given, "stdout": out, "stderr": subprocess.PIPE, "timeout": SECONDS, "preexec_fn": before}
+        ran = subprocess.run([started, *self.words], **given)
+        right = (ran.returncode, ran.stderr) == (self.status, b"")
+        return None if right else f"{self.what} {self.words}: status {ran.returncode} {ran.stderr.decode(errors='replace')}"
+
+
+class TakenByNobody(Unwritten):
     """A case whose output takes nothing."""
 
     def mistake(self, started):
         with open("/dev/full", "wb") as full:
-            ran = subprocess.run([started, *self.words], input=self.given, stdout=full, stderr=subprocess.DEVNULL, timeout=SECONDS)
-        return None if ran.returncode == self.status else f"{self.what} {self.words}: status {ran.returncode}"
+            return self.ended(started, full)
+
+
+class WithoutOutput(Unwritten):
+    """A case whose standard output is closed."""
+
+    def mistake(self, started):
+        return self.ended(started, None, lambda: os.close(1))
+
+
+class Unheard(Unwritten):
+    """A case whose output goes into a pipe of which nobody reads."""
+
+    def mistake(self, started):
+        reading, writing = os.pipe()
+        os.close(reading)
+        with open(writing, "wb") as pipe:
+            return self.ended(started, pipe)
+
+
+class OnAShortQuota(Unwritten):
+    """A case whose output goes to a file of a few bytes at most, by a limit whose signal is ignored: they are a beginning of the text."""
+
+    room = 8
+
+    def limit(self):
+        signal.signal(signal.SIGXFSZ, signal.SIG_IGN)
+        resource.setrlimit(resource.RLIMIT_FSIZE, (self.room, self.room))
+
+    def mistake(self, started):
+        with TemporaryFile() as file:
+            wrong = self.ended(started, file, self.limit)
+            file.seek(0)
+            written = file.read().decode()
+        return wrong or (None if written == self.text[: self.room] else f"{self.what} {self.words}: wrote {written!r}")

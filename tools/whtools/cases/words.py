@@ -3,7 +3,9 @@ and input that comes a byte at a time, fails or never ends, and output that fail
 
 from typing import NamedTuple
 
-from whtools.cases import AByteAtATime, BesideAFile, Case, Endless, FromAFolder, TakenByNobody
+from whtools.cases import (
+    AByteAtATime, BesideAFile, BetweenSignals, Case, Endless, FromAFolder, OnAShortQuota, TakenByNobody, Unheard, WithoutInput, WithoutOutput,
+)  # fmt: skip
 
 # A Comp reads 30 + 10 and 4 + 70 rows and the Insts write 30 + 4 + 6: 114 and 40.
 BUNDLE = """@catalogue
@@ -327,9 +329,19 @@ def streams():
     yield FromAFolder(["check"], b"", "fault read\n", 3, "standard input that is a folder")
     for words, head in ((["check"], b""), ([], b"check\n")):
         yield AByteAtATime(words, head + CHECKED.encode(), correct(), 0, "a byte at a time")
+        yield BetweenSignals(words, head + CHECKED.encode(), correct(), 0, "a byte at a time, and signals")
     yield Endless(["check"], b"", "fault toolong\n", 3, "input that never ends")
+    for words in (["check"], []):
+        yield WithoutInput(words, b"", "fault read\n", 3, "input that is closed")
     for words in (["check"], ["plan"], ["replay"], ["--help"], ["check", "x"]):
-        yield TakenByNobody(words, CHECKED.encode(), None, 5, "output that takes nothing")
+        for kind, what in (
+            (TakenByNobody, "output that takes nothing"),
+            (WithoutOutput, "output that is closed"),
+            (Unheard, "output that nobody reads"),
+        ):
+            yield kind(words, CHECKED.encode(), None, 5, what)
+    yield OnAShortQuota(["check"], CHECKED.encode(), correct(), 5, "a short quota")
+    yield OnAShortQuota(["replay"], REPLAYED.encode(), REPLIES, 5, "a short quota")
 
 
 def cases():
