@@ -67,26 +67,41 @@ def lay(kit, room):
     return made
 
 
-def without_tests(text):
-    """The text of what is compiled, without tests and what is there for them."""
+def without_tests(text, kept=b""):
+    """The text of what is compiled, without tests and what is there for them; functions are looked after as is kept, which is not at all."""
     text, tests = TEST.subn(rb"\1\n  ret void\n}", text)
     if not tests:
         raise NotBuilt("what rt try compiles has no tests of the form that this tool knows")
-    text = FILL.sub(b"", text).replace(b" sanitize_address", b"")
+    text = FILL.sub(b"", text).replace(b" sanitize_address", kept)
     return text.replace(b'"frame-pointer"="all"', b'"frame-pointer"="none"')
+
+
+def object_of(kit, room, level, *more, kept=b""):
+    """Compiles what was taken, without its tests, at this level of speed and with more words; what is kept, `without_tests` says."""
+    clang = kit / "toolchain/bin/clang"
+    ran([clang, "-S", "-emit-llvm", "-O0", "-Xclang", "-disable-llvm-passes", "-x", "ir", room / "module.bc", "-o", room / "module.ll"])
+    (room / "module.ll").write_bytes(without_tests((room / "module.ll").read_bytes(), kept))
+    words = (room / "words").read_text().splitlines()
+    others = {"-O0": level, "module.bc": room / "module.ll", "module.o": room / "module.o"}
+    kept = [others.get(word, word) for word in words if word != "-fsanitize=address" and not word.startswith("--sysroot=")]
+    ran([clang, *kept, *more])
+    return room / "module.o"
 
 
 def compiled(kit, room):
     """Compiles what was taken, as fast as what is proved, and links it."""
-    clang = kit / "toolchain/bin/clang"
-    ran([clang, "-S", "-emit-llvm", "-O0", "-Xclang", "-disable-llvm-passes", "-x", "ir", room / "module.bc", "-o", room / "module.ll"])
-    (room / "module.ll").write_bytes(without_tests((room / "module.ll").read_bytes()))
-    words = (room / "words").read_text().splitlines()
-    others = {"-O0": "-O3", "module.bc": room / "module.ll", "module.o": room / "module.o"}
-    ran([clang, *(others.get(word, word) for word in words if word != "-fsanitize=address" and not word.startswith("--sysroot="))])
+    module = object_of(kit, room, "-O3")
     links = [kit / "bin/rattle-link", "--target", "x86_64-unknown-linux-gnu", "--toolchain", kit / "toolchain", "-o", room / "program"]
-    ran([*links, room / "module.o", kit / "c/libos_c.a", kit / "c/liblibc_c.a"])
+    ran([*links, module, kit / "c/libos_c.a", kit / "c/liblibc_c.a"])
     return room / "program"
+
+
+def take(kit, room, crate):
+    """Takes what is compiled of a crate to the room, and the words for it."""
+    made = lay(kit, room)
+    tried = subprocess.run([made / "bin/rt", "try", "--", "--help"], cwd=crate, stdin=subprocess.DEVNULL, capture_output=True, text=True)
+    if not (room / "module.bc").is_file():
+        raise NotBuilt(f"rt try compiled nothing: {tried.stderr.strip()[-2000:]}")
 
 
 def build(crate, say):
@@ -94,11 +109,8 @@ def build(crate, say):
     found = kit()
     with TemporaryDirectory(prefix="unproved-") as name:
         room = Path(name)
-        made = lay(found, room)
         say(f"building the program without proofs, the first time, in {MINUTES}")
-        tried = subprocess.run([made / "bin/rt", "try", "--", "--help"], cwd=crate, stdin=subprocess.DEVNULL, capture_output=True, text=True)
-        if not (room / "module.bc").is_file():
-            raise NotBuilt(f"rt try compiled nothing: {tried.stderr.strip()[-2000:]}")
+        take(found, room, crate)
         say("compiling it")
         program = compiled(found, room)
         ran([program, "--help"])
