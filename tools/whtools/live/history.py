@@ -51,7 +51,8 @@ class History:
 
     def before(self, v):
         """How many rows a view had after the last night, or has now where no night says it."""
-        counted = sql("sum(t.{count})", count=COUNT) if self.script.shape.is_counted(v) else sql("count(*)")
+        is_counted = self.script.shape.is_counted(v) and v not in self.script.keys
+        counted = sql("sum(t.{count})", count=COUNT) if is_counted else sql("count(*)")
         last = "(SELECT s.post FROM {sizes} AS s WHERE s.view = {view} ORDER BY s.night DESC LIMIT 1)"
         now = "(SELECT coalesce({counted}, 0) FROM {table} AS t)"
         last = sql(last, sizes=self.table(SIZES), view=text(self.script.views[v].name))
@@ -67,11 +68,11 @@ class History:
         return sql(added, target=self.target(SIZES), night=self.number(), view=text(self.script.views[v].name), more=more, change=change,
                    last=last, now=now)  # fmt: skip
 
-    def opened(self, v):
-        """The rows of a view that was just filled."""
+    def opened(self, v, counted=None):
+        """The rows of a view that was just filled, where they were counted, or as they are."""
         _, now = self.before(v)
-        added = "INSERT INTO {target} (night, view, pre, post, change) SELECT {night}, {view}, g.rows, g.rows, 0 FROM (SELECT {now} AS rows) AS g"
-        return sql(added, target=self.target(SIZES), night=self.number(), view=text(self.script.views[v].name), now=now)
+        added = "INSERT INTO {target} (night, view, pre, post, change) SELECT {night}, {view}, g.many, g.many, 0 FROM (SELECT {now} AS many) AS g"
+        return sql(added, target=self.target(SIZES), night=self.number(), view=text(self.script.views[v].name), now=counted or now)
 
     def steps(self, told, works):
         """Each step with its predicted work, where there is one, and its seconds, where the engine tells the time while it works."""
@@ -81,12 +82,17 @@ class History:
             for at, (said, work) in enumerate(zip(told, works), 1)
         ]
         added = (
-            "INSERT INTO {target} (night, step, told, work, seconds) SELECT {night}, l.step, l.told, CAST(l.work AS {whole}), e.at - s.at"
-            " FROM (WITH listed (step, told, work) AS (VALUES {rows}) SELECT * FROM listed) AS l"
-            " LEFT JOIN {moments} AS e ON e.step = l.step LEFT JOIN {moments} AS s ON s.step = l.step - 1"
+            "INSERT INTO {target} (night, step, told, work, seconds) SELECT {night}, l.step, l.told, CAST(l.work AS {whole}), {seconds}"
+            " FROM (WITH listed (step, told, work) AS (VALUES {rows}) SELECT * FROM listed) AS l {moments}"
         )
         return sql(added, target=self.target(STEPS), night=self.number(), rows=joined(rows), whole=self.dialect.kinds["int"],
-                   moments=self.dialect.working(MOMENTS))  # fmt: skip
+                   seconds=self.seconds, moments=self.moments())  # fmt: skip
+
+    seconds = sql("e.at - s.at")
+
+    def moments(self):
+        """When each step ended, and the one before."""
+        return sql("LEFT JOIN {moments} AS e ON e.step = l.step LEFT JOIN {moments} AS s ON s.step = l.step - 1", moments=self.dialect.working(MOMENTS))
 
     def ended(self, told, works):
         """What a night adds at its end."""
@@ -105,12 +111,12 @@ class SwiftHistory(History):
         return []
 
     def moment(self, step):
-        return sql("moments[{step}] := {now}", step=number(step), now=self.dialect.now)
+        return sql("moments[{step}] := {now}", step=number(step), now=self.dialect.moment)
 
     def ended(self, told, works):
         """The sizes of all views at once, each from its last ones; a view that has none yet is counted."""
         views = self.script.views
-        rows = [sql("({view}, more{at}, moved{at})".replace("{at}", str(v)), view=self.dialect.text(view.name)) for v, view in enumerate(views)]
+        rows = [sql("({view}, coalesce(more{at}, 0), coalesce(moved{at}, 0))".replace("{at}", str(v)), view=self.dialect.text(view.name)) for v, view in enumerate(views)]
         added = (
             "INSERT INTO {target} (night, view, pre, post, change) SELECT {night}, l.view, p.post, p.post + l.more, l.moved"
             " FROM (VALUES {rows}) AS l (view, more, moved) CROSS JOIN LATERAL (SELECT s.post FROM {target} AS s WHERE s.view = l.view"
@@ -127,19 +133,16 @@ class SwiftHistory(History):
         _, now = self.before(v)
         view = text(self.script.views[v].name)
         added = (
-            "INSERT INTO {target} (night, view, pre, post, change) SELECT {night}, {view}, g.rows - more{at}, g.rows, moved{at}"
+            "INSERT INTO {target} (night, view, pre, post, change) SELECT {night}, {view}, g.rows - coalesce(more{at}, 0), g.rows, coalesce(moved{at}, 0)"
             " FROM (SELECT {now} AS rows) AS g ON CONFLICT DO NOTHING"
         ).replace("{at}", str(v))
         return sql(added, target=self.target(SIZES), night=self.number(), view=view, now=now)
 
-    def steps(self, told, works):
-        nothing = sql("NULL")
-        rows = [
-            sql("({at}, {said}, {work})", at=number(at), said=self.dialect.text(said), work=nothing if work is None else number(work))
-            for at, (said, work) in enumerate(zip(told, works), 1)
-        ]
-        added = (
-            "INSERT INTO {target} (night, step, told, work, seconds) SELECT {night}, l.step, l.told, CAST(l.work AS bigint),"
-            " moments[l.step] - moments[l.step - 1] FROM (VALUES {rows}) AS l (step, told, work)"
-        )
-        return sql(added, target=self.target(STEPS), night=self.number(), rows=joined(rows))
+    # A step that had nothing to do tells no moment, and took no time.
+    seconds = sql(
+        "coalesce(extract(epoch FROM moments[l.step] - greatest(moments[0], max(moments[l.step]) OVER (ORDER BY l.step ROWS BETWEEN UNBOUNDED"
+        " PRECEDING AND 1 PRECEDING))), 0)"
+    )
+
+    def moments(self):
+        return sql("")

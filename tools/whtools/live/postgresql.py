@@ -13,6 +13,9 @@ EVENTS = (
     ("delete", "AFTER DELETE ON ", " REFERENCING OLD TABLE AS gone"),
     ("truncate", "BEFORE TRUNCATE ON ", ""),
 )
+# How full, in hundredths, a page is filled at first: a row that changes finds room beside itself then, and its indexes stay as they are. Of
+# rows some change in a night, of groups most.
+FILLED = {"rows": 90, "summary": 60}
 CAPTURED, COLUMNS, PARTS, JUDGED = "~captured", "~columns", "~parts", "~judged"
 # A source, its partitions and its heirs, as b. Whatever has no rows of its own is not truncated by itself.
 BELOW = (
@@ -23,18 +26,19 @@ FIRED = "(SELECT count(*) FROM pg_trigger AS t WHERE t.tgrelid = {relation} AND 
 WANTED = "(SELECT CASE c.relkind WHEN {ordinary} THEN 4 ELSE 3 END FROM pg_class AS c WHERE c.oid = {relation})"
 # The same of all sources at once; and what may be otherwise than it was captured, each a query for a sentence, with its words.
 ALL_BELOW = (
-    "(WITH RECURSIVE below (view, made, relation) AS (SELECT w.view, w.made, c.source::oid FROM {sources} JOIN {state} AS c ON c.view = w.view"
-    " UNION SELECT b.view, b.made, i.inhrelid FROM below AS b JOIN pg_inherits AS i ON i.inhparent = b.relation) SELECT * FROM below) AS b"
+    "WITH RECURSIVE sources (view, made) AS (VALUES {rows}), below (view, made, relation) AS (SELECT w.view, w.made, c.source::oid FROM sources AS w"
+    " JOIN {state} AS c ON c.view = w.view UNION SELECT b.view, b.made, i.inhrelid FROM below AS b JOIN pg_inherits AS i ON i.inhparent = b.relation)"
+    " SELECT coalesce({queries})"
 )
 HOLES = (
-    ("SELECT format({told}, w.view, {why}) FROM {sources} WHERE NOT EXISTS (SELECT 1 FROM {state} AS c JOIN pg_class AS k ON k.oid = c.source"
+    ("SELECT format({told}, w.view, {why}) FROM sources AS w WHERE NOT EXISTS (SELECT 1 FROM {state} AS c JOIN pg_class AS k ON k.oid = c.source"
      " WHERE c.view = w.view AND c.filled)", "its table is gone, or was never filled"),
-    ("SELECT format({told}, b.view, format({why}, b.relation::regclass)) FROM {below} WHERE (SELECT count(*) FROM pg_trigger AS t"
+    ("SELECT format({told}, b.view, format({why}, b.relation::regclass)) FROM below AS b WHERE (SELECT count(*) FROM pg_trigger AS t"
      " WHERE t.tgrelid = b.relation AND t.tgfoid = b.made AND t.tgenabled = {always}) < " + WANTED.replace("{relation}", "b.relation"),
      "%s has no triggers"),
-    ("SELECT format({told}, p.view, format({why}, p.name)) FROM {noted} AS p JOIN {sources} ON w.view = p.view"
-     " WHERE NOT EXISTS (SELECT 1 FROM {below} WHERE b.view = p.view AND b.relation = p.part)", "%s is no part of it any more"),
-    ("SELECT format({told}, k.view, format({why}, k.name)) FROM {columns} AS k JOIN {sources} ON w.view = k.view JOIN {state} AS c ON c.view = k.view"
+    ("SELECT format({told}, p.view, format({why}, p.name)) FROM {noted} AS p JOIN sources AS w ON w.view = p.view"
+     " WHERE NOT EXISTS (SELECT 1 FROM below AS b WHERE b.view = p.view AND b.relation = p.part)", "%s is no part of it any more"),
+    ("SELECT format({told}, k.view, format({why}, k.name)) FROM {columns} AS k JOIN sources AS w ON w.view = k.view JOIN {state} AS c ON c.view = k.view"
      " LEFT JOIN pg_attribute AS a ON a.attrelid = c.source AND a.attname = k.name AND a.attnum > 0 AND NOT a.attisdropped"
      " WHERE k.type IS DISTINCT FROM format_type(a.atttypid, a.atttypmod)", "its column %s is of another type"),
 )  # fmt: skip
@@ -45,13 +49,24 @@ BUSY = "somebody is writing to %s all the time, and its triggers wait for a mome
 class LivePostgreSQL(PostgreSQL):
     """Nights take their changes by one statement, beside writers."""
 
-    takes = True
+    takes, kept_settings = True, []
     history_kinds = {"whole": sql("bigint"), "text": sql("text"), "moment": sql("timestamptz"), "seconds": sql("float8")}
     moment = sql("clock_timestamp()")
     now = sql("extract(epoch FROM clock_timestamp())")
 
     def captures(self, script):
         return Captures(script)
+
+    # All of a night is one snapshot, taken when the tables are locked: each transaction of an application is in it wholly, or not at all.
+    isolation = "REPEATABLE READ"
+
+    def program(self, locked, working, made, _=None):
+        """A transaction that locks tables, and then is one block. Within a transaction that has asked something already it is refused by the
+        server, since that has a snapshot from before."""
+        level = sql("SET TRANSACTION ISOLATION LEVEL " + self.isolation + " READ WRITE")
+        tables = [self.created(name(said), columns) for said, columns in working]
+        begun = [sql("{each}{end}", each=each, end=END_OF_STATEMENT) for each in (sql("BEGIN ISOLATION LEVEL READ COMMITTED"), level, locked)]
+        return [*begun, self.block([*tables, *made]), sql("COMMIT{end}", end=END_OF_STATEMENT)]
 
 
 class InSixtyFourBits(LivePostgreSQL):
@@ -119,8 +134,12 @@ class Captures:
         return self.dialect.creation([*made, *(each for v in sources for each in self.noted(v, sources[v]))])
 
     def view_tables(self, v, sources):
-        """The table of a view and that of its changes, which is not cut at its end: whoever writes there would wait for it."""
-        found = [(self.script.table(v), joined(self.script.columns_with_key(v, self.script.key_of(v, sources))), self.script.indexes_of(v))]
+        """The table of a view, with room on each page for rows that change; and that of its changes, which is not cut at its end, since whoever
+        writes there would wait for it."""
+        table, is_summary = self.script.table(v), self.script.shape.is_summary(v)
+        room = sql("ALTER TABLE {table} SET (fillfactor = {filled})", table=table, filled=number(FILLED["summary" if is_summary else "rows"]))
+        columns = joined(self.script.columns_with_key(v, self.script.key_of(v, sources)))
+        found = [(table, columns, [room, *self.script.indexes_of(v)])]
         if v in sources:
             changes, cut = self.script.table(v, "~changes"), word("vacuum_truncate")
             kept = sql("ALTER TABLE {changes} SET ({cut} = false)", changes=changes, cut=cut)
@@ -352,9 +371,9 @@ class Captures:
         base = self.script.steps.base()
         functions = [self.written(sql("{function}()", function=self.function(v))) for v in base]
         rows = [sql("({view}::text, {made}::regprocedure::oid)", view=self.view(v), made=made) for v, made in zip(base, functions)]
-        sources = sql("(VALUES {rows}) AS w (view, made)", rows=joined(rows))
         told = text("table %s is not captured as it was: %s; run tools/sql --capture")
-        below = sql(ALL_BELOW, state=self.state, sources=sources)
-        own = {"state": self.state, "columns": self.columns, "noted": self.parts, "sources": sources, "below": below, "told": told, **self.texts}
+        own = {"state": self.state, "columns": self.columns, "noted": self.parts, "told": told, **self.texts}
         queries = [sql("(" + query + " LIMIT 1)", why=text(why), **own) for query, why in HOLES]
-        return self.dialect.refuse_with(sql("SELECT coalesce({queries})", queries=joined(queries)))
+        query = sql(ALL_BELOW, rows=joined(rows), queries=joined(queries), state=self.state)
+        refusal = self.dialect.where(sql("finding IS NOT NULL"), self.dialect.raised(word("finding")))
+        return [sql("EXECUTE {query} INTO finding", query=body(query)), refusal]

@@ -2,7 +2,6 @@
 
 from whtools.live.history import History
 from whtools.sql.comments import Comments
-from whtools.sql.dialect import COUNT
 from whtools.sql.names import Names
 from whtools.sql.catalogued import WIDEST_INDEX
 from whtools.sql.script import Script
@@ -28,29 +27,11 @@ class LiveScript(Script):
         """A table that is of no view, such as the history of nights."""
         return self.dialect.table(f"{self.prefix}{suffix}")
 
-    def changes(self, v):
-        return self.working(v, "taken") if self.dialect.takes else super().changes(v)
-
     # ---- a night
 
     def working_tables(self):
-        """Those of any night, and the changes that it takes."""
-        count = sql("{count} {kind} NOT NULL", count=COUNT, kind=self.dialect.kinds["int"])
-        taken = [(self.working_name(v, "taken"), [*self.typed(v), count]) for v in self.steps.base()] if self.dialect.takes else []
-        return [*super().working_tables(), *taken, *self.history.working_tables()]
-
-    def taken(self):
-        """What stands in the tables of changes leaves them in one statement, and so by one snapshot: each transaction of an application is
-        in it wholly or not at all. Whoever writes to the tables goes on: its rows are of the next night."""
-        parts, made = [], None
-        for v in self.steps.base():
-            columns, gone = joined([*self.users(v), COUNT]), word("gone", v)
-            if made:
-                parts.append(sql("{kept} AS ({made})", kept=word("kept", len(parts)), made=made))
-            deleted = sql("DELETE FROM {changes} RETURNING {columns}", changes=self.table(v, "~changes"), columns=columns)
-            parts.append(sql("{gone} AS ({deleted})", gone=gone, deleted=deleted))
-            made = sql("INSERT INTO {taken} ({columns}) SELECT {columns} FROM {gone}", taken=self.changes(v), columns=columns, gone=gone)
-        return [sql("WITH {parts} {made}", parts=joined(parts), made=made)]
+        """Those of any night, and the moments of its steps."""
+        return [*super().working_tables(), *self.history.working_tables()]
 
     def carried(self, steps, comment):
         """The statements of steps, each with a comment above it and its moment below."""
@@ -64,8 +45,7 @@ class LiveScript(Script):
         listed = [(works.expression(step), works.predicted(step)) for step in steps]
         ended = [] if self.dialect.takes else self.emptied()
         ended += self.dialect.settled() + [each for v in range(len(self.views)) for each in [*self.verified(v), *self.untouched(v)]]
-        begun = [*(self.taken() if self.dialect.takes else []), *self.captures.whole()]
-        return self.whole([*begun, *self.history.began()], steps, [*ended, *self.history.ended(*zip(*listed))], comment)
+        return self.whole([*self.captures.whole(), *self.history.began()], steps, [*ended, *self.history.ended(*zip(*listed))], comment)
 
     def open(self, comment):
         """The derived views are filled from the mirrors; what is in the tables of changes stays there."""

@@ -76,6 +76,19 @@ def two_mistakes(live, times):
     return [f"two nights at once: {text}" for text in wrong]
 
 
+def within_mistakes(live):
+    """A night within a transaction that has asked something already, and so sees what was there then: it is refused, and changes nothing."""
+    wrong = []
+    for begun_as in ("BEGIN ISOLATION LEVEL REPEATABLE READ;", "BEGIN ISOLATION LEVEL SERIALIZABLE;", "BEGIN;"):
+        wrong += live.fresh()
+        live.database.asked("UPDATE lines SET pieces = pieces + 1;")
+        before = live.pending()
+        told = live.database.run(f"{begun_as} SELECT count(*) FROM orders;\n{live.script}")
+        wrong += [] if told and "must be called before any query" in told and live.pending() == before else [f"after {begun_as} it was told {told!r}"]
+        wrong += [f"{told}" for told in [live.night()] if told] + live.mistakes()
+    return [f"a night within a transaction: {text}" for text in wrong]
+
+
 # ---- a thousand small transactions
 
 

@@ -11,27 +11,21 @@ from whtools.sql.tokens import joined, sql
 
 
 class TableByTable(SwiftScript):
-    """A transaction may be in the night by one table and in the next by another."""
+    """Each statement has a snapshot of its own: a transaction may be in the night by one table and in the next by another."""
 
-    def taken(self):
-        base = self.steps.base()
-        with mock.patch.object(self.steps, "base") as listed:
-            found = []
-            for v in base:
-                listed.return_value = [v]
-                found += super().taken()
-        return found
+    def __init__(self, catalogue, dialect, prefix=""):
+        super().__init__(catalogue, dialect, prefix)
+        dialect.isolation = "READ COMMITTED"
 
 
-class EmptiedLater(SwiftScript):
+class EmptiedLater(TableByTable):
     """What is committed between the reading and the emptying is lost."""
 
-    def taken(self):
-        found = []
-        for v in self.steps.base():
-            columns, changes = joined([*self.users(v), COUNT]), self.table(v, "~changes")
-            found.append(sql("INSERT INTO {taken} ({columns}) SELECT {columns} FROM {changes}", taken=self.changes(v), columns=columns, changes=changes))
-        return [*found, *(sql("DELETE FROM {changes}", changes=self.table(v, "~changes")) for v in self.steps.base())]
+    def taken_from(self, v):
+        return sql("SELECT {columns} FROM {changes}", columns=joined([*self.users(v), COUNT]), changes=self.table(v, "~changes"))
+
+    def net(self, step):
+        return [*super().net(step), sql("DELETE FROM {changes}", changes=self.table(step.view, "~changes"))]
 
 
 class NotLookedAt(SwiftScript):

@@ -16,12 +16,9 @@ SETTINGS = [
     sql("path := pg_catalog.current_setting({key})", key=text("search_path")),
     sql("PERFORM pg_catalog.set_config({key}, {value}, TRUE)", key=text("search_path"), value=text("pg_catalog")),
     sql(
-        "PERFORM set_config({key}, concat_ws({comma}, {first}, nullif(path, {none}), {last}), TRUE)",
-        key=text("search_path"), comma=text(", "), first=text("pg_catalog"), none=text(""), last=text("pg_temp"),
-    ),
-    *(
-        sql("PERFORM set_config({key}, {value}, TRUE)", key=text(key), value=text(value))
-        for key, value in (("row_security", "off"), ("jit", "off"))
+        "PERFORM set_config({key}, concat_ws({comma}, {first}, nullif(path, {none}), {last}), TRUE), set_config({rows}, {off}, TRUE),"
+        " set_config({jit}, {off}, TRUE)", key=text("search_path"), comma=text(", "), first=text("pg_catalog"), none=text(""), last=text("pg_temp"),
+        rows=text("row_security"), jit=text("jit"), off=text("off"),
     ),
 ]  # fmt: skip
 # Of many equalities PostgreSQL supposes that hardly a row passes, and would go through changes that have no index again and again.
@@ -42,7 +39,7 @@ class PostgreSQL(Dialect):
     temporary = word("pg_temp")
     limit = 63
     writer = EscapingWriter()
-    variables = VARIABLES
+    variables, kept_settings = VARIABLES, KEPT
     own_columns = ("tableoid", "xmin", "cmin", "xmax", "cmax", "ctid")
     kinds = {"int": sql("bigint"), "text": sql("text")}
     declared = kinds
@@ -202,7 +199,7 @@ class PostgreSQL(Dialect):
     def block(self, made):
         """Statements as one. A column's name means the column, also where PL/pgSQL has a variable of that name."""
         begun = sql("\n#variable_conflict use_column\nDECLARE{variables}\nBEGIN", variables=statements(self.variables, 1))
-        program = sql("{begun}{made}\nEND{end}", begun=begun, made=statements([*SETTINGS, *KEPT, *made], 1), end=END_OF_STATEMENT)
+        program = sql("{begun}{made}\nEND{end}", begun=begun, made=statements([*SETTINGS, *self.kept_settings, *made], 1), end=END_OF_STATEMENT)
         return sql("DO {body}{end}", body=body(program), end=END_OF_STATEMENT)
 
     def program(self, checked, working, made, _=None):

@@ -1,0 +1,68 @@
+"""Opening in PostgreSQL: derived views from scratch, with keys and indexes made when the rows are there."""
+
+from whtools.sql.dialect import COUNT
+from whtools.sql.tokens import END_OF_STATEMENT, joined, name, number, sql, statements, text, word
+
+
+class Opening:
+    """The statements that fill the derived views."""
+
+    def open(self, comment):
+        derived = self.steps.derived()
+        made = [each for v in derived for each in self.filled(v)]
+        sizes = [self.history.opened(v, self.counted_rows(v)) for v in range(len(self.views))]
+        return self.whole([*self.history.began(), *made], [], [*sizes, self.history.closed()], comment)
+
+    def counted_rows(self, v):
+        """How many rows were put into a view each of which counts once, if it is such a view."""
+        return self.counter("rows", v) if self.views[v].over and (self.shape.is_summary(v) or v in self.keys) else None
+
+    def filled(self, v):
+        """A view from scratch: without rows and indexes, then with its rows, then with its indexes."""
+        (term,) = self.steps.whole(v)
+        key = name(self.said(v, "~key"))
+        constraint = self.constraint(v, [self.views[v].columns[place][0] for place in self.keys.get(v, ())])
+        parts = {"table": self.table(v), "key": key}
+        return [
+            sql("TRUNCATE {table}", **parts),
+            sql("ALTER TABLE {table} DROP CONSTRAINT IF EXISTS {key}", **parts),
+            *(sql("DROP INDEX IF EXISTS {index}", index=self.dialect.table(self.said(v, f"~{at}"))) for at in range(1, len(self.asked_for()[v]) + 1)),
+            self.filling(v, term),
+            sql("GET DIAGNOSTICS {rows} = ROW_COUNT", rows=self.counter("rows", v)),
+            *([sql("ALTER TABLE {table} ADD {constraint}", constraint=constraint, **parts)] if constraint else []),
+            *self.indexes_of(v),
+            *self.analyzed_columns(v),
+        ]
+
+    def analyzed_columns(self, v):
+        """Statistics of the columns by which other views are joined with this one; how many rows there are its key told, and all else the
+        server finds out in its own time."""
+        columns = sorted({column for listed in self.asked_for()[v] for column in listed})
+        listed = joined([self.users(v)[column] for column in columns])
+        return [sql("ANALYZE {table} ({columns})", table=self.table(v), columns=listed)] if columns else []
+
+    def filling(self, v, term):
+        """What fills a view, in 64 bits, or exactly, with the words for what has no value or leaves them."""
+        large = self.told_range(v) if self.shape.is_summary(v) else self.told_large(v)
+        sure = sql(
+            "BEGIN {made} EXCEPTION WHEN not_null_violation THEN {lost}{end} WHEN numeric_value_out_of_range THEN {large}{end} END",
+            made=statements([self.filled_with(v, term)], 2), lost=self.dialect.raised(text(self.told_range(v))),
+            large=self.dialect.raised(text(large)), end=END_OF_STATEMENT,
+        )  # fmt: skip
+        return self.in_64_bits(lambda: self.filled_with(v, term), [sure])
+
+    def filled_with(self, v, term):
+        """The rows of a view from scratch; where an output has no value, NULL stands where none may."""
+        is_checked, is_apart = self.shape.checked(v) and not self.is_fast, v in self.keys and not self.shape.is_summary(v)
+        groups, sums = self.cells(v, "r")[: self.shape.groups(v)], range(2, self.shape.sums(v) + 1)
+        once = self.count(term) == number(1)
+        numbers = [sql("count(*)" if once else "sum(r.n)"), *(sql("sum(r.{sum})" if once else "sum(r.n * r.{sum})", sum=word("s", at)) for at in sums)]
+        numbers = [sql("r.n")] if is_apart else numbers
+        test = sql("r.lost = 0") if is_apart else sql("sum(r.lost) = 0")
+        numbers = [sql("CASE WHEN {test} THEN {each} END", test=test, each=each) for each in numbers] if is_checked else numbers
+        grouped = sql("GROUP BY {groups} HAVING count(*) > 0", groups=joined(groups)) if groups else sql("HAVING count(*) > 0")
+        columns = [*self.users(v), *([] if self.shape.is_summary(v) else [COUNT])]
+        return sql(
+            "INSERT INTO {table} ({columns}) SELECT {shown} FROM ({term}) AS r {grouped}", table=self.table(v), columns=joined(columns),
+            shown=joined([*groups, *numbers]), term=self.term(v, term), grouped=sql("") if is_apart else grouped,
+        )  # fmt: skip
