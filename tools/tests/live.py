@@ -1,14 +1,18 @@
 """Tests of what is made of an application's tables without a database: columns that are turned, views that are read, keys that follow."""
 
+import sqlite3
 import unittest
+from types import SimpleNamespace
 
 from whtools.live.keys import Keys
-from whtools.live.measured import Step, fitted, measured
+from whtools.live.measured import Step, fitted, measured, steps_of
 from whtools.live.parsed import NotTaken, parsed
-from whtools.live.sizes import within
-from whtools.live.turned import Told, Unturned, of_postgresql, of_sqlite
+from whtools.live.sizes import Past, within
+from whtools.live.sqlite import LiveSQLite
+from whtools.live.turned import Told, Unturned, literal_apart, of_postgresql, of_sqlite
 from whtools.sql.catalogue import Catalogue
 from whtools.sql.shape import Shape
+from whtools.sql.steps import Steps
 from whtools.sql.tokens import Unfit
 from whtools.warehouse.nulls import left_out, references
 
@@ -53,6 +57,13 @@ class Turned(unittest.TestCase):
             self.assertEqual(of_postgresql(Told("x", type_name, type_name, None, None, False)).kind, kind)
         self.assertFalse(of_postgresql(Told("x", "timestamp", "timestamp", None, None, False)).is_apart)
 
+    def test_no_text_is_taken_for_null(self):
+        wanted = {None: "\\N", "\\N": "\\\\N", "\\\\N": "\\\\\\N", "N": "N", "": "", "\\": "\\", "\\n": "\\n", "\\NN": "\\NN", "x\\N": "x\\N"}
+        (said,) = LiveSQLite().written([of_sqlite(Told("x", "TEXT", "TEXT", None, None, True)).said])
+        for cell, turned in wanted.items():
+            self.assertEqual(sqlite3.connect(":memory:").execute(f"SELECT {said} FROM (SELECT ? AS x) AS r", [cell]).fetchone(), (turned,))
+            self.assertEqual(literal_apart(cell or "N"), turned if cell else "N")
+
 
 class Parsed(unittest.TestCase):
     def test_what_is_not_taken_is_told(self):
@@ -94,6 +105,13 @@ class Measures(unittest.TestCase):
 
     def test_without_steps_nothing_is_proposed(self):
         self.assertIsNone(measured([None], [Step("comp", 0, {0: 5}, 0.1)]))
+
+    def test_a_comp_of_what_did_not_change_is_no_measure(self):
+        catalogue = Catalogue(KEYED.format(""))
+        script = SimpleNamespace(catalogue=catalogue, steps=Steps(catalogue.views))
+        sizes = [Past(100, 100, 2), Past(10, 10, 0), Past(100, 100, 2), Past(5, 5, 2)]
+        listed = [("comp sold from sales", None, 0.5), ("comp sold from shops", None, 0.0)]
+        self.assertEqual([step.seconds for step in steps_of(script, listed, sizes)], [0.5])
 
     def test_sizes_stay_sizes(self):
         self.assertEqual(within(5, -9, 3), (2, 3))

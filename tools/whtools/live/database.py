@@ -21,6 +21,7 @@ class Table(NamedTuple):
     name: str
     columns: list
     keys: list
+    is_parted: bool = False
 
 
 class PostgreSQLAsked:
@@ -67,10 +68,10 @@ class PostgreSQLAsked:
         )  # fmt: skip
         columns, keys = self.rows(self.columns_query(of), self.keys_query(of))
         found = {}
-        for table, column, shown, type_name, modifier, may_be_null in columns:
+        for table, is_parted, column, shown, type_name, modifier, *others in columns:
             digits = (modifier - 4) >> 16 & 0xFFFF if modifier >= 4 else None
             places = modifier - 4 & 0x7FF if modifier >= 4 else None
-            found.setdefault(table, Table(table, [], [])).columns.append(Told(column, shown, type_name, digits, places, may_be_null))
+            found.setdefault(table, Table(table, [], [], is_parted)).columns.append(Told(column, shown, type_name, digits, places, *others))
         for table, key in keys:
             found[table].keys.append(key)
         return found
@@ -90,12 +91,13 @@ class PostgreSQLAsked:
             " NOT a.attnotnull FROM pg_attribute AS a WHERE a.attnum > 0 AND NOT a.attisdropped AND a.attrelid IN (SELECT c.oid FROM {of})"
             " UNION ALL SELECT b.relation, b.place, t.typbasetype, CASE WHEN b.modifier = -1 THEN t.typtypmod ELSE b.modifier END,"
             " b.nothing AND NOT t.typnotnull FROM b JOIN pg_type AS t ON t.oid = b.type AND t.typtype = {domain})"
-            " SELECT json_build_array(c.relname, a.attname, format_type(a.atttypid, a.atttypmod),"
-            " CASE WHEN t.typtype = {of_enum} THEN {enum} WHEN n.nspname <> {own} THEN {other} ELSE t.typname END, b.modifier, b.nothing)"
+            " SELECT json_build_array(c.relname, c.relkind = {parted}, a.attname, format_type(a.atttypid, a.atttypmod),"
+            " CASE WHEN t.typtype = {of_enum} THEN {enum} WHEN n.nspname <> {own} THEN {other} ELSE t.typname END, b.modifier, b.nothing,"
+            " EXISTS (SELECT 1 FROM pg_collation AS l WHERE l.oid = a.attcollation AND NOT l.collisdeterministic))"
             " FROM b JOIN pg_type AS t ON t.oid = b.type JOIN pg_namespace AS n ON n.oid = t.typnamespace"
             " JOIN pg_attribute AS a ON a.attrelid = b.relation AND a.attnum = b.place JOIN pg_class AS c ON c.oid = b.relation"
             " WHERE t.typtype <> {domain} ORDER BY c.relname, a.attnum",
-            of=of, domain=text("d"), of_enum=text("e"), enum=text("enum"), own=text("pg_catalog"), other=text(""),
+            of=of, parted=text("p"), domain=text("d"), of_enum=text("e"), enum=text("enum"), own=text("pg_catalog"), other=text(""),
         )  # fmt: skip
 
     def keys_query(self, of):
@@ -151,7 +153,8 @@ class SQLiteAsked:
         )  # fmt: skip
         primary = [column for column, _, _, place in sorted(columns, key=lambda column: column[3]) if place]
         is_rowid = len(primary) == 1 and next(kind for column, kind, *_ in columns if column == primary[0]).upper() == "INTEGER"
-        told = [self.told(*column[:3], is_rowid and column[0] == primary[0]) for column in columns]
+        folded = self.folded(said, [column for column, *_ in columns])
+        told = [self.told(*column[:3], is_rowid and column[0] == primary[0], column[0] in folded) for column in columns]
         filled = {each.name for each in told if not each.may_be_null}
         keys = [primary] if primary and filled.issuperset(primary) else []
         keys += [key for key in map(self.indexed, [index for index, _, partial in indexes if not partial]) if key and filled.issuperset(key)]
@@ -162,10 +165,28 @@ class SQLiteAsked:
         columns = [column for column, in self.rows(sql("SELECT x.name FROM pragma_index_info({index}) AS x ORDER BY x.seqno", index=text(index)))[0]]
         return columns if None not in columns else []
 
-    def told(self, column, type_name, is_filled, is_rowid):
+    def folded(self, table, columns):
+        """The columns that are compared otherwise than byte by byte, which a table of the same text tells where nothing is changed by asking."""
+        ((made,),) = self.rows(sql("SELECT s.sql FROM sqlite_master AS s WHERE s.type = {kind} AND s.name = {table}", kind=text("table"), table=text(table)))[0]
+        copy, found = sqlite3.connect(":memory:"), set()
+        try:
+            copy.execute(made)
+            for column in columns:
+                indexed = sql("CREATE INDEX {index} ON {table} ({column})", index=name("by column"), table=name(table), column=name(column))
+                copy.execute(self.dialect.written([indexed])[0])
+                ((collation,),) = copy.execute("SELECT coll FROM pragma_index_xinfo('by column') WHERE key = 1").fetchall()
+                found |= {column} if collation != "BINARY" else set()
+                copy.execute('DROP INDEX "by column"')
+        except sqlite3.Error as fault:
+            raise Unfit(f"{table} cannot be captured: {fault}") from fault
+        finally:
+            copy.close()
+        return found
+
+    def told(self, column, type_name, is_filled, is_rowid, is_folded):
         digits = DIGITS.fullmatch(type_name.upper())
         numbers = (int(digits[1]), int(digits[2] or 0)) if digits else (None, None)
-        return Told(column, type_name or "none", type_name, *numbers, not (is_filled or is_rowid))
+        return Told(column, type_name or "none", type_name, *numbers, not (is_filled or is_rowid), is_folded)
 
     def names(self):
         """The names of all tables and views, in small letters."""

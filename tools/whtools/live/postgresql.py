@@ -13,6 +13,11 @@ EVENTS = (
     ("delete", "AFTER DELETE ON ", " REFERENCING OLD TABLE AS gone"),
     ("truncate", "BEFORE TRUNCATE ON ", ""),
 )
+# A column's type and, of an enumeration, its values: more of them may come behind, and none may get another name.
+TYPE = (
+    "concat(format_type(a.atttypid, a.atttypmod), {comma}, (SELECT string_agg(concat(e.enumlabel, {comma}), {none} ORDER BY e.oid) FROM pg_enum AS e"
+    " WHERE e.enumtypid = a.atttypid))"
+)
 # How full, in hundredths, a page is filled at first: a row that changes finds room beside itself then, and its indexes stay as they are. Of
 # rows some change in a night, of groups most.
 FILLED = {"rows": 90, "summary": 60}
@@ -40,7 +45,7 @@ HOLES = (
      " WHERE NOT EXISTS (SELECT 1 FROM below AS b WHERE b.view = p.view AND b.relation = p.part)", "%s is no part of it any more"),
     ("SELECT format({told}, k.view, format({why}, k.name)) FROM {columns} AS k JOIN sources AS w ON w.view = k.view JOIN {state} AS c ON c.view = k.view"
      " LEFT JOIN pg_attribute AS a ON a.attrelid = c.source AND a.attname = k.name AND a.attnum > 0 AND NOT a.attisdropped"
-     " WHERE k.type IS DISTINCT FROM format_type(a.atttypid, a.atttypmod)", "its column %s is of another type"),
+     " WHERE NOT starts_with(" + TYPE + ", k.type)", "its column %s is of another type, or its values have other names"),
 )  # fmt: skip
 UNTRUNCATED = "a table whose changes are captured is truncated at READ COMMITTED alone: another isolation does not see all rows that go"
 BUSY = "somebody is writing to %s all the time, and its triggers wait for a moment without: run the script again"
@@ -94,7 +99,7 @@ class Captures:
     def __init__(self, script):
         self.script, self.dialect = script, script.dialect
         self.state, self.columns, self.parts = (script.own(said) for said in (CAPTURED, COLUMNS, PARTS))
-        self.texts = {said: text(letter) for said, letter in (("ordinary", "r"), ("always", "A"), ("foreign", "f"))}
+        self.texts = {said: text(letter) for said, letter in (("ordinary", "r"), ("always", "A"), ("foreign", "f"), ("comma", ","), ("none", ""))}
 
     def view(self, v):
         return text(self.script.views[v].name)
@@ -161,11 +166,25 @@ class Captures:
             *self.dialect.refuse_with(replicated),
             self.query(v, "INSERT INTO {state} VALUES ({view}, {source}::regclass, FALSE) ON CONFLICT DO NOTHING", source=self.written(source.said)),
             self.query(v, "DELETE FROM {columns} WHERE view = {view}"),
-            self.query(v, "INSERT INTO {columns} SELECT {view}, a.attname, format_type(a.atttypid, a.atttypmod) FROM pg_attribute AS a"
-                          " WHERE a.attrelid = {source}::regclass AND a.attname IN ({names})", source=self.written(source.said),
+            self.query(v, "INSERT INTO {columns} SELECT {view}, a.attname, " + TYPE + " FROM pg_attribute AS a WHERE a.attrelid = {source}::regclass"
+                          " AND a.attname IN ({names})", source=self.written(source.said),
                        names=joined([text(column.name) for column in source.columns])),
+            self.parts_noted(v),
             self.captured_by(v, source),
         ]  # fmt: skip
+
+    def parts_noted(self, v):
+        """The parts that a source has are noted, so that one that goes is missed."""
+        return self.query(v, "INSERT INTO {noted} SELECT {view}, b.relation, b.relation::regclass FROM " + BELOW + " ON CONFLICT DO NOTHING")
+
+    def part_unnoted(self, v):
+        """What a trigger of a table in parts does first: a part that nobody noted is, so that it is missed also where it is gone before the
+        next night, and with it rows that came through the table."""
+        unnoted = self.query(
+            v, "SELECT 1 FROM {state} AS c CROSS JOIN LATERAL pg_partition_tree(c.source) AS p WHERE c.view = {view} AND NOT EXISTS (SELECT 1"
+               " FROM {noted} AS n WHERE n.view = {view} AND n.part = p.relid)",
+        )  # fmt: skip
+        return self.dialect.where(sql("EXISTS ({unnoted})", unnoted=unnoted), self.parts_noted(v))
 
     # ---- triggers
 
@@ -181,9 +200,10 @@ class Captures:
         )  # fmt: skip
         before, after = sql("{insert} SELECT {shown}, -1 FROM ONLY", insert=insert, shown=source.shown), sql("AS r")
         program = sql(
-            "\nBEGIN\n  IF TG_OP = {insert} THEN {inserted}{end}\n  ELSIF TG_OP = {delete} THEN {deleted}{end}\n"
+            "\nBEGIN\n  {first}IF TG_OP = {insert} THEN {inserted}{end}\n  ELSIF TG_OP = {delete} THEN {deleted}{end}\n"
             "  ELSIF TG_OP = {update} THEN {updated}{end}\n  ELSIF current_setting({isolation}) <> {wanted} THEN {refused}{end}\n"
             "  ELSE EXECUTE concat({before}, TG_RELID::regclass, {after}){end}\n  END IF{end}\n  RETURN NULL{end}\nEND{end}",
+            first=sql("{noted}{end}\n  ", noted=self.part_unnoted(v), end=END_OF_STATEMENT) if source.is_parted else sql(""),
             insert=text("INSERT"), delete=text("DELETE"), update=text("UPDATE"), inserted=sql("{insert} {rows}", insert=insert, rows=come),
             deleted=sql("{insert} {rows}", insert=insert, rows=gone), updated=sql("{insert} {rows}", insert=insert, rows=both),
             isolation=text("transaction_isolation"), wanted=text("read committed"), refused=self.dialect.raised(text(UNTRUNCATED)),
@@ -275,19 +295,19 @@ class Captures:
             *self.unlike_null(v, source),
             emptied,
             self.query(v, "DELETE FROM {noted} WHERE view = {view}"),
-            self.query(v, "INSERT INTO {noted} SELECT {view}, b.relation, b.relation::regclass FROM " + BELOW),
+            self.parts_noted(v),
             sql(choice, test=is_filled, difference=statements([self.difference(v, source)], 2), first=statements(first, 2)),
             sql("ANALYZE {table}", table=table),
         ]
 
     def unlike_null(self, v, source):
-        """A refusal of a cell that would be taken for NULL."""
+        """A refusal of a number that would be taken for NULL; what would be of texts is turned otherwise."""
         found = []
-        for column in source.null_columns:
-            null = self.dialect.text(NULL["text"]) if column.kind == "text" else self.dialect.whole(NULL["int"])
-            told = f"{self.script.views[v].name} cannot be captured: {NULL[column.kind]} stands in its column {column.name}, and stands for NULL"
+        for column in [column for column in source.null_columns if column.kind == "int"]:
+            told = f"{self.script.views[v].name} cannot be captured: {NULL['int']} stands in its column {column.name}, and stands for NULL"
             query = "SELECT 1 FROM {source} AS r WHERE r.{column} IS NOT NULL AND {turned} = {null}"
-            found += self.dialect.refuse(told, sql(query, source=source.said, column=name(column.name), turned=column.said, null=null))
+            found += self.dialect.refuse(told, sql(query, source=source.said, column=name(column.name), turned=column.said,
+                                                   null=self.dialect.whole(NULL["int"])))  # fmt: skip
         return found
 
     def first(self, v, source):

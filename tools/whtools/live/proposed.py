@@ -7,7 +7,7 @@ from typing import NamedTuple
 
 from whtools.live.parsed import NotTaken, parsed
 from whtools.live.sources import turned_by
-from whtools.live.turned import NULL, Unturned
+from whtools.live.turned import NULL, Unturned, literal_apart
 
 NAME = re.compile(r"[A-Za-z_][A-Za-z0-9_]{0,63}")
 MOST_COLUMNS, MOST_VIEWS, MOST_CHILDREN = 64, 64, 6
@@ -145,7 +145,7 @@ class Reader:
             case ("number", said, places):
                 return Value(said, WHOLE, places)
             case ("text", said):
-                return Value({"text": said}, TEXT)
+                return Value({"text": literal_apart(said)}, TEXT)
             case ("cast", to, inner):
                 return self.cast(to, self.value(inner))
             case (("+" | "-" | "*") as sign, left, right):

@@ -74,13 +74,13 @@ class Captures:
 
     def judge_column(self, v, source, column, database):
         kind = "integer" if column.kind == "int" else "text"
-        null = number(NULL["int"]) if column.kind == "int" else text(NULL["text"])
         cell = sql("r.{column}", column=name(column.name))
-        told = f"{self.script.views[v].name} cannot be captured: in its column {column.name} stands"
-        for why, test in ((f"{NULL[column.kind]}, which stands for NULL", sql("{cell} = {null}", cell=cell, null=null)),
-                          (f"a cell that is turned into no {kind}", sql("typeof({said}) <> {kind}", said=column.said, kind=text(kind)))):  # fmt: skip
+        reasons = [(f"a cell that is turned into no {kind}", sql("typeof({said}) <> {kind}", said=column.said, kind=text(kind)))]
+        if column.kind == "int":
+            reasons.append((f"{NULL['int']}, which stands for NULL", sql("{cell} = {null}", cell=cell, null=number(NULL["int"]))))
+        for why, test in reasons:
             if database.rows(sql("SELECT 1 FROM {source} AS r WHERE {test} LIMIT 1", source=name(source.table), test=test))[0]:
-                raise Unfit(f"{told} {why}")
+                raise Unfit(f"{self.script.views[v].name} cannot be captured: in its column {column.name} stands {why}")
 
     def alike(self, source, database):
         """Whether a row r of the table and the row that comes cannot both stay."""

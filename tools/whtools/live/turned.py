@@ -12,11 +12,13 @@ LAST, FIRST = MOST - 1, LEAST + 1
 # So many digits fit 64 bits, or a REAL of SQLite.
 MOST_DIGITS = {"postgresql": 18, "sqlite": 15}
 NEITHER = "which is neither a whole number nor a text to the byte: make it numeric(p,s), or leave the column out"
+FOLDED = "whose collation takes unequal texts for equal ones, as a night does not: leave the column out"
 TOO_WIDE = "whose values need not fit 64 bits: make it numeric(p,s) with p up to {most}, or leave the column out"
 
 
 class Told(NamedTuple):
-    """What a database says of a column: its name, its type in words and by its bare name, its digits and places, and whether it may be NULL."""
+    """What a database says of a column: its name, its type in words and by its bare name, its digits and places, whether it may be NULL, and
+    whether its collation takes unequal texts for equal ones."""
 
     name: str
     shown: str
@@ -24,6 +26,7 @@ class Told(NamedTuple):
     digits: int | None
     places: int | None
     may_be_null: bool
+    is_folded: bool = False
 
 
 class Turned(NamedTuple):
@@ -49,6 +52,17 @@ def refused(told, why):
 
 def cell(told):
     return sql("r.{column}", column=name(told.name))
+
+
+def apart_from_null(said):
+    """A text, with one backslash more where it is one or more of them and an N: none is what stands for NULL."""
+    template = "CASE WHEN ltrim({said}, {slash}) = {last} AND {said} <> {last} THEN {slash} || {said} ELSE {said} END"
+    return sql(template, said=said, slash=text("\\"), last=text("N"))
+
+
+def literal_apart(said):
+    """The same of a text that is known."""
+    return f"\\{said}" if said != "N" and said.lstrip("\\") == "N" else said
 
 
 # ---- PostgreSQL
@@ -89,6 +103,8 @@ def of_postgresql(told):
             return refused(told, TOO_WIDE.format(most=most))
         found = units(told.places)
     if told.type in TEXTS:
+        if told.is_folded:
+            return refused(told, FOLDED)
         return turned(told, "text", sql("{cell}::text", cell=cell(told)), sql("{said}::text", said=text(NULL["text"])))
     if found is None:
         return refused(told, NEITHER)
@@ -96,6 +112,8 @@ def of_postgresql(told):
 
 
 def turned(told, kind, said, null, is_apart=True):
+    """A column that is turned; of a text is told what stands for NULL from what does not."""
+    said = apart_from_null(said) if kind == "text" else said
     if told.may_be_null:
         said = sql("coalesce({said}, {null})", said=said, null=null)
     return Turned(told.name, kind, said, told.may_be_null, is_apart)
@@ -141,6 +159,8 @@ def of_sqlite(told):
         kind, found = "int", units_of_reals(int(digits[2] or 0))
     if found is None:
         return refused(told, NEITHER)
+    if kind == "text" and told.is_folded:
+        return refused(told, FOLDED)
     null = number(NULL["int"]) if kind == "int" else text(NULL["text"])
     return turned(told, kind, found(cell(told)), null, found is not MOMENTS)
 

@@ -29,6 +29,11 @@ BOTH = {
         "UPDATE orders SET region = NULL WHERE id < 12; UPDATE orders SET region = 'was NULL', at = NULL WHERE id % 4 = 0;"
         " UPDATE products SET price = NULL WHERE product = 'product 3'; UPDATE products SET price = 3.07 WHERE product = 'product 10';"
     ),
+    "texts that look like what stands for NULL": Case(
+        "UPDATE orders SET region = '\\N' WHERE id < 5; UPDATE orders SET region = '\\\\N' WHERE id IN (5, 6); UPDATE orders SET region = 'N' WHERE id = 7;"
+        " UPDATE orders SET region = NULL WHERE id = 10;",
+        made="UPDATE orders SET region = '\\N' WHERE id IN (1, 9, 10); UPDATE orders SET region = '\\\\N' WHERE id = 13;",
+    ),
     "nothing is left of it": Case("BEGIN;" + NEW_ORDER + NEW_LINES + "ROLLBACK;"),
     "a savepoint": Case(
         "BEGIN; SAVEPOINT a;" + NEW_ORDER + "ROLLBACK TO a; UPDATE lines SET pieces = 1 WHERE id = 3; SAVEPOINT b; DELETE FROM lines WHERE id = 4;"
@@ -50,10 +55,14 @@ PARTED = (
     " FROM (0) TO (20); CREATE TABLE high PARTITION OF lines FOR VALUES FROM (20) TO (2000) PARTITION BY LIST (product);"
     " CREATE TABLE others PARTITION OF high DEFAULT; INSERT INTO lines SELECT * FROM old_lines; DROP TABLE old_lines;"
 )
+HOSTILE = """"a'; DROP TABLE lines; --%s $night$ ""part""\\" """.strip()
 ATTACHED = (
     "CREATE TABLE more (id int NOT NULL, product text NOT NULL, pieces smallint NOT NULL); INSERT INTO more VALUES (2000, 'product 2', 5), (2001, 'product 3', 6);"
     " ALTER TABLE lines ATTACH PARTITION more FOR VALUES FROM (2000) TO (3000);"
     " INSERT INTO orders (id, day, region) VALUES (2000, '2026-03-03', 'region 7'), (2001, '2026-03-03', 'region 7');"
+)
+COLOURS = (
+    "CREATE TYPE colour AS ENUM ('region 1', 'region 2', 'region 3'); ALTER TABLE orders ALTER region TYPE colour USING region::colour;"
 )
 HEIRS = "CREATE TABLE special_lines (why text) INHERITS (lines); INSERT INTO special_lines VALUES (3, 'product 3', 3, 'gift');"
 OF_POSTGRESQL = {
@@ -101,9 +110,18 @@ OF_POSTGRESQL = {
         made=PARTED,
     ),
     "TRUNCATE of a table in parts": Case("TRUNCATE lines; INSERT INTO lines VALUES (3, 'product 3', 3);", made=PARTED),
+    "a part whose name is hostile": Case(
+        f"INSERT INTO lines VALUES (3500, 'product 2', 1); UPDATE {HOSTILE} SET pieces = 2; TRUNCATE {HOSTILE}; INSERT INTO {HOSTILE} VALUES"
+        f" (3501, 'product 3', 4); ALTER TABLE lines DETACH PARTITION {HOSTILE};",
+        made=PARTED + f"CREATE TABLE {HOSTILE} PARTITION OF lines FOR VALUES FROM (3000) TO (4000);", refused="DROP TABLE lines",
+    ),
     "a part that is attached": Case(ATTACHED, made=PARTED, refused="more has no triggers"),
     "a part that is attached, and written to": Case(
         ATTACHED + "INSERT INTO lines VALUES (2000, 'product 4', 1); DELETE FROM more WHERE id = 2001;", made=PARTED, refused="more has no triggers"
+    ),
+    "a part that is attached, written to and detached again": Case(
+        ATTACHED + "INSERT INTO lines VALUES (2000, 'product 4', 1); ALTER TABLE lines DETACH PARTITION more; DROP TABLE more;", made=PARTED,
+        refused="more is no part of it any more",
     ),
     "a new part": Case("CREATE TABLE more PARTITION OF lines FOR VALUES FROM (2000) TO (3000); INSERT INTO more VALUES (2000, 'product 2', 5);",
                        made=PARTED, refused="more has no triggers"),
@@ -117,6 +135,11 @@ OF_POSTGRESQL = {
     "a trigger that is disabled": Case("ALTER TABLE lines DISABLE TRIGGER ALL; DELETE FROM lines WHERE id = 3;", refused="lines has no triggers"),
     "a column of another type": Case("ALTER TABLE lines ALTER pieces TYPE int; UPDATE lines SET pieces = 70000 WHERE id = 1;",
                                      refused="its column pieces is of another type"),
+    "an enumeration that gets a value": Case("ALTER TYPE colour ADD VALUE 'red';" + NEW_LINES.replace("900", "8"), made=COLOURS),
+    "an enumeration whose value gets another name": Case(
+        "ALTER TYPE colour RENAME VALUE 'region 1' TO 'region one'; UPDATE orders SET paid = TRUE WHERE id = 1;", made=COLOURS,
+        refused="its column region is of another type, or its values have other names",
+    ),
     "a table by another name": Case("ALTER TABLE lines RENAME TO positions; INSERT INTO positions VALUES (4, 'product 4', 4); ALTER TABLE positions RENAME TO lines;"),
 }  # fmt: skip
 OF_SQLITE = {

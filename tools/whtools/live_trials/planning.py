@@ -172,8 +172,13 @@ REFUSED = {
     "ALTER TABLE lines ADD COLUMN weight double precision": ("[[view]]\nname = \"lines\"\ncolumns = [\"id\", \"weight\"]\n", "neither a whole number nor a text"),
     "ALTER TABLE lines ADD COLUMN other int": ("[[view]]\nname = \"lines\"\ncolumns = [\"id\", \"colour\"]\n", "has no column colour"),
     "ALTER TABLE lines ADD COLUMN more int": ("[[view]]\nname = \"orders\"\ncolumns = [\"day:text\"]\n", "write it as 'day' in the catalogue"),
-    "UPDATE orders SET region = '\\N' WHERE id = 3": ("[[view]]\nname = \"orders\"\ncolumns = [\"id\", \"region:text\"]\n", "stands for NULL"),
 }
+FOLDED = {
+    "postgresql": "CREATE COLLATION folded (provider = icu, locale = 'und-u-ks-level2', deterministic = false); CREATE TABLE named (id int, said text"
+                  " COLLATE folded)",
+    "sqlite": "CREATE TABLE named (id int, said text COLLATE NOCASE)",
+}  # fmt: skip
+OF_FOLDED = ('[[view]]\nname = "named"\ncolumns = ["id", "said:text"]\n', "takes unequal texts for equal ones")
 
 
 def refusal_mistakes(live):
@@ -182,7 +187,7 @@ def refusal_mistakes(live):
     live.database.run(live.words("--uncapture"))
     path, wrong = live.path / "refused", []
     path.mkdir(exist_ok=True)
-    for made, (catalogue, word) in REFUSED.items():
+    for made, (catalogue, word) in [*REFUSED.items(), (FOLDED[live.engine], OF_FOLDED)]:
         live.database.make([made + ";"])
         (path / "catalogue.toml").write_text(catalogue)
         before = live.database.state().definitions

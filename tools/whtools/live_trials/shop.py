@@ -72,26 +72,29 @@ INSERT INTO lines SELECT i % {rows} + 1, 'product ' || (i % 20 + 1), i % 7 FROM 
 }
 # What the tables of the night have to be, from the application's own: a number for each type, and a sentinel for NULL.
 LEAST = -(2**63)
+# A text that would be taken for NULL has one backslash more.
+REGION = r"CASE WHEN CAST({region} AS text) IN ('\N', '\\N') THEN '\' || {region} ELSE CAST({region} AS text) END"
+OWN_REGION, REGION_OF_O = REGION.format(region="region"), REGION.format(region="o.region")
 SALES = " FROM orders AS o JOIN lines AS l ON l.id = o.id JOIN products AS p ON p.product = l.product WHERE o.region IS NOT NULL AND p.price IS NOT NULL"
 EXPECTED = {
     "postgresql": {
         "orders": f"SELECT id, day - DATE '1970-01-01', coalesce(floor(extract(epoch FROM at))::bigint, {LEAST}), paid::int,"
-        r" coalesce(region, '\N') FROM orders",
+        rf" coalesce({OWN_REGION}, '\N') FROM orders",
         "lines": "SELECT id, product, pieces FROM lines",
         "products": f"SELECT product, coalesce((price * 100)::bigint, {LEAST}) FROM products",
-        "sales": "SELECT o.day - DATE '1970-01-01', o.region, o.paid::int, l.product, (l.pieces * p.price * 100)::bigint" + SALES,
-        "placed": "SELECT region, id, paid::int * 2 FROM orders WHERE region IS NOT NULL",
-        "daily": "SELECT o.day - DATE '1970-01-01', o.region, count(*), sum(l.pieces * p.price * 100)::bigint, sum(o.paid::int)"
+        "sales": f"SELECT o.day - DATE '1970-01-01', {REGION_OF_O}, o.paid::int, l.product, (l.pieces * p.price * 100)::bigint" + SALES,
+        "placed": f"SELECT {OWN_REGION}, id, paid::int * 2 FROM orders WHERE region IS NOT NULL",
+        "daily": f"SELECT o.day - DATE '1970-01-01', {REGION_OF_O}, count(*), sum(l.pieces * p.price * 100)::bigint, sum(o.paid::int)"
         + SALES + " GROUP BY o.day, o.region",
         "moments": f"SELECT coalesce(floor(extract(epoch FROM at))::bigint, {LEAST}) AS s, count(*) FROM orders GROUP BY s",
     },
     "sqlite": {
-        "orders": rf"SELECT id, unixepoch(day) / 86400, coalesce(unixepoch(at), {LEAST}), paid, coalesce(region, '\N') FROM orders",
+        "orders": rf"SELECT id, unixepoch(day) / 86400, coalesce(unixepoch(at), {LEAST}), paid, coalesce({OWN_REGION}, '\N') FROM orders",
         "lines": "SELECT id, product, pieces FROM lines",
         "products": f"SELECT product, coalesce(CAST(round(price * 100) AS INTEGER), {LEAST}) FROM products",
-        "sales": "SELECT unixepoch(o.day) / 86400, o.region, o.paid, l.product, l.pieces * CAST(round(p.price * 100) AS INTEGER)" + SALES,
-        "placed": "SELECT region, id, paid * 2 FROM orders WHERE region IS NOT NULL",
-        "daily": "SELECT unixepoch(o.day) / 86400, o.region, count(*), sum(l.pieces * CAST(round(p.price * 100) AS INTEGER)), sum(o.paid)"
+        "sales": f"SELECT unixepoch(o.day) / 86400, {REGION_OF_O}, o.paid, l.product, l.pieces * CAST(round(p.price * 100) AS INTEGER)" + SALES,
+        "placed": f"SELECT {OWN_REGION}, id, paid * 2 FROM orders WHERE region IS NOT NULL",
+        "daily": f"SELECT unixepoch(o.day) / 86400, {REGION_OF_O}, count(*), sum(l.pieces * CAST(round(p.price * 100) AS INTEGER)), sum(o.paid)"
         + SALES + " GROUP BY o.day, o.region",
         "moments": f"SELECT coalesce(unixepoch(at), {LEAST}) AS s, count(*) FROM orders GROUP BY s",
     },
