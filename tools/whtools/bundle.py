@@ -16,7 +16,7 @@ PIECE = re.compile(rb"(?:^|(?<=\n))@[^\n]*\n?(?:(?!@)[^\n]*\n|(?!@)[^\n]+)*")
 
 def part_pieces(heading, content):
     """The same as `part`, in pieces, so that a large content is not copied."""
-    if content.startswith(b"@") or b"\n@" in content:
+    if b"@" in content and (content.startswith(b"@") or b"\n@" in content):
         content = (b"\n" + content).replace(b"\n@", b"\n@@")[1:]
     ended = not content or content.endswith(b"\n")
     return [b"@" + heading.encode() + b"\n", content, *([] if ended else [b"\n"])]
@@ -63,7 +63,7 @@ def pieces(text):
 
 def headings(answer):
     """Where lines begin that may be a view's or a reader's heading, in order. The readers' stand at the end, where there are any."""
-    found, place = [0] if answer.startswith(b"view ") else [], answer.find(b"\nview ")
+    found, place = [0] if answer[:5] == b"view " else [], answer.find(b"\nview ")
     while place >= 0:
         found.append(place + 1)
         place = answer.find(b"\nview ", place + 1)
@@ -77,7 +77,7 @@ def spans_of(answer, names):
     found = [HEADING.match(answer, place) for place in places]
     views = [heading for heading in found if heading and heading[1]]
     if [heading[1].decode() for heading in views] != names or None in found:
-        return spans(answer)
+        return spans(answer[:])
     ends = [*places[1 : len(views)], places[len(views)] if len(places) > len(views) else len(answer)]
     return {name: (min(heading.end() + 1, end), end) for name, heading, end in zip(names, views, ends)}
 

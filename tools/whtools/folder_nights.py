@@ -15,7 +15,7 @@ from whtools.shop import table
 
 # How many nights are measured after the first, how soon a process is looked at again, and how many times what the program takes a night
 # may take. It takes less than that; but on a machine that other work keeps busy seconds differ.
-NIGHTS, PAUSE, MOST = 3, 0.02, 2.5
+NIGHTS, PAUSE, MOST = 3, 0.02, 2
 # From how many megabytes on that is judged, and up to how many sqlite3 is asked too.
 JUDGED, COMPARED = 25, 1
 

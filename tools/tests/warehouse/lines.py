@@ -9,9 +9,9 @@ from types import SimpleNamespace
 from unittest import mock
 
 from whtools.warehouse import by_lines
-from whtools.warehouse.by_lines import Lines, NotSorted, counted, differing, has_whole_lines, in_order, line_of
+from whtools.warehouse import records as read
+from whtools.warehouse.by_lines import counted, has_whole_lines, line_of, row_of
 from whtools.warehouse.inputs import Source
-from whtools.warehouse.made import of_derived, sorted_table
 from whtools.warehouse.records import Changes, Records, absent, table_text
 
 COLUMNS = [("x", "int"), ("t", "text"), ("u", "text")]
@@ -49,7 +49,7 @@ class Lying(unittest.TestCase):
         return Records(Source(self.folder / "v.csv", "v.csv", is_made), view, are_changes)
 
 
-class Merged(Lying):
+class Changed(Lying):
     def test_a_table_with_changes_is_the_one_that_is_written_anew(self):
         source = random.Random(1)
         for number in range(400):
@@ -57,17 +57,40 @@ class Merged(Lying):
             before = rows(source, texts, 40)
             changes = changed(source, before, texts)
             records = self.records(table_text(COLUMNS, before), True)
-            after = Counter(before)
-            after.update(changes)
+            after = +Counter({row: before[row] + changes[row] for row in [*before, *changes]})
             self.assertEqual(b"".join(records.after(changes)), table_text(COLUMNS, after))
             self.assertEqual(records.total, before.total())
             looked_for = {**changes, (99, "", ""): 1}
             found = records.standing(looked_for)
             self.assertEqual([found[row] for row in looked_for], [before[row] for row in looked_for])
 
-    def test_a_table_that_is_taken_for_a_sorted_one_and_is_none_is_written_anew(self):
-        records = self.records(b"#,x,t,u\n1,2,a,b\n1,1,a,b\n1,3,a,b\n", True)
-        self.assertEqual(b"".join(records.after({(2, "a", "b"): -1})), b"#,x,t,u\n1,1,a,b\n1,3,a,b\n")
+    def test_rows_stay_where_they_stand_and_new_ones_come_at_the_end(self):
+        records = self.records(b"#,x,t,u\n1,2,a,b\n3,1,a,b\n1,3,a,b\n", True)
+        changes = {(2, "a", "b"): -1, (1, "a", "b"): -1, (0, "c", "d"): 1, (3, "a", "b"): 1}
+        self.assertEqual(b"".join(records.after(changes)), b"#,x,t,u\n2,1,a,b\n2,3,a,b\n1,0,c,d\n")
+
+    def test_a_table_of_another_form_gets_the_tools_own_in_its_order(self):
+        forms = (b"x,t,u\r\n2,b,c\r\n1,a,b\r\n2,b,c", b"#,x,t,u\n1,2,b,c\n1,1,a,b\n1,2,b,c\n", b"\xef\xbb\xbf#,x,t,u\n2,2,b,c\n1,1,a,b\n")
+        for content in forms:
+            with self.subTest(content=content):
+                self.assertEqual(b"".join(self.records(content).after({})), b"#,x,t,u\n2,2,b,c\n1,1,a,b\n")
+        self.assertEqual(b"".join(self.records(b"x,t,u\n").after({(1, "a", "b"): 1})), b"#,x,t,u\n1,1,a,b\n")
+
+    def test_a_row_that_stands_in_another_form_leaves(self):
+        records = self.records(b'#,x,t,u\n1,007,"a",b\n1,8,a,b\n', True)
+        self.assertEqual(b"".join(records.after({(7, "a", "b"): -1})), b"#,x,t,u\n1,8,a,b\n")
+
+    def test_rows_are_found_across_the_blocks_of_a_table(self):
+        source = random.Random(8)
+        for size in (1, 7, 64):
+            with mock.patch.object(by_lines, "BLOCK", size):
+                before = rows(source, TEXTS, 40)
+                lines = b"".join(line_of(count, row) for row, count in before.items())
+                found = by_lines.places(b"#,x,t,u\n" + lines, 8, {row_of(row) for row in before})
+                self.assertEqual(len(found), len(before))
+                for start, end, count in found.values():
+                    self.assertEqual((b"\n" + lines)[start - 8 : start - 7], b"\n")
+                    self.assertTrue(lines[start - 8 : end - 8].startswith(b"%d," % count))
 
     def test_rows_that_are_not_there_are_found_in_each_form_of_a_table(self):
         (self.folder / "c.csv").write_bytes(b'#,x,t,u\n-1,1,"a",b\n-2,2,a,b\n')
@@ -79,65 +102,6 @@ class Merged(Lying):
                 self.assertEqual(told, ["c.csv:3:1: 2 of 2,a,b leave, and v.csv has 1"])
         told = [str(finding) for finding in absent(self.records(b"#,x,t,u\n1,1,a,b\n1,2,a,b\n", True), changes)]
         self.assertEqual(told, ["c.csv:3:1: 2 of 2,a,b leave, and v.csv has 1"])
-
-    def test_the_lines_that_one_table_has_and_the_other_has_not(self):
-        source, header = random.Random(2), b"#,a,b\n"
-        for _ in range(300):
-            lines = [b"1,%d,%s" % (number, b"x" * source.randint(0, 20)) for number in range(source.choice([0, 1, 5, 50, 2000]))]
-            other = [line for line in lines if source.random() > source.choice([0, 0.01, 0.3])]
-            other += [b"2,new,%d" % number for number in range(source.choice([0, 1, 20]))]
-            self.shuffle(source, other)
-            found = differing(*(header + b"".join(b"%s\n" % line for line in each) for each in (lines, other)), len(header))
-            gone, came = (sorted(filter(None, each)) for each in found)
-            self.assertEqual((gone, came), (sorted(set(lines) - set(other)), sorted(set(other) - set(lines))))
-
-    def shuffle(self, source, lines):
-        """Now and then all lines, or two that are beside each other."""
-        kind = source.randrange(3)
-        if kind == 0:
-            source.shuffle(lines)
-        for _ in range(20 if kind == 1 and len(lines) > 1 else 0):
-            place = source.randrange(len(lines) - 1)
-            lines[place : place + 2] = lines[place + 1], lines[place]
-
-
-class Derived(Lying):
-    def test_a_printed_table_is_sorted_whatever_is_merged(self):
-        source, merged = random.Random(3), 0
-        for number in range(400):
-            texts = TEXTS if number % 3 else WITH_LINE_ENDS
-            before = rows(source, texts, 60)
-            after = Counter(before)
-            after.update(changed(source, before, texts))
-            after, last = +after, self.folder / "last.csv"
-            last.write_bytes(table_text(COLUMNS, before))
-            printed = [line_of(count, row) for row, count in after.items()]
-            source.shuffle(printed)
-            table = b"#,x,t,u\n" + b"".join(printed)
-            change = sum(map(abs, (before[row] - after[row] for row in before.keys() | after.keys())))
-            found, total = of_derived(SimpleNamespace(columns=COLUMNS), table, change, last, before.total())
-            wanted = table_text(COLUMNS, after)
-            self.assertEqual((found.like or b"".join(found.pieces), total), (last if after == before else wanted, after.total()))
-            self.assertEqual(sorted_table(COLUMNS, table, has_whole_lines(table)), wanted)
-            merged += len(found.pieces) > 1
-        self.assertGreater(merged, 100)
-
-    def test_rows_are_sorted_as_tuples_are(self):
-        source = random.Random(6)
-        for _ in range(200):
-            found = [(source.randint(-9, 9), source.choice(TEXTS), source.randint(0, 2**62)) for _ in range(source.randint(0, 30))]
-            found = list(dict.fromkeys(found))
-            order = in_order([list(cells) for cells in zip(*found)], len(found))
-            self.assertEqual([found[number] for number in order], sorted(found))
-
-    def test_a_line_within_a_cell_is_no_row(self):
-        before = b'#,x,t,u\n1,1,"a\n1,2,b,c\nd",e\n'
-        after = b"#,x,t,u\n1,2,b,c\n"
-        (self.folder / "last.csv").write_bytes(before)
-        with self.assertRaises(NotSorted):
-            Lines(before, COLUMNS).made_into(after)
-        found, total = of_derived(SimpleNamespace(columns=COLUMNS), after, 0, self.folder / "last.csv", 1)
-        self.assertEqual((found.pieces, total), ([after], 1))
 
 
 class Judged(Lying):
@@ -172,6 +136,6 @@ class Judged(Lying):
 
     def test_no_record_is_read_of_a_table_that_is_sound(self):
         content = b"x,t,u\n" + b"1,a,b\n" * 1000
-        with mock.patch.object(by_lines.csv, "reader", side_effect=AssertionError):
+        with mock.patch.object(read.csv, "reader", side_effect=AssertionError):
             records = self.records(content)
             self.assertEqual((records.findings, records.total, records.standing([(1, "a", "b")])), ([], 1000, {(1, "a", "b"): 1000}))

@@ -4,12 +4,13 @@ import subprocess
 import sys
 from pathlib import Path
 
+from whtools.bundle import unpack
 from whtools.warehouse.catalogue import Catalogue
 
 from .shop import ANSWER, SHOP, SIZES, TOOLS, Shop, contents
 
 
-PRODUCTS = b'#,product,price\n1,bread,300\n1,honey,950\n1,jam,475\n1,"tea, black",800\n'
+PRODUCTS = b'#,product,price\n1,bread,300\n1,"tea, black",800\n1,jam,475\n1,honey,950\n'
 
 
 class Nights(Shop):
@@ -21,6 +22,8 @@ class Nights(Shop):
         self.assertEqual(set(after) - set(before), made)
         self.assertEqual({file: after[file] for file in before}, before)
         self.assertEqual(after["new/products.csv"], PRODUCTS)
+        printed = unpack(ANSWER.read_bytes().removesuffix(b"status 0\n"))
+        self.assertEqual({name: after[f"new/{name}.csv"] for name in printed}, printed)
 
     def test_workers_and_readers_go_through_and_what_readers_saw_is_told(self):
         seen = "reader 0 version 0 rows 13\nreader 1 version 0 rows 13\n"

@@ -1,28 +1,20 @@
-"""Tables by their lines: judged, counted, merged and compared without a look at each cell.
+"""Tables by their lines: judged, counted, searched and changed without a look at each cell.
 
-A table of the tool's own has `#`, a line for each row, and its lines sorted by what they show. A line end within a cell, which quotes
-allow, takes a table out of this: that one is read row by row.
+A table of the tool's own has `#`, a line for each row, no row twice, and a line feed alone at a line's end. A line end within a cell,
+which quotes allow, takes a table out of this: that one is read row by row.
 """
 
-import csv
-import io
 import re
+from collections import Counter
 from functools import lru_cache
-from itertools import islice
 
-# How much of two tables is compared at a time; how soon they are to meet again, and how much farther on one than in the other.
-STEP, NEAR, FARTHER = 2**16, 2**9, 4
-# How many records are read at a time.
-RECORDS = 2**14
+# How much of a table is looked through at a time.
+BLOCK = 2**15
 # The counts of a table that are not 1.
 COUNTS = re.compile(rb"\n(?!1,)([0-9]+),")
 OTHERS = bytes(set(range(256)) - set(b'"\n'))
 NUMBER, POSITIVE, CHANGED = rb"[+-]?[0-9]{1,18}+", rb"[1-9][0-9]{0,17}+", rb"-?[1-9][0-9]{0,17}+"
 QUOTED, PLAIN = rb'"(?:[^"\0]++|"")*+"', rb'[^",\r\n\0]'
-
-
-class NotSorted(Exception):
-    """A table that was taken for one of the tool's own, and is none."""
 
 
 @lru_cache(64)
@@ -61,35 +53,14 @@ def has_whole_lines(content):
 
 def line_of(count, row):
     """A row as a table has it."""
-    cells = [str(count), *map(str, row)]
+    return b"%d,%s\n" % (count, row_of(row))
+
+
+def row_of(row):
+    """A row as a line has it, behind its count."""
+    cells = map(str, row)
     marked = ['"' + cell.replace('"', '""') + '"' if set(cell) & set(',"\r\n') else cell for cell in cells]
-    return (",".join(marked) + "\n").encode()
-
-
-# ---- cells and their order
-
-
-def columns_of(content, kinds):
-    """The cells of records, column by column; equal texts are held once."""
-    reader = csv.reader(io.StringIO(content.decode(), newline=""))
-    columns, held = [[] for _ in kinds], {}
-    while records := list(filter(None, islice(reader, RECORDS))):
-        for column, kind, cells in zip(columns, kinds, zip(*records)):
-            column += map(int, cells) if kind == "int" else map(held.setdefault, cells, cells)
-    return columns
-
-
-def in_order(columns, count):
-    """The numbers of so many rows in the order of their cells, of which each column is a list. A row's key goes on column by column,
-    until no two are equal."""
-    keys = [0] * count
-    for cells in columns:
-        places = {cell: place for place, cell in enumerate(sorted(set(cells)))}
-        size = len(places)
-        keys = [key * size + place for key, place in zip(keys, map(places.__getitem__, cells))]
-        if len(set(keys)) == count:
-            break
-    return sorted(range(count), key=keys.__getitem__)
+    return ",".join(marked).encode()
 
 
 # ---- how many
@@ -111,124 +82,81 @@ def counted_through(table):
     return total
 
 
-def standing(content, start, lines, is_counted):
-    """How often each of these lines stands among the records from `start` on, which are lines."""
-    found, listed = dict.fromkeys(lines, 0), content[start:].replace(b"\r\n", b"\n").split(b"\n")
-    for line in listed if is_counted else filter(found.__contains__, listed):
-        count, _, row = line.partition(b",") if is_counted else (1, b"", line)
-        if row in found:
-            found[row] += int(count)
+# ---- the tool's own form
+
+
+def own_form(content, start, header, is_counted):
+    """The table in the tool's own form, of records that are lines and have no fault. The rows stay in their order."""
+    if start == len(content):
+        return header
+    body = b"\n" + content[start:].replace(b"\r\n", b"\n").removesuffix(b"\n")
+    if is_counted and body.count(b"\n") > body.count(b"\n1,"):
+        return header + written(added(body[1:].split(b"\n")))
+    lines = body.split(b"\n1," if is_counted else b"\n")[1:]
+    if len(set(lines)) < len(lines):
+        return header + written(Counter(lines))
+    return b"".join([header, b"1,", b"\n1,".join(lines), b"\n"])
+
+
+def added(lines):
+    """The rows of lines with their counts, which add up where a row stands twice."""
+    found = Counter()
+    for line in lines:
+        count, _, row = line.partition(b",")
+        found[row] += int(count)
     return found
 
 
-# ---- what two tables have in common
+def written(rows):
+    """The lines of rows, each with its count."""
+    return b"".join([b"%d,%s\n" % (count, row) for row, count in rows.items()])
 
 
-def alike(old, at, new, there):
-    """How many bytes two tables have in common from these places on, in whole lines."""
-    found, step = 0, STEP
-    while step:
-        if old[at + found : at + found + step] == new[there + found : there + found + step]:
-            found += step
+def blocks(content, start):
+    """A table from a line on, in blocks of whole lines, each with the place where it begins."""
+    while start < len(content):
+        end = content.rfind(b"\n", start, start + BLOCK) + 1 or content.find(b"\n", start) + 1 or len(content)
+        yield start, content[start:end]
+        start = end
+
+
+def places(content, start, rows):
+    """Where the lines of these rows, as lines have them, begin and end in a table of the tool's own, and how often each counts."""
+    once, found = {b"1," + row: row for row in rows}, {}
+    for at, block in blocks(content, start):
+        for line in once.keys() & block.split(b"\n"):
+            place = content.find(b"\n" + line + b"\n", at - 1) + 1
+            found[once[line]] = place, place + len(line) + 1, 1
+    for other in COUNTS.finditer(content, start - 1):
+        end = content.find(b"\n", other.end())
+        row = content[other.end() : end]
+        if row in rows:
+            found[row] = other.start() + 1, end + 1, int(other[1])
+    return found
+
+
+def spliced(content, edits):
+    """A table in pieces, with each edit's text in the place of what stands from its start to its end."""
+    pieces, last, view = [], 0, memoryview(content)
+    for start, end, text in sorted(edits):
+        pieces += [view[last:start], text]
+        last = end
+    return [*pieces, view[last:]]
+
+
+def changed(content, found, changes):
+    """The table with these changes of rows, in pieces: what is left of a row stands where it stood, and a new one at the end. `found` has
+    the places of the rows that are there. None where more of a row leave than there are.
+    """
+    edits, coming = [], []
+    for row, count in changes.items():
+        start, end, there = found.get(row, (0, 0, 0))
+        total = there + count
+        if total < 0:
+            return None
+        text = b"%d,%s\n" % (total, row) if total else b""
+        if there:
+            edits.append((start, end, text))
         else:
-            step //= 2
-        if at + found >= len(old) or there + found >= len(new):
-            break
-    found = min(found, len(old) - at, len(new) - there)
-    return max(old.rfind(b"\n", at, at + found) + 1 - at, 0)
-
-
-def met(old, at, new, there):
-    """The next places, near to these, at which two tables have the same line; or their ends."""
-    near = NEAR
-    while at + near < len(old):
-        line = old.find(b"\n", at + near)
-        end = old.find(b"\n", line + 1)
-        place = new.find(old[line : end + 1], there, there + FARTHER * near) if end >= 0 else -1
-        if place >= 0:
-            return line + 1, place + 1
-        near *= 2
-    return len(old), len(new)
-
-
-def apart(old, new, start):
-    """The pieces of two tables between those that they have in common, which are found where both are sorted nearly alike."""
-    at = there = start
-    while at < len(old) or there < len(new):
-        common = alike(old, at, new, there)
-        ends = met(old, at + common, new, there + common)
-        yield old[at + common : ends[0]], new[there + common : ends[1]]
-        at, there = ends
-
-
-def differing(old, new, start):
-    """The lines that one table has and the other has not, each way. In neither a line stands twice."""
-    pieces = list(apart(old, new, start))
-    gone, listed = set(b"".join(piece for piece, _ in pieces).split(b"\n")), b"".join(piece for _, piece in pieces).split(b"\n")
-    came = [line for line in listed if line not in gone]
-    gone.difference_update(listed)
-    return gone, came
-
-
-# ---- what is found in a table of the tool's own
-
-
-class Lines:
-    """A table of the tool's own, in which a row is found without reading the others."""
-
-    def __init__(self, content, columns):
-        self.content, self.kinds, self.start = content, [kind for _, kind in columns], content.find(b"\n") + 1
-
-    def row(self, line):
-        """How often a line's row counts, and the row."""
-        text = line.decode()
-        count, *cells = next(csv.reader([text])) if '"' in text else text.removesuffix("\n").split(",")
-        return int(count), tuple(int(cell) if kind == "int" else cell for cell, kind in zip(cells, self.kinds))
-
-    def find(self, row, low):
-        """Where a row's line begins and ends, or would begin, at `low` or after it; and how often it counts."""
-        high = len(self.content)
-        while low < high:
-            middle = max(self.content.rfind(b"\n", low, (low + high) // 2) + 1, low)
-            end = self.content.find(b"\n", middle) + 1
-            count, found = self.row(self.content[middle:end])
-            if found == row:
-                return middle, end, count
-            low, high = (end, high) if found < row else (low, middle)
-        return low, low, 0
-
-    def spliced(self, edits):
-        """The table in pieces, with each edit's text in the place of what stands from its start to its end."""
-        pieces, last, view = [], 0, memoryview(self.content)
-        for start, end, text in edits:
-            pieces += [view[last:start], text]
-            last = end
-        return [*pieces, view[last:]]
-
-    def added(self, changes):
-        """The edits by which rows change by these counts."""
-        low = self.start
-        for row, count in sorted(changes.items()):
-            start, low, there = self.find(row, low)
-            if there + count < 0:
-                raise NotSorted
-            yield start, low, line_of(there + count, row) if there + count else b""
-
-    def made_into(self, other):
-        """The edits by which the table becomes another one, whose records are lines; and how many rows that adds."""
-        gone, came = differing(self.content, other, self.start)
-        if any(line.count(b'"') % 2 for line in gone):
-            raise NotSorted
-        gone, came = ({row: (count, line) for line in lines for count, row in [self.row(line)]} for lines in (gone, came))
-        more = sum(count for count, _ in came.values()) - sum(count for count, _ in gone.values())
-        texts = dict.fromkeys(gone, b"") | {row: line + b"\n" for row, (_, line) in came.items()}
-        return list(self.replaced(texts, gone)), more
-
-    def replaced(self, texts, there):
-        """The edits that put these texts in the place of their rows, of which these are there."""
-        low = self.start
-        for row, text in sorted(texts.items()):
-            start, low, _ = self.find(row, low)
-            if row in there and start == low:
-                raise NotSorted
-            yield start, low, text
+            coming.append(text)
+    return [*spliced(content, edits), *coming]

@@ -4,14 +4,15 @@ import time
 from typing import NamedTuple
 
 from . import refusals
+from .by_lines import counted
 from .catalogue import FILE as CATALOGUE
 from .check import strategy_of as given_strategy
 from .finding import Failure, warn
 from .folder import Folder, judged
 from .limits import after, sizes_after
-from .made import Made, of_base, of_derived
+from .made import Made, made, of_base
 from .planning import certified, planned, strategy_of
-from .sizes import base_sizes, given_text, sized, told_before, told_rows
+from .sizes import base_sizes, given_text, rows_of, sized, told_before, told_rows
 from .status import BAD_INPUT, SPENT
 from .strategy import FILE, at_once, written
 
@@ -36,7 +37,7 @@ class Night:
     def tables(self):
         """Each view with its table after the night."""
         last = self.folder.state.root
-        is_as_before = is_same(last / CATALOGUE, self.folder.catalogue.content)
+        is_as_before, has_lines = is_same(last / CATALOGUE, self.folder.catalogue.content), self.folder.has_lines
         for view in self.folder.views:
             file = last / "views" / f"{view.name}.csv"
             if view.is_base:
@@ -45,9 +46,9 @@ class Night:
                 self.rows[view.name] = self.before[view.name]
                 yield view, Made([], file)
             else:
-                table, rows = self.answer.table(view.name), self.before.get(view.name)
-                found, self.rows[view.name] = of_derived(view, table, self.changed[view.name], file, rows)
-                yield view, found
+                table = self.answer.table(view.name)
+                self.rows[view.name] = counted(table) if has_lines else rows_of(table)
+                yield view, made([table], file)
 
     def sizes(self):
         """How many rows each view had, where that is known, has, and changed."""

@@ -50,14 +50,14 @@ def undo(claim):
         warn([f"the changes cannot be put back: {of_system(error)}; they lie in {claim.part}, and the next night puts them back"])
 
 
-def decided(words, interrupts, number):
+def decided(words, interrupts, number, judged):
     """Carries the night out up to the rename that decides. Whatever ends it before has the changes put back. Answers the report."""
     part = words.folder / VERSIONS / f"{number}{PART}"
     claim = Claim(words.folder, part)
     try:
         try:
             claim.take(to_take(words.folder))
-            night = carried(Folder(words.folder, part), words)
+            night = carried(Folder(words.folder, part, judged=judged), words)
             report = write_version(part, night)
             claim.own()
             keep(part)
@@ -90,8 +90,8 @@ def finish(words, number):
 
 def commit(words, interrupts):
     """A night that is kept. Answers its report."""
-    take_over(words.folder, interrupts)
+    judged = take_over(words.folder, interrupts)
     number = whole(words.folder)[-1] + 1
-    report = decided(words, interrupts, number)
+    report = decided(words, interrupts, number, judged)
     finish(words, number)
     return report

@@ -12,22 +12,31 @@ from .records import Changes, Records, absent
 from .status import BAD_INPUT, REFUSED
 
 
+# What a text of a catalogue has that goes over lines, or names a line end.
+LONG_TEXTS = (b"\\", b'"""', b"'''")
+
+
 class Folder:
     """What a folder holds. Where it has faults, what is read may be cut short. A night under way has taken its changes to a folder
-    of its own, `taken`.
+    of its own, `taken`. The tables that were `judged` already, by the names of their views, are not judged again.
     """
 
-    def __init__(self, path, taken=None, lenient=False):
+    def __init__(self, path, taken=None, lenient=False, judged=()):
+        self.judged = dict(judged)
         self.path, self.catalogue, self.inputs = path, Catalogue(path, lenient), Inputs(path, taken)
         self.views, self.state = self.catalogue.views, self.inputs.state
         self.findings = self.catalogue.findings + self.inputs.findings(self.catalogue)
-        self.data, self.changes, self.absent = {}, {}, []
+        self.data, self.changes, self.tables, self.absent = {}, {}, {}, []
         self.judge_other_files()
         too_large = over_the_limit(self.inputs.sizes())
         for view in self.views:
             if view.is_base and view.columns:
                 self.read(view, not too_large)
         self.findings += self.absent + (too_large or over_the_limit(bundle_sizes(self)))
+
+    def sound_tables(self):
+        """The tables that are seen to have no fault, by the names of their views."""
+        return {name: records for name, records in self.data.items() if records.is_sound}
 
     @property
     def faults(self):
@@ -49,7 +58,8 @@ class Folder:
             text = f"there is no data/{view.name}.csv; an empty table is a file with its header: {header}"
             self.findings.append(Finding(view.place("name", 0), text))
         if table and is_small:
-            self.data[view.name] = Records(table, view, False)
+            judged = self.judged.get(view.name)
+            self.data[view.name] = judged and judged.copied(table) or Records(table, view, False)
             self.findings += self.data[view.name].findings
         if changes and is_small:
             self.changes[view.name] = Changes(changes, view)
@@ -73,12 +83,20 @@ class Folder:
 
     def after(self, view):
         """The table of a base view after its changes, in pieces."""
-        return self.data[view.name].after(self.changes[view.name].rows if view.name in self.changes else {})
+        if view.name not in self.tables:
+            self.tables[view.name] = self.data[view.name].after(self.changes[view.name].rows if view.name in self.changes else {})
+        return self.tables[view.name]
 
     def is_unchanged(self, view):
         """Whether a base view's table is one that a night has made, and stays."""
         records = self.data[view.name]
         return records.is_made and records.header[0] and not any(self.changes[view.name].rows.values() if view.name in self.changes else ())
+
+    @property
+    def has_lines(self):
+        """Whether it is seen that no text goes over lines, so that each record of a derived table is a line too."""
+        read = [*self.data.values(), *(records for changes in self.changes.values() for records in changes.files)]
+        return not any(mark in self.catalogue.content for mark in LONG_TEXTS) and all(records.has_lines for records in read)
 
     def bundle(self, strategy, with_changes=True):
         """The bundle of one night with this strategy, in pieces."""

@@ -30,7 +30,8 @@ def over_the_limit(sizes, **what):
 def part_size(heading, content):
     """How long a part of a bundle is."""
     ended = not content or content.endswith(b"\n")
-    return len(heading) + 2 + len(content) + (0 if ended else 1) + content.count(b"\n@") + content.startswith(b"@")
+    marked = content.count(b"\n@") + content.startswith(b"@") if b"@" in content else 0
+    return len(heading) + 2 + len(content) + (0 if ended else 1) + marked
 
 
 def bundle_sizes(folder):
@@ -64,16 +65,20 @@ def most_anew(records):
 
 
 def sizes_after(folder):
-    """How much the base tables and the catalogue take after the night, where that can come near to the limit; else nothing."""
+    """How much the base tables and the catalogue take in the next night's bundle, where that can come near to the limit; else nothing."""
     if most_after(folder) + len(folder.catalogue.content) < NEAR * MOST:
         return {}
-    return table_sizes(folder, {view.name: b"".join(folder.after(view)) for view in folder.bases if view.name in folder.data})
-
-
-def table_sizes(folder, tables):
-    """How much these tables of base views and the catalogue take in the bundle of the next night."""
-    found = {f"data/{view.name}.csv": part_size(f"data {view.name}", tables[view.name]) for view in folder.bases if view.name in tables}
+    found = {f"data/{name}.csv": size_after(folder, view) for view in folder.bases if (name := view.name) in folder.data}
     return found | {"catalogue.toml": part_size("catalogue", folder.catalogue.content)}
+
+
+def size_after(folder, view):
+    """How much the table of a base view takes after the night. It is put together only where a line of it may begin with an `@`."""
+    read = [folder.data[view.name], *(folder.changes[view.name].files if view.name in folder.changes else ())]
+    pieces, heading = folder.after(view), f"data {view.name}"
+    if any(b"@" in records.content for records in read):
+        return part_size(heading, b"".join(pieces))
+    return part_size(heading, b"") + sum(map(len, pieces))
 
 
 def after(sizes):

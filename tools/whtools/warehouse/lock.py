@@ -2,7 +2,6 @@
 
 import fcntl
 import os
-import socket
 import sys
 import time
 
@@ -63,7 +62,7 @@ class Lock:
     def sign(self):
         """Writes who is at work."""
         since = time.strftime("%Y-%m-%d %H:%M:%S")
-        about = f"process {os.getpid()} on host {socket.gethostname()} since {since}\n{' '.join(sys.argv)}\n"
+        about = f"process {os.getpid()} on host {os.uname().nodename} since {since}\n{' '.join(sys.argv)}\n"
         os.ftruncate(self.handle, 0)
         os.pwrite(self.handle, about.encode(errors="replace"), 0)
 

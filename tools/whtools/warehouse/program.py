@@ -4,6 +4,7 @@ import os
 import signal
 import subprocess
 import time
+from mmap import ACCESS_READ, mmap
 from pathlib import Path
 from tempfile import TemporaryFile, gettempdir
 
@@ -94,8 +95,10 @@ class Night:
     """
 
     def __init__(self, file, seconds, names):
-        self.file, self.seconds, whole = file, seconds, file.read()
-        self.head, self.readers, self.places = whole[: whole.find(b"\nversion ")].decode(), readers(whole), spans_of(whole, names)
+        self.file, self.seconds = file, seconds
+        with mmap(file.fileno(), 0, access=ACCESS_READ) as whole:
+            self.head, self.readers = whole[: whole.find(b"\nversion ")].decode(), readers(whole)
+            self.places = spans_of(whole, names)
 
     def table(self, name):
         start, end = self.places[name]

@@ -8,7 +8,7 @@ from functools import cached_property
 from itertools import chain
 
 from . import quotes
-from .by_lines import Lines, NotSorted, columns_of, counted, has_whole_lines, in_order, is_sound, line_of, standing
+from .by_lines import changed, counted, has_whole_lines, is_sound, own_form, places, row_of
 from .finding import MARK, Finding, Place
 from .packing import merged
 from .written import text_of
@@ -30,7 +30,14 @@ class Records:
 
     def __init__(self, source, view, are_changes):
         self.file, self.view, self.are_changes, self.is_made = source.told, view, are_changes, source.is_made
-        self.content = source.path.read_bytes()
+        self.content, self.looked_for, self.found = source.path.read_bytes(), None, {}
+
+    def copied(self, source):
+        """These records as those of a copy, or None where that has other bytes."""
+        if source.path.read_bytes() != self.content:
+            return None
+        self.file, self.is_made = source.told, source.is_made
+        return self
 
     @cached_property
     def header(self):
@@ -65,13 +72,11 @@ class Records:
     @cached_property
     def rows(self):
         """The rows, and how often each stands."""
-        if not self.has_lines:
+        if not self.is_sound:
             return self.whole.rows
         is_counted, _, start = self.header
-        kinds = ["int"] * is_counted + [kind for _, kind in self.view.columns]
-        columns = columns_of(self.content[start:], kinds)
-        rows = list(zip(*columns[is_counted:]))
-        return added(rows, columns[0]) if is_counted else Counter(rows)
+        rows = rows_of(self.content[start:], ["int"] * is_counted + [kind for _, kind in self.view.columns])
+        return added([row[1:] for row in rows], [row[0] for row in rows]) if is_counted else Counter(rows)
 
     @property
     def lines(self):
@@ -86,29 +91,34 @@ class Records:
         return counted(self.content) if is_counted else self.content.count(b"\n", start) + (not self.content.endswith(b"\n"))
 
     @cached_property
-    def made(self):
-        """The table as one of the tool's own, or None where it is another's."""
-        return Lines(self.content, self.view.columns) if self.is_made and self.header[0] and self.has_lines else None
+    def own(self):
+        """The table in the tool's own form, or None where its records are not lines."""
+        is_counted, _, start = self.header
+        if not self.has_lines:
+            return None
+        header = ",".join(["#", *(name for name, _ in self.view.columns)]).encode() + b"\n"
+        return self.content if self.is_made and is_counted else own_form(self.content, start, header, is_counted)
+
+    def places(self, rows):
+        """Where these rows, as lines have them, stand in the tool's own form. The last ones that were looked for are kept."""
+        if self.looked_for != rows:
+            self.looked_for, self.found = set(rows), places(self.own, self.own.find(b"\n") + 1, rows)
+        return self.found
 
     def standing(self, rows):
         """How often each of these rows stands, or less where that takes a closer look."""
-        if self.made:
-            return {row: self.made.find(row, self.made.start)[2] for row in rows}
-        if not self.has_lines:
+        if self.own is None:
             return self.rows
-        is_counted, _, start = self.header
-        lines = {line_of(1, row)[2:-1]: row for row in rows}
-        return {lines[line]: count for line, count in standing(self.content, start, lines, is_counted).items()}
+        lines = {row: row_of(row) for row in rows}
+        found = self.places(set(lines.values()))
+        return {row: found[line][2] if line in found else 0 for row, line in lines.items()}
 
     def after(self, changes):
-        """The table with these changes of rows, sorted, in pieces. No row leaves that is not there."""
-        try:
-            return self.made.spliced(self.made.added(changes)) if self.made else self.sorted(changes)
-        except NotSorted:
-            return self.sorted(changes)
-
-    def sorted(self, changes):
-        """The same, where it is not sorted yet."""
+        """The table with these changes of rows, in pieces. No row leaves that is not there."""
+        by_line = {row_of(row): count for row, count in changes.items() if count}
+        made = changed(self.own, self.places(set(by_line)) if by_line else {}, by_line) if self.own is not None else None
+        if made:
+            return made
         rows = Counter(self.rows)
         rows.update(changes)
         return [table_text(self.view.columns, rows)]
@@ -253,33 +263,35 @@ class Changes:
         return next(Place(records.file, records.lines[row]) for records in self.files if row in records.lines)
 
 
-def shown(row):
-    """A row as a CSV file has it, without a line's end."""
-    return line_of(0, row)[2:-1].decode()
+def rows_of(content, kinds):
+    """The rows of records without a fault, whose cells are of these kinds."""
+    columns = zip(*filter(None, csv.reader(io.StringIO(content.decode(), newline=""))))
+    return list(zip(*(map(int, cells) if kind == "int" else cells for cells, kind in zip(columns, kinds))))
 
 
 def added(rows, counts):
     """The rows with their counts, which add up where a row stands twice."""
-    found = Counter(dict(zip(rows, counts)))
-    if len(found) < len(rows):
-        found = Counter()
-        for row, count in zip(rows, counts):
-            found[row] += count
+    found = Counter()
+    for row, count in zip(rows, counts):
+        found[row] += count
     return found
 
 
+def shown(row):
+    """A row as a CSV file has it, without a line's end."""
+    return row_of(row).decode()
+
+
 def table_text(columns, rows):
-    """A table sorted by what it shows, with `#`."""
-    listed = [(row, count) for row, count in rows.items() if count]
-    cells = ([row[place] for row, _ in listed] for place in range(len(columns)))
-    records = ([listed[number][1], *listed[number][0]] for number in in_order(cells, len(listed)))
+    """A table with `#`, its rows in the order that they have."""
+    records = ([count, *row] for row, count in rows.items() if count)
     return text_of(chain([["#", *(name for name, _ in columns)]], records)).encode()
 
 
 def absent(data, changes):
     """A finding for each row of changes of which more leave than there are."""
     leaving = {row: count for row, count in changes.rows.items() if count < 0}
-    there = data.standing(leaving) if leaving else {}
+    there = data.standing([row for row, count in changes.rows.items() if count]) if leaving else {}
     if any(there[row] + count < 0 for row, count in leaving.items()):
         there = data.rows
     found = []

@@ -217,13 +217,15 @@ def files_by_name(folder):
 
 
 def take_over(folder, interrupts):
-    """Makes versions of a folder that has none, and removes what there was."""
+    """Makes versions of a folder that has none, and removes what there was. Answers the tables that it has judged, which have no fault."""
+    found = {}
     if not whole(folder):
         remove(folder / SCRAP)
         if (folder / PENDING).exists():
             move_changes(folder)
         else:
-            judged(Folder(folder))
+            found = judged(Folder(folder)).sound_tables()
         decide(folder, interrupts)
         remove(folder / "new")
     clear(folder)
+    return found
