@@ -13,7 +13,9 @@ import sys
 import threading
 import time
 from http.client import HTTPConnection
+from unittest import mock
 
+from whtools.warehouse import serve
 from whtools.warehouse.answers import Answers, Request
 from whtools.warehouse.serve import Server
 from whtools.warehouse.sessions import MOST, Full, Over, Sessions
@@ -270,6 +272,26 @@ class Hostile(Served):
         self.refused("/orders", 405, "POST is not answered here", "POST")
         self.refused("/session", 413, "no request here has a body", "POST", Content_Length="5000")
         self.refused("/session/unknown", 404, "there is no session 'unknown'", "DELETE")
+
+    def test_a_length_of_five_thousand_digits_is_too_long(self):
+        self.refused("/session", 413, "no request here has a body", "POST", Content_Length="9" * 5000)
+
+    def test_a_request_that_comes_byte_by_byte_is_not_waited_for(self):
+        with mock.patch.object(serve, "PATIENCE", 0.4), socket.create_connection(self.server.server_address) as slow:
+            began = time.monotonic()
+            with self.assertRaises(OSError):
+                while time.monotonic() - began < 10:
+                    slow.sendall(b"G")
+                    time.sleep(0.05)
+        self.assertLess(time.monotonic() - began, 10)
+
+    def test_of_many_connections_that_wait_the_oldest_make_room(self):
+        with mock.patch.object(serve, "MOST_CONNECTIONS", 5):
+            idle = [socket.create_connection(self.server.server_address) for _ in range(30)]
+            self.assertEqual(self.found("/orders")["version"], 2)
+            self.assertLessEqual(len(self.server.due), 10)
+        for each in idle:
+            each.close()
 
     def test_what_is_no_request_ends_its_connection_alone(self):
         for sent in (b"\x00\xff\r\n\r\n", b"GET\r\n\r\n", b"GET / HTTP/9.9\r\n\r\n", b"GET /" + b"x" * 70000 + b" HTTP/1.1\r\n\r\n", b""):

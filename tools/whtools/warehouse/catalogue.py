@@ -11,6 +11,8 @@ FILE = "catalogue.toml"
 OF_BASE, OF_JOINED = ("name", "columns", "nulls", "key"), ("name", "over", "join", "where", "keep")
 OF_SUMMARY = ("name", "over", "join", "where", "group", "count", "sum")
 KEYS = tuple(dict.fromkeys(OF_BASE + OF_JOINED + OF_SUMMARY))
+# More digits than these no number of a catalogue has.
+LONG = re.compile(r"(?<!\w)[+-]?[0-9][0-9_]{4300,}")
 MOST_CHILDREN, MOST_VIEWS, MOST_NESTED = 6, 64, 80
 
 
@@ -104,6 +106,8 @@ class Catalogue:
             self.find(Place(FILE, content[: error.start].count(b"\n") + 1), "this line is not UTF-8")
         except tomllib.TOMLDecodeError as error:
             self.not_toml(str(error), text)
+        except ValueError:
+            self.long_number(text)
         except RecursionError:
             self.find(Place(FILE), "arrays and tables are 80 deep at most")
         return "", None
@@ -114,6 +118,12 @@ class Catalogue:
         lines = text.count("\n") + 1
         place = Place(FILE, int(told[2] or lines), int(told[3] or 1)) if told else Place(FILE)
         self.find(place, f"this is not TOML: {told[1] if told else error}")
+
+    def long_number(self, text):
+        """A number of more digits than Python reads."""
+        found = LONG.search(text)
+        at = found.start() if found else 0
+        self.find(Place(FILE, text.count("\n", 0, at) + 1, at - text.rfind("\n", 0, at)), "a number has 64 bits at most")
 
     def judge_top(self, text, key):
         """A key of the catalogue itself."""

@@ -10,7 +10,7 @@ def run(words):
     folder = sound(words.folder)
     file = folder.path / "plan.txt"
     if file.is_file():
-        plan, sizes = file.read_text(), sizes_text(folder, words)[0]
+        plan, sizes = file.read_bytes().decode(errors="replace"), sizes_text(folder, words)[0]
     else:
         plan, sizes, _ = planned(folder, words)
     print(certified(folder, words, plan, sizes, words.through))

@@ -13,8 +13,9 @@ def strategy_of(folder):
     """The text of strategy.txt, which has no fault and breaks no rule."""
     file = folder.path / FILE
     if not file.is_file():
-        raise Failure(BAD_INPUT, f"there is no {FILE} in this folder")
-    text = file.read_text()
+        told = f"there is no {FILE} in {folder.path}; a night makes its own plan then, which `tools/warehouse plan {folder.path}` prints"
+        raise Failure(BAD_INPUT, told)
+    text = file.read_bytes().decode(errors="replace")
     strategy = Strategy(text, folder.views)
     if strategy.findings:
         raise Failure(BAD_INPUT, *strategy.findings)

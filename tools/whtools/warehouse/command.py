@@ -2,8 +2,8 @@
 
 import gc
 import os
-import re
 import sys
+import traceback
 from functools import cached_property
 from importlib import import_module
 from pathlib import Path
@@ -11,8 +11,9 @@ from pathlib import Path
 from .finding import Failure, nearest, of_system, warn
 from .helps import help_of
 from .lock import at_work
+from .numbers import MOST, is_between
 from .program import own
-from .status import BAD_INPUT, BAD_WORDS, DONE, NOT_WRITTEN
+from .status import BAD_INPUT, BAD_WORDS, DONE, NO_ANSWER, NOT_WRITTEN
 from .stopped import is_stopped
 from .takeover import is_pending
 from .weights import KINDS
@@ -112,8 +113,8 @@ class Words:
 
 def number(word):
     """How many versions are to stay."""
-    if not word.isdecimal() or int(word) == 0:
-        raise Failure(BAD_WORDS, f"--keep is how many versions stay, 1 or more, and not {word!r}")
+    if not is_between(word, 1, MOST - 1):
+        raise Failure(BAD_WORDS, f"--keep is how many versions stay, 1 or more, and not {word[:40]!r}")
     return int(word)
 
 
@@ -122,8 +123,8 @@ def number_of(option, word, earlier):
     least, most = RANGES[option]
     if option in earlier:
         raise Failure(BAD_WORDS, f"{option} stands twice")
-    if not re.fullmatch(r"\+?[0-9]+", word) or not least <= int(word) <= most:
-        raise Failure(BAD_WORDS, f"{option} is a whole number from {least} to {most}, and not {word!r}")
+    if word.startswith("-") or not is_between(word, least, most):
+        raise Failure(BAD_WORDS, f"{option} is a whole number from {least} to {most}, and not {word[:40]!r}")
     return word
 
 
@@ -172,6 +173,10 @@ def main(given, about):
     except OSError as error:
         warn([f"tools/warehouse: {of_system(error)}"])
         status = NOT_WRITTEN
+    except Exception:
+        traceback.print_exc()
+        warn(["tools/warehouse: this is a fault of the tool itself; a night that was under way is undone"])
+        status = NO_ANSWER
     drop_output()
     return status
 

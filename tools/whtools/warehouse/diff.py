@@ -12,6 +12,7 @@ from functools import cached_property
 
 from .by_lines import has_whole_lines, is_formed
 from .finding import MARK, Failure
+from .numbers import MOST, is_between
 from .status import BAD_INPUT, DONE
 from .written import text_of
 
@@ -54,7 +55,7 @@ class Export:
         rows = Counter()
         line = next(self.records(), None) and self.reader.line_num + 1
         for record in filter(None, self.reader):
-            if len(record) != self.width or (self.is_counted and not record[0].isdecimal()):
+            if len(record) != self.width or (self.is_counted and not is_between(record[0], 1, MOST - 1)):
                 raise Failure(BAD_INPUT, f"{self.path}:{line}:1: this record has not the header's cells, or no count")
             rows[tuple(record[self.is_counted :])] += int(record[0]) if self.is_counted else 1
             line = self.reader.line_num + 1
@@ -83,7 +84,8 @@ def rows_apart(before, after):
 def run(words):
     before, after = map(Export, words.folders)
     if before.columns != after.columns:
-        raise Failure(BAD_INPUT, f"{after.path}:1:1: the header is {','.join(after.columns)}, and it was {','.join(before.columns)}")
+        told = f"{after.path}:1:1: the header is {','.join(after.columns)}, and it was {','.join(before.columns)}"
+        raise Failure(BAD_INPUT, told + ("; export the columns in that order" if sorted(before.columns) == sorted(after.columns) else ""))
     old, new = rows_apart(before, after)
     counts = {row: new[row] - old[row] for row in old.keys() | new.keys()}
     text = text_of([["#", *before.columns], *([count, *row] for row, count in sorted(counts.items()) if count)])

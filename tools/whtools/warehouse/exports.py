@@ -8,7 +8,7 @@ from functools import cached_property
 from .finding import Failure
 from .formulas import MOST_COLUMNS, NAME
 from .packing import MARK
-from .records import MOST
+from .numbers import MOST, is_between
 from .status import BAD_INPUT
 from .written import text_of
 
@@ -134,7 +134,7 @@ class Export:
 
     def judged_counts(self, cells):
         for cell in cells:
-            if not (cell.isascii() and cell.isdecimal() and 0 < int(cell) < MOST):
+            if not is_between(cell, 1, MOST - 1):
                 raise Failure(BAD_INPUT, f"{self.path}:1:1: the column # has counts, which are positive, and {cell[:40]!r} is none")
         return cells
 

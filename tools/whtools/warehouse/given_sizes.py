@@ -5,7 +5,7 @@ import io
 
 from ..sizes import MOST_ROWS, MOST_WEIGHT, ROWS, WITH_WEIGHTS
 from .finding import MARK, Finding, Place, nearest
-from .records import NUMBER
+from .numbers import is_between
 
 FILE = "sizes.csv"
 
@@ -52,11 +52,11 @@ class GivenSizes:
         elif name in self.seen:
             self.find(line, f"{name} has an earlier record")
         self.seen.add(name)
-        wrong = [cell for cell in cells if not NUMBER.fullmatch(cell) or not 0 <= int(cell) <= MOST_ROWS]
+        wrong = [cell for cell in cells if not is_between(cell, 0, MOST_ROWS)]
         for cell in wrong:
             self.find(line, f'"{cell}" is not a number of rows, which is 0 to {MOST_ROWS}')
         if not wrong and abs(int(cells[0]) - int(cells[1])) > int(cells[2]):
             self.find(line, f"{name}: pre and post are further apart than change")
         for cell in weights:
-            if not NUMBER.fullmatch(cell) or not 1 <= int(cell) <= MOST_WEIGHT:
+            if not is_between(cell, 1, MOST_WEIGHT):
                 self.find(line, f'"{cell}" is not a weight, which is 1 to {MOST_WEIGHT}')

@@ -18,7 +18,11 @@ def run(words):
         raise Failure(BAD_INPUT, *faults)
     for path in left_out(words.folder):
         print(f"tools/warehouse: {path} is no part of a bundle", file=sys.stderr)
-    bundle = pack(words.folder)
+    try:
+        bundle = pack(words.folder)
+    except ValueError as error:
+        told = f"several files of changes of one view cannot be added up: {error}; `tools/warehouse lint {words.folder}` tells where"
+        raise Failure(BAD_INPUT, told) from error
     judge([bundle])
     sys.stdout.buffer.write(bundle)
     return DONE

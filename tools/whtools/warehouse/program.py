@@ -52,7 +52,7 @@ def how_it_ended(status):
 def temporary(pieces=()):
     """A file without a name, which has these pieces."""
     file = TemporaryFile()
-    with telling(gettempdir()):
+    with telling(f"a temporary file in {gettempdir()} (TMPDIR names another folder)"):
         file.writelines(pieces)
         file.seek(0)
     return file

@@ -9,7 +9,7 @@ from .catalogue import Catalogue
 from .finding import Failure, nearest
 from .inputs import tables
 from .packing import MARK
-from .records import MOST, NUMBER
+from .numbers import number_of
 from .status import BAD_WORDS
 from .versions import place, whole
 from .written import lines_of
@@ -66,7 +66,8 @@ def records(content):
 
 def value_of(cell, kind):
     """A cell of a column of this kind. A table of before its column had numbers may have other texts in it."""
-    return int(cell) if kind == "int" and NUMBER.fullmatch(cell) else cell
+    value = number_of(cell) if kind == "int" else None
+    return cell if value is None else value
 
 
 class Table:
@@ -150,9 +151,10 @@ def test_of(table, asked):
     if name not in names:
         raise Missing(BAD_WORDS, f"{table.name} has no column {name!r}; it has {', '.join(names)}{nearest(name, names)}")
     if kinds[names.index(name)] == "int":
-        if not NUMBER.fullmatch(value) or not -MOST <= int(value) < MOST:
-            raise Failure(BAD_WORDS, f"{name} is a whole number of 64 bits, and {value!r} is none")
-        value = int(value)
+        number = number_of(value)
+        if number is None:
+            raise Failure(BAD_WORDS, f"{name} is a whole number of 64 bits, and {value[:40]!r} is none")
+        value = number
     return Test(names.index(name), value)
 
 

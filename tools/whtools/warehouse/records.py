@@ -10,11 +10,12 @@ from itertools import chain
 from . import quotes
 from .by_lines import changed, counted, has_whole_lines, is_sound, own_form, places, row_of
 from .finding import MARK, Finding, Place
+from .numbers import NUMBER, number_of
 from .packing import merged
 from .written import text_of
 
-NUMBER = re.compile(r"[+-]?[0-9]+")
-MOST = 2**63
+# How much of a cell is told that is no number.
+SHOWN = 80
 # What is often meant by a cell that is no number; in docs/WAREHOUSE.md are the recipes.
 CURES = [
     (re.compile(r"[+-]?[0-9]+[.,][0-9]+"), "keep cents"),
@@ -160,7 +161,7 @@ class Reading:
         wanted = ["#", *columns] if counted or self.are_changes else columns
         if header != wanted:
             has = "it is missing" if header is None else f"it is {','.join(header)}"
-            self.find(1, 1, f"the header of {self.view.name} is {','.join(wanted)}; {has}")
+            self.find(1, 1, f"the header of {self.view.name} is {','.join(wanted)}; {has}{self.cure_of(header or [], columns)}")
             return
         kinds = (["int"] if counted else []) + [kind for _, kind in self.view.columns]
         line = reader.line_num + 1
@@ -168,6 +169,14 @@ class Reading:
             if record:
                 self.take(record, kinds, counted, line)
             line = reader.line_num + 1
+
+    def cure_of(self, header, columns):
+        """What is often meant by another header."""
+        if len(header) == 1 and any(mark in header[0] for mark in ";\t"):
+            return "; part the cells by commas"
+        if self.are_changes and header == columns:
+            return "; # is how many of a row come, or with - leave"
+        return "; put the columns in that order" if sorted(header) == sorted(["#", *columns]) else ""
 
     def followed(self, reader, line):
         """The records up to one whose quotes are wrong, which is found."""
@@ -218,11 +227,12 @@ class Reading:
 
     def number(self, cell, line, number):
         """A cell's whole number, or None where it has none."""
-        if NUMBER.fullmatch(cell) and -MOST <= int(cell) < MOST:
-            return int(cell)
+        value = number_of(cell)
+        if value is not None:
+            return value
         cause = "does not fit into 64 bits" if NUMBER.fullmatch(cell) else "is not a whole number"
         cure = next((f" ({text})" for form, text in CURES if form.fullmatch(cell)), "")
-        self.find(*self.place_of(line, number), f'"{cell}" {cause}{cure}')
+        self.find(*self.place_of(line, number), f'"{cell[:SHOWN]}" {cause}{cure}')
         return None
 
     def place_of(self, line, number):

@@ -3,21 +3,28 @@
 Nothing is written, and no request waits for a night: each holds the version that it reads.
 """
 
+import math
 import socket
 import sys
+import time
 import traceback
+from contextlib import suppress
 from http import HTTPStatus
 from http.server import BaseHTTPRequestHandler, ThreadingHTTPServer
+from threading import Lock
 from urllib.parse import urlsplit
 
 from .answers import Answers, Request, as_json
 from .finding import Failure
+from .numbers import is_between
 from .reading import whole_number
 from .status import DONE, NOT_WRITTEN
 
 USUAL_PORT, USUAL_PROMISE, LONGEST = 8000, 900, 86_400
 LOOPBACK = ("127.0.0.1", "::1", "localhost")
-MOST_BODY, PATIENCE = 4096, 30
+# A request has to be there within so many seconds after the one before it, and its answer to be taken within so many more. From so many
+# connections on, a new one ends the one that has waited longest; from twice as many on it is ended itself.
+MOST_BODY, PATIENCE, TAKING, MOST_CONNECTIONS = 4096, 30, 120, 200
 HEADERS = {
     "X-Content-Type-Options": "nosniff",
     "Content-Security-Policy": "default-src 'none'; style-src 'unsafe-inline'; form-action 'self'; frame-ancestors 'none'; base-uri 'none'",
@@ -31,8 +38,15 @@ class Handler(BaseHTTPRequestHandler):
 
     protocol_version, server_version, sys_version, timeout = "HTTP/1.1", "whview", "", PATIENCE
 
+    def handle_one_request(self):
+        """A request and its answer, in time."""
+        self.server.wait(self.connection, PATIENCE)
+        super().handle_one_request()
+
     def do_GET(self):
-        self.send(self.answer())
+        answer = self.answer()
+        self.server.wait(self.connection, TAKING)
+        self.send(answer)
 
     do_HEAD = do_POST = do_DELETE = do_PUT = do_PATCH = do_OPTIONS = do_GET
 
@@ -51,7 +65,7 @@ class Handler(BaseHTTPRequestHandler):
     def refused(self):
         """Why a request is refused before it is looked at, or None: another host's name, another site's form, a body that is long."""
         length = self.headers.get("Content-Length", "0")
-        if not length.isdecimal() or int(length) > MOST_BODY or self.headers.get("Transfer-Encoding"):
+        if not is_between(length, 0, MOST_BODY) or self.headers.get("Transfer-Encoding"):
             self.close_connection = True
             return as_json(HTTPStatus.REQUEST_ENTITY_TOO_LARGE, {"error": "no request here has a body"})
         self.rfile.read(int(length))
@@ -79,18 +93,49 @@ class Handler(BaseHTTPRequestHandler):
 
 
 class Server(ThreadingHTTPServer):
-    """The server of a folder, a thread for each connection."""
+    """The server of a folder, a thread for each connection. `due` has when each connection's request, or its answer, has to be done."""
 
     daemon_threads, request_queue_size = True, 128
 
-    def __init__(self, address, port, answers):
+    def __init__(self, address, port, answers, clock=time.monotonic):
         self.address_family = socket.AF_INET6 if ":" in address else socket.AF_INET
-        self.answers, self.address = answers, address
+        self.answers, self.address, self.clock, self.due, self.lock = answers, address, clock, {}, Lock()
         super().__init__((address, port), Handler)
 
     def service_actions(self):
-        """Comes twice a second."""
+        """Comes twice a second, and with each connection."""
         self.answers.sessions.tidy()
+        now = self.clock()
+        for connection, due in list(self.due.items()):
+            if due < now:
+                self.end(connection)
+
+    def verify_request(self, request, client_address):
+        """Lets a connection in where there are not too many."""
+        waiting = list(self.due.items())
+        if len(waiting) >= MOST_CONNECTIONS:
+            self.end(min(waiting, key=lambda each: each[1])[0])
+        if len(waiting) >= 2 * MOST_CONNECTIONS:
+            return False
+        self.due[request] = self.clock() + PATIENCE
+        return True
+
+    def end(self, connection):
+        """Ends a connection for both sides; its thread notices, and goes."""
+        self.wait(connection, math.inf)
+        with suppress(OSError):
+            connection.shutdown(socket.SHUT_RDWR)
+
+    def wait(self, connection, seconds):
+        """Has a connection that is there be waited for so long."""
+        with self.lock:
+            if connection in self.due:
+                self.due[connection] = self.clock() + seconds
+
+    def shutdown_request(self, request):
+        with self.lock:
+            self.due.pop(request, None)
+        super().shutdown_request(request)
 
     def handle_error(self, request, client_address):
         """A reader that goes away in the middle is no fault; anything else is told."""

@@ -5,7 +5,7 @@ import csv
 import io
 import sys
 
-from ..sizes import ROWS, WITH_WEIGHTS
+from ..sizes import MOST_ROWS, ROWS, WITH_WEIGHTS
 from . import program, refusals
 from .by_lines import counted, counted_through, has_whole_lines
 from .finding import Failure
@@ -113,8 +113,13 @@ def rows_text(folder, words):
         return given, "given in sizes.csv"
     told = told_before(folder)
     if told is not None:
-        return sized(told), "from the change files and the last report"
-    return sized(measured(folder, words)), "measured by a night that is not kept"
+        return sized(within(told)), "from the change files and the last report"
+    return sized(within(measured(folder, words))), "measured by a night that is not kept"
+
+
+def within(rows):
+    """The numbers of rows as the program takes them: what is more than it takes is that much, which keeps pre and post within change."""
+    return {name: tuple(min(number, MOST_ROWS) for number in numbers) for name, numbers in rows.items()}
 
 
 def weighed(text, folder, words):

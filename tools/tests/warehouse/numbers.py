@@ -1,0 +1,69 @@
+"""Numbers of more digits than Python reads, and texts that are none, are told in a line wherever they stand."""
+
+import unittest
+
+from whtools.warehouse.numbers import is_between, number_of
+
+from .shop import Shop
+
+DIGITS = "9" * 5000
+HEADER = "the header of orders is #,id,day,region; it is "
+
+
+class Numbers(unittest.TestCase):
+    def test_a_text_is_a_number_of_64_bits_or_none(self):
+        texts = {"0": 0, "-7": -7, "+7": 7, "0" * 5000 + "7": 7, str(2**63 - 1): 2**63 - 1, str(-(2**63)): -(2**63)}
+        self.assertEqual({text: number_of(text) for text in texts}, texts)
+        for text in ("", "-", "1.5", " 1", "1_0", "\u0661", DIGITS, "-" + DIGITS, str(2**63), str(-(2**63) - 1)):
+            self.assertIsNone(number_of(text), text)
+        self.assertEqual([is_between(text, 1, 3) for text in ("0", "1", "3", "4", "x")], [False, True, True, False, False])
+
+
+class Told(Shop):
+    def test_a_cell_of_five_thousand_digits_is_told_with_its_place(self):
+        (self.folder / "changes/orders.csv").write_text(f"#,id,day,region\n1,{DIGITS},Monday,north\n{DIGITS},7,Monday,north\n")
+        told = [f'changes/orders.csv:{place}: "{"9" * 80}" does not fit into 64 bits' for place in ("2:3", "3:1")]
+        for words in (["lint"], ["night"], ["night", "--commit"]):
+            status, lines = self.ran(*words)
+            self.assertEqual((status, lines[:2]), (3, told), words)
+
+    def test_so_is_one_of_a_catalogue_of_sizes_and_of_the_words(self):
+        (self.folder / "sizes.csv").write_text(f"view,pre,post,change\norders,{DIGITS},1,1\n")
+        self.assertEqual(self.ran("plan")[0], 3)
+        (self.folder / "sizes.csv").unlink()
+        for words in (["night", "--commit", "--keep", DIGITS], ["night", "--workers", DIGITS], ["plan", "--budget", DIGITS]):
+            status, lines = self.ran(*words)
+            self.assertEqual((status, len(lines)), (2, 1), words[:-1])
+        self.edit("catalogue.toml", '["*", "lines.pieces", "products.price"]', f'["*", "lines.pieces", {DIGITS}]')
+        status, lines = self.ran("lint")
+        text = (self.folder / "catalogue.toml").read_text()
+        line = text.count("\n", 0, text.index(DIGITS)) + 1
+        self.assertEqual((status, len(lines)), (3, 1))
+        self.assertRegex(lines[0], f"^catalogue.toml:{line}:[0-9]+: a number has 64 bits at most$")
+
+    def test_a_strategy_and_a_plan_that_are_no_text_are_told(self):
+        (self.folder / "strategy.txt").write_bytes(b"\xff\xfe\n")
+        for words in (["lint"], ["check"], ["night"], ["night", "--commit"]):
+            status, lines = self.ran(*words)
+            self.assertEqual((status, lines[0].partition(" is no ")[0]), (3, 'strategy.txt:1:1: "\ufffd\ufffd"'), words)
+
+    def test_a_header_of_another_form_says_what_to_do(self):
+        cures = {"id,day,region": "; # is how many of a row come, or with - leave", "#;id;day;region": "; part the cells by commas"}
+        for header, cure in (cures | {"#,id,region,day": "; put the columns in that order"}).items():
+            (self.folder / "changes/orders.csv").write_text(f"{header}\n")
+            status, lines = self.ran("lint")
+            self.assertEqual((status, lines[0]), (3, f"changes/orders.csv:1:1: {HEADER}{header}{cure}"))
+
+    def test_several_files_of_changes_that_do_not_go_together_are_told_by_pack(self):
+        (self.folder / "changes/orders.1.csv").write_text("#,id\n1,5\n")
+        status, lines = self.ran("pack")
+        self.assertEqual((status, len(lines)), (3, 1))
+        self.assertIn("`tools/warehouse lint ", lines[0])
+
+    def test_counts_above_what_a_plan_takes_are_planned_all_the_same(self):
+        (self.folder / "strategy.txt").unlink()
+        (self.folder / "changes/orders.csv").write_text(f"#,id,day,region\n{2**62},9,Monday,north\n")
+        self.answer_as_the_shop()
+        self.program.write_text(f"#!/bin/sh\n[ $1 = plan ] && cat > {self.program}.plan || cat > /dev/null\ncat {self.program.parent}/answer\n")
+        self.ran("plan")
+        self.assertIn(f"orders,5,{2**40},{2**40}\n", (self.program.parent / "program.plan").read_text())
