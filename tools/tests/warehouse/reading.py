@@ -42,7 +42,7 @@ class Reads(Kept):
         self.night()
         jam = '#,day,product,lines,pieces,cost\n1,Monday,jam,1,1,475\n'
         self.assertEqual(self.read("daily_by_product", "--where", "product=jam"), jam)
-        tea = '#,id,product,pieces\n1,5,"tea, black",2\n1,7,"tea, black",2\n'
+        tea = '#,id,product,pieces\n1,7,"tea, black",2\n1,5,"tea, black",2\n'
         self.assertEqual(self.read("lines", "--where", "product=tea, black", "--where", "pieces=+2"), tea)
         self.assertEqual(self.read("lines", "--limit", "1").count("\n"), 2)
         self.assertEqual(self.read("lines", "--limit", "0"), "#,id,product,pieces\n")
@@ -50,7 +50,7 @@ class Reads(Kept):
     def test_rows_as_json(self):
         self.night()
         found = json.loads(self.read("products", "--format", "json", "--limit", "2"))
-        rows = [{"#": 1, "product": "bread", "price": 300}, {"#": 1, "product": "honey", "price": 950}]
+        rows = [{"#": 1, "product": "bread", "price": 300}, {"#": 1, "product": "tea, black", "price": 800}]
         self.assertEqual(found, {"view": "products", "version": 1, "rows": rows})
         self.assertEqual(json.loads(self.read("products", "--format", "json", "--where", "price=1"))["rows"], [])
 

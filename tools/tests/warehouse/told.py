@@ -5,6 +5,7 @@ import subprocess
 import sys
 
 from whtools.warehouse.command import COMMANDS
+from whtools.warehouse import command as words_of
 from whtools.warehouse.helps import OPTIONS
 
 from .shop import SHOP, SIZES, TOOLS, Shop, contents
@@ -217,6 +218,10 @@ class Told(Shop):
                 self.assertTrue(ran.stdout.startswith(f"tools/warehouse {command} "), ran.stdout)
                 listed = [option for option, commands, _ in OPTIONS if command in commands]
                 self.assertEqual([option for option, _, _ in OPTIONS if f"\n    {option} " in ran.stdout], listed)
+
+    def test_each_option_that_a_command_takes_stands_in_its_help(self):
+        taken = {(option, command) for command, options in (words_of.OPTIONS | words_of.GOES_THROUGH).items() for option in options}
+        self.assertLessEqual(taken, {(option.split()[0], command) for option, commands, _ in OPTIONS for command in commands})
 
     def test_what_the_program_says_comes_to_the_terminal_with_its_status(self):
         self.answers(b"refused large sales\nleft given-up\n", 1)

@@ -2,8 +2,8 @@
 
 from importlib import import_module
 
-WORDS = {"diff": "OLD NEW", "unpack": "FOLDER < ANSWER"}
-WITHOUT_PROGRAM = ("lint", "pack", "unpack", "diff")
+WORDS = {"diff": "OLD NEW", "unpack": "FOLDER < ANSWER", "init": "FOLDER FILES..", "read": "FOLDER VIEW", "report": "FOLDER [VERSION]"}
+WITHOUT_PROGRAM = ("lint", "pack", "unpack", "diff", "init", "read", "serve")
 OPTIONS = [
     ("--commit", ("night",), "keeps the night: takes the changes and makes a version"),
     ("--keep K", ("night",), "with --commit: the newest K versions stay, 1 or more; without it all do"),
@@ -15,6 +15,13 @@ OPTIONS = [
     ("--comp-cost N", ("check", "plan", "certify"), "what a row that a Comp reads costs, 1 to 1,000,000; without it 1"),
     ("--inst-cost N", ("check", "plan", "certify"), "the same of a row that an Inst puts"),
     ("--budget N", ("plan",), "how many nodes a search opens at most, 1 to 9,223,372,036,854,775,807; without it 1,000,000"),
+    ("--version N", ("read",), "reads this version; without it the current one"),
+    ("--where COLUMN=VALUE", ("read",), "only rows with this value; it may stand several times"),
+    ("--limit N", ("read",), "so many rows at most"),
+    ("--format KIND", ("read",), "csv or json; without it csv"),
+    ("--port PORT", ("serve",), "the port, 0 for a free one; without it 8000"),
+    ("--address ADDRESS", ("serve",), "the address; without it 127.0.0.1, which this machine alone reaches"),
+    ("--promise SECONDS", ("serve",), "how long a session pins its version, 1 to 86,400; without it 900"),
 ]
 PROGRAM = [
     ("--unproved", "by the program that is built without its proof, within minutes"),
@@ -28,5 +35,5 @@ def help_of(command):
     options += PROGRAM if command not in WITHOUT_PROGRAM else []
     lines = [f"tools/warehouse {command} {WORDS.get(command, 'FOLDER')}{' [OPTIONS]' if options else ''}", ""]
     lines += [(import_module(f"whtools.warehouse.{command}").__doc__ or "").strip()]
-    lines += ["", *(f"    {option:15} {text}" for option, text in options)] if options else []
+    lines += ["", *(f"    {option:20} {text}" for option, text in options)] if options else []
     return "\n".join([*lines, "", "Statuses and recipes are in docs/WAREHOUSE.md."])
