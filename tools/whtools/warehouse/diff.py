@@ -1,4 +1,5 @@
-"""`diff`: the changes from one export of a base view to the next, as a file of changes/ has them, on standard output.
+"""`diff`: the changes from one export of a base view to the next, as a file of changes/ has them, on standard output. The next one may be
+as other programs write it: with its columns in another order, parted by semicolons or tabs, its names written as `init` reads them.
 
 Where each record of both is a line, and all have the header's cells, only the lines are read that are not as often in the one as in the
 other.
@@ -9,8 +10,11 @@ import io
 import sys
 from collections import Counter
 from functools import cached_property
+from itertools import repeat
 
 from .by_lines import has_whole_lines, is_formed
+from .exports import Export as FreeExport
+from .exports import name_of
 from .finding import MARK, Failure
 from .numbers import MOST, is_between
 from .status import BAD_INPUT, DONE
@@ -81,12 +85,25 @@ def rows_apart(before, after):
     return before.rows(), after.rows()
 
 
+def rows_by_names(before, after):
+    """All rows of both exports, where the other has the same columns in another order, under names that `init` would write as these are,
+    or parted by another mark than commas.
+    """
+    export = FreeExport(after.path)
+    cells = {column.name: column.cells for column in export.columns}
+    names = [name_of(name, name) for name in before.columns]
+    if sorted(names) != sorted(cells):
+        told = f"{after.path}:1:1: the header is {','.join(after.columns)}, and it was {','.join(before.columns)}"
+        raise Failure(BAD_INPUT, told)
+    rows = Counter()
+    for row, count in zip(zip(*map(cells.get, names)), export.counts or repeat(1)):
+        rows[row] += int(count)
+    return before.rows(), rows
+
+
 def run(words):
     before, after = map(Export, words.folders)
-    if before.columns != after.columns:
-        told = f"{after.path}:1:1: the header is {','.join(after.columns)}, and it was {','.join(before.columns)}"
-        raise Failure(BAD_INPUT, told + ("; export the columns in that order" if sorted(before.columns) == sorted(after.columns) else ""))
-    old, new = rows_apart(before, after)
+    old, new = rows_apart(before, after) if before.columns == after.columns else rows_by_names(before, after)
     counts = {row: new[row] - old[row] for row in old.keys() | new.keys()}
     text = text_of([["#", *before.columns], *([count, *row] for row, count in sorted(counts.items()) if count)])
     sys.stdout.buffer.write(text.encode("utf-8", errors="surrogateescape"))
