@@ -3,6 +3,10 @@
 import os
 import shutil
 import subprocess
+from contextlib import suppress
+
+# How long the package manager is waited for, which may wait for another one.
+SECONDS = 600
 
 
 def install(package, is_there):
@@ -12,4 +16,5 @@ def install(package, is_there):
         if is_there():
             break
         if shutil.which("apt-get"):
-            subprocess.run(["apt-get", *words], env=quiet, stdout=subprocess.DEVNULL, stderr=subprocess.DEVNULL, check=False)
+            with suppress(subprocess.TimeoutExpired):
+                subprocess.run(["apt-get", *words], env=quiet, stdout=subprocess.DEVNULL, stderr=subprocess.DEVNULL, timeout=SECONDS)

@@ -172,6 +172,20 @@ class Laid(Kept):
         self.assertEqual(ran.stderr, b"")
 
 
+    def test_a_view_whose_columns_change_gets_a_new_name(self):
+        self.night()
+        self.edit("catalogue.toml", 'columns = ["product:text", "price"]', 'columns = ["product:text", "price", "kind:text"]')
+        has = "the header of products is #,product,price,kind; it is #,product,price"
+        cure = "a kept table has the columns of its night: name the view anew, such as products_2, with a table in data/"
+        self.assertEqual(self.ran("lint"), (3, [f"versions/1/data/products.csv:1:1: {has}; {cure}"]))
+        text = (self.folder / "catalogue.toml").read_text().replace('"products"', '"products_2"').replace("products.", "products_2.")
+        (self.folder / "catalogue.toml").write_text(text)
+        (self.folder / "strategy.txt").unlink()
+        (self.folder / "data").mkdir(exist_ok=True)
+        (self.folder / "data/products_2.csv").write_text("product,price,kind\njam,450,sweet\n")
+        told = "versions/1/data/products.csv:1:1: warning: products is no base view; its table stays in versions/1 and is not carried on"
+        self.assertEqual(self.ran("lint"), (0, [told]))
+
     def test_the_example_of_a_reader(self):
         """The commands of docs/WAREHOUSE.md as they are written."""
         self.night()

@@ -333,6 +333,13 @@ class Command(Kept):
             running.communicate()
         self.assertEqual(running.returncode, -signal.SIGTERM)
 
+    def test_an_address_that_others_reach_is_warned_of(self):
+        self.night()
+        with self.served("--port", "0", "--address", "0.0.0.0") as running:
+            self.assertIn(" is read at http://0.0.0.0:", running.stdout.readline())
+            self.assertIn("it knows no users", running.stderr.readline())
+            running.terminate()
+
     def test_words_and_ports_that_cannot_be(self):
         with socket.create_server(("127.0.0.1", 0)) as taken:
             port = taken.getsockname()[1]

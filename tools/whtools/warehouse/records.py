@@ -171,7 +171,9 @@ class Reading:
             line = reader.line_num + 1
 
     def cure_of(self, header, columns):
-        """What is often meant by another header."""
+        """What is often meant by another header, or what to do about it."""
+        if self.file.startswith("versions/"):
+            return f"; a kept table has the columns of its night: name the view anew, such as {self.view.name}_2, with a table in data/"
         if len(header) == 1 and any(mark in header[0] for mark in ";\t"):
             return "; part the cells by commas"
         if self.are_changes and header == columns:

@@ -15,7 +15,7 @@ from threading import Lock
 from urllib.parse import urlsplit
 
 from .answers import Answers, Request, as_json
-from .finding import Failure
+from .finding import Failure, warn
 from .numbers import is_between
 from .reading import whole_number
 from .status import DONE, NOT_WRITTEN
@@ -148,7 +148,12 @@ class Server(ThreadingHTTPServer):
             host = urlsplit(url).hostname
         except ValueError:
             return False
-        return self.address not in LOOPBACK or host in LOOPBACK
+        return not self.is_loopback or host in (*LOOPBACK, self.address)
+
+    @property
+    def is_loopback(self):
+        """Whether this machine alone can reach the server."""
+        return self.address in LOOPBACK or self.address.startswith("127.")
 
     @property
     def url(self):
@@ -164,6 +169,8 @@ def run(words):
         server = Server(address, port, Answers(words.folder, promise))
     except OSError as error:
         raise Failure(NOT_WRITTEN, f"port {port} of {address} cannot be served: {error.strerror}") from error
+    if not server.is_loopback:
+        warn([f"other machines read it too at {address}: it knows no users and no encryption; put a proxy in front that does"])
     with server:
         print(f"{words.folder} is read at {server.url}; a session is promised {promise:,} seconds", flush=True)
         server.serve_forever()
