@@ -132,7 +132,9 @@ class Faults(Room):
     def test_what_is_no_table(self):
         self.judge("ROOM/t.csv:1:1: this file is empty; a table has a header at least", t="")
         self.judge("ROOM/t.csv:4:1: this record has 1 cells and the header has 2", t='a,b\n1,"x\ny"\n1\n')
-        self.judge("ROOM/t.csv:2:1: this is not CSV: unexpected end of data", t='a,b\n1,"x\n')
+        cure = "a quote within a cell is written twice, and the cell is put in quotes"
+        told = f"ROOM/t.csv:2:1: the record that begins here is not CSV: unexpected end of data; {cure}"
+        self.judge(told, t='a,b\n1,"x\n2,y\n3,z\n')
         self.judge("ROOM/t.csv:2:1: this line is not UTF-8; iconv -f LATIN1 -t UTF-8 may make it so", t=b"a\n\xe4\n")
         self.judge("ROOM/t.csv:1:1: this file has 65 columns; a view has 1 to 64", t=",".join(f"c{n}" for n in range(65)))
         self.judge("ROOM/t.csv:1:1: the column # has counts, which are positive, and '-1' is none", t="#,a\n-1,2\n")

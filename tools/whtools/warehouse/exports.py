@@ -7,8 +7,9 @@ from functools import cached_property
 
 from .finding import Failure
 from .formulas import MOST_COLUMNS, NAME
-from .packing import MARK
 from .numbers import MOST, is_between
+from .packing import MARK
+from .quotes import CURE
 from .status import BAD_INPUT
 from .written import text_of
 
@@ -119,11 +120,14 @@ class Export:
         return filter(None, self.read())
 
     def read(self):
-        """The records; a quote that is not closed or stands within a cell is told with its line."""
+        """The records; one whose quote is not closed or stands within a cell is told with the line that it begins at."""
+        line = 1
         try:
-            yield from self.reader
+            for record in self.reader:
+                line = self.reader.line_num + 1
+                yield record
         except csv.Error as error:
-            raise Failure(BAD_INPUT, f"{self.path}:{self.reader.line_num}:1: this is not CSV: {error}") from None
+            raise Failure(BAD_INPUT, f"{self.path}:{line}:1: the record that begins here is not CSV: {error}; {CURE}") from None
 
     def numbered(self, records):
         """The records, each with the line that it begins at."""
