@@ -285,13 +285,42 @@ class Hostile(Served):
                     time.sleep(0.05)
         self.assertLess(time.monotonic() - began, 10)
 
+    def answered_at_last(self, path):
+        """The status of an answer; the connection may be ended while those that were ended before it are still going."""
+        while True:
+            try:
+                return self.asked(path)[0]
+            except OSError:
+                time.sleep(0.1)
+
     def test_of_many_connections_that_wait_the_oldest_make_room(self):
         with mock.patch.object(serve, "MOST_CONNECTIONS", 5):
             idle = [socket.create_connection(self.server.server_address) for _ in range(30)]
-            self.assertEqual(self.found("/orders")["version"], 2)
             self.assertLessEqual(len(self.server.due), 10)
+            self.assertEqual(self.answered_at_last("/orders"), 200)
         for each in idle:
             each.close()
+
+    def test_a_connection_that_was_ended_is_answered_no_more(self):
+        request = b"GET /orders HTTP/1.1\r\nHost: localhost\r\n\r\n"
+        made = self.server.answers.answer
+
+        def ended(asked):
+            for connection in list(self.server.due):
+                self.server.end(connection)
+            return made(asked)
+
+        with mock.patch.object(self.server.answers, "answer", side_effect=ended) as answered:
+            with socket.create_connection(self.server.server_address, timeout=10) as connection:
+                connection.sendall(request * 5)
+                self.assertEqual(connection.recv(100), b"")
+        self.assertEqual(answered.call_count, 1)
+
+    def test_where_the_system_has_no_thread_left_one_connection_is_ended_alone(self):
+        with mock.patch.object(serve.ThreadingHTTPServer, "process_request", side_effect=RuntimeError):
+            with socket.create_connection(self.server.server_address, timeout=10) as connection:
+                self.assertEqual(connection.recv(100), b"")
+        self.assertEqual((self.found("/orders")["version"], len(self.server.due) <= 1), (2, True))
 
     def test_what_is_no_request_ends_its_connection_alone(self):
         for sent in (b"\x00\xff\r\n\r\n", b"GET\r\n\r\n", b"GET / HTTP/9.9\r\n\r\n", b"GET /" + b"x" * 70000 + b" HTTP/1.1\r\n\r\n", b""):

@@ -4,8 +4,8 @@ import os
 import subprocess
 import sys
 
-from whtools.warehouse.command import COMMANDS
 from whtools.warehouse import command as words_of
+from whtools.warehouse.command import COMMANDS
 from whtools.warehouse.helps import OPTIONS
 
 from .shop import SHOP, SIZES, TOOLS, Shop, contents

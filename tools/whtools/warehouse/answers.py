@@ -11,6 +11,7 @@ from contextlib import contextmanager
 from http import HTTPStatus
 from http.cookies import CookieError, SimpleCookie
 from itertools import islice
+from threading import BoundedSemaphore
 from typing import NamedTuple
 from urllib.parse import parse_qsl, unquote, urlencode, urlsplit
 
@@ -22,6 +23,8 @@ from .sessions import Full, Over, Sessions
 from .status import BAD_WORDS
 from .versions import named, whole
 
+# How many pages of rows are made at once; each takes memory, and one processor makes them all.
+AT_ONCE = 16
 USUAL, MOST, MOST_FIELDS, SHOWN = 1_000, 10_000, 20, 80
 FIELDS, SEVERAL = ("version", "after", "limit", "format", "session", "where"), ("where",)
 REPORT = re.compile(r"/reports/((?:0|[1-9][0-9]{0,18}|preview)\.html)")
@@ -105,7 +108,7 @@ class Answers:
     """What is answered of a folder."""
 
     def __init__(self, folder, promise):
-        self.folder, self.sessions, self.kept = folder, Sessions(folder, promise), {}
+        self.folder, self.sessions, self.kept, self.places = folder, Sessions(folder, promise), {}, BoundedSemaphore(AT_ONCE)
 
     def answer(self, request):
         """The answer to a request, whatever it is."""
@@ -243,9 +246,10 @@ class Answers:
         with self.held(request, fields) as held:
             with refusing():
                 table = self.tables(held).table(name)
+            with self.places, refusing():
                 found = list(islice(selected(table, fields.get("where", ()), after), limit + 1))
-            following = found[limit - 1][0] if len(found) > limit else None
-            return self.page_of_rows(held.number, table, found[:limit], (fields, after, limit, following), kind)
+                following = found[limit - 1][0] if len(found) > limit else None
+                return self.page_of_rows(held.number, table, found[:limit], (fields, after, limit, following), kind)
 
     def page_of_rows(self, version, table, found, asked, kind):
         """The answer that has these rows."""

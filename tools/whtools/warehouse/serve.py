@@ -3,15 +3,16 @@
 Nothing is written, and no request waits for a night: each holds the version that it reads.
 """
 
+import ctypes
 import math
 import socket
 import sys
+import threading
 import time
 import traceback
 from contextlib import suppress
 from http import HTTPStatus
 from http.server import BaseHTTPRequestHandler, ThreadingHTTPServer
-from threading import Lock
 from urllib.parse import urlsplit
 
 from .answers import Answers, Request, as_json
@@ -24,7 +25,10 @@ USUAL_PORT, USUAL_PROMISE, LONGEST = 8000, 900, 86_400
 LOOPBACK = ("127.0.0.1", "::1", "localhost")
 # A request has to be there within so many seconds after the one before it, and its answer to be taken within so many more. From so many
 # connections on, a new one ends the one that has waited longest; from twice as many on it is ended itself.
-MOST_BODY, PATIENCE, TAKING, MOST_CONNECTIONS = 4096, 30, 120, 200
+MOST_BODY, PATIENCE, TAKING, MOST_CONNECTIONS = 4096, 30, 120, 128
+# How many bytes a thread's stack has; and how many heaps the C library makes, which are one for each thread otherwise, 64 MB of addresses
+# each, and by what number it is told so.
+STACK, HEAPS, MOST_HEAPS = 2**19, 2, -8
 HEADERS = {
     "X-Content-Type-Options": "nosniff",
     "Content-Security-Policy": "default-src 'none'; style-src 'unsafe-inline'; form-action 'self'; frame-ancestors 'none'; base-uri 'none'",
@@ -40,13 +44,16 @@ class Handler(BaseHTTPRequestHandler):
 
     def handle_one_request(self):
         """A request and its answer, in time."""
-        self.server.wait(self.connection, PATIENCE)
-        super().handle_one_request()
+        if self.server.wait(self.connection, PATIENCE):
+            super().handle_one_request()
+        else:
+            self.close_connection = True
 
     def do_GET(self):
-        answer = self.answer()
-        self.server.wait(self.connection, TAKING)
-        self.send(answer)
+        if self.server.wait(self.connection, TAKING):
+            answer = self.answer()
+            self.server.wait(self.connection, TAKING)
+            self.send(answer)
 
     do_HEAD = do_POST = do_DELETE = do_PUT = do_PATCH = do_OPTIONS = do_GET
 
@@ -99,7 +106,7 @@ class Server(ThreadingHTTPServer):
 
     def __init__(self, address, port, answers, clock=time.monotonic):
         self.address_family = socket.AF_INET6 if ":" in address else socket.AF_INET
-        self.answers, self.address, self.clock, self.due, self.lock = answers, address, clock, {}, Lock()
+        self.answers, self.address, self.clock, self.due, self.lock = answers, address, clock, {}, threading.Lock()
         super().__init__((address, port), Handler)
 
     def service_actions(self):
@@ -112,13 +119,27 @@ class Server(ThreadingHTTPServer):
 
     def verify_request(self, request, client_address):
         """Lets a connection in where there are not too many."""
-        waiting = list(self.due.items())
-        if len(waiting) >= MOST_CONNECTIONS:
-            self.end(min(waiting, key=lambda each: each[1])[0])
-        if len(waiting) >= 2 * MOST_CONNECTIONS:
+        count = len(self.due)
+        if count >= MOST_CONNECTIONS:
+            self.make_room()
+        if count >= 2 * MOST_CONNECTIONS:
             return False
         self.due[request] = self.clock() + PATIENCE
         return True
+
+    def process_request(self, request, client_address):
+        """Answers a connection by a thread of its own; where the system has none left, it is ended."""
+        try:
+            super().process_request(request, client_address)
+        except RuntimeError:
+            self.shutdown_request(request)
+            self.make_room()
+
+    def make_room(self):
+        """Ends the connection that has waited longest, where there is one."""
+        waiting = list(self.due.items())
+        if waiting:
+            self.end(min(waiting, key=lambda each: each[1])[0])
 
     def end(self, connection):
         """Ends a connection for both sides; its thread notices, and goes."""
@@ -127,10 +148,12 @@ class Server(ThreadingHTTPServer):
             connection.shutdown(socket.SHUT_RDWR)
 
     def wait(self, connection, seconds):
-        """Has a connection that is there be waited for so long."""
+        """Has a connection be waited for so long, and answers whether it is there and was not ended."""
         with self.lock:
-            if connection in self.due:
+            is_there = self.due.get(connection, math.inf) < math.inf
+            if is_there:
                 self.due[connection] = self.clock() + seconds
+            return is_there
 
     def shutdown_request(self, request):
         with self.lock:
@@ -161,10 +184,18 @@ class Server(ThreadingHTTPServer):
         return f"http://{host}:{self.server_address[1]}/"
 
 
+def spare_memory():
+    """Has threads take little memory."""
+    threading.stack_size(STACK)
+    with suppress(AttributeError, OSError):
+        ctypes.CDLL(None).mallopt(MOST_HEAPS, HEAPS)
+
+
 def run(words):
     port = whole_number(words.option("--port", str(USUAL_PORT)), "--port", 0, 65535)
     promise = whole_number(words.option("--promise", str(USUAL_PROMISE)), "--promise", 1, LONGEST)
     address = words.option("--address", LOOPBACK[0])
+    spare_memory()
     try:
         server = Server(address, port, Answers(words.folder, promise))
     except OSError as error:
