@@ -10,13 +10,18 @@ from unittest import mock
 
 from whtools.warehouse import by_lines
 from whtools.warehouse import records as read
-from whtools.warehouse.by_lines import counted, has_whole_lines, line_of, row_of
+from whtools.warehouse.by_lines import counted, has_whole_lines, row_of
 from whtools.warehouse.inputs import Source
 from whtools.warehouse.records import Changes, Records, absent, table_text
 
 COLUMNS = [("x", "int"), ("t", "text"), ("u", "text")]
 TEXTS = ["oak", "elm, old", 'the "ash"', "", " fir", "Bäume", "view v", "7"]
 WITH_LINE_ENDS = [*TEXTS, "two\nlines", "back\r", '"', "1,2,a"]
+
+
+def line_of(count, row):
+    """A row as a table has it."""
+    return b"%d,%s\n" % (count, row_of(row))
 
 
 def rows(source, texts, most):

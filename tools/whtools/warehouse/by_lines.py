@@ -51,11 +51,6 @@ def has_whole_lines(content):
     return b'"' not in content or b'"' not in content.translate(None, OTHERS).replace(b'""', b"")
 
 
-def line_of(count, row):
-    """A row as a table has it."""
-    return b"%d,%s\n" % (count, row_of(row))
-
-
 def row_of(row):
     """A row as a line has it, behind its count."""
     cells = map(str, row)

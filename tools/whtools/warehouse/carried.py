@@ -8,7 +8,7 @@ from .by_lines import counted
 from .catalogue import FILE as CATALOGUE
 from .check import strategy_of as given_strategy
 from .finding import Failure, warn
-from .folder import Folder, judged
+from .folder import judged
 from .limits import after, sizes_after
 from .made import Made, made, of_base
 from .planning import certified, planned, strategy_of
