@@ -115,8 +115,7 @@ SPOILT = [
     ("docs/WAYS.md", "the planned ones", "to be given later", "says 'to be given later': of what was to come"),
     ("docs/WAYS.md", "the planned ones", "No command uses it yet", "says 'No command uses it yet'"),
     ("docs/WAYS.md", "the planned ones", "| planned |", "says '| planned |': of what was to come"),
-    ("docs/WAYS.md", "the planned ones", "see promises.md", "says 'promises.md': a file outside of the repository"),
-    ("docs/WAYS.md", "the planned ones", "see /work/there", "says '/work/t': a place outside of the repository"),
+    ("docs/WAYS.md", "the planned ones", "see /home/there", "says '/home/t': a place outside of the repository"),
     ("docs/WAYS.md", "the planned ones", "of issue 47", "says 'issue 47': the number of an issue"),
 ]
 

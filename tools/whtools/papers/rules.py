@@ -31,8 +31,7 @@ FORBIDDEN = [
     (r"\bNo command uses it yet\b", "of what was to come"),
     (r"\|\s*planned\s*\||\(planned\)|\*planned\*\*|\bStatus: planned\b|\bplanned for (?:later|a later)\b|\bstill planned\b", "of what was to come"),
     (r"\bnot yet (?:built|written|done|proved|there)\b|\b(?:will|shall) come later\b|\bTODO\b|\bFIXME\b", "of what was to come"),
-    (r"(?<![\w/])(?:\w+/)*(?:scope|formats|promises|reading|settled|stages|style)\.md\b", "a file outside of the repository"),
-    (r"/work/\w|\bshared/(?:spec|design)\b|(?<![\w/.])spec/", "a place outside of the repository"),
+    (r"(?<![\w.])/(?:home|root|work)/\w|(?<![\w/.])spec/", "a place outside of the repository"),
     (r"\b[Ii]ssues? #?\d+|(?<![\w&/])#\d{2,}\b", "the number of an issue"),
 ]
 
