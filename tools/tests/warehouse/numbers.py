@@ -47,6 +47,14 @@ class Told(Shop):
             status, lines = self.ran(*words)
             self.assertEqual((status, lines[0].partition(" is no ")[0]), (3, 'strategy.txt:1:1: "\ufffd\ufffd"'), words)
 
+    def test_counts_that_leave_64_bits_together_are_told(self):
+        most = 2**63 - 1
+        (self.folder / "changes/orders.csv").write_text(f"#,id,day,region\n{most},7,Monday,north\n1,7,Monday,north\n")
+        told = f"changes/orders.csv:3:1: with this record the row counts {most + 1} times, which leaves 64 bits"
+        for words in (["lint"], ["night"]):
+            status, lines = self.ran(*words)
+            self.assertEqual((status, lines[0]), (3, told), words)
+
     def test_a_header_of_another_form_says_what_to_do(self):
         cures = {"id,day,region": "; # is how many of a row come, or with - leave", "#;id;day;region": "; part the cells by commas"}
         for header, cure in (cures | {"#,id,region,day": "; put the columns in that order"}).items():

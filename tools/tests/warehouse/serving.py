@@ -264,6 +264,18 @@ class Hostile(Served):
         self.assertEqual((status, headers["Content-Type"], headers["X-Content-Type-Options"]), (404, "application/json", "nosniff"))
         self.assertEqual(self.asked("/orders%0d%0aX-Evil:1")[1]["X-Evil"], None)
 
+    def raw(self, target):
+        """The first line of the answer to a request whose target is these bytes, and its body."""
+        with socket.create_connection(self.server.server_address, timeout=20) as connection:
+            connection.sendall(b"GET %s HTTP/1.1\r\nHost: localhost\r\nConnection: close\r\n\r\n" % target)
+            head, _, body = b"".join(iter(lambda: connection.recv(4096), b"")).partition(b"\r\n\r\n")
+        return head.partition(b"\r\n")[0], body
+
+    def test_letters_that_are_not_quoted_are_utf_8(self):
+        plain, quoted = (self.raw(target)[1] for target in ("/s\u00fcd".encode(), b"/s%C3%BCd"))
+        self.assertEqual((plain, "s\u00fcd" in json.loads(plain)["error"]), (quoted, True))
+        self.assertEqual(self.raw(b"/s\xfcd")[0], b"HTTP/1.1 400 Bad Request")
+
     def test_other_hosts_sites_methods_and_bodies(self):
         self.refused("/orders", 421, "this host is not served here", Host="evil.example")
         self.refused("/session", 403, "this comes from another site", "POST", Origin="https://evil.example")

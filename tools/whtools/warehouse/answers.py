@@ -113,7 +113,8 @@ class Answers:
     def answer(self, request):
         """The answer to a request, whatever it is."""
         try:
-            parts = urlsplit(request.target)
+            # What comes is bytes, a character each; they are UTF-8, also where they are not quoted.
+            parts = urlsplit(request.target.encode("latin-1").decode())
             path = unquote(parts.path, errors="strict")
             return self.route(request, path, fields_of(parts.query))
         except Refused as refused:

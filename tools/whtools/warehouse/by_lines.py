@@ -12,6 +12,8 @@ from functools import lru_cache
 BLOCK = 2**15
 # The counts of a table that are not 1.
 COUNTS = re.compile(rb"\n(?!1,)([0-9]+),")
+# Counts so long that few of them together may leave 64 bits.
+LONG_COUNTS = re.compile(rb"\n-?[0-9]{16,},")
 OTHERS = bytes(set(range(256)) - set(b'"\n'))
 NUMBER, POSITIVE, CHANGED = rb"[+-]?[0-9]{1,18}+", rb"[1-9][0-9]{0,17}+", rb"-?[1-9][0-9]{0,17}+"
 QUOTED, PLAIN = rb'"(?:[^"\0]++|"")*+"', rb'[^",\r\n\0]'
@@ -38,6 +40,8 @@ def is_sound(content, start, columns, is_counted, are_changes):
     """Whether all records of a table or of changes are seen at once to have no fault. Of one that is not, nothing is said."""
     count = (CHANGED if are_changes else POSITIVE) if is_counted else None
     found = form(tuple(kind for _, kind in columns), count).match(content, start)
+    if is_counted and LONG_COUNTS.search(content, start - 1):
+        return False
     return found.end() == len(content) and is_utf_8(content)
 
 

@@ -212,6 +212,8 @@ class Reading:
         row = tuple(cells)
         self.rows[row] += count
         self.lines.setdefault(row, line)
+        if not -(2**63) <= self.rows[row] < 2**63:
+            self.find(line, 1, f"with this record the row counts {self.rows[row]} times, which leaves 64 bits")
 
     def find_length(self, record, wanted, line):
         """A record of another length than the header; where a cell goes over lines, its quote may be what is wrong."""
