@@ -1,6 +1,7 @@
 """Tests of what is made of an application's tables without a database: columns that are turned, views that are read, keys that follow."""
 
 import sqlite3
+import subprocess
 import unittest
 from types import SimpleNamespace
 
@@ -10,6 +11,7 @@ from whtools.live.parsed import NotTaken, parsed
 from whtools.live.sizes import Past, within
 from whtools.live.sqlite import LiveSQLite
 from whtools.live.turned import Told, Unturned, literal_apart, of_postgresql, of_sqlite
+from whtools.program import ROOT
 from whtools.sql.catalogue import Catalogue
 from whtools.sql.shape import Shape
 from whtools.sql.steps import Steps
@@ -82,6 +84,16 @@ class Parsed(unittest.TestCase):
         where = parsed("SELECT x FROM a WHERE ((x + 1) * 2) > 3 AND (y = 'it''s' OR NOT (z IS NULL))").where
         self.assertEqual(where[0], "all")
         self.assertEqual(where[2], ("any", ("compared", "=", ("column", None, "y"), ("text", "it's")), ("not", ("null", ("column", None, "z")))))
+
+
+class WordsOfADatabase(unittest.TestCase):
+    def test_where_no_database_is_read_they_are_refused(self):
+        for engine in "postgresql", "sqlite", "clickhouse":
+            for words in ["--database", "live"], ["--from", "there"], ["--measured"]:
+                asked = [ROOT / "tools/sql", "--night", "--engine", engine, *words, ROOT / "examples/shop"]
+                ran = subprocess.run(asked, capture_output=True, text=True)
+                self.assertEqual((ran.returncode != 0, ran.stdout), (True, ""), words)
+                self.assertRegex(ran.stderr, "^tools/sql: --database, --from and --measured go with ")
 
 
 class KeysThatFollow(unittest.TestCase):

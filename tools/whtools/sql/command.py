@@ -91,6 +91,8 @@ def written(words):
         if words.engine == "clickhouse":
             raise Unfit(f"{', '.join(f'--{name}' for name in LIVE)} go with --engine postgresql or sqlite")
         return live.written(words)
+    if words.database or words.source or words.measured:
+        raise Unfit(f"--database, --from and --measured go with {', '.join(f'--{name}' for name in LIVE)}")
     catalogue = read(words.path)
     script, comments = script_of(catalogue, words), Comments(catalogue)
     dialect = script.dialect
