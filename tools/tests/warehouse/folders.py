@@ -175,7 +175,7 @@ class Laid(Kept):
     def test_a_view_whose_columns_change_gets_a_new_name(self):
         self.night()
         self.edit("catalogue.toml", 'columns = ["product:text", "price"]', 'columns = ["product:text", "price", "kind:text"]')
-        has = "the header of products is #,product,price,kind; it is #,product,price"
+        has = "products has the header #,product,price,kind; this is #,product,price"
         cure = "a kept table has the columns of its night: name the view anew, such as products_2, with a table in data/"
         self.assertEqual(self.ran("lint"), (3, [f"versions/1/data/products.csv:1:1: {has}; {cure}"]))
         text = (self.folder / "catalogue.toml").read_text().replace('"products"', '"products_2"').replace("products.", "products_2.")

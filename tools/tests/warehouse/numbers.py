@@ -7,7 +7,7 @@ from whtools.warehouse.numbers import is_between, number_of
 from .shop import Shop
 
 DIGITS = "9" * 5000
-HEADER = "the header of orders is #,id,day,region; it is "
+HEADER = "orders has the header #,id,day,region; this is "
 
 
 class Numbers(unittest.TestCase):

@@ -95,7 +95,7 @@ def of_files(folder):
     """Faults of files of data and changes, each with its place."""
     wrong = []
     faults = [
-        ("changes/a.csv", "#,x,k\n1,2,3\n", "changes/a.csv:1:1", "the header of a is #,k,x"),
+        ("changes/a.csv", "#,x,k\n1,2,3\n", "changes/a.csv:1:1", "a has the header #,k,x"),
         ("changes/a.csv", "k,x\n1,2\n", "changes/a.csv:1:1", "the header"),
         ("changes/a.csv", "#,k,x\n1,2\n", "changes/a.csv:2:1", "2 cells"),
         ("changes/a.csv", "#,k,x\n1,2,9223372036854775808\n", "changes/a.csv:2:5", "64 bits"),

@@ -160,8 +160,8 @@ class Reading:
         counted = header is not None and header[:1] == ["#"]
         wanted = ["#", *columns] if counted or self.are_changes else columns
         if header != wanted:
-            has = "it is missing" if header is None else f"it is {','.join(header)}"
-            self.find(1, 1, f"the header of {self.view.name} is {','.join(wanted)}; {has}{self.cure_of(header or [], columns)}")
+            has = "it is missing" if header is None else f"this is {','.join(header)}"
+            self.find(1, 1, f"{self.view.name} has the header {','.join(wanted)}; {has}{self.cure_of(header or [], columns)}")
             return
         kinds = (["int"] if counted else []) + [kind for _, kind in self.view.columns]
         line = reader.line_num + 1
