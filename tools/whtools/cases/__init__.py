@@ -1,5 +1,6 @@
 """Cases: words and an input, and what the program has to answer. A module for each group of them."""
 
+import contextlib
 import os
 import resource
 import signal
@@ -61,9 +62,11 @@ class AByteAtATime(Case):
     def ran(self, started):
         kept = {"stdin": subprocess.PIPE, "stdout": subprocess.PIPE, "stderr": subprocess.PIPE, "bufsize": 0}
         with subprocess.Popen([started, *self.words], **kept) as child:
-            for byte in self.given:
-                child.stdin.write(bytes([byte]))
-                self.between(child)
+            # A program that ends early is judged by its answer.
+            with contextlib.suppress(BrokenPipeError):
+                for byte in self.given:
+                    child.stdin.write(bytes([byte]))
+                    self.between(child)
             child.stdin.close()
             text, said = child.stdout.read(), child.stderr.read()
         return subprocess.CompletedProcess([], child.returncode, text, said)
