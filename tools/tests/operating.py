@@ -8,7 +8,7 @@ from whtools.warehouse.status import AT_WORK, NO_ANSWER
 
 FORMATS = (ROOT / "docs/FORMATS.md").read_text()
 OPERATING = (ROOT / "docs/OPERATING.md").read_text()
-MOST_BYTES = 8 * 1024
+MOST_BYTES = 6144
 CODE = re.compile(r"`([^`\n]+)`")
 
 
