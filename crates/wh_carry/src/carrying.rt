@@ -76,6 +76,7 @@ pub fn carry<F: RowTest, G: RowValue>(
 
 /// Tests the change of each base view, by rising number: Absent with the first row that it takes below zero, then Large
 /// where a count leaves i64. Memory only for the row that a change lacks. There is a table and a change for each view.
+/// Takes O(m w log n) time for m changed rows in all, of w cells, and tables of at most n rows, beside a look at each view.
 pub fn base_changes<F: RowTest, G: RowValue>(
     alloc: Global,
     catalog: &Catalog<F, G>,

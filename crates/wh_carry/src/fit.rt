@@ -13,6 +13,7 @@ use wh_maint::is_fit;
 use wh_row::Bag;
 
 /// Whether each view's table is fit, as a night asks for. Memory is wanted for the groups of summaries alone.
+/// Takes O(n w log n) time for n rows of summaries, of w cells, beside a look at each other view.
 pub fn are_fit<F: RowTest, G: RowValue>(
     alloc: Global,
     catalog: &Catalog<F, G>,

@@ -60,7 +60,7 @@ impl Jobs {
 
 /// The stages of a correct list in its order: an Inst is a stage of its own and ends the open wave; a Comp joins the open
 /// wave, unless it is from a view that a Comp of that wave computes, when it opens the next one. Memory only where the
-/// list is not empty.
+/// list is not empty. Takes O(E² C) time for E expressions, each from at most C views.
 pub fn waves(alloc: Global, correct: &Correct) -> Result<Vec<Stage>, AllocError>
     ensures stages { IfOk result (λ stages. stages.items ≡ stages_of correct.now.list) }
     ensures memory { OnErr result (correct.now.list ≢ []) }

@@ -45,7 +45,8 @@ impl Model for Tree {
 
 impl Tree {
     /// Takes the nodes of a tree in preorder. `None` where they are those of no tree, or of one that is deeper than
-    /// [`MAX_DEPTH`]; the nodes are then dropped. Whether the tree is right is for `certify` to judge.
+    /// [`MAX_DEPTH`]; the nodes are then dropped. Whether the tree is right is for `certify` to judge. Takes O(N) for N
+    /// nodes.
     pub fn new(nodes: Vec<TreeNode>) -> Option<Tree>
         ensures { MatchOption result ((tree : CaseTree) → IsTreeOf nodes.items tree → ⊥) (λ t. t ≡ nodes.items) }
     {

@@ -56,7 +56,8 @@ impl ChildLists {
         &self.lists[view]
     }
 
-    /// Whether this view is over that one; a number that is no view's is over none.
+    /// Whether this view is over that one; a number that is no view's is over none. Takes O(C) for C
+    /// children of the view.
     #[tactic(auto, unfolding(crate::specs::Shape::children_of, crate::specs::Shape::has))]
     pub fn is_over(&self, view: usize, child: usize) -> bool
         ensures { result ≡ has (children_of self.now view) child }
@@ -64,7 +65,7 @@ impl ChildLists {
         view < self.len() && has_view(self.of(view), child)
     }
 
-    /// Whether a view is over both of these.
+    /// Whether a view is over both of these. Takes O(V C) for V views of at most C children each.
     pub fn have_parent(&self, first: usize, second: usize) -> bool
         ensures { result ≡ have_parent self.now first second }
     {

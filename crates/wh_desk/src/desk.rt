@@ -208,6 +208,8 @@ impl Desk {
 
     /// A page of a view in the session's version: its first rows after this one, or from its beginning, at most `limit`, which is 1 to 256.
     /// Memory is wanted for its rows alone.
+    /// Takes O(w (log n + p)) time for the view's n rows of w cells, p of which it walks through: also those that the version does
+    /// not show.
     #[tactic(auto, using(crate::proofs::Growing::reads_grow))]
     pub fn page(
         &mut self,

@@ -59,6 +59,7 @@ fn seat_all(alloc: Global, raw: &mut Raw, desks: usize) -> Result<Vec<Desk>, Ope
 }
 
 /// A new warehouse over a store in which nothing was done yet, with so many desks. Nothing is published; all desks are the writer's own.
+/// The store is copied, in O(n w) time for n rows of w cells in all.
 pub fn open_warehouse<R: Wait>(
     rt: &R,
     alloc: Global,

@@ -324,7 +324,7 @@ impl Writer {
         self.inner.raw.published().store.current_views()
     }
 
-    /// The table of a view in the current version. Memory is wanted for its rows alone.
+    /// The table of a view in the current version. Memory is wanted for its rows alone. Takes O(n w) time for the view's n rows of w cells.
     pub fn table(&self, view: usize) -> Result<Bag, AllocError>
         requires { view < length (versions_in self.now.ledger.of self.now.ledger.list).newest }
         ensures table { IfOk result (λ table. table ≡ table_in (versions_in self.now.ledger.of self.now.ledger.list).newest view) }

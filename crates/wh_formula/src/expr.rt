@@ -102,7 +102,7 @@ impl Expr {
         })
     }
 
-    /// How many levels it has: one more than its deepest part.
+    /// How many levels it has: one more than its deepest part. Takes O(n) for n parts.
     pub fn depth(&self) -> usize
         ensures value { result ≡ depth self.now }
         ensures within { result ≤ MAX_DEPTH }
@@ -114,7 +114,7 @@ impl Expr {
         }
     }
 
-    /// Each column lies in a row of that width.
+    /// Each column lies in a row of that width. Takes O(n) for n parts.
     pub fn fits(&self, width: usize) -> bool
         ensures { result ≡ fits width self.now }
     {
@@ -126,7 +126,8 @@ impl Expr {
         }
     }
 
-    /// The value at a row; `None` where a sum, a difference or a product leaves `i64`.
+    /// The value at a row; `None` where a sum, a difference or a product leaves `i64`. Takes O(n)
+    /// for n parts.
     pub fn value(&self, row: &[i64]) -> Option<i64>
         requires { IsTrue (fits (length row.now) self.now) }
         ensures { result ≡ value row.now self.now }
@@ -140,7 +141,8 @@ impl Expr {
         }
     }
 
-    /// Another expression of the same form. A column and a constant take no memory.
+    /// Another expression of the same form. A column and a constant take no memory. Takes O(n) for
+    /// n parts.
     pub fn copy(&self, alloc: Global) -> Result<Expr, AllocError>
         ensures copy { IfOk result (λ copy. copy ≡ self.now) }
         ensures memory { OnErr result (HasParts self.now) }

@@ -99,7 +99,8 @@ impl Pred {
         })
     }
 
-    /// How many levels it has: one more than its deepest part or expression.
+    /// How many levels it has: one more than its deepest part or expression. Takes O(n) for n
+    /// parts, those of its expressions included.
     #[cycle(pred_depth)]
     pub fn depth(&self) -> usize
         ensures value { result ≡ depth self.now }
@@ -113,7 +114,8 @@ impl Pred {
         }
     }
 
-    /// Each column lies in a row of that width.
+    /// Each column lies in a row of that width. Takes O(n) for n parts, those of its expressions
+    /// included.
     #[cycle(pred_fits)]
     pub fn fits(&self, width: usize) -> bool
         ensures { result ≡ fits width self.now }
@@ -126,7 +128,7 @@ impl Pred {
         }
     }
 
-    /// Whether a row meets the test.
+    /// Whether a row meets the test. Takes O(n) for n parts, those of its expressions included.
     #[cycle(pred_holds)]
     pub fn holds(&self, row: &[i64]) -> bool
         requires { IsTrue (fits (length row.now) self.now) }
@@ -142,6 +144,7 @@ impl Pred {
     }
 
     /// Another test of the same form. It takes memory for the parts of tests and expressions alone.
+    /// Takes O(n) for n parts, those of its expressions included.
     #[cycle(pred_copy)]
     pub fn copy(&self, alloc: Global) -> Result<Pred, AllocError>
         ensures copy { IfOk result (λ copy. copy ≡ self.now) }

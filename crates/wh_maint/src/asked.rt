@@ -70,7 +70,7 @@ fn are_distinct(views: &[usize]) -> bool
 
 /// Whether a derived view's table is fit: no count is negative and, of a summary, each row stands
 /// once, alone of its group, with a positive count of the group. Memory is wanted for a summary's
-/// groups alone.
+/// groups alone. Takes O(1) time for a joined view, and O(n w log n) for a summary of n rows of w cells.
 pub fn is_fit<F: RowTest, G: RowValue>(
     alloc: Global,
     catalog: &Catalog<F, G>,

@@ -24,7 +24,7 @@ use wh_row::Bag;
 /// group that stands in the pending accumulators, its new row less its old one, where a group whose
 /// count becomes 0 has no new row, and one whose sums are 0 has one. The table is fit, and what is
 /// pending is of this view. Large where the new count of such a group leaves i64; then Range where a
-/// new sum of one does.
+/// new sum of one does. Of a joined view, it takes O(m w) time for m pending rows of w cells.
 pub fn finish<F: RowTest, G: RowValue>(
     alloc: Global,
     catalog: &Catalog<F, G>,

@@ -65,14 +65,14 @@ impl Pending {
         self.sums.len()
     }
 
-    /// How often a row or a group counts.
+    /// How often a row or a group counts. Takes O(w log n) time for n rows or groups of w cells.
     pub fn count(&self, row: &[i64]) -> i64
         ensures { result ≡ count_of (bag_at self.now.columns 0) row.now }
     {
         self.counts.count(row)
     }
 
-    /// The sum with this number, from 0, of a group.
+    /// The sum with this number, from 0, of a group. Takes O(w log n) time for n groups of w cells.
     pub fn sum(&self, number: usize, group: &[i64]) -> i128
         requires { suc number < length self.now.columns }
         ensures { result ≡ count_of (bag_at self.now.columns (suc number)) group.now }

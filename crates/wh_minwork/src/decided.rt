@@ -42,6 +42,7 @@ impl Decided {
     }
 
     /// All couples of the shape, each decided by the desired order: the graph under these decisions is the ordered graph.
+    /// Takes O(V² + V C²) for V views of at most C children each.
     pub fn by_desired_order(
         alloc: Global,
         shape: &Shape,
@@ -71,7 +72,7 @@ impl Decided {
         &self.couples
     }
 
-    /// Whether it is decided that the first view is installed before the second.
+    /// Whether it is decided that the first view is installed before the second. Takes O(n) for n decisions.
     #[tactic(auto, unfolding(wh_cert::specs::Graph::decides))]
     pub fn decides(&self, first: usize, second: usize) -> bool
         ensures { result ≡ decides self.now first second }

@@ -116,7 +116,8 @@ impl<'a> Graph<'a> {
         Ok(nodes)
     }
 
-    /// Each node once, with each edge forward. Which such order it is, of several, is left open.
+    /// Each node once, with each edge forward. Which such order it is, of several, is left open. Takes O(N²) for N
+    /// nodes.
     pub fn sorted(&self, alloc: Global) -> Result<Strategy, SortFault>
         ensures sorted { IfOk result (IsSorted self.now.children self.now.decided) }
         ensures acyclic { IfOk result (λ _. IsAcyclic self.now.children self.now.decided) }

@@ -11,7 +11,7 @@ use wh_dag::Shape;
 use wh_strategy::Sizes;
 
 /// The lines of a certificate by pairs: each sibling pair with its views in the desired order, and its minimum in rows by weight.
-/// Takes no memory where there is no such pair.
+/// Takes no memory where there is no such pair. Takes O(V² C²) for V views of at most C children each.
 pub fn pair_mins(alloc: Global, shape: &Shape, sizes: &Sizes) -> Result<PairMins, AllocError>
     requires { length sizes.now ≡ length shape.now.children }
     ensures lines { IfOk result (λ lines. lines ≡ lines_of shape.now.children (sizes_of sizes.now)) }

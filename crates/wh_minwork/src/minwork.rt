@@ -74,7 +74,7 @@ fn ordered_strategy(alloc: Global, shape: &Shape, sizes: &Sizes) -> Result<Strat
 
 /// A plan of least work among all correct strategies, from the ordered graph alone, wherever that has no cycle: so for each
 /// tree and each uniform shape, whatever the sizes. Its list is the order in which [`Graph::sorted`] places the nodes of that
-/// graph.
+/// graph. Takes O(V² C²) for V views of at most C children each.
 pub fn min_work(
     alloc: Global,
     shape: &Shape,

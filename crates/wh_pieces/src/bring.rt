@@ -13,6 +13,7 @@ use std::alloc::AllocError;
 impl<T: Copy + Drop> Pieces<T> {
     /// Merges another map into this one, row by row, which serves where the other is much smaller.
     /// Where both have a row, `combine` gives its value, or none where the row is to be left out.
+    /// Takes the time of m inserts, O(m w log(n + m)), for the other's m rows beside n, of w cells.
     pub fn merge<F: Fn(T, T) -> Option<T>>(
         &mut self,
         other: &Self,

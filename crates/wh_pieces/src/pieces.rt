@@ -63,7 +63,7 @@ impl<T: Copy + Drop> Pieces<T> {
     }
 
     /// The map of these rows of one width, whose cells stand side by side, each with its value. They rise, so pieces are cut from them
-    /// and no row is looked at.
+    /// and no row is looked at. Takes O(n w) time for n rows of w cells.
     pub fn from_rising(
         alloc: Global,
         width: usize,
@@ -109,7 +109,7 @@ impl<T: Copy + Drop> Pieces<T> {
         self.len
     }
 
-    /// Whether each row has this many cells. Pieces are asked, and no rows.
+    /// Whether each row has this many cells. Pieces are asked, and no rows. Takes O(p) time for p pieces.
     pub fn is_width(&self, width: usize) -> bool
         ensures { IsTrue result ↔ AreWide width self.now }
     {
@@ -128,7 +128,7 @@ impl<T: Copy + Drop> Pieces<T> {
         self.len() == 0
     }
 
-    /// The value at a row.
+    /// The value at a row. Takes O(w log n) time for n rows of w cells.
     pub fn get(&self, row: &[i64]) -> Option<T>
         ensures { result ≡ found row.now self.now }
     {
@@ -151,7 +151,7 @@ impl<T: Copy + Drop> Pieces<T> {
         Entries::new(&self.pieces, 0)
     }
 
-    /// The entries above this row, in rising order. Those below it are not walked through.
+    /// The entries above this row, in rising order. Those below it are not walked through. Takes O(w log n) time for n rows of w cells.
     pub fn entries_after(&self, row: &[i64]) -> Entries<'_, T>
         ensures entries { result ≡ above row.now self.now }
         ensures few { length result < 2 ^ 63 }
@@ -167,7 +167,7 @@ impl<T: Copy + Drop> Pieces<T> {
         Entries::new(&self.pieces[nth..], place)
     }
 
-    /// The entries from this row on, in rising order. Those below it are not walked through.
+    /// The entries from this row on, in rising order. Those below it are not walked through. Takes O(w log n) time for n rows of w cells.
     pub fn entries_from(&self, row: &[i64]) -> Entries<'_, T>
         ensures { result ≡ from row.now self.now }
     {
@@ -183,6 +183,7 @@ impl<T: Copy + Drop> Pieces<T> {
     }
 
     /// Sets the value at a row, and gives the one that stood there. It takes memory only for a row that is new.
+    /// Takes O(w log n) time for n rows of w cells, and moves at most a piece's rows; where a full piece is cut, O(n) more at worst.
     pub fn insert(&mut self, row: &[i64], value: T) -> Result<Option<T>, AllocError>
         ensures gives { IfOk result (λ r. r ≡ found row.now self.old) }
         ensures ok { OnOk result (self.new ≡ with_entry self.old row.now value) }
@@ -261,6 +262,7 @@ impl<T: Copy + Drop> Pieces<T> {
     }
 
     /// Puts another map's rows, which are all above these, behind them. Its pieces are moved, and no row is looked at.
+    /// Takes O(p) time, amortised, for its p pieces.
     pub fn put_above(&mut self, other: Pieces<T>) -> Result<(), AllocError>
         requires { AreRisingRows (self.old ++ other) }
         ensures ok { OnOk result (self.new ≡ self.old ++ other) }
@@ -280,7 +282,7 @@ impl<T: Copy + Drop> Pieces<T> {
         Ok(())
     }
 
-    /// Adds a row that is above all others.
+    /// Adds a row that is above all others. Takes O(w) time, amortised, for a row of w cells.
     pub fn push(&mut self, row: &[i64], value: T) -> Result<(), AllocError>
         requires { IsAbove row.now self.old }
         ensures ok { OnOk result (self.new ≡ self.old ++ (row.now, value) ∷ []) }
@@ -295,6 +297,7 @@ impl<T: Copy + Drop> Pieces<T> {
     }
 
     /// Removes a row, and gives its value.
+    /// Takes O(w log n) time for n rows of w cells, and moves at most a piece's rows; where it empties a piece, O(n) more at worst.
     pub fn remove(&mut self, row: &[i64]) -> Option<T>
         ensures gives { result ≡ found row.now self.old }
         ensures entries { self.new ≡ without_entry self.old row.now }
@@ -335,7 +338,7 @@ impl<T: Copy + Drop> Pieces<T> {
         }
     }
 
-    /// A map with the same entries, made by `alloc`.
+    /// A map with the same entries, made by `alloc`. Takes O(n w) time for n rows of w cells.
     pub fn copy(&self, alloc: Global) -> Result<Self, AllocError>
         ensures ok { IfOk result (λ copy. copy ≡ self.now) }
 
@@ -357,6 +360,7 @@ impl<T: Copy + Drop> Pieces<T> {
     }
 
     /// The same rows, each with a value that `value_of` makes of the one there. No row is looked at.
+    /// Takes O(n w) time for n rows of w cells.
     pub fn with_values<U: Copy + Drop, F: Fn(T) -> U>(
         &self,
         alloc: Global,

@@ -51,7 +51,8 @@ fn certified(shape: &Shape, sizes: &Sizes, costs: Costs, planned: Planned) -> Pl
 
 /// A plan of least work: among all correct strategies wherever the ordered graph has no cycle, or a one-way strategy
 /// reaches the pair bound all the same; otherwise among those whose Comps are each from one view. Of a tree or a
-/// uniform shape the answer is scope All, or Memory, whatever the budget.
+/// uniform shape the answer is scope All, or Memory, whatever the budget. Takes O(V² C²) for V views of at most C
+/// children each where the ordered graph has no cycle, and else what `prune` and `certify` take too.
 #[tactic(auto, using(crate::proofs::Exploring::all_within, crate::proofs::Exploring::all_branches))]
 pub fn plan(
     alloc: Global,

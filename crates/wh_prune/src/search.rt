@@ -52,7 +52,8 @@ fn reason(
     }
 }
 
-/// A strategy of least work among the one-way ones, by opening at most `budget` nodes of a tree of decisions.
+/// A strategy of least work among the one-way ones, by opening at most `budget` nodes of a tree of decisions. Takes
+/// O(V³ C + K N²) for V views of at most C children each, K nodes that are opened and N one-way expressions.
 pub fn prune(
     alloc: Global,
     shape: &Shape,

@@ -57,7 +57,7 @@ impl Model for Store {
 
 impl Store {
     /// Version 0, of these tables, in no night. Sessions of the last `versions` versions can be read, 2 to 4, and of one less
-    /// while a night is open.
+    /// while a night is open. Takes O(n w) time for n rows of w cells in all tables.
     pub fn new(alloc: Global, tables: &[Bag], versions: usize) -> Result<Store, AllocError>
         requires tables { AreTables tables.now }
         requires least { 2 ≤ versions }
@@ -101,6 +101,8 @@ impl Store {
 
     /// Does an operation. A refusal changes nothing that is shown; the fault is the first of [`StoreFault`]'s reasons that holds. Only a put
     /// takes memory, and none where each of its rows was put in this night before.
+    /// Begin and GiveUp take O(V + t w log n) time for V views and the t rows that nights touched, of n of w cells; Commit O(1); Put
+    /// O(r w log(n + r)) for r rows.
     pub fn apply(&mut self, op: &Op) -> Result<(), StoreFault>
         // Each list of operations that was shown is shown with this one behind it.
         ensures shows { OnOk result ((opening : Contents) (ops : List Operation) → Shows self.old opening ops → Shows self.new opening (ops ++ operation op.now ∷ [])) }
@@ -200,6 +202,7 @@ impl Store {
 
     /// A page of a view in a version that sessions can be read of: its first rows after this one, or from its beginning, at
     /// most `limit`, which is 1 to 256. Memory is wanted for its rows alone.
+    /// Takes O(w (log n + p)) time for n rows of w cells, p of which it walks through: also those that the version does not show.
     pub fn visible(
         &self,
         version: u64,
@@ -239,7 +242,7 @@ impl Store {
         }
     }
 
-    /// The table of a view in the current version. Memory is wanted for its rows alone.
+    /// The table of a view in the current version. Memory is wanted for its rows alone. Takes O(n w) time for the view's n rows of w cells.
     pub fn table(&self, view: usize) -> Result<Bag, AllocError>
         requires { view < length (current self.now) }
         ensures table { IfOk result (λ table. table ≡ table_in (current self.now) view) }
@@ -251,7 +254,7 @@ impl Store {
     }
 
     /// What a row of a view counts in the last versions, where it is there: a row that is not there has no pairs, and one that is may have
-    /// none.
+    /// none. Takes O(w log n) time for the view's n rows of w cells.
     pub fn slots(&self, view: usize, row: &[i64]) -> Option<Slots>
         ensures { pairs_in result ≡ pairs_at self.now.rows view row.now }
     {
@@ -277,7 +280,7 @@ impl Store {
         }
     }
 
-    /// A store that shows the same.
+    /// A store that shows the same. Takes O((n + t) w) time for n rows of w cells, and t that the last nights touched.
     pub fn copy(&self, alloc: Global) -> Result<Store, AllocError>
         ensures { IfOk result (λ copy. copy ≡ self.now) }
     {

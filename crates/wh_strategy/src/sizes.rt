@@ -89,7 +89,8 @@ impl Model for Sizes {
 }
 
 impl Sizes {
-    /// Takes the rows, one for each view by its number. Takes no memory; rows that are refused are dropped.
+    /// Takes the rows, one for each view by its number. Takes no memory; rows that are refused are dropped. Takes O(V) for V
+    /// views.
     pub fn new(rows: Vec<SizeRow>) -> Result<Sizes, OutOfRange>
         ensures ok { IfOk result (λ s. (s ≡ rows.items) × AreSizeRows rows.items) }
         ensures err { IfErr result (λ e. IsFirstOutside rows.items e.0) }

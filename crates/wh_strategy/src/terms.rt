@@ -128,6 +128,7 @@ fn place_cost(
 }
 
 /// The work of a correct strategy at these sizes and costs, in cost times rows by weight. Takes no memory.
+/// Takes O(V C²) for V views of at most C children each.
 #[tactic(auto, using(crate::proofs::SumsBelow::sums))]
 pub fn work(shape: &Shape, sizes: &Sizes, costs: Costs, correct: &Correct) -> u128
     requires same { correct.now.children ≡ shape.now.children }

@@ -17,7 +17,7 @@ fn line_len(text: &[u8]) -> usize
     }
 }
 
-/// The first line with its LF, and what stands below it.
+/// The first line with its LF, and what stands below it. Takes O(n) for n bytes of that line.
 pub fn first_line(text: &[u8]) -> (&[u8], &[u8])
     requires { 0 < length text.now }
     ensures some { 0 < length result.0.now }

@@ -31,7 +31,8 @@ impl Model for Names {
 }
 
 impl Names {
-    /// The names of the views of this shape. Where it has no view, no memory is taken.
+    /// The names of the views of this shape. Where it has no view, no memory is taken. Takes O(n) on average for n bytes
+    /// of names.
     pub fn of(alloc: Global, shape: &Shape) -> Result<Names, AllocError>
         ensures names { IfOk result (λ names. names ≡ shape.now.names) }
         ensures memory { OnErr result (shape.now.names ≢ []) }
@@ -54,7 +55,7 @@ impl Names {
     }
 
     /// The view whose name is this word, or `None` where it is no view's; a word that is not UTF-8 is no name. A name that
-    /// several views had would mean the first of them.
+    /// several views had would mean the first of them. Takes O(n) on average for n bytes of the word.
     pub fn number(&self, word: &[u8]) -> Option<usize>
         ensures { result ≡ number_of self.now word.now }
     {

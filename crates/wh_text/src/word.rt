@@ -19,7 +19,7 @@ impl Model for Word {
 }
 
 impl Word {
-    /// A copy of these bytes. An empty one takes no memory.
+    /// A copy of these bytes. An empty one takes no memory. Takes O(n) for n bytes.
     pub fn new(alloc: Global, bytes: &[u8]) -> Result<Word, AllocError>
         ensures word { IfOk result (λ word. word ≡ bytes.now) }
         ensures memory { OnErr result (bytes.now ≢ []) }

@@ -56,21 +56,22 @@ impl<'a> Bundle<'a> {
         self.parts.as_slice()
     }
 
-    /// How many nights there are: one from the start, and one for each `@night`.
+    /// How many nights there are: one from the start, and one for each `@night`. Takes O(p) for p parts.
     pub fn nights(&self) -> usize
         ensures { result ≡ nights_of self.now }
     {
         count_nights(&self.parts) + 1
     }
 
-    /// The parts of a night, which counts from 0, in the order in which they stand.
+    /// The parts of a night, which counts from 0, in the order in which they stand. Takes O(log p) for p parts.
     pub fn night(&self, night: usize) -> &[Part<'a>]
         ensures { result.now ≡ parts_of_night night self.now }
     {
         parts_of_night(&self.parts, night)
     }
 
-    /// The part with this heading. The night matters only where the heading may stand in each.
+    /// The part with this heading. The night matters only where the heading may stand in each. Compares O(p) headings for
+    /// p parts.
     pub fn find(&self, heading: &Heading<'_>, night: usize) -> Option<&Part<'a>>
         ensures { option_copied result ≡ found heading.now night self.now }
     {
@@ -82,7 +83,7 @@ impl<'a> Bundle<'a> {
 }
 
 /// Cuts a bundle into its parts, or finds the first fault from the top of its text. Empty bytes have no part, no fault and
-/// take no memory.
+/// take no memory. Takes O(n log p) for n bytes with p parts.
 #[tactic(auto, using(crate::proofs::CutLemmas::cut_whole))]
 pub fn parts<'a>(alloc: Global, bytes: &'a [u8], nights: Nights) -> Result<Bundle<'a>, PartFault>
     // The lines above the parts, the parts' headings and their bodies, put together, are the bytes.

@@ -87,7 +87,7 @@ fn read_by_chunks<R: Source>(
 
 /// Reads to the end of the reader, and refuses more than `limit` bytes. It answers Read exactly where a read failed.
 ///
-/// After an `Err` the reader stands anywhere.
+/// After an `Err` the reader stands anywhere. Takes O(n) for n bytes that are read.
 pub fn read_all<R: Source>(
     reader: &mut R,
     alloc: Global,

@@ -128,7 +128,8 @@ pub(crate) fn append_expression(
 }
 
 /// Appends the expression as it is written, `comp V from U ..` or `inst V`, with one space between words and no LF. A
-/// number that is no view's is written as an empty name. Where memory fails, nothing is appended.
+/// number that is no view's is written as an empty name. Where memory fails, nothing is appended. Takes O(n) for n
+/// bytes that are written.
 pub fn write_expression(
     out: &mut Vec<u8>,
     names: &Names,

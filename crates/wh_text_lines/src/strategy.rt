@@ -96,7 +96,7 @@ pub(crate) fn append_strategy(
 }
 
 /// Appends the list as it is written, a line for each expression. Where memory fails, nothing is appended; an empty list
-/// takes none.
+/// takes none. Takes O(n) for n bytes that are written.
 pub fn write_strategy(
     out: &mut Vec<u8>,
     names: &Names,

@@ -41,7 +41,7 @@ impl<const N: usize> Model for VersionTable<N> {
 }
 
 impl<const N: usize> VersionTable<N> {
-    /// The rows of a table, as version 0 alone.
+    /// The rows of a table, as version 0 alone. Takes O(n w) time for n rows of w cells.
     pub fn new(alloc: Global, table: &Bag) -> Result<Self, AllocError>
         requires versions { 2 ≤ N }
         requires few { N ≤ 4 }
@@ -71,14 +71,14 @@ impl<const N: usize> VersionTable<N> {
         let _ = self.rows.len();
     }
 
-    /// What a row counts in a version.
+    /// What a row counts in a version. Takes O(w log n) time for n rows of w cells.
     pub fn count(&self, version: u64, row: &[i64]) -> i64
         ensures { result ≡ count_at self.now version row.now }
     {
         count_of(&self.rows, version, row)
     }
 
-    /// The pairs of a row, where it is there.
+    /// The pairs of a row, where it is there. Takes O(w log n) time for n rows of w cells.
     pub fn slots(&self, row: &[i64]) -> Option<VersionRow<N>>
         ensures { result ≡ slots self.now row.now }
     {
@@ -87,6 +87,7 @@ impl<const N: usize> VersionTable<N> {
 
     /// The first rows that a version shows after a row, or from the first on, at most so many, each with its count, and whether it shows
     /// none after these. No row before them is looked at.
+    /// Takes O(w (log n + p)) time for n rows of w cells, p of which it walks through: also those that the version does not show.
     pub fn page(
         &self,
         alloc: Global,
@@ -106,7 +107,7 @@ impl<const N: usize> VersionTable<N> {
         }
     }
 
-    /// The table that a version shows.
+    /// The table that a version shows. Takes O(n w) time for n rows of w cells.
     pub fn table(&self, alloc: Global, version: u64) -> Result<Bag, AllocError>
         ensures ok { IfOk result (λ table. table ≡ table_at self.now version) }
 
@@ -118,6 +119,7 @@ impl<const N: usize> VersionTable<N> {
 
     /// Writes counts of rows in the night that was begun last. First the rows are touched, and those that are not there added, with no
     /// pairs: only this takes memory, and where it is refused some of the rows may have been added.
+    /// Takes O(r w log(n + r)) time for r rows of w cells beside n.
     pub fn put(&mut self, rows: &[(Row, i64)]) -> Result<(), AllocError>
         requires begun { 0 < self.old.night }
         requires counts { HaveCounts (plain rows.now) }
@@ -135,6 +137,7 @@ impl<const N: usize> VersionTable<N> {
     }
 
     /// Takes away what the night that was begun last wrote. It takes no memory, and looks at no row that the night did not touch.
+    /// Takes O(t w log n) time for the t rows that it touched, of n of w cells.
     pub fn give_up(&mut self)
         requires begun { 0 < self.old.night }
         ensures night { self.new.night ≡ self.old.night }
@@ -146,6 +149,7 @@ impl<const N: usize> VersionTable<N> {
 
     /// Begins the next night, and drops the rows that no session which can be read after it can read. Rows that neither the night before
     /// nor the first of the last N - 1 touched are not looked at.
+    /// Takes O(t w log n) time for the t rows that these two touched, of n of w cells.
     pub fn begin(&mut self)
         requires { self.old.night + 1 < 2 ^ 64 }
         ensures night { self.new.night ≡ self.old.night + 1 }
@@ -161,6 +165,7 @@ impl<const N: usize> VersionTable<N> {
     }
 
     /// The same rows again, made by `alloc`. It always takes memory: for the sets of rows that the last nights touched.
+    /// Takes O((n + t) w) time for n rows of w cells and t touched ones.
     pub fn copy(&self, alloc: Global) -> Result<Self, AllocError>
         ensures { IfOk result (λ copy. copy ≡ self.now) }
     {
