@@ -1,9 +1,11 @@
 pub mod Cells
 pub mod ChangesReadingBack
+pub mod CutLaws
 pub mod NamesText
 pub mod PartFaults
 pub mod PartReads
 pub mod PassingPlaces
+pub mod PieceLaws
 pub mod RecordLists
 pub mod RecordReads
 pub mod RecordsReadBack

@@ -103,7 +103,7 @@ grown content columns width count number old new (cells ∷ rest) e =
     (own.entry ∷ more.0, more.1 ∙ ap (λ t. t ++ more.0) own.adds ∙ append_assoc old.entries (own.entry ∷ []) more.0)
 
 -- records whose sums all fit are added as they are entered
-pass : (content : Content) (columns : List NamedKind) (width : ℕ) (count : Counting) (number : ℕ) (old new : EntriesRead) (rows : List (List (List ℕ)))
+pub pass : (content : Content) (columns : List NamedKind) (width : ℕ) (count : Counting) (number : ℕ) (old new : EntriesRead) (rows : List (List (List ℕ)))
     → records_give (entry_scheme content columns) width count number old rows ≡ Ok new → EachSumFits new.entries
     → records_give (table_scheme content columns) width count number old rows ≡ Ok new
 unfolding records_give

@@ -1,3 +1,5 @@
+pub mod Cut
 pub mod Part
+pub mod Pieces
 pub mod TableText
 pub mod Unread

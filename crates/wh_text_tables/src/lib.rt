@@ -3,6 +3,7 @@
 //! [`read_table`], [`read_changes`] and [`read_sizes`] read a record at a time; [`write_table`] writes a table.
 #![tactic(auto)]
 
+mod cut;
 mod laws;
 mod part;
 mod records;

@@ -52,7 +52,7 @@ pub(crate) trait PartReader {
 }
 
 /// What the first record tells, the header.
-fn read_kind<R: PartReader>(
+pub(crate) fn read_kind<R: PartReader>(
     reader: &R,
     records: &mut Records<'_>,
     cells: &mut StringRecord,
@@ -72,7 +72,7 @@ fn read_kind<R: PartReader>(
 }
 
 /// Takes the records below the header, up to the first that has a fault.
-fn read_rows<R: PartReader>(
+pub(crate) fn read_rows<R: PartReader>(
     reader: &R,
     kind: R::Kind,
     width: usize,

@@ -1,6 +1,6 @@
 //! The records of a CSV part, one by one, with what all readers of such parts ask of them.
 
-ghost use Rattle.std.specs.Prelude.{◌≡◌, ◌⊎◌, ◌+◌, ◌∷◌, [], IfOk, IfErr, IfSome, FitsSigned, length, map, None, Some, Ok, true};
+ghost use Rattle.std.specs.Prelude.{◌≡◌, ◌⊎◌, ◌+◌, ◌≤◌, ◌∷◌, [], IfOk, IfErr, IfSome, FitsSigned, length, map, None, Some, Ok, true};
 ghost use Rattle.std.specs.Cmp.Lexicographic.{pointwise};
 ghost use Rattle.std.specs.Int.{w64};
 ghost use Rattle.std.specs.Str.{bytes_eq};
@@ -41,13 +41,28 @@ impl<'a> Records<'a> {
     pub(crate) fn new(alloc: Global, text: &'a [u8]) -> Records<'a>
         ensures { result ≡ record { given = 0; left = records_of text.now } }
     {
+        Records::behind(alloc, 0, text)
+    }
+
+    /// The records of this text that stands below a header, none of them given yet.
+    pub(crate) fn below_header(alloc: Global, text: &'a [u8]) -> Records<'a>
+        ensures { result ≡ record { given = 1; left = records_of text.now } }
+    {
+        Records::behind(alloc, 1, text)
+    }
+
+    /// The records of this text behind so many that were given.
+    fn behind(alloc: Global, given: usize, text: &'a [u8]) -> Records<'a>
+        requires { given ≤ 1 }
+        ensures { result ≡ record { given = given; left = records_of text.now } }
+    {
         let reader = ReaderBuilder::new()
             .has_headers(false)
             .flexible(true)
             .from_reader(alloc, text);
         Records {
             reader,
-            given: 0,
+            given,
             ended: false,
         }
     }

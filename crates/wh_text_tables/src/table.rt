@@ -12,12 +12,15 @@ ghost use Rattle.wh_text_tables.specs.declared.table.header.Content.TheVariants.
 
 mod entry;
 mod header;
+mod renumbered;
 mod rows;
+mod wide;
 mod write;
 
 use crate::part::read_part;
 use crate::table::header::Content;
 use crate::table::rows::{RowsRead, RowsReader};
+use crate::table::wide::read_beside;
 use std::alloc::Global;
 use std::mem;
 use std::thread::Threads;
@@ -66,6 +69,9 @@ fn read_counted<R: Threads + Sync>(
         content,
         columns,
     };
+    if let Some(bag) = read_beside(hands, alloc, &reader, text, &mut rows.dict) {
+        return Ok(bag);
+    }
     let read = read_part(alloc, &reader, text, rows);
     sum_up(hands, alloc, &rows.counted, read)
 }

@@ -3,7 +3,7 @@ use Rattle.csv.specs.Reading.{strip_bom}
 use Rattle.csv.specs.declared.parser.State.TheVariants as st
 use Rattle.wh_text_tables.specs.Unread.{records_after}
 use Rattle.wh_text_tables.proofs.RecordLists.{length-records_after, length-strip_bom}
-use Rattle.wh_text_tables.proofs.records.Records.new.Goals as goal
+use Rattle.wh_text_tables.proofs.records.Records.behind.Goals as goal
 
 pub invariant_of-result : goal.invariant_of-result
 invariant_of-result c =
@@ -17,7 +17,7 @@ invariant_of-result c =
         ready = inr (inr (rw (c.flexible.ensures, c.has_headers.ensures) at made.has_headers, made.headers));
         known = rw made.source refl;
       };
-      fits = rw (made.source, made.state) (omega arith);
+      fits = rw (made.source, made.state) (omega (arith, c.requires, few, short, c.type_inv.text));
     }
 
 pub returns : goal.returns
