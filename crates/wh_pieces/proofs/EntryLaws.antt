@@ -1,6 +1,6 @@
 -- Entries from a place on, and those above a row.
-use Rattle.std.proofs.Common.{◌≡◌, refl, sym, ap, subst, ◌∙◌, ℕ, zero, suc, ◌+◌, ◌<◌, ◌≤◌, List, [], ◌∷◌, ◌++◌, length, take, drop, Some, None, cond, slice_get, arith, length-append, length-drop, add-one, true, false, is_lt, is_le}
-use Rattle.std.proofs.lemmas.List.{drop-drop, take-append-drop, take-append-le, drop-append-le}
+use Rattle.std.proofs.Common.{◌≡◌, refl, sym, ap, subst, ◌∙◌, ℕ, zero, suc, ◌+◌, ◌<◌, ◌≤◌, List, [], ◌∷◌, ◌++◌, length, take, drop, Some, None, cond, slice_get, arith, append_assoc, length-append, length-drop, add-one, true, false, is_lt, is_le}
+use Rattle.std.proofs.lemmas.List.{append-nil, drop-drop, take-append-drop, take-append-le, drop-append-le}
 use Rattle.std.specs.List.{AllByRecursion}
 use Rattle.std.specs.List.Sorted.{IsStrictlySortedBy}
 use Rattle.std.specs.Map.{keys_of}
@@ -11,7 +11,7 @@ use Rattle.wh_pieces.specs.Row.{Row, row_cmp}
 use Rattle.wh_pieces.specs.Place.{AreRisingRows, IsAbove}
 use Rattle.wh_pieces.specs.Inner.Place.{IsBelowFirst, IsFirst, IsAt, IsGapFor}
 use Rattle.wh_pieces.specs.Pieces.{all_of, above, from}
-use Rattle.wh_pieces.specs.Inner.Pieces.{IsPieceFor, piece_at}
+use Rattle.wh_pieces.specs.Inner.Pieces.{AreNotEmpty, IsPieceFor, piece_at, BeginsAt}
 use Rattle.wh_pieces.proofs.RowLaws.{rows_exact}
 use Rattle.wh_pieces.proofs.PieceLaws.{lower_below, rising-back, all-append, all-split, below-append, drop-nth}
 
@@ -53,6 +53,42 @@ run_within x s place k l =
     let first : take k (drop place (x ++ s)) ≡ take k (drop place x) =
     ap (take k) (drop-append-le place x s (omega arith)) ∙ take-append-le k (drop place x) s (omega (arith, length-drop place x)) in
     sym (take-append-drop k (drop place (x ++ s))) ∙ (λ i. first i ++ drop-drop k place (x ++ s) i)
+
+-- ---- entries in two, at a border of pieces
+
+some_taken : {T : Type 0} (ls : List (List (Row × T))) (k : ℕ) → AreNotEmpty ls → AreNotEmpty (take k ls)
+some_taken ls zero a = tt
+some_taken [] (suc k) a = tt
+some_taken (x ∷ ls) (suc k) a = (a.0, some_taken ls k a.1)
+
+begins_first : {T : Type 0} (ls : List (List (Row × T))) → AreNotEmpty ls → BeginsAt ls 0
+begins_first [] a = refl
+begins_first (x ∷ ls) a = a
+
+some_left : {T : Type 0} (ls : List (List (Row × T))) (k : ℕ) → AreNotEmpty ls → BeginsAt (drop k ls) 0
+some_left ls zero a = begins_first ls a
+some_left [] (suc k) a = refl
+some_left (x ∷ ls) (suc k) a = some_left ls k a.1
+
+pub front_begins : {T : Type 0} (ls : List (List (Row × T))) (place k : ℕ) → BeginsAt ls place → 0 < k → BeginsAt (take k ls) place
+front_begins ls place zero b l = absurd (omega (arith, l))
+front_begins [] place (suc k) b l = b
+front_begins (x ∷ ls) place (suc k) b l = (b.0, some_taken ls k b.1)
+
+pub back_begins : {T : Type 0} (ls : List (List (Row × T))) (place k : ℕ) → BeginsAt ls place → 0 < k → BeginsAt (drop k ls) 0
+back_begins ls place zero b l = absurd (omega (arith, l))
+back_begins [] place (suc k) b l = refl
+back_begins (x ∷ ls) place (suc k) b l = some_left ls k b.1
+
+pub both_parts : {T : Type 0} (ls : List (List (Row × T))) (place k : ℕ) → BeginsAt ls place → 0 < k → drop place (all_of ls) ≡ drop place (all_of (take k ls)) ++ all_of (drop k ls)
+both_parts ls place zero b l = absurd (omega (arith, l))
+both_parts [] place (suc k) b l = sym (append-nil (drop place []))
+both_parts (x ∷ ls) place (suc k) b l =
+    let within : place ≤ length x = omega (arith, b.0) in
+    drop-append-le place x (all_of ls) within
+    ∙ ap (λ es. drop place x ++ es) (ap all_of (sym (take-append-drop k ls)) ∙ all-append (take k ls) (drop k ls))
+    ∙ sym (append_assoc (drop place x) (all_of (take k ls)) (all_of (drop k ls)))
+    ∙ ap (λ es. es ++ all_of (drop k ls)) (sym (drop-append-le place x (all_of (take k ls)) within))
 
 -- ---- the entries above a row
 

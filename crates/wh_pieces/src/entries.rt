@@ -1,6 +1,6 @@
 //! The entries of a map, lent one after another.
 
-ghost use Rattle.std.specs.Prelude.{◌≡◌, ◌<◌, ◌≤◌, ◌↔◌, [], ◌∷◌, length, drop, IsTrue, MatchOption};
+ghost use Rattle.std.specs.Prelude.{◌≡◌, ◌<◌, ◌≤◌, ◌↔◌, [], ◌∷◌, ◌++◌, length, drop, IsTrue, MatchOption};
 ghost use Rattle.std.specs.Iterator.{YieldsFirstBy, item_count};
 ghost use Rattle.wh_pieces.specs.Flat.{IsRun};
 ghost use Rattle.wh_pieces.specs.Lent.{lent};
@@ -105,6 +105,28 @@ impl<'a, T: Copy + Drop> Entries<'a, T> {
         self.pieces = rest;
         self.place = 0;
         Some(run)
+    }
+
+    /// These entries in two: those up to a border of pieces near this part of all pieces, and those from there on. Either may be
+    /// none. Takes O(1) time.
+    pub fn split(self, part: usize, of: usize) -> (Self, Self)
+        ensures { self.entry ≡ result.0 ++ result.1 }
+    {
+        let count = self.pieces.len();
+        let border = count.min(count.saturating_mul(part) / of.max(1));
+        if border == 0 {
+            return (Entries::none(), self);
+        }
+        let (front, back) = self.pieces.split_at(border);
+        let sooner = Entries {
+            pieces: front,
+            place: self.place,
+        };
+        let later = Entries {
+            pieces: back,
+            place: 0,
+        };
+        (sooner, later)
     }
 
     /// Leaves the first of these entries behind.

@@ -168,6 +168,55 @@ fn entries_begin_after_a_row(rt: HostRuntime) -> Result<(), Fail> {
     Ok(())
 }
 
+/// Asserts that the map's entries that are left after so many come in two parts, so many of them in the first.
+fn assert_parts(
+    rt: &impl Abort,
+    map: &Pieces<i64>,
+    passed: usize,
+    (part, of): (usize, usize),
+    first: usize,
+) {
+    let mut all = map.entries();
+    let mut left = map.entries();
+    for _ in 0..passed {
+        all.pass();
+        left.pass();
+    }
+    let (mut sooner, later) = left.split(part, of);
+    for _ in 0..first {
+        assert_eq!(rt; sooner.next(), all.next());
+    }
+    assert!(rt; sooner.next().is_none());
+    for entry in later {
+        assert_eq!(rt; all.next(), Some(entry));
+    }
+    assert!(rt; all.next().is_none());
+}
+
+#[test]
+fn entries_come_in_two(rt: HostRuntime) -> Result<(), Fail> {
+    let mut map = Pieces::with_most(rt.alloc(), 2);
+    for number in 0..40 {
+        map.insert(&[number], number)?;
+    }
+    for (passed, part, first) in [
+        (0, (1, 2), 20),
+        (1, (1, 2), 19),
+        (0, (1, 4), 10),
+        (0, (3, 4), 30),
+        (0, (0, 4), 0),
+        (1, (4, 4), 39),
+        (0, (5, 4), 40),
+        (0, (1, 0), 40),
+        (0, (0, 0), 0),
+        (40, (1, 2), 0),
+        (0, (usize::MAX, 1), 40),
+    ] {
+        assert_parts(&rt, &map, passed, part, first);
+    }
+    Ok(())
+}
+
 #[test]
 fn two_maps_are_one(rt: HostRuntime) -> Result<(), Fail> {
     let map = map_of(
