@@ -10,6 +10,7 @@ mod Machine
 mod MapLaws
 mod AboveLaws
 mod ShareLaws
+mod PartLaws
 mod AddLaws
 mod RaiseLaws
 mod OrderLaws

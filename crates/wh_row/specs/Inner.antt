@@ -3,6 +3,7 @@ pub mod Flat
 pub mod Kept
 pub mod Keyed
 pub mod Laid
+pub mod Parts
 pub mod Room
 pub mod Shares
 pub mod Stored

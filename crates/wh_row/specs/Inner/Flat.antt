@@ -1,5 +1,5 @@
 -- Records whose cells stand side by side in one array: what only proofs and private contracts use.
-use Rattle.std.specs.Prelude.{◌≡◌, ◌+◌, ◌*◌, ◌≤◌, ℕ, zero, suc, ℤ, List, [], ◌∷◌, length, slice_index}
+use Rattle.std.specs.Prelude.{◌≡◌, ◌+◌, ◌*◌, ◌≤◌, ℕ, zero, suc, ℤ, List, [], ◌∷◌, length, map, slice_index}
 
 -- no end stands before this cell or before the end before it, and the last is this one
 abbrev pub AreEnds : ℕ → List ℕ → ℕ → Type 0
@@ -20,6 +20,10 @@ even_ends start width (suc n) = (start + width) ∷ even_ends (start + width) wi
 abbrev pub kept_ends : ℕ → List ℕ → ℕ → List ℕ
 kept_ends width [] rows = even_ends 0 width rows
 kept_ends width (end ∷ ends) rows = end ∷ ends
+
+-- where rows end that end here, behind so many cells
+abbrev pub ends_behind : ℕ → List ℕ → List ℕ
+ends_behind cells ends = map (λ end. cells + end) ends
 
 -- where the row at a place begins, the first at this cell
 abbrev pub begin_at : ℕ → List ℕ → ℕ → ℕ
