@@ -1,4 +1,4 @@
-use Rattle.std.proofs.Common.{rules, ◌≡◌, ◌≤◌, ◌*◌, ◌/◌, length, arith}
+use Rattle.std.proofs.Common.{rules, ◌≡◌, ◌/◌, length, arith}
 use Rattle.std.proofs.lemmas.Option.{IfSome_then}
 use Rattle.wh_row.specs.Records.{joined}
 use Rattle.wh_row.proofs.PartLaws.{light_fits, shared_room}

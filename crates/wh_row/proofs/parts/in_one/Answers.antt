@@ -1,4 +1,4 @@
-use Rattle.std.proofs.Common.{rules, ◌≡◌, ◌≢◌, ◌∙◌, []}
+use Rattle.std.proofs.Common.{rules, ◌≢◌, ◌∙◌, []}
 use Rattle.wh_row.specs.Records.{joined}
 use Rattle.wh_row.proofs.PartLaws.{none_joined}
 use Rattle.wh_row.proofs.parts.in_one.Goals as goal

@@ -15,4 +15,3 @@ loop-place-preserved c =
     let taken : c.unsigned_abs.result ≡ unsigned_abs e.1 = c.unsigned_abs.ensures.value ∙ ap unsigned_abs (to_z-of_z fn) in
     let fits : c.in-Some.less + unsigned_abs e.1 ≡ c.loop-place.left = omega (arith, c.in-Some.ensures, taken) in
     omega (arith, fits, weight-next records place e is, c.loop-place.invariant)
-

@@ -1,6 +1,5 @@
-use Rattle.std.proofs.Common.{rules, ◌≡◌, ◌≢◌, ◌<◌, ◌++◌, [], length, sym, subst, ap, ◌∙◌, List, ℤ, arith}
+use Rattle.std.proofs.Common.{rules, ◌≡◌, ◌≢◌, ◌<◌, ◌++◌, [], length, ap, ◌∙◌, arith}
 use Rattle.std.proofs.lemmas.Bool.Decides.{nat_tests}
-use Rattle.wh_row.specs.Weigh.{Counted}
 use Rattle.wh_row.specs.Flat.{records_of}
 use Rattle.wh_row.specs.Inner.Flat.{ends_behind, kept_ends}
 use Rattle.wh_row.proofs.FlatLaws.{are_records, fits_at, kept-records, kept-fits, behind-records, behind-fits}
