@@ -12,7 +12,7 @@ use wh_store::{Op, Store};
 const CELLS: i64 = 5;
 
 /// Numbers that look drawn: the next one below a limit.
-fn below(state: &mut u64, limit: u32) -> u32 {
+pub(crate) fn below(state: &mut u64, limit: u32) -> u32 {
     *state = state
         .wrapping_mul(0x5851_F42D_4C95_7F2D)
         .wrapping_add(0x1405_7B7E_F767_814F);

@@ -15,4 +15,6 @@ mod plain;
 #[cfg(test)]
 mod plans;
 #[cfg(test)]
+mod record_parts;
+#[cfg(test)]
 mod versions;
