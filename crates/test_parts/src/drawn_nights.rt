@@ -53,7 +53,7 @@ fn drawn(alloc: Global, state: &mut u64, active: bool) -> Result<Op, Fail> {
 }
 
 /// Asserts that these are the same rows with the same counts.
-fn assert_rows(rt: &impl Abort, found: &Records, wanted: &Records) {
+pub(crate) fn assert_rows(rt: &impl Abort, found: &Records, wanted: &Records) {
     assert_eq!(rt; found.len(), wanted.len());
     for place in 0..wanted.len() {
         assert!(rt; place < found.len());

@@ -1,6 +1,6 @@
 //! Records in parts: their bag, or why there is none, is that of all of them in one.
 
-use crate::drawn_nights::below;
+use crate::drawn_nights::{assert_rows, below};
 use std::alloc::Global;
 use std::process::Abort;
 use std::test::Fail;
@@ -25,9 +25,15 @@ fn assert_parts<R: Abort + Threads + Sync>(
     parts: &[Records],
 ) -> Result<(), Fail> {
     let mut all = Records::new(alloc);
+    let mut singly = Records::new(alloc);
     for records in parts {
         all.extend(records)?;
+        for place in 0..records.len() {
+            let (row, count) = records.get(place);
+            singly.push(row, count)?;
+        }
     }
+    assert_rows(rt, &all, &singly);
     let wanted = Bag::from_records(alloc, &all);
     for threads in 0..5 {
         let hands = Hands { rt, threads };
@@ -50,12 +56,7 @@ fn drawn_count(state: &mut u64) -> i64 {
 }
 
 /// Records that may come in a part: where they rise, from this cell on, and some twice.
-fn drawn_part(
-    alloc: Global,
-    state: &mut u64,
-    first: i64,
-    rising: bool,
-) -> Result<Records, Fail> {
+fn drawn_part(alloc: Global, state: &mut u64, first: i64, rising: bool) -> Result<Records, Fail> {
     let mut records = Records::new(alloc);
     let mut cell = first;
     for _ in 0..below(state, 6) {
@@ -70,19 +71,25 @@ fn drawn_part(
     Ok(records)
 }
 
+/// Parts that may come: most often each rises, and is not below the part before.
+fn drawn_parts(alloc: Global, state: &mut u64) -> Result<Vec<Records>, Fail> {
+    let (rising, shuffled) = (below(state, 4) > 0, below(state, 6) == 0);
+    let mut parts = Vec::new(alloc);
+    for _ in 0..below(state, 5).saturating_add(1) {
+        let first = match (parts.last(), shuffled) {
+            (Some(part), false) => last_cell(part),
+            _ => i64::from(below(state, 9)),
+        };
+        parts.push(drawn_part(alloc, state, first, rising)?)?;
+    }
+    Ok(parts)
+}
+
 #[test]
 fn drawn_parts_make_what_all_records_make(rt: HostRuntime) -> Result<(), Fail> {
     let mut state = 12;
     for _ in 0..400 {
-        let (rising, shuffled) = (below(&mut state, 4) > 0, below(&mut state, 6) == 0);
-        let mut parts = Vec::new(rt.alloc());
-        for _ in 0..1 + below(&mut state, 5) {
-            let first = match (parts.last(), shuffled) {
-                (Some(part), false) => last_cell(part),
-                _ => i64::from(below(&mut state, 9)),
-            };
-            parts.push(drawn_part(rt.alloc(), &mut state, first, rising)?)?;
-        }
+        let parts = drawn_parts(rt.alloc(), &mut state)?;
         assert_parts(&rt, rt.alloc(), &parts)?;
     }
     Ok(())
