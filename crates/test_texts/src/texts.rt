@@ -8,6 +8,7 @@ mod cuts;
 mod definitions;
 mod faults;
 mod formulas;
+mod large;
 mod plans;
 mod reading;
 mod replays;

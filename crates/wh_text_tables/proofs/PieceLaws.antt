@@ -10,6 +10,7 @@ use Rattle.std.proofs.Math.Seq.{take-suc}
 use Rattle.std.proofs.lemmas.List.Folds.{list_any-append}
 use Rattle.std.proofs.lemmas.Slice.Eq.{bytes_eq-Decides}
 use Rattle.wh_row.specs.Bag.{Bag}
+use Rattle.wh_row.specs.Records.{joined}
 use Rattle.wh_row.specs.Row.{Row}
 use Rattle.wh_row.specs.Weigh.{Counted}
 use Rattle.wh_text.specs.Columns.{NamedKind, kinds_of}
@@ -26,7 +27,7 @@ use Rattle.wh_text_tables.specs.Part.{Below, Scheme, below_header, part_gives, r
 use Rattle.wh_text_tables.specs.Records.{form_fault}
 use Rattle.wh_text_tables.specs.TableText.{EntriesRead, bag_read, cell_number, count_of, entry_of, row_cells, row_of, table_scheme, text_in, texts_after, texts_in_row, with_entry}
 use Rattle.wh_text_tables.specs.Inner.TableText.{entered, entry_scheme}
-use Rattle.wh_text_tables.specs.Inner.Pieces.{AllNumbers, AreEntries, AreFormed, AreNumbers, ArePartsRenumbered, ArePiecesRead, AreWholeNumbers, IsBagOf, IsCellRenumbered, IsFormed, IsPartRenumbered, IsPieceRead, IsReadAlone, IsRenumbered, all_entries, all_texts, texts_in}
+use Rattle.wh_text_tables.specs.Inner.Pieces.{AllNumbers, AreEntries, AreFormed, AreNumbers, ArePartsRenumbered, ArePiecesRead, AreWholeNumbers, IsBagOf, IsCellRenumbered, IsFormed, IsPartRenumbered, IsPieceRead, IsReadAlone, IsRenumbered, all_texts, texts_in}
 use Rattle.wh_text_tables.specs.declared.table.header.Content.{Content}
 use Rattle.wh_text_tables.specs.declared.table.header.Counting.{Counting}
 use Rattle.wh_text_tables.proofs.TableSums.{pass}
@@ -350,7 +351,7 @@ pub record AreAllRead (count : Counting) (kinds : List Kind) (width : ℕ) (old 
 
 pub all-read : (count : Counting) (kinds : List Kind) (width : ℕ) (old dict : List (List ℕ)) (rows : List (List (List ℕ))) (texts : List (List (List ℕ))) (parts others : List Counted)
     → ArePiecesRead count kinds width rows texts parts → dict ≡ with_texts old (all_texts texts) → ArePartsRenumbered kinds dict texts parts others
-    → AreAllRead count kinds width old dict rows (all_entries others)
+    → AreAllRead count kinds width old dict rows (joined others)
 unfolding ArePiecesRead ArePartsRenumbered with_texts texts_in AreFormed AreEntries
 all-read count kinds width old dict rows [] [] others read is same = rw (read, same) (record { formed = tt; numbered = is; each = refl })
 all-read count kinds width old dict rows [] (part ∷ parts) others read is same = absurd read
@@ -367,7 +368,7 @@ all-read count kinds width old dict rows (own ∷ texts) (part ∷ parts) (other
     rw whole (record {
       formed = formed-append width first rest piece.formed tail.formed;
       numbered = tail.numbered ∙ ap (λ t. with_texts t theirs) through ∙ sym (with_texts-append old mine theirs) ∙ ap (with_texts old) (sym (texts-append count kinds first rest));
-      each = entries-append count kinds dict first rest other (all_entries others) (part-entries count kinds dict own first part other same.0 have piece.each) tail.each;
+      each = entries-append count kinds dict first rest other (joined others) (part-entries count kinds dict own first part other same.0 have piece.each) tail.each;
     })
 
 -- one place more of a list
@@ -478,8 +479,8 @@ pub part-read : (content : Content) (columns : List NamedKind) (records : List (
 part-read content columns records texts dict own parts bag read is sum =
     let below = read.below in
     let all = all-read below.kind (kinds_of columns) below.width texts dict below.rows own parts sum.entries read.pieces is sum.renumbered in
-    let given = read-given content columns below.kind below.width 2 texts dict [] (all_entries sum.entries) below.rows all.formed all.numbered all.each in
-    let summed = pass content columns below.width below.kind 2 (record { texts = texts; entries = [] }) (record { texts = dict; entries = all_entries sum.entries }) below.rows given sum.fits in
+    let given = read-given content columns below.kind below.width 2 texts dict [] (joined sum.entries) below.rows all.formed all.numbered all.each in
+    let summed = pass content columns below.width below.kind 2 (record { texts = texts; entries = [] }) (record { texts = dict; entries = joined sum.entries }) below.rows given sum.fits in
     rw (read.tells, summed) (ap (λ b. Ok (b, dict)) (sym sum.is))
 
 pub pieces-long : (count : Counting) (kinds : List Kind) (width : ℕ) (rows : List (List (List ℕ))) (texts : List (List (List ℕ))) (parts : List Counted) → ArePiecesRead count kinds width rows texts parts → length texts ≡ length parts
@@ -497,8 +498,8 @@ pub header-cut : {K S : Type 0} (scheme : Scheme K S) (head rest : List (List (L
 header-cut scheme [] rest kind width is = cc is
 header-cut {K} scheme (header ∷ rows) rest kind width is = by (or_fault (form_fault (length header) 1 header) (ok_or (scheme.kind_of header) Header)) is
   where
-    by : (r : Result K LoadFault) → (r >>= (λ k. Ok (record { kind = k; width = length header; rows = rows }))) ≡ Ok (record { kind = kind; width = width; rows = [] })
-        → (r >>= (λ k. Ok (record { kind = k; width = length header; rows = rows ++ rest }))) ≡ Ok (record { kind = kind; width = width; rows = rest })
+    by : (r : Result K LoadFault) → ◌>>=◌ {B = Below K} r (λ k. Ok (record { kind = k; width = length header; rows = rows })) ≡ Ok (record { kind = kind; width = width; rows = [] })
+        → ◌>>=◌ {B = Below K} r (λ k. Ok (record { kind = k; width = length header; rows = rows ++ rest })) ≡ Ok (record { kind = kind; width = width; rows = rest })
     by (Err f) e = cc e
     by (Ok k) e =
         let same : ◌≡◌ {A = Below K} (record { kind = k; width = length header; rows = rows }) (record { kind = kind; width = width; rows = [] }) = same_Ok _ _ _ refl e in

@@ -15,7 +15,7 @@ use wh_load::{Column, Dict, Kind, LoadFault, read_changes, read_table, write_tab
 use wh_row::{Bag, Hands};
 
 /// Columns by their names: with `:` behind a name one of texts, without one of numbers.
-fn columns_of(alloc: Global, names: &str) -> Result<Vec<Column>, AllocError> {
+pub(crate) fn columns_of(alloc: Global, names: &str) -> Result<Vec<Column>, AllocError> {
     let mut columns = Vec::new(alloc);
     for word in names.split_whitespace() {
         let (name, kind) = match word.split_once(':') {
@@ -28,7 +28,7 @@ fn columns_of(alloc: Global, names: &str) -> Result<Vec<Column>, AllocError> {
 }
 
 /// The table that was read as it is written again, or the line of its fault.
-fn written(
+pub(crate) fn written(
     alloc: Global,
     columns: &[Column],
     read: Result<Bag, LoadFault>,

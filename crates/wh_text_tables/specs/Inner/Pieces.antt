@@ -4,7 +4,7 @@ use Rattle.std.specs.List.{list_all}
 use Rattle.std.specs.Str.{is_utf8}
 use Rattle.std.specs.declared.alloc.Global.{Global}
 use Rattle.wh_row.specs.Bag.{Bag, bag_of}
-use Rattle.wh_row.specs.Records.{EachSumFits}
+use Rattle.wh_row.specs.Records.{EachSumFits, joined}
 use Rattle.wh_row.specs.Row.{Row}
 use Rattle.wh_row.specs.Weigh.{Counted}
 use Rattle.wh_text.specs.Columns.{NamedKind, kinds_of}
@@ -58,12 +58,9 @@ pub record IsReadAlone (content : Content) (columns : List NamedKind) (records :
   pub tells : below_header (entry_scheme content columns) records ≡ Ok below
   pub pieces : ArePiecesRead below.kind (kinds_of columns) below.width below.rows texts parts
 
--- all texts, and all entries, of pieces one behind the other
+-- all texts of pieces, those of a piece behind those of the piece before
 abbrev pub all_texts : List (List (List ℕ)) → List (List ℕ)
 all_texts texts = flat_map (λ own. own) texts
-
-abbrev pub all_entries : List Counted → Counted
-all_entries parts = flat_map (λ own. own) parts
 
 -- ---- the numbers of one dictionary
 
@@ -111,5 +108,5 @@ AreWholeNumbers (of_kind.Text ∷ kinds) = ⊥
 pub record IsBagOf (kinds : List Kind) (dict : List (List ℕ)) (texts : List (List (List ℕ))) (parts : List Counted) (bag : Bag) : Type 0 where
   pub entries : List Counted
   pub renumbered : ArePartsRenumbered kinds dict texts parts entries
-  pub fits : EachSumFits (all_entries entries)
-  pub is : bag ≡ bag_of (all_entries entries)
+  pub fits : EachSumFits (joined entries)
+  pub is : bag ≡ bag_of (joined entries)

@@ -12,9 +12,9 @@ ghost use Rattle.wh_text_tables.specs.Part.{below_header};
 ghost use Rattle.wh_text_tables.specs.Records.{records_of};
 ghost use Rattle.wh_text_tables.specs.TableText.{text_gives};
 ghost use Rattle.wh_text_tables.specs.Inner.Part.{IsWidthOf};
-ghost use Rattle.wh_text_tables.specs.Inner.Pieces.{ArePiecesRead, AreWholeNumbers, IsBagOf, IsPieceRead, IsReadAlone, all_entries, all_texts};
+ghost use Rattle.wh_text_tables.specs.Inner.Pieces.{ArePiecesRead, AreWholeNumbers, IsBagOf, IsPieceRead, IsReadAlone, all_texts};
 ghost use Rattle.wh_row.specs.Bag.{bag_of};
-ghost use Rattle.wh_row.specs.Records.{EachSumFits};
+ghost use Rattle.wh_row.specs.Records.{EachSumFits, joined};
 ghost use Rattle.wh_text.specs.Dict.{with_texts};
 ghost use Rattle.wh_text_tables.specs.Inner.TableText.{entry_scheme};
 
@@ -102,9 +102,9 @@ fn bag_of_parts<R: Threads + Sync>(
     alloc: Global,
     parts: &[Counted],
 ) -> Option<Bag>
-    ensures { IfSome result (λ bag. EachSumFits (all_entries parts.now) × (bag ≡ bag_of (all_entries parts.now))) }
+    ensures { IfSome result (λ bag. EachSumFits (joined parts.now) × (bag ≡ bag_of (joined parts.now))) }
 {
-    None
+    Bag::from_parts_wide(hands, alloc, parts).ok()
 }
 
 /// Whether a column is of texts.
