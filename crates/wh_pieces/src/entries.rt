@@ -107,8 +107,18 @@ impl<'a, T: Copy + Drop> Entries<'a, T> {
         Some(run)
     }
 
+    /// The same entries, to be walked through another time. Takes no memory.
+    pub fn again(&self) -> Self
+        ensures { result ≡ self.now }
+    {
+        Entries {
+            pieces: self.pieces,
+            place: self.place,
+        }
+    }
+
     /// These entries in two: those up to a border of pieces near this part of all pieces, and those from there on. Either may be
-    /// none. Takes O(1) time.
+    /// none. Takes O(1) time and no memory.
     pub fn split(self, part: usize, of: usize) -> (Self, Self)
         ensures { self.entry ≡ result.0 ++ result.1 }
     {
