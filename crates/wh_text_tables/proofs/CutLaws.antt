@@ -112,7 +112,7 @@ cut-rest s fields field (c ∷ xs) ys clean ends =
     by : (is_end (step default_config s c).1 ≡ true) ⊎ (is_end (step default_config s c).1 ≡ false)
         → (is_end (step default_config s c).1 ≡ true → rest_of next [] [] (xs ++ ys) ≡ rest_of next [] [] xs ++ later)
         → (is_end (step default_config s c).1 ≡ false → rest_of next (fields_after (step default_config s c).1 fields field) (field_after (step default_config s c).1 c field) (xs ++ ys)
-            ≡ rest_of next (fields_after (step default_config s c).1 fields field) (field_after (step default_config s c).1 c field) xs ++ later)
+        ≡ rest_of next (fields_after (step default_config s c).1 fields field) (field_after (step default_config s c).1 c field) xs ++ later)
         → rest_of s fields field ((c ∷ xs) ++ ys) ≡ rest_of s fields field (c ∷ xs) ++ later
     by (inl e) ended going = rw e (ap (λ rest. fields_after (step default_config s c).1 fields field ∷ rest)
         (rest-same next (xs ++ ys) ∙ ended e ∙ ap (λ rest. rest ++ later) (sym (rest-same next xs))))

@@ -191,12 +191,7 @@ fn read_pieces<R: Threads + Sync>(
 }
 
 /// What the records of this text below a header give, as the only piece.
-fn read_alone(
-    alloc: Global,
-    reader: &RowsReader<'_>,
-    layout: Layout,
-    text: &[u8],
-) -> Option<Pieces>
+fn read_alone(alloc: Global, reader: &RowsReader<'_>, layout: Layout, text: &[u8]) -> Option<Pieces>
     requires { IsWidthOf (entry_scheme reader.now.content reader.now.columns.now) layout.counting layout.width }
     ensures { IfSome result (λ read. ArePiecesRead layout.counting (kinds_of reader.now.columns.now) layout.width (records_of text.now) read.dicts.items read.parts.items) }
 {
@@ -244,14 +239,7 @@ fn read_piece(
         row: Vec::new(alloc),
     };
     let Layout { counting, width } = layout;
-    match read_rows(
-        reader,
-        counting,
-        width,
-        &mut records,
-        &mut cells,
-        &mut rows,
-    ) {
+    match read_rows(reader, counting, width, &mut records, &mut cells, &mut rows) {
         Ok(()) => Some(rows),
         Err(_) => None,
     }

@@ -25,5 +25,5 @@ returns-then-begins_record c =
     record {
       within = omega (arith, below);
       between = sym (state_after-byte text place (state_of c.loop-place.standing) below c.loop-place.invariant)
-      ∙ sym c.after-standing.ensures ∙ c.begins_record.ensures c.if-begins_record.true;
+          ∙ sym c.after-standing.ensures ∙ c.begins_record.ensures c.if-begins_record.true;
     }

@@ -21,7 +21,7 @@ returns-in_ok-push-in-len1-up-clause-texts t c =
     let whole = first-there c.args.dicts.now c.first-item.result c.in-len1-up.len_at_least c.first-item.is in
     let rest = take (length c.args.dicts.now - 1) (drop 1 c.args.dicts.now) in
     on-ok c.number_texts.result c.number_texts.ensures.texts (λ is.
-      is ∙ ap (λ d. with_texts d (all_texts rest)) c.in_ok-numbers-in-len1-up.ensures.texts ∙ sym (with_texts-append c.args.dict.now c.first-item.result (all_texts rest)) ∙ ap (λ all. with_texts c.args.dict.now (all_texts all)) (sym whole))
+    is ∙ ap (λ d. with_texts d (all_texts rest)) c.in_ok-numbers-in-len1-up.ensures.texts ∙ sym (with_texts-append c.args.dict.now c.first-item.result (all_texts rest)) ∙ ap (λ all. with_texts c.args.dict.now (all_texts all)) (sym whole))
 
 pub returns-in_ok-push-in-len1-up-clause-numbers : goal.returns-in_ok-push-in-len1-up-clause-numbers
 returns-in_ok-push-in-len1-up-clause-numbers t c =

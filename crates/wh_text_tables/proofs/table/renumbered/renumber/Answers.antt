@@ -21,4 +21,4 @@ loop-place-preserved c texts dict numbers =
     let back = to_z-of_z fits in
     let pushed : c.push.new.self.items ≡ c.loop-place.out.items ++ c.in-Some.cell ∷ [] = c.in-Ok.ensures.items ∙ (λ i. c.loop-place.out.items ++ back i ∷ []) in
     rw pushed (row-one columns place c.index-columns-place.result dict texts row c.loop-place.out.items c.in-Some.cell c.index-columns-place.is below long
-      (c.loop-place.invariant texts dict numbers) (rw (c.kind.ensures, to_z-of_z cell) at (c.in-Some.ensures texts dict numbers)))
+    (c.loop-place.invariant texts dict numbers) (rw (c.kind.ensures, to_z-of_z cell) at (c.in-Some.ensures texts dict numbers)))

@@ -16,5 +16,5 @@ returns g t c =
     let first : IsPieceRead count kinds width (records_of (take end text)) c.in_ok-own.field-0.dict c.in_ok-own.field-0.counted = search rules in
     let rest : ArePiecesRead count kinds width (records_of (drop end text)) c.in_ok-others.field-0.dicts.items c.in_ok-others.field-0.parts.items = search rules in
     IfSome_then c.put_before.result c.put_before.ensures (λ all (front, behind).
-      front-read count kinds width (records_of text) (records_of (take end text)) (records_of (drop end text)) c.in_ok-own.field-0.dict c.in_ok-own.field-0.counted all.dicts.items c.in_ok-others.field-0.dicts.items all.parts.items c.in_ok-others.field-0.parts.items
-      c.in-Some.ensures.parts first rest front behind)
+    front-read count kinds width (records_of text) (records_of (take end text)) (records_of (drop end text)) c.in_ok-own.field-0.dict c.in_ok-own.field-0.counted all.dicts.items c.in_ok-others.field-0.dicts.items all.parts.items c.in_ok-others.field-0.parts.items
+    c.in-Some.ensures.parts first rest front behind)
