@@ -1,8 +1,8 @@
 -- Parts of rows that were read in pieces.
 use Rattle.std.proofs.Common.{◌≡◌, ◌∙◌, ◌≤◌, ◌<◌, ◌+◌, ◌-◌, ℕ, ℤ, zero, suc, pos, Bool, true, false, List, [], ◌∷◌, ◌++◌, length, take, drop, get_or, Option, Some, None, Ok, Err, Result, ◌⊎◌, inl, inr, refl, sym, ap, subst, arith, append_assoc, slice_get}
 use Rattle.std.specs.declared.alloc.Global.{Global}
-use Rattle.std.specs.Prelude.{⊤, Vec, OnOk, ◌&&◌, ◌==◌, if◌then◌else◌, flat_map, ok_or, option_and_then, option_map}
-use Rattle.std.specs.List.{list_all, list_any, position_or_len}
+use Rattle.std.specs.Prelude.{⊤, Vec, OnOk, ◌&&◌, ◌==◌, if◌then◌else◌, ok_or, option_and_then, option_map}
+use Rattle.std.specs.List.{list_all, list_any}
 use Rattle.std.specs.Str.{bytes_eq, is_utf8}
 use Rattle.std.proofs.lemmas.Bool.{cases_Bool}
 use Rattle.std.proofs.lemmas.List.{append-nil, length-map, length-take-le, take_all}
@@ -22,10 +22,10 @@ use Rattle.wh_text.specs.declared.fault.LoadFault.{LoadFault}
 use Rattle.wh_text.specs.declared.fault.LoadFault.TheVariants.{Header, Number}
 use Rattle.wh_text.specs.WholeNumber.{whole_number}
 use Rattle.wh_text.specs.ValueOrFault.{◌>>=◌, or_fault}
-use Rattle.wh_text.proofs.DictGrowth.{begins-same, begins-text, begins-texts, has-text, number-begins, number-own, with_texts-append}
+use Rattle.wh_text.proofs.DictGrowth.{begins-text, begins-texts, has-text, number-begins, number-own, with_texts-append}
 use Rattle.wh_text_tables.specs.Part.{Below, Scheme, below_header, part_gives, record_gives, records_give}
 use Rattle.wh_text_tables.specs.Records.{form_fault}
-use Rattle.wh_text_tables.specs.TableText.{EntriesRead, bag_read, cell_number, count_of, entry_of, row_cells, row_of, table_scheme, text_in, texts_after, texts_in_row, with_entry}
+use Rattle.wh_text_tables.specs.TableText.{EntriesRead, bag_read, cell_number, count_of, entry_of, row_cells, row_of, table_scheme, texts_after, texts_in_row, with_entry}
 use Rattle.wh_text_tables.specs.Inner.TableText.{entered, entry_scheme}
 use Rattle.wh_text_tables.specs.Inner.Pieces.{AllNumbers, AreEntries, AreFormed, AreNumbers, ArePartsRenumbered, ArePiecesRead, AreWholeNumbers, IsBagOf, IsCellRenumbered, IsFormed, IsPartRenumbered, IsPieceRead, IsReadAlone, IsRenumbered, all_texts, texts_in}
 use Rattle.wh_text_tables.specs.declared.table.header.Content.{Content}

@@ -50,7 +50,24 @@ fn sum_up<R: Threads + Sync>(
     }
 }
 
-/// What the text gives; where it has a fault, some of its texts may have got numbers.
+/// What the text gives, read record by record; where it has a fault, some of its texts may have got numbers.
+fn read_singly<R: Threads + Sync>(
+    hands: &Hands<'_, R>,
+    alloc: Global,
+    reader: &RowsReader<'_>,
+    text: &[u8],
+    rows: &mut RowsRead,
+) -> Result<Bag, LoadFault>
+    requires { rows.old.counted ≡ [] }
+    ensures ok { IfOk result (λ bag. text_gives reader.now.content reader.now.columns.now rows.old.dict text.now ≡ Ok (bag, rows.new.dict)) }
+    ensures err { IfErr result (λ f. (f ≡ LoadFault.Memory) ⊎ (text_gives reader.now.content reader.now.columns.now rows.old.dict text.now ≡ Err f)) }
+    ensures begins { BeginsWith rows.old.dict rows.new.dict }
+{
+    let read = read_part(alloc, reader, text, rows);
+    sum_up(hands, alloc, &rows.counted, read)
+}
+
+/// The same, by several threads where the text is large.
 fn read_counted<R: Threads + Sync>(
     hands: &Hands<'_, R>,
     alloc: Global,
@@ -69,11 +86,10 @@ fn read_counted<R: Threads + Sync>(
         content,
         columns,
     };
-    if let Some(bag) = read_beside(hands, alloc, &reader, text, &mut rows.dict) {
-        return Ok(bag);
+    match read_beside(hands, alloc, &reader, text, &mut rows.dict) {
+        Some(bag) => Ok(bag),
+        None => read_singly(hands, alloc, &reader, text, rows),
     }
-    let read = read_part(alloc, &reader, text, rows);
-    sum_up(hands, alloc, &rows.counted, read)
 }
 
 /// The same, but a fault leaves the dictionary as it was.

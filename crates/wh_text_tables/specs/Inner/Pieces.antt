@@ -1,5 +1,5 @@
 -- What only proofs and private contracts use. A part of rows that is read in pieces: each as if no text had a number yet, and then with the numbers of one dictionary.
-use Rattle.std.specs.Prelude.{◌≡◌, ◌&&◌, ◌==◌, ℕ, ℤ, pos, true, List, [], ◌∷◌, ◌++◌, length, slice_get, Some, None, Ok, Vec, flat_map, ⊤}
+use Rattle.std.specs.Prelude.{◌≡◌, ◌&&◌, ◌==◌, ℕ, ℤ, pos, true, List, [], ◌∷◌, ◌++◌, length, slice_get, Some, Ok, Vec, flat_map, ⊤}
 use Rattle.std.specs.List.{list_all}
 use Rattle.std.specs.Str.{is_utf8}
 use Rattle.std.specs.declared.alloc.Global.{Global}

@@ -1,10 +1,5 @@
-use Rattle.std.proofs.Common.{rules, ◌≡◌, ◌∙◌, ◌+◌, ◌<◌, suc, [], ◌∷◌, ◌++◌, length, take, get_or, ap, sym, refl, arith}
-use Rattle.std.proofs.Math.Seq.{take-suc}
-use Rattle.csv.specs.Machine.{step}
-use Rattle.csv.specs.Reading.{default_config}
-use Rattle.csv.specs.declared.parser.State.{State}
-use Rattle.csv.specs.declared.parser.State.TheVariants as st
-use Rattle.wh_text_tables.specs.Inner.Cut.{EndsRecord, state_after, state_of}
+use Rattle.std.proofs.Common.{rules, ◌∙◌, ◌<◌, length, sym, refl, arith}
+use Rattle.wh_text_tables.specs.Inner.Cut.{state_after, state_of}
 use Rattle.wh_text_tables.proofs.CutLaws.{state_after-byte}
 use Rattle.wh_text_tables.proofs.cut.quoted_end.Goals as goal
 

@@ -1,4 +1,4 @@
-use Rattle.std.proofs.Common.{rules, ◌≡◌, ◌∙◌, ◌-◌, ◌≤◌, length, take, drop, sym, arith}
+use Rattle.std.proofs.Common.{◌≡◌, ◌∙◌, ◌-◌, length, take, drop, sym, arith}
 use Rattle.std.proofs.lemmas.List.{length-drop, take_all}
 use Rattle.wh_text_tables.proofs.CutLaws.{is-cut}
 use Rattle.wh_text_tables.proofs.cut.record_end.Goals as goal

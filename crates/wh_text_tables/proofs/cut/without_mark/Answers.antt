@@ -1,4 +1,4 @@
-use Rattle.std.proofs.Common.{rules, ◌≡◌, ◌∙◌, ◌-◌, ◌≤◌, ◌<◌, length, take, drop, ap, sym, arith}
+use Rattle.std.proofs.Common.{rules, ◌∙◌, ◌-◌, ◌≤◌, length, drop, sym, arith}
 use Rattle.std.proofs.lemmas.List.{length-drop, take_all}
 use Rattle.wh_text_tables.proofs.CutLaws.{strip-few, strip-three}
 use Rattle.wh_text_tables.proofs.cut.without_mark.Goals as goal

@@ -1,6 +1,4 @@
-use Rattle.std.proofs.Common.{rules, ◌≡◌, ◌∙◌, ◌++◌, ◌∷◌, [], ◌-◌, ◌≤◌, ◌<◌, ℕ, ℤ, List, length, take, drop, refl, sym, ap, append_assoc}
-use Rattle.std.specs.Prelude.{Vec, OnOk}
-use Rattle.std.specs.declared.alloc.Global.{Global}
+use Rattle.std.proofs.Common.{◌∙◌, ◌++◌, ◌∷◌, [], ◌-◌, length, take, drop, refl, sym, ap, append_assoc}
 use Rattle.std.proofs.lemmas.List.{append-nil}
 use Rattle.wh_text.specs.Dict.{with_texts}
 use Rattle.wh_text.proofs.DictGrowth.{with_texts-append}

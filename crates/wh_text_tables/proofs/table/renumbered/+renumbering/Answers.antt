@@ -1,4 +1,4 @@
-use Rattle.std.proofs.Common.{rules, ◌≡◌, ◌-◌, length, take, drop, ◌∙◌, ◌++◌, ◌∷◌, [], ℕ, ℤ, List, refl, sym, ap, subst}
+use Rattle.std.proofs.Common.{rules, ◌-◌, length, take, drop, ℕ, List}
 use Rattle.std.proofs.lemmas.Option.{IfSome_then}
 use Rattle.wh_text.specs.Columns.{kinds_of}
 use Rattle.wh_text_tables.specs.Inner.Pieces.{AllNumbers, AreNumbers, ArePartsRenumbered, IsPartRenumbered}

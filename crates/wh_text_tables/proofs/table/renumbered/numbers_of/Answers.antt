@@ -1,11 +1,9 @@
-use Rattle.std.proofs.Common.{rules, ◌≡◌, ◌∙◌, ◌++◌, ◌∷◌, [], ◌+◌, ◌<◌, ℕ, ℤ, List, pos, false, true, length, take, refl, sym, ap, subst, arith, length-append, FitsSigned, to_z-of_z}
-use Rattle.std.specs.Prelude.{slice_get, Some}
+use Rattle.std.proofs.Common.{rules, ◌≡◌, ◌∙◌, ◌++◌, ◌∷◌, [], ◌+◌, ◌<◌, pos, false, true, length, take, refl, sym, ap, subst, arith, length-append, FitsSigned, to_z-of_z}
 use mir.Syntax.{w64}
-use Rattle.std.proofs.lemmas.List.{take_all, length-take-le}
+use Rattle.std.proofs.lemmas.List.{length-take-le}
 use Rattle.wh_text.specs.Dict.{number_of_text, with_text, with_texts}
 use Rattle.wh_text.specs.Inner.Dict.{BeginsWith}
 use Rattle.wh_text.proofs.DictGrowth.{begins-texts, with_texts-append}
-use Rattle.wh_text_tables.specs.Inner.Pieces.{AreNumbers}
 use Rattle.wh_text_tables.proofs.PieceLaws.{numbers-next, take-one}
 use Rattle.wh_text_tables.proofs.table.renumbered.numbers_of.Goals as goal
 

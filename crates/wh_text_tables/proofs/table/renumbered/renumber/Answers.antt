@@ -1,7 +1,6 @@
-use Rattle.std.proofs.Common.{rules, ◌≡◌, ◌∙◌, ◌++◌, ◌∷◌, [], ◌+◌, ◌<◌, ℕ, ℤ, List, Some, length, take, sym, ap, subst, arith, FitsSigned, to_z-of_z, pos, get_or}
+use Rattle.std.proofs.Common.{rules, ◌≡◌, ◌∙◌, ◌++◌, ◌∷◌, [], ◌<◌, length, FitsSigned, to_z-of_z, pos, get_or}
 use mir.Syntax.{w64}
-use Rattle.wh_text.specs.Columns.{NamedKind, kinds_of}
-use Rattle.wh_text_tables.specs.Inner.Pieces.{IsCellRenumbered, IsRenumbered}
+use Rattle.wh_text_tables.specs.Inner.Pieces.{IsRenumbered}
 use Rattle.wh_text_tables.proofs.PieceLaws.{row-one}
 use Rattle.wh_text_tables.proofs.table.renumbered.renumber.Goals as goal
 

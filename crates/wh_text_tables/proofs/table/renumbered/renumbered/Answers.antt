@@ -1,9 +1,7 @@
-use Rattle.std.proofs.Common.{rules, ◌≡◌, ◌∙◌, ◌++◌, ◌∷◌, [], ◌+◌, ◌<◌, ℕ, ℤ, List, Some, length, take, refl, sym, ap, subst, arith, FitsSigned, to_z-of_z}
+use Rattle.std.proofs.Common.{rules, ◌≡◌, ◌∙◌, ◌++◌, ◌∷◌, [], ◌+◌, ℤ, take, refl, FitsSigned, to_z-of_z}
 use mir.Syntax.{w64}
-use Rattle.std.specs.Prelude.{slice_get}
 use Rattle.wh_row.specs.Row.{Row}
-use Rattle.wh_row.specs.Weigh.{Counted}
-use Rattle.wh_text.specs.Columns.{NamedKind, kinds_of}
+use Rattle.wh_text.specs.Columns.{kinds_of}
 use Rattle.wh_text_tables.specs.Inner.Pieces.{IsPartRenumbered}
 use Rattle.wh_text_tables.proofs.PieceLaws.{part-one, take-one}
 use Rattle.wh_text_tables.proofs.table.renumbered.renumbered.Goals as goal

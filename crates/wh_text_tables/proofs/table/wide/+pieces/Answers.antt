@@ -1,4 +1,4 @@
-use Rattle.std.proofs.Common.{rules, ◌≡◌, ◌∙◌, take, drop}
+use Rattle.std.proofs.Common.{rules, take, drop}
 use Rattle.std.proofs.lemmas.Option.{IfSome_then}
 use Rattle.wh_text.specs.Columns.{kinds_of}
 use Rattle.wh_text_tables.specs.Inner.Pieces.{ArePiecesRead, IsPieceRead}

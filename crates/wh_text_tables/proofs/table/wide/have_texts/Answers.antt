@@ -1,5 +1,4 @@
-use Rattle.std.proofs.Common.{rules, ◌≡◌, ◌<◌, length, sym}
-use Rattle.wh_text.specs.declared.columns.Kind.TheVariants as of_kind
+use Rattle.std.proofs.Common.{rules, ◌<◌, length, sym}
 use Rattle.wh_text_tables.specs.Inner.Pieces.{AreWholeNumbers}
 use Rattle.wh_text_tables.proofs.PieceLaws.{whole-one}
 use Rattle.wh_text_tables.proofs.table.wide.have_texts.Goals as goal

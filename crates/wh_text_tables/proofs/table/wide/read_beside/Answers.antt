@@ -1,12 +1,11 @@
-use Rattle.std.proofs.Common.{rules, ◌≡◌, ◌∙◌, length}
 use Rattle.wh_text.specs.Columns.{kinds_of}
 use Rattle.wh_text_tables.specs.Records.{records_of}
 use Rattle.wh_text_tables.specs.TableText.{text_gives}
 use Rattle.wh_text_tables.proofs.PieceLaws.{part-read, pieces-long}
 use Rattle.wh_text_tables.proofs.table.wide.read_beside.Goals as goal
 
-pub requires-bag_of : goal.requires-bag_of
-requires-bag_of g c =
+pub bag_of-requires-after_bounds : goal.bag_of-requires-after_bounds
+bag_of-requires-after_bounds g c κs bounds =
     let read = c.in_ok-pieces.ensures in
     pieces-long read.below.kind (kinds_of c.args.reader.now.columns.now) read.below.width read.below.rows c.in_ok-pieces.pieces.dicts.items c.in_ok-pieces.pieces.parts.items read.pieces
 

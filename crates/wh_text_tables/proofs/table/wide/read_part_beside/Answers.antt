@@ -1,6 +1,6 @@
-use Rattle.std.proofs.Common.{rules, ◌≡◌, ◌∙◌, ◌++◌, ℕ, List, take, drop, sym, ap}
+use Rattle.std.proofs.Common.{◌≡◌, ◌∙◌, take, drop, sym, ap}
 use Rattle.std.proofs.lemmas.Option.{IfSome_then}
-use Rattle.csv.specs.Reading.{default_config, records, strip_bom}
+use Rattle.csv.specs.Reading.{default_config, records}
 use Rattle.wh_text_tables.specs.Part.{below_header}
 use Rattle.wh_text_tables.specs.Records.{records_of}
 use Rattle.wh_text_tables.specs.Inner.TableText.{entry_scheme}

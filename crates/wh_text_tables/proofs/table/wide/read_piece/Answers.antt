@@ -1,8 +1,5 @@
-use Rattle.std.proofs.Common.{rules, ◌≡◌, ◌∙◌, ap}
-use Rattle.wh_text.specs.Columns.{kinds_of}
 use Rattle.wh_text_tables.specs.Records.{records_of}
 use Rattle.wh_text_tables.specs.TableText.{EntriesRead}
-use Rattle.wh_text_tables.specs.Unread.{Unread}
 use Rattle.wh_text_tables.specs.Inner.TableText.{entry_scheme}
 use Rattle.wh_text_tables.proofs.PartReads.{taken-all}
 use Rattle.wh_text_tables.proofs.PieceLaws.{piece-read}

@@ -1,4 +1,3 @@
-use Rattle.std.proofs.Common.{rules}
 use Rattle.wh_text_tables.proofs.table.renumbered.fn.renumbered_parts.sooner.Goals as goal
 
 pub returns : goal.returns
