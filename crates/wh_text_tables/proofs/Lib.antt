@@ -9,6 +9,7 @@ pub mod PieceLaws
 pub mod RecordLists
 pub mod RecordReads
 pub mod RecordsReadBack
+pub mod RowsText
 pub mod SizeLimits
 pub mod SizesFaults
 pub mod SizesReadingBack

@@ -16,6 +16,7 @@ mod renumbered;
 mod rows;
 mod wide;
 mod write;
+mod written;
 
 use crate::part::read_part;
 use crate::table::header::Content;
@@ -27,6 +28,7 @@ use std::thread::Threads;
 use wh_row::{Bag, Hands, Records, RecordsFault};
 use wh_text::{Column, Dict, LoadFault};
 pub use write::write_table;
+pub use written::write_table_wide;
 
 /// The bag that the entries add up to, or the first fault: a sum that leaves i64 comes before a fault that ended the reading.
 fn sum_up<R: Threads + Sync>(

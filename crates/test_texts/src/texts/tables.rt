@@ -1,6 +1,7 @@
 // Tables and changes: what is read is written again, and of parts with two faults the first is told.
 
 mod given;
+mod wide;
 
 use crate::texts::cases::{Reads, agree, fault_line, text_of};
 use crate::texts::definitions::{dict_lines, read_catalogue};

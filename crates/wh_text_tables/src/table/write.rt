@@ -5,11 +5,12 @@ ghost use Rattle.std.specs.List.{list_any};
 ghost use Rattle.csv.specs.Writing.{default_writer, escaped, field_text, fields_text, needs_byte, quoted, row_text};
 ghost use Rattle.wh_text.specs.Columns.{kinds_of, names_of};
 ghost use Rattle.wh_text_tables.specs.TableText.{counted_header};
+ghost use Rattle.wh_text_tables.specs.Inner.TableWritten.{rows_text};
 ghost use Rattle.wh_text_tables.specs.TableWritten.{cell_text, cell_texts, record_of, table_text};
 
 use itoa::Buffer;
 use std::alloc::AllocError;
-use wh_row::Bag;
+use wh_row::{Bag, Rows};
 use wh_text::{Column, Dict, Kind};
 
 /// Whether the text has to stand in quotes.
@@ -79,7 +80,7 @@ fn append_cell(out: &mut Vec<u8>, kind: Kind, number: i64, dict: &Dict) -> Resul
 }
 
 /// Appends the header: `#` and the columns' names.
-fn write_header(out: &mut Vec<u8>, columns: &[Column]) -> Result<(), AllocError>
+pub(crate) fn write_header(out: &mut Vec<u8>, columns: &[Column]) -> Result<(), AllocError>
     ensures { OnOk result (out.new.items ≡ out.old.items ++ row_text default_writer (counted_header (names_of columns.now))) }
 {
     out.push(b'#')?;
@@ -128,6 +129,40 @@ fn write_row(
     Ok(())
 }
 
+/// Rows are written into a block, which goes to the text when it has so many bytes: a failure leaves whole blocks to take back.
+const BLOCK: usize = 8_192;
+
+/// Passes a block on to the text when it is large.
+fn pass_on(out: &mut Vec<u8>, block: &mut Vec<u8>) -> Result<(), AllocError>
+    ensures whole { OnOk result (out.new.items ++ block.new.items ≡ out.old.items ++ block.old.items) }
+    ensures begins { (more : List ℕ) × (out.new.items ≡ out.old.items ++ more) }
+{
+    if block.len() < BLOCK {
+        return Ok(());
+    }
+    out.extend_from_slice(block)?;
+    block.clear();
+    Ok(())
+}
+
+/// Appends the rows, a line each.
+pub(crate) fn append_rows(
+    out: &mut Vec<u8>,
+    columns: &[Column],
+    rows: Rows<'_>,
+    dict: &Dict,
+) -> Result<(), AllocError>
+    ensures ok { OnOk result (out.new.items ≡ out.old.items ++ rows_text columns.now dict.now rows.entry) }
+    ensures begins { OnErr result ((more : List ℕ) × (out.new.items ≡ out.old.items ++ more)) }
+{
+    let mut block = Vec::new(*out.allocator());
+    for (row, count) in rows {
+        write_row(&mut block, columns, row, count, dict)?;
+        pass_on(out, &mut block)?;
+    }
+    out.extend_from_slice(&block)
+}
+
 /// Appends the table line by line.
 fn append_table(
     out: &mut Vec<u8>,
@@ -138,15 +173,10 @@ fn append_table(
     ensures ok { OnOk result (out.new.items ≡ out.old.items ++ table_text columns.now dict.now bag.now) }
     ensures begins { OnErr result ((more : List ℕ) × (out.new.items ≡ out.old.items ++ more)) }
 {
-    let mut line = Vec::new(*out.allocator());
-    write_header(&mut line, columns)?;
-    out.extend_from_slice(&line)?;
-    for (row, count) in bag.rows() {
-        line.clear();
-        write_row(&mut line, columns, row, count, dict)?;
-        out.extend_from_slice(&line)?;
-    }
-    Ok(())
+    let mut header = Vec::new(*out.allocator());
+    write_header(&mut header, columns)?;
+    out.extend_from_slice(&header)?;
+    append_rows(out, columns, bag.rows(), dict)
 }
 
 /// Appends the table as it is written: the header `#` and the columns' names, then each row's count and cells, in rising

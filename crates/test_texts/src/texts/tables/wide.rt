@@ -1,0 +1,65 @@
+// Tables that several threads write have the text that one thread writes.
+
+use super::columns_of;
+use std::alloc::{AllocError, Global};
+use std::process::Abort;
+use std::test::Fail;
+use std::thread::Threads;
+use wh_load::{Column, Dict, write_table, write_table_wide};
+use wh_row::{Bag, Hands, Records};
+
+/// The texts of cells. The last number stands for none.
+const WORDS: [&str; 5] = ["plain", "", "a,b", "say \"so\"", "two\r\nlines"];
+
+/// So many drawn rows, of which some may be the same.
+fn drawn(alloc: Global, rows: usize) -> Result<Records, AllocError> {
+    let mut records = Records::new(alloc);
+    let mut state = rows as u64;
+    for _ in 0..rows {
+        state = state.wrapping_mul(6_364_136_223_846_793_005).wrapping_add(1);
+        let number = (state >> 33) as i64;
+        records.push(&[number % 6, number - 1_000_000_000], number % 9 + 1)?;
+    }
+    Ok(records)
+}
+
+/// The words, with a number each.
+fn words(alloc: Global) -> Result<Dict, AllocError> {
+    let mut dict = Dict::new(alloc);
+    for word in &WORDS {
+        let _ = dict.number(alloc, word)?;
+    }
+    Ok(dict)
+}
+
+/// Asserts that up to four threads append what one thread appends.
+fn assert_written<R: Threads + Sync + Abort>(
+    rt: &R,
+    alloc: Global,
+    columns: &[Column],
+    bag: &Bag,
+    dict: &Dict,
+) -> Result<(), AllocError> {
+    let mut alone = Vec::new(alloc);
+    alone.push(b'>')?;
+    write_table(&mut alone, columns, bag, dict)?;
+    for threads in 0..5 {
+        let mut wide = Vec::new(alloc);
+        wide.push(b'>')?;
+        write_table_wide(&Hands { rt, threads }, &mut wide, columns, bag, dict)?;
+        assert!(rt; wide.as_slice() == alone.as_slice());
+    }
+    Ok(())
+}
+
+#[test]
+fn threads_write_what_one_writes(rt: HostRuntime) -> Result<(), Fail> {
+    let alloc = rt.alloc();
+    let columns = columns_of(alloc, "k:text n")?;
+    let dict = words(alloc)?;
+    for rows in [0, 1, 9_999, 20_000, 25_017, 30_000, 41_234, 60_000] {
+        let bag = Bag::from_records(alloc, &drawn(alloc, rows)?)?;
+        assert_written(&rt, alloc, &columns, &bag, &dict)?;
+    }
+    Ok(())
+}
