@@ -16,7 +16,9 @@ fn drawn(alloc: Global, rows: usize) -> Result<Records, AllocError> {
     let mut records = Records::new(alloc);
     let mut state = rows as u64;
     for _ in 0..rows {
-        state = state.wrapping_mul(6_364_136_223_846_793_005).wrapping_add(1);
+        state = state
+            .wrapping_mul(6_364_136_223_846_793_005)
+            .wrapping_add(1);
         let number = (state >> 33) as i64;
         records.push(&[number % 6, number - 1_000_000_000], number % 9 + 1)?;
     }
