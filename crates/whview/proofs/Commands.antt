@@ -68,7 +68,7 @@ plan_options = (
   ),
 )
 
--- its workers, its readers, its rows of a page, its file and its help
+-- its workers, its readers, its rows of a page, what it prints, its file and its help
 night_shape : AreOptionsOf (command_shape night_app).rules (command_shape night_app).rules
 night_shape = (
   option_known _ _ refl (λ e. cc) refl refl,
@@ -78,7 +78,10 @@ night_shape = (
       option_known _ _ refl (λ e. cc) refl refl,
       (
         option_known _ _ refl (λ e. cc) refl refl,
-        (option_known _ _ refl (λ e. cc) refl refl, tt),
+        (
+          option_known _ _ refl (λ e. cc) refl refl,
+          (option_known _ _ refl (λ e. cc) refl refl, tt),
+        ),
       ),
     ),
   ),

@@ -22,3 +22,7 @@ pub mod NightDecided
 pub mod ReplayDecided
 pub mod ReadRows
 pub mod StoredCatalog
+pub mod ViewsTexts
+pub mod Walks
+pub mod DerivedBags
+pub mod ServedTables

@@ -33,14 +33,16 @@ use Rattle.whview.specs.Inner.FitNight.{AreReadTables}
 use Rattle.wh_night.specs.Refusals.{IsRefusedSo, left_of}
 use Rattle.wh_night.specs.Tonight.{night_over}
 use Rattle.wh_night.specs.Serving.{rows_of}
-use Rattle.whview.specs.NightOutput.{AreOpened, IsDecided, IsRefusedFrom, IsShownFrom, night_from}
+use Rattle.whview.specs.NightOutput.{AreOpened, IsDecided, IsRefusedFrom, IsShownAs, IsShownFrom, night_from}
 use Rattle.whview.specs.declared.night.Outcome.TheVariants.{NoContents}
+use Rattle.whview.specs.declared.night.shown.Shown.{Shown}
+use Rattle.whview.specs.declared.night_options.Printed.{Printed}
 use Rattle.whview.proofs.AnyKeys.{refused_any}
 use Rattle.whview.proofs.ReadRows.{none_negative}
 
-pub decided_no_contents : (N : Night) (readers : ℕ) (cat : CatalogOf) → cat ≡ catalog_in N → (fault : MaintFault) → IsCorrect N.shape.children N.given.list
-    → (fault ≡ Memory) ⊎ HasNoContents (graph_of cat) (bag_at N.opening.tables) fault → fault ≢ Memory → IsDecided N readers (NoContents fault)
-decided_no_contents N readers cat e fault ok why not =
+pub decided_no_contents : (N : Night) (printed : Printed) (readers : ℕ) (cat : CatalogOf) → cat ≡ catalog_in N → (fault : MaintFault) → IsCorrect N.shape.children N.given.list
+    → (fault ≡ Memory) ⊎ HasNoContents (graph_of cat) (bag_at N.opening.tables) fault → fault ≢ Memory → IsDecided N printed readers (NoContents fault)
+decided_no_contents N printed readers cat e fault ok why not =
     (ok, ⊎_elim (λ m. absurd (not m)) (λ h. subst (λ k. HasNoContents (graph_of k) (bag_at N.opening.tables) fault) e h) why)
 
 -- ---- the contents of the base that was read
@@ -132,9 +134,10 @@ pub record CarryFacts (N : Night) (old new : List Bag) (steps : List (Expression
   pub contents_after : AreContents (graph_of cat) (bag_at ts) → AreContentsOf (graph_of cat) (changed (bag_at ts) (bag_at ch)) (bag_at new)
   pub reported : AreSteps cat.views.children list (bag_at ts) (tables_after (graph_of cat) (bag_at ch) list (bag_at ts)) steps
 
-shown_from : (N : Night) (readers : ℕ) (old new : List Bag) (steps : List (Expression × ℕ)) (rows : List ℕ) → CarryFacts N old new steps (catalog_in N) old N.given.changes N.given.list
-    → rows ≡ replicate readers (rows_of old) → IsShownFrom N readers N.opening.views N.opening.texts new steps rows
-shown_from N readers old new steps rows f given = record {
+shown_from : (N : Night) (printed : Printed) (readers : ℕ) (old new : List Bag) (shown : Shown) (steps : List (Expression × ℕ)) (rows : List ℕ)
+    → CarryFacts N old new steps (catalog_in N) old N.given.changes N.given.list → IsShownAs printed N.opening.views (bag_at old) (bag_at new) shown
+    → rows ≡ replicate readers (rows_of old) → IsShownFrom N printed readers N.opening.views N.opening.texts new shown steps rows
+shown_from N printed readers old new shown steps rows f is_shown given = record {
   views_read = refl;
   texts_read = refl;
   old = old;
@@ -148,18 +151,20 @@ shown_from N readers old new steps rows f given = record {
     valued = new_valued (catalog_in N) f.is N.opening.tables old f.opened N.given.list (bag_at N.given.changes) f.correct f.read f.valued f.passed;
     reported = f.reported;
   };
+  printed_as = is_shown;
   given = given;
 }
 
-pub shown_carried : (N : Night) (readers : ℕ) (old new : List Bag) (steps : List (Expression × ℕ)) (rows : List ℕ) (cat : CatalogOf) (ch : List Bag) (list : List Expression)
+pub shown_carried : (N : Night) (printed : Printed) (readers : ℕ) (old new : List Bag) (shown : Shown) (steps : List (Expression × ℕ)) (rows : List ℕ) (cat : CatalogOf) (ch : List Bag) (list : List Expression)
     → cat ≡ catalog_in N → ch ≡ N.given.changes → list ≡ N.given.list
-    → CarryFacts N old new steps cat old ch list → rows ≡ replicate readers (rows_of old) → IsShownFrom N readers N.opening.views N.opening.texts new steps rows
-shown_carried N readers old new steps rows cat ch list e same_changes same_list f given =
-    shown_from N readers old new steps rows
+    → CarryFacts N old new steps cat old ch list → IsShownAs printed N.opening.views (bag_at old) (bag_at new) shown
+    → rows ≡ replicate readers (rows_of old) → IsShownFrom N printed readers N.opening.views N.opening.texts new shown steps rows
+shown_carried N printed readers old new shown steps rows cat ch list e same_changes same_list f is_shown given =
+    shown_from N printed readers old new shown steps rows
     (subst (λ k. CarryFacts N old new steps k old N.given.changes N.given.list) e
     (subst (λ xs. CarryFacts N old new steps cat old xs N.given.list) same_changes
     (subst (λ xs. CarryFacts N old new steps cat old ch xs) same_list f)))
-    given
+    is_shown given
 
 -- these lists are the contents of the base that was read, over this catalogue
 pub record AreOpenedBy (opening : Opening) (old : List Bag) (cat : CatalogOf) : Type 0 where

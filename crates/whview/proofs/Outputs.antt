@@ -3,11 +3,10 @@ use Rattle.std.proofs.Common.{◌≡◌, ◌≢◌, ◌≤◌, ◌<◌, ℕ, zer
 use Rattle.std.specs.Prelude.{IfOk, IfSome, IsErrOf, MatchResult, map}
 use Rattle.std.specs.Borrow.{Bor}
 use Rattle.std.specs.List.{list_any}
-use Rattle.clap.specs.Words.{fault_of}
 use Rattle.wh_text_bundle.specs.declared.read.ReadFault.{ReadFault}
 use Rattle.wh_text_bundle.specs.declared.read.ReadFault.TheVariants as reading
 use Rattle.whview.specs.CommandFault.{FailsAs, status_of}
-use Rattle.whview.specs.CommandLine.{whview_app}
+use Rattle.whview.specs.CommandLine.{words_fault}
 use Rattle.whview.specs.FirstLine.{words_in, names_input}
 use Rattle.whview.specs.Output.{AskFor, Bytes, Failed, HoldsOfFile, HoldsOfReading, IsCommandOutput, IsHandedOutput, IsReadAnswer, IsRefused, IsSourceAnswer, Reading, answered, file_of, too_long, within}
 use Rattle.whview.specs.Inner.Output.{IsUnreadShown}
@@ -16,7 +15,7 @@ use Rattle.whview.specs.declared.command_line.Asked.{Asked}
 use Rattle.whview.specs.declared.command_line.fault.CommandFault.{CommandFault}
 use Rattle.whview.specs.declared.command_line.fault.CommandFault.TheVariants.{Memory}
 
-pub refused_as : (words : List (List ℕ)) (f : CommandFault) (status : ℕ) → FailsAs (fault_of whview_app words) f → f ≢ Memory → status ≡ status_number (status_of f) → IsRefused words status
+pub refused_as : (words : List (List ℕ)) (f : CommandFault) (status : ℕ) → FailsAs (words_fault words) f → f ≢ Memory → status ≡ status_number (status_of f) → IsRefused words status
 refused_as words f status fails told ended =
     ⊎_elim
     (λ memory. absurd (told memory))

@@ -1,7 +1,7 @@
 -- The same words and bytes have one answer at most.
 use Rattle.std.proofs.Common.{◌≡◌, ◌<◌, ◌≤◌, ℕ, List, [], ◌∷◌, Option, Some, None, Result, Ok, Err, true, false, refl, sym, ap, subst, ◌∙◌, inl, inr, arith}
 use Rattle.std.specs.Prelude.{MatchResult, codes}
-use Rattle.clap.specs.Words.{IsAmong, Kinds, Row, Text, fault_of, first_of}
+use Rattle.clap.specs.Words.{IsAmong, Kinds, Row, Text, first_of}
 use Rattle.clap.specs.declared.error.kind.ErrorKind.{ErrorKind}
 use Rattle.wh_dag.specs.Shape.{IsShape}
 use Rattle.wh_text.specs.declared.fault.LoadFault.{LoadFault}
@@ -25,7 +25,7 @@ use Rattle.wh_text_lines.specs.PlanText.{plan_of}
 use Rattle.whview.specs.CertifyOutput.{IsCertifyOutput, IsJudgement, IsLeastBy, broken as broken_claim, judged, other_work, verdict_status, verdict_text, work_at}
 use Rattle.whview.specs.Status.{status_number}
 use Rattle.whview.specs.CheckOutput.{IsCheckOutput, IsFaultShown, IsVerdict, broken, correct, correct_text}
-use Rattle.whview.specs.CommandLine.{AsksBy, IsAsked, whview_app}
+use Rattle.whview.specs.CommandLine.{AsksBy, IsAsked, words_fault}
 use Rattle.whview.specs.FirstLine.{after_first_line, first_line_of, words_in}
 use Rattle.whview.specs.NightOutput.{IsNightOutput}
 use Rattle.whview.proofs.SingleFaults.{one_broken, one_shown}
@@ -214,7 +214,8 @@ one_asked (Some found) (asked.Certify costs input) (asked.Check costs' input') f
 one_asked (Some found) (asked.Certify costs input) (asked.Plan costs' budget' input') f g bytes text status is =
     let bad : codes "certify" ≡ codes "plan" = sym f.0 ∙ g.0 in cc
 one_asked (Some found) (asked.Night how input) (asked.Night how' input') f g bytes text status is =
-    subst (λ readers. IsNightOutput readers bytes text status) (g.1.readers ∙ sym f.1.readers) is
+    subst (λ printed. IsNightOutput printed how.readers bytes text status) (g.1.print ∙ sym f.1.print)
+    (subst (λ readers. IsNightOutput how'.print readers bytes text status) (g.1.readers ∙ sym f.1.readers) is)
 one_asked (Some found) (asked.Check costs input) (asked.Night how' input') f g bytes text status is = absurd (check_is_not_night (sym f.0 ∙ g.0))
 one_asked (Some found) (asked.Night how input) (asked.Check costs' input') f g bytes text status is = absurd (check_is_not_night (sym g.0 ∙ f.0))
 one_asked (Some found) (asked.Plan costs budget input) (asked.Night how' input') f g bytes text status is = absurd (plan_is_not_night (sym f.0 ∙ g.0))
@@ -243,7 +244,7 @@ one_output : (command : Asked) (bytes text other : List ℕ) (status ended : ℕ
 one_output (asked.Check costs input) bytes text other status ended f g = one_check costs bytes text other status ended f g
 one_output (asked.Plan costs budget input) bytes text other status ended f g = one_plan costs budget.nodes bytes text other status ended f g
 one_output (asked.Certify costs input) bytes text other status ended f g = one_certification costs bytes text other status ended f g
-one_output (asked.Night how input) bytes text other status ended f g = one_night how.readers bytes text other status ended f g
+one_output (asked.Night how input) bytes text other status ended f g = one_night how.print how.readers bytes text other status ended f g
 one_output (asked.Replay input) bytes text other status ended f g = one_replay bytes text other status ended f g
 
 -- two commands that the same words ask for read the same
@@ -282,7 +283,7 @@ none_refused : (kinds : Kinds) (k : ErrorKind) → kinds ≡ [] → IsAmong k ki
 none_refused [] k e among = among
 none_refused (x ∷ xs) k e among = cc
 
-not_refused : (words : List (List ℕ)) (status : ℕ) → fault_of whview_app words ≡ [] → IsRefused words status → ⊥
+not_refused : (words : List (List ℕ)) (status : ℕ) → words_fault words ≡ [] → IsRefused words status → ⊥
 not_refused words status taken is = none_refused _ is.kind taken is.found
 
 from_reader : (file : Option (List ℕ)) (reading : Reading) (of : List ℕ → List ℕ → ℕ → Type 0) (text : List ℕ) (status : ℕ) → file ≡ None

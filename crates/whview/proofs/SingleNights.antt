@@ -30,7 +30,7 @@ use Rattle.wh_carry.proofs.Prefixes.{there}
 use Rattle.wh_carry.specs.Carry.{tables_after}
 use Rattle.wh_carry.specs.Steps.{AreSteps}
 use Rattle.wh_carry.specs.declared.report.CarryFault.{CarryFault}
-use Rattle.wh_row.specs.Bag.{Bag, empty}
+use Rattle.wh_row.specs.Bag.{Bag, difference_of, empty}
 use Rattle.wh_night.proofs.OneRefusal.{one_refusal as nights_have_one_refusal}
 use Rattle.wh_night.specs.Refusals.{IsRefusedSo, left_of}
 use Rattle.wh_night.specs.declared.left.Left.TheVariants.{Untouched}
@@ -40,8 +40,10 @@ use Rattle.wh_strategy.specs.Rules.{IsCorrect}
 use Rattle.wh_strategy.specs.declared.expression.Expression.{Expression}
 use Rattle.whview.proofs.SingleFaults.{one_broken, one_shown}
 use Rattle.whview.specs.CheckOutput.{IsFaultShown}
-use Rattle.whview.specs.NightOutput.{AreOpened, IsCarriedOut, IsNightTold, IsRefusedAs, broken, carried, carried_text, graph_in, graph_over, left_text, night_from, no_contents, readers_text, refused, refused_text, report_text, view_text, views_text}
+use Rattle.whview.specs.NightOutput.{AreOpened, IsCarriedOut, IsNightTold, IsRefusedAs, broken, carried, carried_text, graph_in, graph_over, left_text, night_from, no_contents, readers_text, refused, refused_text, report_text, rows_printed, view_text, views_text, word_of}
 use Rattle.whview.specs.OneAnswer.{AreSame, OneNightOutput}
+use Rattle.whview.specs.declared.night_options.Printed.{Printed}
+use Rattle.whview.specs.declared.night_options.Printed.TheVariants.{Changes, Tables}
 
 -- ---- one reason why there are no contents
 
@@ -97,27 +99,32 @@ one_report shape list old new steps others a b =
     get_or_from_slice_get steps place _ d (a.rows place e.0 e.1) ∙ sym (get_or_from_slice_get others place _ d (b.rows place e.0 e.1))))
 
 -- the text of the tables asks for those of its views alone
-one_text_of_tables : (texts : Texts) (names : List (List ℕ)) (number : ℕ) (views : List ViewOf) (tables others : ℕ → Bag)
-    → ((k : ℕ) → number ≤ k → k < number + length views → tables k ≡ others k) → views_text texts names number views tables ≡ views_text texts names number views others
-one_text_of_tables texts names number [] tables others same = refl
-one_text_of_tables texts names number (view ∷ views) tables others same =
-    ap (λ t. view_text texts (name_of names number) view t ++ views_text texts names (number + 1) views tables) (same number (omega arith) (omega arith))
-    ∙ ap (λ rest. view_text texts (name_of names number) view (others number) ++ rest)
-    (one_text_of_tables texts names (number + 1) views tables others (λ k l m. same k (omega (arith, l)) (omega (arith, m))))
+one_text_of_tables : (word : List ℕ) (texts : Texts) (names : List (List ℕ)) (number : ℕ) (views : List ViewOf) (tables others : ℕ → Bag)
+    → ((k : ℕ) → number ≤ k → k < number + length views → tables k ≡ others k) → views_text word texts names number views tables ≡ views_text word texts names number views others
+one_text_of_tables word texts names number [] tables others same = refl
+one_text_of_tables word texts names number (view ∷ views) tables others same =
+    ap (λ t. view_text word texts (name_of names number) view t ++ views_text word texts names (number + 1) views tables) (same number (omega arith) (omega arith))
+    ∙ ap (λ rest. view_text word texts (name_of names number) view (others number) ++ rest)
+    (one_text_of_tables word texts names (number + 1) views tables others (λ k l m. same k (omega (arith, l)) (omega (arith, m))))
 
-one_carried : (night : Night) (old new other_old other_new : List Bag) (steps others : List (Expression × ℕ)) → length night.opening.views ≡ length night.shape.children
-    → IsCarriedOut night old new steps → IsCarriedOut night other_old other_new others → carried_text night steps (bag_at new) ≡ carried_text night others (bag_at other_new)
-one_carried night old new other_old other_new steps others each a b =
+-- the same of two tables is printed
+same_printed : (printed : Printed) (old new others : ℕ → Bag) (v : ℕ) → new v ≡ others v → rows_printed printed old new v ≡ rows_printed printed old others v
+same_printed Tables old new others v same = same
+same_printed Changes old new others v same = ap (λ t. difference_of t (old v)) same
+
+one_carried : (night : Night) (printed : Printed) (old new other_old other_new : List Bag) (steps others : List (Expression × ℕ)) → length night.opening.views ≡ length night.shape.children
+    → IsCarriedOut night old new steps → IsCarriedOut night other_old other_new others → carried_text printed night steps (bag_at old) (bag_at new) ≡ carried_text printed night others (bag_at old) (bag_at other_new)
+one_carried night printed old new other_old other_new steps others each a b =
     let opened : other_old ≡ old = one_opening night other_old old b.opened a.opened in
     let list = night.given.list in
     let changes = bag_at night.given.changes in
     let reported = subst (λ bags. AreSteps night.shape.children list (bag_at bags) (tables_after (graph_in night) changes list (bag_at bags)) others) opened b.reported in
     let carried = subst (λ bags. (view : ℕ) → view < length night.shape.children → bag_at other_new view ≡ tables_after (graph_in night) changes list (bag_at bags) view) opened b.carried in
-    ap (λ s. report_text night.shape.names s ++ views_text night.opening.texts night.shape.names 0 night.opening.views (bag_at new))
+    ap (λ s. report_text night.shape.names s ++ views_text (word_of printed) night.opening.texts night.shape.names 0 night.opening.views (rows_printed printed (bag_at old) (bag_at new)))
     (one_report night.shape.children list (bag_at old) (tables_after (graph_in night) changes list (bag_at old)) steps others a.reported reported)
     ∙ ap (λ t. report_text night.shape.names others ++ t)
-    (one_text_of_tables night.opening.texts night.shape.names 0 night.opening.views (bag_at new) (bag_at other_new)
-    (λ k l m. (let within : k < length night.shape.children = omega (arith, m, each) in a.carried k within ∙ sym (carried k within))))
+    (one_text_of_tables (word_of printed) night.opening.texts night.shape.names 0 night.opening.views (rows_printed printed (bag_at old) (bag_at new)) (rows_printed printed (bag_at old) (bag_at other_new))
+    (λ k l m. (let within : k < length night.shape.children = omega (arith, m, each) in same_printed printed (bag_at old) (bag_at new) (bag_at other_new) k (a.carried k within ∙ sym (carried k within)))))
 
 -- ---- one refusal
 
@@ -154,29 +161,29 @@ record IsReadNight (night : Night) : Type 0 where
   shape : IsShape night.shape.children
   each : length night.opening.views ≡ length night.shape.children
 
-one_told : (night : Night) (readers : ℕ) (text other : List ℕ) (status ended : ℕ) → IsReadNight night → IsNightTold night readers text status → IsNightTold night readers other ended → AreSame text status other ended
-one_told night readers text other status ended is (broken rule place f t s) (broken rule' place' f' t' s') = record { texts = t ∙ one_broken _ _ rule rule' place place' f f' ∙ sym t'; statuses = s ∙ sym s' }
-one_told night readers text other status ended is (broken rule place f t s) (no_contents fault' ok' h' t' s') = absurd (not_correct rule _ _ place is.shape f ok')
-one_told night readers text other status ended is (broken rule place f t s) (refused old' fault' ok' o' m' h' t' s') = absurd (not_correct rule _ _ place is.shape f ok')
-one_told night readers text other status ended is (broken rule place f t s) (carried old' new' steps' ok' c' t' s') = absurd (not_correct rule _ _ place is.shape f ok')
-one_told night readers text other status ended is (no_contents fault ok h t s) (broken rule' place' f' t' s') = absurd (not_correct rule' _ _ place' is.shape f' ok)
-one_told night readers text other status ended is (no_contents fault ok h t s) (no_contents fault' ok' h' t' s') =
+one_told : (night : Night) (printed : Printed) (readers : ℕ) (text other : List ℕ) (status ended : ℕ) → IsReadNight night → IsNightTold night printed readers text status → IsNightTold night printed readers other ended → AreSame text status other ended
+one_told night printed readers text other status ended is (broken rule place f t s) (broken rule' place' f' t' s') = record { texts = t ∙ one_broken _ _ rule rule' place place' f f' ∙ sym t'; statuses = s ∙ sym s' }
+one_told night printed readers text other status ended is (broken rule place f t s) (no_contents fault' ok' h' t' s') = absurd (not_correct rule _ _ place is.shape f ok')
+one_told night printed readers text other status ended is (broken rule place f t s) (refused old' fault' ok' o' m' h' t' s') = absurd (not_correct rule _ _ place is.shape f ok')
+one_told night printed readers text other status ended is (broken rule place f t s) (carried old' new' steps' ok' c' t' s') = absurd (not_correct rule _ _ place is.shape f ok')
+one_told night printed readers text other status ended is (no_contents fault ok h t s) (broken rule' place' f' t' s') = absurd (not_correct rule' _ _ place' is.shape f' ok)
+one_told night printed readers text other status ended is (no_contents fault ok h t s) (no_contents fault' ok' h' t' s') =
     record { texts = t ∙ ap (refused_text night.shape.names) (one_lack (graph_in night) (bag_at night.opening.tables) fault fault' h h') ∙ sym t'; statuses = s ∙ sym s' }
-one_told night readers text other status ended is (no_contents fault ok h t s) (refused old' fault' ok' o' m' h' t' s') = absurd (not_opened night fault old' h o')
-one_told night readers text other status ended is (no_contents fault ok h t s) (carried old' new' steps' ok' c' t' s') = absurd (not_opened night fault old' h c'.opened)
-one_told night readers text other status ended is (refused old fault ok o m h t s) (broken rule' place' f' t' s') = absurd (not_correct rule' _ _ place' is.shape f' ok)
-one_told night readers text other status ended is (refused old fault ok o m h t s) (no_contents fault' ok' h' t' s') = absurd (not_opened night fault' old h' o)
-one_told night readers text other status ended is (refused old fault ok o m h t s) (refused old' fault' ok' o' m' h' t' s') =
+one_told night printed readers text other status ended is (no_contents fault ok h t s) (refused old' fault' ok' o' m' h' t' s') = absurd (not_opened night fault old' h o')
+one_told night printed readers text other status ended is (no_contents fault ok h t s) (carried old' new' steps' ok' c' t' s') = absurd (not_opened night fault old' h c'.opened)
+one_told night printed readers text other status ended is (refused old fault ok o m h t s) (broken rule' place' f' t' s') = absurd (not_correct rule' _ _ place' is.shape f' ok)
+one_told night printed readers text other status ended is (refused old fault ok o m h t s) (no_contents fault' ok' h' t' s') = absurd (not_opened night fault' old h' o)
+one_told night printed readers text other status ended is (refused old fault ok o m h t s) (refused old' fault' ok' o' m' h' t' s') =
     record { texts = t ∙ ap (left_text night.shape.names) (one_refusal night old old' fault fault' is.catalog ok o o' m m' h h') ∙ sym t'; statuses = s ∙ sym s' }
-one_told night readers text other status ended is (refused old fault ok o m h t s) (carried old' new' steps' ok' c' t' s') = absurd (not_refused night old' new' old steps' fault is.catalog ok c' o m h)
-one_told night readers text other status ended is (carried old new steps ok c t s) (broken rule' place' f' t' s') = absurd (not_correct rule' _ _ place' is.shape f' ok)
-one_told night readers text other status ended is (carried old new steps ok c t s) (no_contents fault' ok' h' t' s') = absurd (not_opened night fault' old h' c.opened)
-one_told night readers text other status ended is (carried old new steps ok c t s) (refused old' fault' ok' o' m' h' t' s') = absurd (not_refused night old new old' steps fault' is.catalog ok c o' m' h')
-one_told night readers text other status ended is (carried old new steps ok c t s) (carried old' new' steps' ok' c' t' s') =
+one_told night printed readers text other status ended is (refused old fault ok o m h t s) (carried old' new' steps' ok' c' t' s') = absurd (not_refused night old' new' old steps' fault is.catalog ok c' o m h)
+one_told night printed readers text other status ended is (carried old new steps ok c t s) (broken rule' place' f' t' s') = absurd (not_correct rule' _ _ place' is.shape f' ok)
+one_told night printed readers text other status ended is (carried old new steps ok c t s) (no_contents fault' ok' h' t' s') = absurd (not_opened night fault' old h' c.opened)
+one_told night printed readers text other status ended is (carried old new steps ok c t s) (refused old' fault' ok' o' m' h' t' s') = absurd (not_refused night old new old' steps fault' is.catalog ok c o' m' h')
+one_told night printed readers text other status ended is (carried old new steps ok c t s) (carried old' new' steps' ok' c' t' s') =
     let opened : old ≡ old' = one_opening night old old' c.opened c'.opened in
     record {
-      texts = t ∙ ap (λ text. text ++ readers_text 0 (replicate readers (rows_of old))) (one_carried night old new old' new' steps steps' is.each c c')
-          ∙ ap (λ bags. carried_text night steps' (bag_at new') ++ readers_text 0 (replicate readers (rows_of bags))) opened ∙ sym t';
+      texts = t ∙ ap (λ text. text ++ readers_text 0 (replicate readers (rows_of old))) (one_carried night printed old new old' new' steps steps' is.each c c')
+          ∙ ap (λ bags. carried_text printed night steps' (bag_at bags) (bag_at new') ++ readers_text 0 (replicate readers (rows_of bags))) opened ∙ sym t';
       statuses = s ∙ sym s';
     }
 
@@ -209,11 +216,11 @@ read_night bytes night e =
     }
 
 pub one_night : OneNightOutput
-one_night readers bytes text other status ended = go (night_read bytes) (read_night bytes)
+one_night printed readers bytes text other status ended = go (night_read bytes) (read_night bytes)
   where
     go : (r : Result Night LoadFault) → ((night : Night) → r ≡ Ok night → IsReadNight night)
-        → MatchResult r (λ night. IsNightTold night readers text status) (λ fault. IsFaultShown fault text status)
-        → MatchResult r (λ night. IsNightTold night readers other ended) (λ fault. IsFaultShown fault other ended)
+        → MatchResult r (λ night. IsNightTold night printed readers text status) (λ fault. IsFaultShown fault text status)
+        → MatchResult r (λ night. IsNightTold night printed readers other ended) (λ fault. IsFaultShown fault other ended)
         → AreSame text status other ended
-    go (Ok night) read f g = one_told night readers text other status ended (read night refl) f g
+    go (Ok night) read f g = one_told night printed readers text other status ended (read night refl) f g
     go (Err fault) read f g = one_shown fault text other status ended f g

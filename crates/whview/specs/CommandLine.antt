@@ -1,15 +1,20 @@
 -- The command line of the program: the words that it takes, and what they ask for.
-use Rattle.std.specs.Prelude.{◌≡◌, ℕ, List, Option, Some, IsSomeAnd, codes, true, option_map, pos}
+use Rattle.std.specs.Prelude.{◌≡◌, ◌||◌, ℕ, Bool, List, [], ◌∷◌, Option, None, Some, IsSomeAnd, codes, cond, true, option_map, pos}
 use Rattle.std.specs.Option.{option_map_or}
 use Rattle.std.specs.Borrow.{Bor}
+use Rattle.std.specs.Str.{bytes_eq}
 use Rattle.std.specs.Str.Parse.{digits_value, without_leading_plus}
-use Rattle.clap.specs.Words.{App, Row, Rule, Text, first_of, new_app, new_rule, with_rule, with_subcommand}
+use Rattle.clap.specs.Kinds.{or_else}
+use Rattle.clap.specs.Words.{App, Kinds, Row, Rule, Text, fault_of, first_of, new_app, new_rule, subcommand_of, with_rule, with_subcommand}
 use Rattle.clap.specs.declared.builder.value_parser.ValueParser.{ValueParser}
 use Rattle.clap.specs.declared.builder.value_parser.ValueParser.TheVariants as parser
+use Rattle.clap.specs.declared.error.kind.ErrorKind.TheVariants as kind
 use Rattle.wh_strategy.specs.Prices.{Prices, prices_of}
 use Rattle.wh_strategy.specs.declared.costs.Costs.{Costs}
 use Rattle.whview.specs.declared.command_line.Asked.{Asked}
 use Rattle.whview.specs.declared.night_options.NightOptions.{NightOptions}
+use Rattle.whview.specs.declared.night_options.Printed.{Printed}
+use Rattle.whview.specs.declared.night_options.Printed.TheVariants.{Changes, Tables}
 use Rattle.whview.specs.declared.command_line.Asked.TheVariants as asked
 
 -- ---- the words
@@ -55,9 +60,13 @@ number_rule name low high = record (new_rule name) { long = Some name; value_nam
 abbrev pub seats_app : App
 seats_app = with_rule (with_rule (new_app (codes "night")) (number_rule (codes "workers") 1 16)) (number_rule (codes "readers") 0 16)
 
--- the same with `--page-keys N --input FILE`, each once at most and in any order
+-- `--print WHAT`
+abbrev pub print_rule : Rule
+print_rule = record (new_rule (codes "print")) { long = Some (codes "print"); value_names = 1 }
+
+-- the same with `--page-keys N --print WHAT --input FILE`, each once at most and in any order
 abbrev pub night_app : App
-night_app = with_rule (with_rule seats_app (number_rule (codes "page-keys") 1 256)) input_rule
+night_app = with_rule (with_rule (with_rule seats_app (number_rule (codes "page-keys") 1 256)) print_rule) input_rule
 
 -- the words begin with a command, and not with the program's name
 abbrev pub with_commands : App → App
@@ -71,6 +80,20 @@ planning_app = with_subcommand (with_subcommand (with_subcommand (with_commands 
 -- the program, with all its commands
 abbrev pub whview_app : App
 whview_app = with_subcommand (with_subcommand planning_app night_app.top) (input_app (codes "replay")).top
+
+-- the word of `--print`, where it is given, is one of two
+abbrev pub is_printable : Option Text → Bool
+is_printable None = true
+is_printable (Some word) = bytes_eq word (codes "tables") || bytes_eq word (codes "changes")
+
+-- what is wrong with a command that `clap` has found: that its `--print` has another word
+abbrev pub print_fault : Option (Text × List Row) → Kinds
+print_fault None = []
+print_fault (Some command) = cond (is_printable (first_of (codes "print") command.1)) [] (kind.InvalidValue ∷ [])
+
+-- what is wrong with words: what `clap` finds in them, or, where that is nothing, the word of their `--print`
+abbrev pub words_fault : List Text → Kinds
+words_fault words = or_else (fault_of whview_app words) (print_fault (subcommand_of whview_app words))
 
 -- ---- what they ask for
 
@@ -94,11 +117,20 @@ budget_of options = option_map_or number_of (first_of (codes "budget") options) 
 abbrev pub number_in : Text → ℕ → List Row → ℕ
 number_in name default options = option_map_or number_of (first_of name options) default
 
+-- what a word asks to be printed of a night
+abbrev pub printed_of : Text → Printed
+printed_of word = cond (bytes_eq word (codes "changes")) Changes Tables
+
+-- what is printed of a night by the options: its tables where they do not say
+abbrev pub printed_in : List Row → Printed
+printed_in options = option_map_or printed_of (first_of (codes "print") options) Tables
+
 -- a night is run as the options say: by 1 worker, beside no reader and by at most 256 rows an operation where they do not
 pub record HasNightOptions (options : List Row) (how : NightOptions) : Type 0 where
   pub workers : how.workers ≡ number_in (codes "workers") 1 options
   pub readers : how.readers ≡ number_in (codes "readers") 0 options
   pub page_keys : how.page_keys ≡ number_in (codes "page-keys") 256 options
+  pub print : how.print ≡ printed_in options
 
 -- a command at the costs of the options, on the file of the options
 pub record HasOptions (options : List Row) (costs : Costs) (input : Option (Bor Text)) : Type 0 where

@@ -1,9 +1,9 @@
 -- What `night` prints for the bytes of a bundle, and the status that it ends with.
-use Rattle.std.specs.Prelude.{◌≡◌, ◌≢◌, ◌<◌, ◌+◌, ◌++◌, ℕ, List, [], ◌∷◌, length, map, Option, Some, None, codes, decimal, cond, flat_map, replicate, sum_by, MatchResult}
+use Rattle.std.specs.Prelude.{◌≡◌, ◌≢◌, ◌<◌, ◌+◌, ◌++◌, ℕ, List, [], ◌∷◌, length, map, Option, Some, None, codes, decimal, cond, flat_map, replicate, slice_get, sum_by, IfSome, MatchResult}
 use Rattle.wh_dag.specs.Catalog.{DefinitionOf}
 use Rattle.wh_dag.specs.Shape.{Views}
 use Rattle.wh_dag.specs.Written.{name_of}
-use Rattle.wh_row.specs.Bag.{Bag}
+use Rattle.wh_row.specs.Bag.{Bag, difference_of}
 use Rattle.wh_text_catalogue.specs.Definitions.{ViewOf, shown_view}
 use Rattle.wh_text_catalogue.specs.FormulaKinds.{Texts}
 use Rattle.wh_text_tables.specs.TableWritten.{table_text}
@@ -32,6 +32,10 @@ use Rattle.wh_strategy.specs.declared.rule.Rule.{Rule}
 use Rattle.whview.specs.CheckOutput.{IsFaultShown, broken_text, line}
 use Rattle.whview.specs.declared.night.Outcome.{Outcome}
 use Rattle.whview.specs.declared.night.Outcome.TheVariants.{Broken, Carried, NoContents, Refused}
+use Rattle.whview.specs.declared.night.shown.Shown.{Shown}
+use Rattle.whview.specs.declared.night.shown.Shown.TheVariants.{ChangesOf, NewTables}
+use Rattle.whview.specs.declared.night_options.Printed.{Printed}
+use Rattle.whview.specs.declared.night_options.Printed.TheVariants.{Changes, Tables}
 use Rattle.whview.specs.declared.status.Status.{Status}
 use Rattle.whview.specs.declared.status.Status.TheVariants.{Done, Negative}
 
@@ -49,22 +53,36 @@ work_in steps = capped (sum_by (λ step. step.1) steps)
 abbrev pub report_text : List (List ℕ) → List (Expression × ℕ) → List ℕ
 report_text names steps = flat_map (step_text names) steps ++ line (codes "work " ++ decimal (work_in steps)) ++ line (codes "version " ++ decimal 1)
 
--- the table of a derived view under its name; of a base view nothing
-abbrev pub view_text : Texts → List ℕ → ViewOf → Bag → List ℕ
-view_text texts name view table = of_definition view.definition
+-- what is printed of a view, its new table or its change
+abbrev pub word_of : Printed → List ℕ
+word_of Tables = codes "view "
+word_of Changes = codes "changes "
+
+-- this of a derived view under what it is and its name, written as a table is; of a base view nothing
+abbrev pub view_text : List ℕ → Texts → List ℕ → ViewOf → Bag → List ℕ
+view_text word texts name view rows = of_definition view.definition
   where
     of_definition : Option DefinitionOf → List ℕ
     of_definition None = []
-    of_definition (Some definition) = line (codes "view " ++ name) ++ table_text view.columns texts table
+    of_definition (Some definition) = line (word ++ name) ++ table_text view.columns texts rows
 
--- the tables of the derived views, in the order of their numbers, the first view having this number
-abbrev pub views_text : Texts → List (List ℕ) → ℕ → List ViewOf → (ℕ → Bag) → List ℕ
-views_text texts names number [] tables = []
-views_text texts names number (view ∷ views) tables = view_text texts (name_of names number) view (tables number) ++ views_text texts names (number + 1) views tables
+-- this of each derived view, in the order of their numbers, the first view having this number
+abbrev pub views_text : List ℕ → Texts → List (List ℕ) → ℕ → List ViewOf → (ℕ → Bag) → List ℕ
+views_text word texts names number [] rows = []
+views_text word texts names number (view ∷ views) rows =
+    view_text word texts (name_of names number) view (rows number) ++ views_text word texts names (number + 1) views rows
 
--- a night that was carried out, in these steps and to these tables
-abbrev pub carried_text : Night → List (Expression × ℕ) → (ℕ → Bag) → List ℕ
-carried_text night steps tables = report_text night.shape.names steps ++ views_text night.opening.texts night.shape.names 0 night.opening.views tables
+-- What is printed of a view: its new table, or its change, in which each row counts what it counts in the new table less what it counts
+-- in the old one. Added to the old table the change is the new one.
+abbrev pub rows_printed : Printed → (ℕ → Bag) → (ℕ → Bag) → ℕ → Bag
+rows_printed Tables old new view = new view
+rows_printed Changes old new view = difference_of (new view) (old view)
+
+-- a night that was carried out in these steps, from the old tables to the new ones
+abbrev pub carried_text : Printed → Night → List (Expression × ℕ) → (ℕ → Bag) → (ℕ → Bag) → List ℕ
+carried_text printed night steps old new =
+    report_text night.shape.names steps
+    ++ views_text (word_of printed) night.opening.texts night.shape.names 0 night.opening.views (rows_printed printed old new)
 
 -- what is refused, and of which view
 abbrev pub refused_text : List (List ℕ) → MaintFault → List ℕ
@@ -118,13 +136,24 @@ pub record IsCarriedOut (night : Night) (old new : List Bag) (steps : List (Expr
 
 -- ---- what is decided
 
+-- this holds at each derived view, by its number
+abbrev pub AtDerived : List ViewOf → (ℕ → Type 0) → Type 0
+AtDerived views P = (number : ℕ) → IfSome (slice_get views number) (λ view. view.definition ≢ None → P number)
+
+-- this is shown where so much is to be printed
+abbrev pub IsShownAs : Printed → List ViewOf → (ℕ → Bag) → (ℕ → Bag) → Shown → Type 0
+IsShownAs Tables views old new shown = shown ≡ NewTables
+IsShownAs Changes views old new NewTables = ⊥
+IsShownAs Changes views old new (ChangesOf changes) = AtDerived views (λ view. bag_at changes.items view ≡ rows_printed Changes old new view)
+
 -- what is carried out is shown with these views and texts, which are those that were read, from these contents, of which so many readers
 -- were given all rows
-pub record IsShownFrom (night : Night) (readers : ℕ) (views : List ViewOf) (texts : Texts) (new : List Bag) (steps : List (Expression × ℕ)) (rows : List ℕ) : Type 0 where
+pub record IsShownFrom (night : Night) (printed : Printed) (readers : ℕ) (views : List ViewOf) (texts : Texts) (new : List Bag) (shown : Shown) (steps : List (Expression × ℕ)) (rows : List ℕ) : Type 0 where
   pub views_read : views ≡ night.opening.views
   pub texts_read : texts ≡ night.opening.texts
   pub old : List Bag
   pub carried : IsCarriedOut night old new steps
+  pub printed_as : IsShownAs printed night.opening.views (bag_at old) (bag_at new) shown
   pub given : rows ≡ replicate readers (rows_of old)
 
 -- the night from these contents, with so many rows an operation
@@ -143,45 +172,51 @@ pub record IsRefusedFrom (night : Night) (fault : CarryFault) : Type 0 where
   pub told : fault.fault ≢ Memory
   pub why : IsRefusedAs night old fault
 
--- this is decided of a night beside so many readers
-abbrev pub IsDecided : Night → ℕ → Outcome → Type 0
-IsDecided night readers (Broken rule place) = IsFirstBroken night.shape.children night.given.list rule place
-IsDecided night readers (NoContents fault) = IsCorrect night.shape.children night.given.list × HasNoContents (graph_in night) (bag_at night.opening.tables) fault
-IsDecided night readers (Refused fault) = IsCorrect night.shape.children night.given.list × IsRefusedFrom night fault
-IsDecided night readers (Carried views texts carried) =
+-- this is decided of a night of which so much is printed, beside so many readers
+abbrev pub IsDecided : Night → Printed → ℕ → Outcome → Type 0
+IsDecided night printed readers (Broken rule place) = IsFirstBroken night.shape.children night.given.list rule place
+IsDecided night printed readers (NoContents fault) = IsCorrect night.shape.children night.given.list × HasNoContents (graph_in night) (bag_at night.opening.tables) fault
+IsDecided night printed readers (Refused fault) = IsCorrect night.shape.children night.given.list × IsRefusedFrom night fault
+IsDecided night printed readers (Carried views texts carried shown) =
     IsCorrect night.shape.children night.given.list
-    × IsShownFrom night readers (map shown_view views.items) texts carried.tables.items carried.report.steps.items carried.rows.items
+    × IsShownFrom night printed readers (map shown_view views.items) texts carried.tables.items shown carried.report.steps.items carried.rows.items
+
+-- what is printed of the views of a night that was carried out
+abbrev pub shown_text : Shown → Texts → List (List ℕ) → List ViewOf → List Bag → List ℕ
+shown_text NewTables texts names views tables = views_text (word_of Tables) texts names 0 views (bag_at tables)
+shown_text (ChangesOf changes) texts names views tables = views_text (word_of Changes) texts names 0 views (bag_at changes.items)
 
 -- what is printed of what was decided, where the views have these names
 abbrev pub text_of : List (List ℕ) → Outcome → List ℕ
 text_of names (Broken rule place) = broken_text rule place
 text_of names (NoContents fault) = refused_text names fault
 text_of names (Refused fault) = left_text names fault
-text_of names (Carried views texts carried) =
-    (report_text names carried.report.steps.items ++ views_text texts names 0 (map shown_view views.items) (bag_at carried.tables.items)) ++ readers_text 0 carried.rows.items
+text_of names (Carried views texts carried shown) =
+    (report_text names carried.report.steps.items ++ shown_text shown texts names (map shown_view views.items) carried.tables.items) ++ readers_text 0 carried.rows.items
 
 -- and the status
 abbrev pub status_of : Outcome → Status
 status_of (Broken rule place) = Negative
 status_of (NoContents fault) = Negative
 status_of (Refused fault) = Negative
-status_of (Carried views texts carried) = Done
+status_of (Carried views texts carried shown) = Done
 
 -- ---- what is printed
 
--- What is printed of a night beside so many readers, and the status. A night is refused for the first reason that its base changes, and
+-- What is printed of a night, so much of it and beside so many readers, and the status. A night is refused for the first reason that its base changes, and
 -- then its waves and Insts, meet; want of memory is told as such and is none of these.
-pub data IsNightTold (night : Night) (readers : ℕ) (text : List ℕ) (status : ℕ) : Type 0 where
-  broken : (rule : Rule) (place : ℕ) → IsFirstBroken night.shape.children night.given.list rule place → text ≡ broken_text rule place → status ≡ 1 → IsNightTold night readers text status
+pub data IsNightTold (night : Night) (printed : Printed) (readers : ℕ) (text : List ℕ) (status : ℕ) : Type 0 where
+  broken : (rule : Rule) (place : ℕ) → IsFirstBroken night.shape.children night.given.list rule place → text ≡ broken_text rule place → status ≡ 1 → IsNightTold night printed readers text status
   no_contents : (fault : MaintFault) → IsCorrect night.shape.children night.given.list → HasNoContents (graph_in night) (bag_at night.opening.tables) fault
-      → text ≡ refused_text night.shape.names fault → status ≡ 1 → IsNightTold night readers text status
+      → text ≡ refused_text night.shape.names fault → status ≡ 1 → IsNightTold night printed readers text status
   refused : (old : List Bag) (fault : CarryFault) → IsCorrect night.shape.children night.given.list → AreOpened night.shape night.opening old → fault.fault ≢ Memory
       → IsRefusedAs night old fault
-      → text ≡ left_text night.shape.names fault → status ≡ 1 → IsNightTold night readers text status
+      → text ≡ left_text night.shape.names fault → status ≡ 1 → IsNightTold night printed readers text status
   carried : (old new : List Bag) (steps : List (Expression × ℕ)) → IsCorrect night.shape.children night.given.list → IsCarriedOut night old new steps
-      → text ≡ carried_text night steps (bag_at new) ++ readers_text 0 (replicate readers (rows_of old)) → status ≡ 0 → IsNightTold night readers text status
+      → text ≡ carried_text printed night steps (bag_at old) (bag_at new) ++ readers_text 0 (replicate readers (rows_of old)) → status ≡ 0
+      → IsNightTold night printed readers text status
 
--- what `night` beside so many readers prints for a bundle's bytes, and the status
-abbrev pub IsNightOutput : ℕ → List ℕ → List ℕ → ℕ → Type 0
-IsNightOutput readers bytes text status =
-    MatchResult (night_read bytes) (λ night. IsNightTold night readers text status) (λ fault. IsFaultShown fault text status)
+-- what `night`, of which so much is printed, beside so many readers prints for a bundle's bytes, and the status
+abbrev pub IsNightOutput : Printed → ℕ → List ℕ → List ℕ → ℕ → Type 0
+IsNightOutput printed readers bytes text status =
+    MatchResult (night_read bytes) (λ night. IsNightTold night printed readers text status) (λ fault. IsFaultShown fault text status)

@@ -21,6 +21,7 @@ use Rattle.whview.specs.PlanOutput.{IsPlanOutput, spent_text}
 use Rattle.whview.specs.ReplayOutput.{IsReplayOutput}
 use Rattle.whview.specs.declared.command_line.Asked.{Asked}
 use Rattle.whview.specs.declared.command_line.Asked.TheVariants as asked
+use Rattle.whview.specs.declared.night_options.Printed.{Printed}
 
 -- two answers have one text and one status
 pub record AreSame (text : List ℕ) (status : ℕ) (other : List ℕ) (ended : ℕ) : Type 0 where
@@ -126,11 +127,11 @@ OnePlanOutput =
     (costs : Costs) (budget : ℕ) (bytes text other : List ℕ) (status ended : ℕ) →
     IsPlanOutput costs budget bytes text status → IsPlanOutput costs budget bytes other ended → AreOnePlan budget bytes text status other ended
 
--- all nights of the same bytes beside so many readers have one text and one status
+-- all nights of the same bytes, of which so much is printed, beside so many readers have one text and one status
 abbrev pub OneNightOutput : Type 0
 OneNightOutput =
-    (readers : ℕ) (bytes text other : List ℕ) (status ended : ℕ) →
-    IsNightOutput readers bytes text status → IsNightOutput readers bytes other ended → AreSame text status other ended
+    (printed : Printed) (readers : ℕ) (bytes text other : List ℕ) (status ended : ℕ) →
+    IsNightOutput printed readers bytes text status → IsNightOutput printed readers bytes other ended → AreSame text status other ended
 
 -- all replays of the same bytes have one text and one status
 abbrev pub OneReplayOutput : Type 0

@@ -2,14 +2,14 @@
 use Rattle.std.specs.Prelude.{◌≡◌, ◌<◌, ◌≤◌, ℕ, List, [], length, Option, None, Some, IfSome, codes, option_map, true, false}
 use Rattle.std.specs.List.{list_any}
 use Rattle.std.specs.Str.{is_utf8}
-use Rattle.clap.specs.Words.{IsAmong, fault_of, subcommand_of}
+use Rattle.clap.specs.Words.{IsAmong, subcommand_of}
 use Rattle.clap.specs.declared.error.kind.ErrorKind.{ErrorKind}
 use Rattle.wh_text.specs.declared.fault.LoadFault.TheVariants as fault
 use Rattle.wh_text_bundle.specs.declared.read.ReadFault.TheVariants.{Read, TooLong}
 use Rattle.whview.specs.CertifyOutput.{IsCertifyOutput}
 use Rattle.whview.specs.CheckOutput.{IsCheckOutput, IsFaultShown, line}
 use Rattle.whview.specs.CommandFault.{status_of_kind}
-use Rattle.whview.specs.CommandLine.{IsAsked, whview_app}
+use Rattle.whview.specs.CommandLine.{IsAsked, whview_app, words_fault}
 use Rattle.whview.specs.FirstLine.{first_line_of, after_first_line, words_in, names_input}
 use Rattle.whview.specs.NightOutput.{IsNightOutput}
 use Rattle.whview.specs.PlanOutput.{IsPlanOutput}
@@ -25,7 +25,7 @@ abbrev pub IsCommandOutput : Asked → List ℕ → List ℕ → ℕ → Type 0
 IsCommandOutput (asked.Check costs input) bytes text status = IsCheckOutput costs bytes text status
 IsCommandOutput (asked.Plan costs budget input) bytes text status = IsPlanOutput costs budget.nodes bytes text status
 IsCommandOutput (asked.Certify costs input) bytes text status = IsCertifyOutput costs bytes text status
-IsCommandOutput (asked.Night how input) bytes text status = IsNightOutput how.readers bytes text status
+IsCommandOutput (asked.Night how input) bytes text status = IsNightOutput how.print how.readers bytes text status
 IsCommandOutput (asked.Replay input) bytes text status = IsReplayOutput bytes text status
 
 -- the file that the command reads in place of the program's reader
@@ -81,15 +81,15 @@ IsReadAnswer Failed of text status = IsFaultShown fault.Read text status
 
 -- ---- what words ask for
 
--- these words are no command line, or ask for help: `clap` takes exactly those where it finds nothing. The text is not promised, and the status is that of what `clap` finds in them
+-- these words are no command line, or ask for help. The text is not promised, and the status is that of what is wrong with them
 pub record IsRefused (words : List (List ℕ)) (status : ℕ) : Type 0 where
   pub kind : ErrorKind
-  pub found : IsAmong kind (fault_of whview_app words)
+  pub found : IsAmong kind (words_fault words)
   pub ended : status ≡ status_number (status_of_kind kind)
 
--- `clap` finds no fault in these words, and they ask for this command
+-- nothing is wrong with these words, and they ask for this command
 pub record AskFor (words : List (List ℕ)) (command : Asked) : Type 0 where
-  pub taken : fault_of whview_app words ≡ []
+  pub taken : words_fault words ≡ []
   pub asked : IsAsked (subcommand_of whview_app words) command
 
 -- what is printed for these words, and the status, where this is printed for a command

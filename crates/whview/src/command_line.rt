@@ -1,11 +1,13 @@
 //! What a command line asks for.
 
-ghost use Rattle.std.specs.Prelude.{◌≡◌, ◌≤◌, [], true, codes, IfErr, IfOk, MatchResult};
+ghost use Rattle.std.specs.Prelude.{◌≡◌, ◌≤◌, [], ◌∷◌, Some, true, codes, IfErr, IfOk, MatchResult};
+ghost use Rattle.std.specs.Option.{option_map_or};
 ghost use Rattle.clap.specs.Walk.{texts};
-ghost use Rattle.clap.specs.Words.{fault_of, found_of, rows_of, subcommand_of, subcommand_rows_of, takes};
+ghost use Rattle.clap.specs.Words.{found_of, rows_of, subcommand_of, subcommand_rows_of, takes};
+ghost use Rattle.clap.specs.declared.error.kind.ErrorKind.TheVariants.{InvalidValue};
 ghost use Rattle.wh_strategy.specs.Prices.{prices_of};
 ghost use Rattle.whview.specs.CommandFault.{FailsAs};
-ghost use Rattle.whview.specs.CommandLine.{HasNightOptions, IsAsked, budget_of, cost_of, number_in, prices_in, whview_app};
+ghost use Rattle.whview.specs.CommandLine.{HasNightOptions, IsAsked, budget_of, cost_of, is_printable, number_in, prices_in, print_fault, printed_in, printed_of, whview_app, words_fault};
 ghost use Rattle.whview.specs.Inner.CommandLine.{NamesCommand, TakesBudget, TakesCost, TakesCosts, TakesNightOptions, TakesNumber};
 
 mod builder;
@@ -13,7 +15,7 @@ mod fault;
 mod notes;
 
 use crate::budget::Budget;
-use crate::night_options::NightOptions;
+use crate::night_options::{NightOptions, Printed};
 use builder::whview_command;
 use clap::ArgMatches;
 pub use fault::CommandFault;
@@ -81,19 +83,48 @@ pub enum Asked<'a> {
 pub fn parse<'a>(alloc: Global, words: &'a [&'a str]) -> Result<Asked<'a>, CommandFault>
     ensures asked { IfOk result (IsAsked (subcommand_of whview_app (texts words.now))) }
 
-    // `fault_of` has what `clap` finds at the first word that it does not take, help included:
+    // `words_fault` has what `clap` finds at the first word that it does not take, help included, or an unknown word to print:
     // an Ok comes where that is nothing, and the status of an Err is that of one of its kinds.
-    ensures fails { MatchResult result (λ _. fault_of whview_app (texts words.now) ≡ [])
-        (FailsAs (fault_of whview_app (texts words.now))) }
+    ensures fails { MatchResult result (λ _. words_fault (texts words.now) ≡ [])
+        (FailsAs (words_fault (texts words.now))) }
 
-    ensures taken { takes whview_app (texts words.now) ≡ true
+    ensures taken { takes whview_app (texts words.now) ≡ true → print_fault (subcommand_of whview_app (texts words.now)) ≡ []
         → IfErr result (λ f. f ≡ CommandFault.Memory) }
 {
     let command = whview_command(alloc)?;
     match command.try_get_matches_from(words) {
-        Ok(matches) => Ok(asked_of(&matches)),
+        Ok(matches) => taken(alloc, &matches),
         Err(error) => Err(CommandFault::of(alloc, &error)),
     }
+}
+
+/// What the matches of words that `clap` takes ask for, where there is such a thing to print.
+fn taken<'a>(alloc: Global, matches: &ArgMatches<'a>) -> Result<Asked<'a>, CommandFault>
+    requires { NamesCommand (subcommand_rows_of matches.now) }
+    ensures asked { IfOk result (IsAsked (subcommand_rows_of matches.now)) }
+    ensures fails { MatchResult result (λ _. print_fault (subcommand_rows_of matches.now) ≡ [])
+        (FailsAs (print_fault (subcommand_rows_of matches.now))) }
+{
+    match unprintable(matches) {
+        Some(word) => Err(CommandFault::unprintable(alloc, word)),
+        None => Ok(asked_of(matches)),
+    }
+}
+
+/// The word of `--print` where that is none of the two.
+fn unprintable<'a>(matches: &ArgMatches<'a>) -> Option<&'a str>
+    ensures { print_fault (subcommand_rows_of matches.now) ≡ option_map_or (λ _. InvalidValue ∷ []) result [] }
+{
+    let (_, options) = matches.subcommand()?;
+    let word = options.get_str("print")?;
+    if is_printable(word) { None } else { Some(word) }
+}
+
+/// Whether this is a word of `--print`.
+fn is_printable(word: &str) -> bool
+    ensures { result ≡ is_printable (Some word.now) }
+{
+    word == "tables" || word == "changes"
 }
 
 /// What the matches of words without a fault ask for.
@@ -187,6 +218,27 @@ fn number(options: &ArgMatches<'_>, name: &str, low: usize, high: usize, default
     }
 }
 
+/// What is printed of a night by the option that `clap` has taken, or its new tables.
+fn printed(options: &ArgMatches<'_>) -> Printed
+    ensures { result ≡ printed_in (rows_of (found_of options.now)) }
+{
+    match options.get_str("print") {
+        Some(word) => printed_of(word),
+        None => Printed::Tables,
+    }
+}
+
+/// What this word asks to be printed.
+fn printed_of(word: &str) -> Printed
+    ensures { result ≡ printed_of word.now }
+{
+    if word == "changes" {
+        Printed::Changes
+    } else {
+        Printed::Tables
+    }
+}
+
 /// How a night is run by the options that `clap` has taken.
 fn night_options_of(options: &ArgMatches<'_>) -> NightOptions
     requires { TakesNightOptions (rows_of (found_of options.now)) }
@@ -196,5 +248,6 @@ fn night_options_of(options: &ArgMatches<'_>) -> NightOptions
         workers: number(options, "workers", 1, 16, DEFAULT_WORKERS),
         readers: number(options, "readers", 0, 16, DEFAULT_READERS),
         page_keys: number(options, "page-keys", 1, 256, DEFAULT_PAGE_KEYS),
+        print: printed(options),
     }
 }

@@ -13,13 +13,19 @@ ghost use Rattle.whview.specs.Inner.NightOutput.{IsWhole};
 ghost use Rattle.whview.specs.Status.{status_number};
 ghost use Rattle.whview.specs.Inner.StoredClosures.{AnswersTests, AnswersValues};
 
+mod difference;
+mod front;
 mod report;
+mod serve;
+mod shown;
 
 use crate::answer::{Answer, broken_text, cause_text};
 use crate::catalogue::catalog_with;
 use crate::night_options::NightOptions;
 use crate::status::Status;
 use report::{carried_text, refused_text};
+use serve::serve;
+use shown::Shown;
 use std::alloc::{AllocError, Global};
 use std::sync::Wait;
 use std::thread::Threads;
@@ -28,7 +34,7 @@ use wh_dag::{Catalog, Shape};
 use wh_formula::{Expr, Native, Pred, RowTest, RowValue};
 use wh_load::{Dict, GivenNight, NightInput, Opening, WrittenView, read_for_night};
 use wh_maint::{MaintFault, opening_contents_wide};
-use wh_night::{NoWatch, Options, Readers, Served, serve_night};
+use wh_night::Served;
 use wh_row::Hands;
 use wh_strategy::{CheckFault, Rule, check};
 
@@ -54,6 +60,8 @@ pub enum Outcome {
         texts: Dict,
         /// The new tables, what each expression did, and what readers were given.
         carried: Served,
+        /// What is shown of the derived views.
+        shown: Shown,
     },
 }
 
@@ -71,7 +79,8 @@ impl Outcome {
                 views,
                 texts,
                 carried,
-            } => carried_text(alloc, shape, views, texts, carried),
+                shown,
+            } => carried_text(alloc, shape, views, texts, carried, shown),
         }
     }
 
@@ -100,7 +109,7 @@ fn decide<F: RowTest, G: RowValue, R: Threads + Wait + Sync>(
     requires shown { catalog.now ≡ catalog_of catalog.now.views (map shown_view opening.views.items) }
     requires tables { AreReadTables catalog.now opening.tables.items }
     requires changes { AreBags catalog.now given.changes.items }
-    ensures decided { IfOk result (IsDecided (record { shape = catalog.now.views; opening = shown_opening opening; given = shown_given given }) how.readers) }
+    ensures decided { IfOk result (IsDecided (record { shape = catalog.now.views; opening = shown_opening opening; given = shown_given given }) how.print how.readers) }
     ensures whole { IfOk result (IsWhole catalog.now.views) }
 {
     let Opening {
@@ -118,22 +127,13 @@ fn decide<F: RowTest, G: RowValue, R: Threads + Wait + Sync>(
         Ok(tables) => tables,
         Err(fault) => return no_contents(fault),
     };
-    let options = Options {
-        workers: how.workers,
-        page_keys: how.page_keys,
-    };
-    let readers = Readers {
-        count: how.readers,
-        watch: &NoWatch,
-    };
-    let served = serve_night(
-        rt, alloc, catalog, tables, &changes, &correct, options, readers,
-    );
+    let served = serve(rt, alloc, catalog, how, &views, tables, &changes, &correct);
     match served {
-        Ok(carried) => Ok(Outcome::Carried {
+        Ok((carried, shown)) => Ok(Outcome::Carried {
             views,
             texts,
             carried,
+            shown,
         }),
         Err(refused) => refusal(refused),
     }
@@ -180,7 +180,7 @@ fn answer_with<
     requires callable_value { V.IsAlwaysCallable value }
     requires tests { AnswersTests (T.post test) F.can_test F.tests }
     requires values { AnswersValues (V.post value) G.can_combine G.combines }
-    ensures { IfOk result (λ a. IsNightTold (shown_night input) how.readers a.text.items (status_number a.status)) }
+    ensures { IfOk result (λ a. IsNightTold (shown_night input) how.print how.readers a.text.items (status_number a.status)) }
 {
     let NightInput {
         shape,
@@ -202,7 +202,7 @@ fn answer_of<R: Threads + Wait + Sync>(
     input: NightInput,
 ) -> Result<Answer, AllocError>
     requires fit { IsFitNight input }
-    ensures { IfOk result (λ a. IsNightTold (shown_night input) how.readers a.text.items (status_number a.status)) }
+    ensures { IfOk result (λ a. IsNightTold (shown_night input) how.print how.readers a.text.items (status_number a.status)) }
 {
     answer_with(
         rt,
@@ -233,7 +233,7 @@ pub fn answer<R: Threads + Wait + Sync>(
     how: NightOptions,
     bytes: &[u8],
 ) -> Result<Answer, AllocError>
-    ensures { IfOk result (λ a. IsNightOutput how.readers bytes.now a.text.items (status_number a.status)) }
+    ensures { IfOk result (λ a. IsNightOutput how.print how.readers bytes.now a.text.items (status_number a.status)) }
 {
     let hands = Hands {
         rt,

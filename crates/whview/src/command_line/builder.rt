@@ -3,7 +3,7 @@
 ghost use Rattle.std.specs.Prelude.{◌≡◌, codes, false, IfOk};
 ghost use Rattle.clap.specs.Words.{app_of, new_app, rule_of, with_subcommand};
 ghost use Rattle.clap.specs.declared.builder.command.Command.TheViews.{out-Command};
-ghost use Rattle.whview.specs.CommandLine.{budget_rule, command_app, cost_rule, input_app, input_rule, night_app, number_rule, plan_app, planning_app, seats_app, whview_app, with_commands};
+ghost use Rattle.whview.specs.CommandLine.{budget_rule, command_app, cost_rule, input_app, input_rule, night_app, number_rule, plan_app, planning_app, print_rule, seats_app, whview_app, with_commands};
 
 use super::notes;
 use clap::builder::ValueParser;
@@ -150,7 +150,7 @@ fn seats_command<'a>(alloc: Global) -> Result<Command<'a>, AllocError>
     Ok(with_readers)
 }
 
-/// The same, with options for the rows of a page and for the file of the input besides.
+/// The same, with options for the rows of a page, for what is printed and for the file of the input besides.
 fn night_command<'a>(alloc: Global) -> Result<Command<'a>, AllocError>
     ensures shape { IfOk result (λ c. app_of c ≡ night_app) }
     ensures local { IfOk result (λ c. (out-Command c).has_globals ≡ false) }
@@ -164,7 +164,8 @@ fn night_command<'a>(alloc: Global) -> Result<Command<'a>, AllocError>
     );
     let seats = seats_command(alloc)?;
     let with_page_keys = seats.arg(page_keys)?;
-    let with_input = with_page_keys.arg(input_option(alloc))?;
+    let with_print = with_page_keys.arg(print_option(alloc))?;
+    let with_input = with_print.arg(input_option(alloc))?;
     Ok(with_input)
 }
 
@@ -219,6 +220,18 @@ fn budget_option<'a>(alloc: Global) -> Arg<'a>
             "How many nodes a search may open, 1 to 9,223,372,036,854,775,807 [default: 1,000,000]",
         )
         .value_parser(ValueParser::Signed(1, 9_223_372_036_854_775_807))
+}
+
+/// The option for what is printed of a night.
+fn print_option<'a>(alloc: Global) -> Arg<'a>
+    ensures rule { rule_of result ≡ print_rule }
+    ensures local { result.global ≡ false }
+{
+    // Its word is judged once all words are taken: a parser of names would hold a reference, which no definition can name.
+    Arg::new(alloc, "print")
+        .long("print")
+        .value_name("WHAT")
+        .help("What is printed of the derived views: tables or changes [default: tables]")
 }
 
 /// The option for the file of the input.

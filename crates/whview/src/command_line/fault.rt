@@ -2,6 +2,7 @@
 
 ghost use Rattle.std.specs.Prelude.{◌≡◌, ◌⊎◌, option_map};
 ghost use Rattle.clap.specs.Words.{kind_of};
+ghost use Rattle.clap.specs.declared.error.kind.ErrorKind.TheVariants.{InvalidValue};
 ghost use Rattle.whview.specs.CommandFault.{status_of, status_of_kind, text_of};
 ghost use Rattle.whview.specs.declared.command_line.fault.CommandFault.{CommandFault};
 
@@ -40,6 +41,18 @@ impl CommandFault {
             CommandFault::Help(_) => Status::Done,
             CommandFault::Refused(_) => Status::Words,
             CommandFault::Memory => Status::Limit,
+        }
+    }
+
+    /// The fault of a word that is not to be printed, or Memory where its text cannot be had.
+    pub(crate) fn unprintable(alloc: Global, word: &str) -> CommandFault
+        ensures { (result ≡ CommandFault.Memory) ⊎ (status_of result ≡ status_of_kind InvalidValue) }
+    {
+        match format!(in alloc;
+            "error: invalid value '{word}' for '--print <WHAT>'\n  [possible values: tables, changes]\n\nFor more information, try '--help'.\n"
+        ) {
+            Ok(text) => CommandFault::Refused(text),
+            Err(_) => CommandFault::Memory,
         }
     }
 

@@ -4,8 +4,10 @@ ghost use Rattle.std.specs.Prelude.{◌≡◌, ◌++◌, ℕ, codes, decimal, dr
 ghost use Rattle.wh_text_catalogue.specs.Definitions.{shown_view};
 ghost use Rattle.wh_maint.specs.Comp.{bag_at};
 ghost use Rattle.whview.specs.CheckOutput.{line};
-ghost use Rattle.whview.specs.NightOutput.{left_text, reader_text, readers_text, report_text, step_text, view_text, views_text, work_in};
+ghost use Rattle.whview.specs.NightOutput.{left_text, reader_text, readers_text, report_text, shown_text, step_text, view_text, views_text, work_in};
+ghost use Rattle.whview.specs.Inner.NightOutput.{IsShownWhole};
 
+use super::shown::Shown;
 use crate::answer::cause_text;
 use std::alloc::{AllocError, Global};
 use wh_carry::{CarryFault, Report};
@@ -84,41 +86,70 @@ fn append_report(
     append_line(alloc, out, b"version ", u128::from(report.version))
 }
 
-/// Appends the table of a derived view under its name; nothing of a base view.
+/// Appends these rows of a derived view, written as a table is, under what they are and its name; nothing of a base view.
 fn append_view(
     out: &mut Vec<u8>,
+    word: &[u8],
     name: &str,
     view: &WrittenView,
     texts: &Dict,
-    table: &Bag,
+    rows: &Bag,
 ) -> Result<(), AllocError>
-    ensures { OnOk result (out.new.items ≡ out.old.items ++ view_text texts.now name.now (shown_view view.now) table.now) }
+    ensures { OnOk result (out.new.items ≡ out.old.items ++ view_text word.now texts.now name.now (shown_view view.now) rows.now) }
 {
     if view.definition.is_none() {
         return Ok(());
     }
-    out.extend_from_slice(b"view ")?;
+    out.extend_from_slice(word)?;
     out.extend_from_slice(name.as_bytes())?;
     out.push(b'\n')?;
-    write_table(out, &view.columns, table, texts)
+    write_table(out, &view.columns, rows, texts)
 }
 
-/// Appends the new tables.
+/// Appends these rows of the derived views, which are their new tables or their changes.
 fn append_views(
+    out: &mut Vec<u8>,
+    word: &[u8],
+    shape: &Shape,
+    views: &[WrittenView],
+    texts: &Dict,
+    rows: &[Bag],
+) -> Result<(), AllocError>
+    requires views { length views.now ≡ length shape.now.children }
+    requires rows { length rows.now ≡ length shape.now.children }
+    ensures { OnOk result (out.new.items ≡ out.old.items ++ views_text word.now texts.now shape.now.names 0 (map shown_view views.now) (bag_at rows.now)) }
+{
+    for view in 0..shape.len() {
+        append_view(
+            out,
+            word,
+            shape.name(view),
+            &views[view],
+            texts,
+            &rows[view],
+        )?;
+    }
+    Ok(())
+}
+
+/// Appends what is shown of the derived views.
+fn append_shown(
     out: &mut Vec<u8>,
     shape: &Shape,
     views: &[WrittenView],
     texts: &Dict,
     tables: &[Bag],
+    shown: &Shown,
 ) -> Result<(), AllocError>
     requires views { length views.now ≡ length shape.now.children }
     requires tables { length tables.now ≡ length shape.now.children }
-    ensures { OnOk result (out.new.items ≡ out.old.items ++ views_text texts.now shape.now.names 0 (map shown_view views.now) (bag_at tables.now)) }
+    requires changes { IsShownWhole shape.now shown.now }
+    ensures { OnOk result (out.new.items ≡ out.old.items ++ shown_text shown.now texts.now shape.now.names (map shown_view views.now) tables.now) }
 {
-    for view in 0..shape.len() {
-        append_view(out, shape.name(view), &views[view], texts, &tables[view])?;
+    match shown {
+        Shown::NewTables => append_views(out, b"view ", shape, views, texts, tables),
+        Shown::ChangesOf(changes) => append_views(out, b"changes ", shape, views, texts, changes),
     }
-    Ok(())
 }
 
 /// Appends how many rows a reader was given.
@@ -151,17 +182,19 @@ pub(crate) fn carried_text(
     views: &[WrittenView],
     texts: &Dict,
     carried: &Served,
+    shown: &Shown,
 ) -> Result<Vec<u8>, AllocError>
     requires version { carried.now.report.version ≡ 1 }
     requires views { length views.now ≡ length shape.now.children }
     requires tables { length carried.now.tables.items ≡ length shape.now.children }
+    requires changes { IsShownWhole shape.now shown.now }
     ensures { IfOk result (λ text. text.items ≡ (report_text shape.now.names carried.now.report.steps.items
-        ++ views_text texts.now shape.now.names 0 (map shown_view views.now) (bag_at carried.now.tables.items)) ++ readers_text 0 carried.now.rows.items) }
+        ++ shown_text shown.now texts.now shape.now.names (map shown_view views.now) carried.now.tables.items) ++ readers_text 0 carried.now.rows.items) }
 {
     let names = Names::of(alloc, shape)?;
     let mut text = Vec::new(alloc);
     append_report(alloc, &mut text, &names, &carried.report)?;
-    append_views(&mut text, shape, views, texts, &carried.tables)?;
+    append_shown(&mut text, shape, views, texts, &carried.tables, shown)?;
     append_readers(alloc, &mut text, &carried.rows)?;
     Ok(text)
 }

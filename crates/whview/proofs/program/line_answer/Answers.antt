@@ -3,12 +3,12 @@ use Rattle.std.specs.Prelude.{map}
 use Rattle.std.specs.Str.{is_utf8, IsUtf8}
 use Rattle.std.proofs.lemmas.Str.{IsUtf8-from_is_utf8, is_utf8-from_IsUtf8}
 use Rattle.std.proofs.lemmas.Bool.{false_from_ne_true}
-use Rattle.clap.specs.Words.{fault_of, subcommand_of}
+use Rattle.clap.specs.Words.{subcommand_of}
 use Rattle.whview.specs.Status.{status_number}
 use Rattle.whview.proofs.IfOks.{if_ok, if_ok_both}
 use Rattle.whview.specs.FirstLine.{first_line_of, words_in}
 use Rattle.whview.specs.CommandFault.{FailsAs}
-use Rattle.whview.specs.CommandLine.{IsAsked, whview_app}
+use Rattle.whview.specs.CommandLine.{IsAsked, whview_app, words_fault}
 use Rattle.whview.specs.Output.{IsCommandOutput, answered, names_a_file, not_text, of_words, refused}
 use Rattle.whview.proofs.Outputs.{refused_as, names_file}
 use Rattle.whview.proofs.program.line_answer.Goals as goal
@@ -35,7 +35,7 @@ returns-in-Ok-parse g c =
     let named = sym c.refuses_input.ensures ∙ c.if-refuses_input.false in
     let twice = ap (map (λ w. w.now)) (c.deref-2.ensures.value ∙ sym c.deref.ensures.value) ∙ same in
     let asked = subst (λ ws. IsAsked (subcommand_of whview_app ws) c.in-Ok-parse.asked) twice c.in-Ok-parse.ensures.asked in
-    let taken = subst (λ ws. fault_of whview_app ws ≡ []) twice c.in-Ok-parse.ensures.fails in
+    let taken = subst (λ ws. words_fault ws ≡ []) twice c.in-Ok-parse.ensures.fails in
     if_ok c.command_answer.result _ _ c.command_answer.ensures
     (λ a output. of_words utf8 (names_file (first_line_of c.args.input.now) c.deref.result.now _ same named)
     (answered c.in-Ok-parse.asked (record { taken = taken; asked = asked })
@@ -48,7 +48,7 @@ returns g c =
     let same = ap (map (λ w. w.now)) c.deref.ensures.value ∙ c.in_ok-words.ensures ∙ ap words_in at in
     let named = sym c.refuses_input.ensures ∙ c.if-refuses_input.false in
     let twice = ap (map (λ w. w.now)) (c.deref-2.ensures.value ∙ sym c.deref.ensures.value) ∙ same in
-    let fails = subst (λ ws. FailsAs (fault_of whview_app ws) c.in-Err.fault) twice c.in-Err.ensures.fails in
+    let fails = subst (λ ws. FailsAs (words_fault ws) c.in-Err.fault) twice c.in-Err.ensures.fails in
     if_ok_both c.refusal.result _ _ _ c.refusal.ensures.status c.refusal.ensures.told
     (λ a ended told. of_words utf8 (names_file (first_line_of c.args.input.now) c.deref.result.now _ same named)
     (refused (refused_as (words_in (first_line_of c.args.input.now)) c.in-Err.fault (status_number a.status) fails told (ap status_number ended))))

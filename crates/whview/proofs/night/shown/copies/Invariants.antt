@@ -1,0 +1,8 @@
+use Rattle.std.proofs.Common.{◌≡◌, length, map}
+use Rattle.wh_maint.specs.Comp.{bag_at}
+use Rattle.wh_text_catalogue.specs.Definitions.{shown_view}
+use Rattle.whview.specs.Inner.NightOutput.{AtDerivedBelow}
+use Rattle.whview.proofs.night.shown.copies.Given as goal
+
+abbrev pub invariant-loop-place : goal.invariant-loop-place
+invariant-loop-place l = record { each : length l.copies.items ≡ l.place; at_views : AtDerivedBelow l.place (map shown_view l.views) (λ k. bag_at l.copies.items k ≡ bag_at l.tables k) }
