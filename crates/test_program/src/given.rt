@@ -67,6 +67,70 @@ view v
 1,2
 ";
 
+/// What it says where the changes are to be printed: before the night v has 1, after it 2.
+pub const CHANGED: &str = "comp v from a: 2
+inst a: 2
+inst v: 2
+work 6
+version 1
+changes v
+#,x
+-1,1
+1,2
+";
+
+/// A bundle for `night` over two tables: before it v has the rows 1,5 and 2,5, after it 1,6 and 3,6.
+pub const TWO: &str = "@catalogue
+[[view]]
+name = \"a\"
+columns = [\"x\", \"y\"]
+[[view]]
+name = \"b\"
+columns = [\"y\", \"z\"]
+[[view]]
+name = \"v\"
+over = [\"a\", \"b\"]
+join = [[\"a.y\", \"b.y\"]]
+keep = [[\"x\", \"a.x\"], [\"z\", \"b.z\"]]
+@data a
+x,y
+1,10
+2,10
+@data b
+y,z
+10,5
+@changes a
+#,x,y
+-1,2,10
+1,3,10
+@changes b
+#,y,z
+-1,10,5
+1,10,6
+@strategy
+comp v from a
+inst a
+comp v from b
+inst b
+inst v
+";
+
+/// What it says where the changes are to be printed.
+pub const TWO_CHANGED: &str = "comp v from a: 3
+inst a: 2
+comp v from b: 4
+inst b: 2
+inst v: 4
+work 15
+version 1
+changes v
+#,x,z
+-1,1,5
+1,1,6
+-1,2,5
+1,3,6
+";
+
 /// Events for the machine that goes through the night of [`NIGHT`].
 pub const SCHEDULE: &str = "@schedule
 desks 1

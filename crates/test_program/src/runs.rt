@@ -1,8 +1,8 @@
 // The program over readers and writers of every kind.
 
 use crate::given::{
-    ANSWER, BUNDLE, CARRIED, ENDLESS, EVENTS, Endless, GivenReader, GivenWriter, Halting, MEASURED,
-    NIGHT, NIGHTS, OF_THREE, OF_TWO, PLANNED, REPLIES, SCHEDULE,
+    ANSWER, BUNDLE, CARRIED, CHANGED, ENDLESS, EVENTS, Endless, GivenReader, GivenWriter, Halting,
+    MEASURED, NIGHT, NIGHTS, OF_THREE, OF_TWO, PLANNED, REPLIES, SCHEDULE, TWO, TWO_CHANGED,
 };
 use std::test::Fail;
 use whview::{Counted, run, want_of_memory, words_without_text};
@@ -17,6 +17,26 @@ fn a_reader_that_gives_a_byte_at_a_time_is_answered(rt: HostRuntime) -> Result<(
         assert!(&rt;
             out.inner.text.as_slice() == answer.as_bytes(),
             "of {command}"
+        );
+    }
+    Ok(())
+}
+
+#[test]
+fn a_night_prints_changes_where_they_are_asked_for(rt: HostRuntime) -> Result<(), Fail> {
+    for (what, bundle, answer) in [
+        ("tables", NIGHT, CARRIED),
+        ("changes", NIGHT, CHANGED),
+        ("changes", TWO, TWO_CHANGED),
+    ] {
+        let mut input = Counted::new(GivenReader::new(bundle.as_bytes(), 4096));
+        let mut out = Counted::new(GivenWriter::new(rt.alloc(), ENDLESS, true));
+        let words = ["night", "--print", what];
+        let status = run(&rt, rt.alloc(), &words, &mut input, &mut out);
+        assert_eq!(&rt; status, 0, "with {what}");
+        assert!(&rt;
+            out.inner.text.as_slice() == answer.as_bytes(),
+            "with {what}"
         );
     }
     Ok(())
