@@ -49,13 +49,21 @@ class Night(Warehouse):
 
     def shown(self):
         """The tables of the derived views after the night, as they are printed."""
+        return self.printed("view", self.new)
+
+    def shown_changes(self):
+        """The changes of the derived views, as they are printed."""
+        return self.printed("changes", self.change)
+
+    def printed(self, word, tables):
+        """Each derived view's rows of these, in rising order, below a line with this word."""
         number = {text: place for place, text in enumerate(self.texts())}
         text = ""
         for v in self.derived:
-            view = self.views[v]
-            text += f"view {view.name}\n" + line(["#", *(name for name, _ in view.columns)])
-            for row in sorted(self.new[v], key=lambda row: [number.get(cell, cell) for cell in row]):
-                text += line([self.new[v][row], *row])
+            view, rows = self.views[v], {row: count for row, count in tables[v].items() if count}
+            text += f"{word} {view.name}\n" + line(["#", *(name for name, _ in view.columns)])
+            for row in sorted(rows, key=lambda row: [number.get(cell, cell) for cell in row]):
+                text += line([rows[row], *row])
         return text
 
     def readers(self, count):

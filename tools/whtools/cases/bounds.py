@@ -135,6 +135,7 @@ def costs():
     for words in ("--workers 0", "--workers 17", "--readers 17", "--readers -1", "--page-keys 0", "--page-keys 257", f"--readers {2**64}"):
         yield f"night {words}", f"night {words}", night(KEPT), (None, 2)
     text, status = shown(["1,1\n"], 1)
+    yield "night --print tables", "night --print tables", night(KEPT), (text, status)
     for words, readers in (("--workers 16", 0), ("--readers 0", 0), ("--readers 16", 16), ("--page-keys 1", 0), ("--page-keys 256", 0)):
         lines = "".join(f"reader {reader} version 0 rows 2\n" for reader in range(readers))
         yield f"night {words}", f"night {words}", night(KEPT), (text + lines, status)

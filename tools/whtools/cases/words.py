@@ -97,6 +97,7 @@ RUN = [
     ("--workers <N>", "How many workers compute at once, 1 to 16 [default: 1]"),
     ("--readers <N>", "How many readers go through the old tables meanwhile, 0 to 16 [default: 0]"),
     ("--page-keys <N>", "How many rows are written at a time, 1 to 256 [default: 256]"),
+    ("--print <WHAT>", "What is printed of the derived views: tables or changes [default: tables]"),
 ]
 BUDGET = [("--budget <N>", "How many nodes a search may open, 1 to 9,223,372,036,854,775,807 [default: 1,000,000]")]
 COMMON_ENDS = {
@@ -253,6 +254,7 @@ def refused():
         "check --comp-cost 2 --comp-cost 2", "check --comp 2", "check --budget 2", "certify --budget 2", "plan --budget",
         "plan --budget 2 --budget 2", "night --comp-cost 2", "night --inst-cost 2", "night --budget 2", "night x", "nights",
         "night --workers", "night --readers 2 --readers 2", "night --workers 0", "night --readers 17", "night --page-keys 0", "check --readers 2",
+        "night --print", "night --print table", "night --print ", "night --print tables --print tables", "check --print tables",
         "replay --comp-cost 2", "replay --inst-cost 2", "replay --budget 2", "replay --workers 2", "replay x", "replays",
         "check -c", "-V", "--version", "check -V", "check --version", "help plans",
     ):  # fmt: skip
@@ -283,6 +285,9 @@ def mistakes():
     for option, least, most in (("workers", 1, 16), ("readers", 0, 16), ("page-keys", 1, 256)):
         bound = f"error: invalid value '{most + 1}' for '--{option} <N>': {most + 1} is not in {least}..={most}\n{MORE}"
         yield Case(["night", f"--{option}", str(most + 1)], b"", bound, 2)
+    for word in ("table", "Changes", "changes "):
+        known = f"error: invalid value '{word}' for '--print <WHAT>'\n  [possible values: tables, changes]\n{MORE}"
+        yield Case(["night", "--print", word], b"", known, 2)
     for command in ("night", "replay"):
         other = f"error: unexpected argument '--comp-cost' found\n\nUsage: whview {command} [OPTIONS]\n{MORE}"
         yield Case([command, "--comp-cost", "2"], b"", other, 2)
