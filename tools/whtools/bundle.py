@@ -5,7 +5,8 @@ Bytes are kept as they are: a line that begins with `@` gets a second one, and a
 
 import re
 
-HEADING = re.compile(rb"^(?:view ([A-Za-z_][A-Za-z0-9_]{0,63})|reader [^\n]*)$", re.MULTILINE)
+HEADING = re.compile(rb"^(?:(?:view|changes) ([A-Za-z_][A-Za-z0-9_]{0,63})|reader [^\n]*)$", re.MULTILINE)
+TABLE, CHANGES = b"view ", b"changes "
 READER = re.compile(rb"reader [0-9]+ version [0-9]+ rows [0-9]+")
 READERS_END = 4096
 PIECE = re.compile(rb"(?:^|(?<=\n))@[^\n]*\n?(?:(?!@)[^\n]*\n|(?!@)[^\n]+)*")
@@ -61,18 +62,27 @@ def pieces(text):
 # ---- answers
 
 
+def has_changes(answer):
+    """Whether an answer has the changes of views, and not their tables: what stands behind the line of its version says so."""
+    place = answer.find(b"\n", answer.find(b"\nversion ") + 1) + 1
+    return answer[place : place + len(CHANGES)] == CHANGES
+
+
 def headings(answer):
     """Where lines begin that may be a view's or a reader's heading, in order. The readers' stand at the end, where there are any."""
-    found, place = [0] if answer[:5] == b"view " else [], answer.find(b"\nview ")
+    word = CHANGES if has_changes(answer) else TABLE
+    found, place = [0] if answer[: len(word)] == word else [], answer.find(b"\n" + word)
     while place >= 0:
         found.append(place + 1)
-        place = answer.find(b"\nview ", place + 1)
+        place = answer.find(b"\n" + word, place + 1)
     last = sum(len(line) + 1 for line in readers(answer))
     return [*found, len(answer) - last] if last else found
 
 
 def spans_of(answer, names):
-    """Where the tables of these views begin and end, where no more lines read as a heading than there are views; else by `spans`."""
+    """Where the tables or changes of these views begin and end, where no more lines read as a heading than there are views; else by
+    `spans`.
+    """
     places = headings(answer)
     found = [HEADING.match(answer, place) for place in places]
     views = [heading for heading in found if heading and heading[1]]
@@ -83,7 +93,7 @@ def spans_of(answer, names):
 
 
 def spans(answer):
-    """Where the table of each view begins and ends in an answer, by the view's name.
+    """Where the table or the change of each view begins and ends in an answer, by the view's name.
 
     A line inside a quoted cell is no line of the answer, whatever it reads: quotes in a cell are doubled, so a line ends
     inside a cell exactly where the quotes so far are odd.
@@ -104,7 +114,7 @@ def spans(answer):
 
 
 def unpack(answer):
-    """The tables of an answer by the names of their views."""
+    """The tables of an answer, or the changes, by the names of their views."""
     answer += b"" if answer.endswith(b"\n") else b"\n"
     return {view: answer[start:end] for view, (start, end) in spans(answer).items()}
 

@@ -109,6 +109,33 @@ class Changed(Lying):
         self.assertEqual(told, ["c.csv:3:1: 2 of 2,a,b leave, and v.csv has 1"])
 
 
+class Merged(unittest.TestCase):
+    def printed(self, found):
+        """A table or a change as the program prints it: in the order of rows."""
+        return b"#,x,t,u\n" + b"".join(line_of(count, row) for row, count in sorted(found.items()) if count)
+
+    def test_a_table_with_a_change_is_the_one_that_is_written_anew(self):
+        source = random.Random(9)
+        for _ in range(400):
+            before = rows(source, TEXTS, 6)
+            found = changed(source, before, TEXTS)
+            after = Counter(before)
+            after.update(found)
+            merged = b"".join(by_lines.merged(self.printed(before), self.printed(found)))
+            self.assertEqual(sorted(merged.split(b"\n")), sorted(self.printed(after).split(b"\n")))
+            self.assertEqual(by_lines.sum_of(self.printed(found)), after.total() - before.total())
+
+    def test_a_row_that_comes_takes_the_place_of_one_that_leaves_and_begins_as_it_does(self):
+        table = b"#,g,n\n1,a,1\n1,b,1\n1,c,9\n"
+        merged = by_lines.merged(table, b"#,g,n\n-1,a,1\n1,a,2\n1,b,0\n-1,b,1\n1,d,1\n")
+        self.assertEqual(b"".join(merged), b"#,g,n\n1,a,2\n1,b,0\n1,c,9\n1,d,1\n")
+
+    def test_a_row_that_is_not_there_cannot_leave(self):
+        for change in (b"#,g\n-1,b\n", b"#,g\n-2,a\n", b"#,g\n1,b\n-2,a\n"):
+            self.assertIsNone(by_lines.merged(b"#,g\n1,a\n", change))
+        self.assertEqual(b"".join(by_lines.merged(b"#,g\n3,a\n", b"#,g\n-2,a\n")), b"#,g\n1,a\n")
+
+
 class Judged(Lying):
     MISTAKES = [b"1,", b",", b'"', b"\n", b"\r", b"\0", b"\xff", b"x", b"0", b"-", b"9" * 19, b"\r\n", b" ", b"\xc3\xa9", b"#"]
 

@@ -7,6 +7,7 @@ which quotes allow, takes a table out of this: that one is read row by row.
 import re
 from collections import Counter
 from functools import lru_cache
+from itertools import pairwise
 
 # How much of a table is looked through at a time.
 BLOCK = 2**15
@@ -88,13 +89,13 @@ def own_form(content, start, header, is_counted):
     """The table in the tool's own form, of records that are lines and have no fault. The rows stay in their order."""
     if start == len(content):
         return header
-    body = b"\n" + content[start:].replace(b"\r\n", b"\n").removesuffix(b"\n")
-    if is_counted and body.count(b"\n") > body.count(b"\n1,"):
-        return header + written(added(body[1:].split(b"\n")))
+    body = b"\n" + (content[start:].replace(b"\r\n", b"\n") if b"\r" in content else content[start:]).removesuffix(b"\n")
     lines = body.split(b"\n1," if is_counted else b"\n")[1:]
+    if is_counted and body.count(b"\n") > len(lines):
+        return header + written(added(body[1:].split(b"\n")))
     if len(set(lines)) < len(lines):
         return header + written(Counter(lines))
-    return b"".join([header, b"1,", b"\n1,".join(lines), b"\n"])
+    return header + body[1:] + b"\n" if is_counted else b"".join([header, b"1,", b"\n1,".join(lines), b"\n"])
 
 
 def added(lines):
@@ -159,3 +160,56 @@ def changed(content, found, changes):
         else:
             coming.append(text)
     return [*spliced(content, edits), *coming]
+
+
+def coming(change):
+    """The lines of a change as rows with their counts, in the order in which they stand."""
+    return [(row, int(count)) for count, _, row in (line.partition(b",") for line in change.split(b"\n")[1:-1])]
+
+
+def sum_of(change):
+    """How many more rows a table has with a change."""
+    return sum(count for _, count in coming(change))
+
+
+class Edit:
+    """A row of a change: where it stands in the table, if it does, and how often it stands there afterwards."""
+
+    def __init__(self, row, place, total):
+        self.row, self.place, self.total = row, place, total
+
+    @property
+    def leaves(self):
+        return self.place is not None and not self.total
+
+    @property
+    def comes(self):
+        return self.place is None and self.total
+
+    @property
+    def text(self):
+        return b"%d,%s\n" % (self.total, self.row) if self.total else b""
+
+
+def replace(edits):
+    """Has a row that comes take the place of one beside it that leaves, where both begin with the same cell."""
+    for one, other in pairwise(edits):
+        old, new = (one, other) if one.leaves else (other, one)
+        if old.leaves and new.comes and old.row.partition(b",")[0] == new.row.partition(b",")[0]:
+            old.place, new.place = None, old.place
+
+
+def merged(content, change):
+    """A table with a change as the program prints it, in pieces. A row that comes stands in the place of one beside it that leaves, or at
+    the end. None where more of a row leave than there are.
+    """
+    rows = coming(change)
+    found = places(content, content.find(b"\n") + 1, {row for row, _ in rows})
+    edits = []
+    for row, count in rows:
+        start, end, there = found.get(row, (0, 0, 0))
+        if there + count < 0:
+            return None
+        edits.append(Edit(row, (start, end) if there else None, there + count))
+    replace(edits)
+    return [*spliced(content, [(*edit.place, edit.text) for edit in edits if edit.place]), *(edit.text for edit in edits if not edit.place)]

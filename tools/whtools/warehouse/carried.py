@@ -4,17 +4,20 @@ import time
 from typing import NamedTuple
 
 from . import refusals
-from .by_lines import counted
+from .by_lines import counted, sum_of
 from .catalogue import FILE as CATALOGUE
 from .check import strategy_of as given_strategy
 from .finding import Failure, warn
 from .folder import judged
 from .limits import after, sizes_after
-from .made import Made, made, of_base
+from .made import Made, made, of_base, of_change
 from .planning import certified, planned, strategy_of
 from .sizes import base_sizes, given_text, rows_of, sized, told_before, told_rows
 from .status import BAD_INPUT, SPENT
 from .strategy import FILE, at_once, written
+
+# What has the program print the changes of derived views in the place of their tables.
+CHANGES = ("--print", "changes")
 
 
 class Chosen(NamedTuple):
@@ -25,35 +28,57 @@ class Chosen(NamedTuple):
     plan: str = ""
 
 
+class Kept:
+    """The derived views' tables of the version before, and which of them may be taken for what they are of this catalogue."""
+
+    def __init__(self, folder):
+        self.folder, self.rows, last = folder, told_rows(folder), folder.state.root
+        self.is_as_before = is_same(last / CATALOGUE, folder.catalogue.content)
+        self.files = {view.name: last / "views" / f"{view.name}.csv" for view in folder.views if not view.is_base}
+
+    def file(self, name):
+        """The file of a view's table, where there is one of which it is known how many rows it has."""
+        return self.files[name] if self.is_as_before and name in self.rows and self.files[name].is_file() else None
+
+    def can_take_changes(self):
+        """Whether each table can be made of the one before by its change, line by line."""
+        return bool(self.files) and all(map(self.file, self.files)) and self.folder.has_lines
+
+
 class Night:
     """What a night came to: the folder as it was read, the strategy, and the program's answer. The tables are made one after the other,
-    so that few are held at a time, and the report after them.
+    so that few are held at a time, and the report after them. `again` carries the night out for the tables themselves.
     """
 
-    def __init__(self, folder, chosen, answer, began):
-        self.folder, self.chosen, self.answer, self.began = folder, chosen, answer, began
-        self.before, self.changed, self.rows = told_rows(folder), answer.changed(), {}
+    def __init__(self, folder, chosen, kept, answer, again, began):
+        self.folder, self.chosen, self.kept, self.answer, self.again, self.began = folder, chosen, kept, answer, again, began
+        self.changed, self.rows = answer.changed(), {}
 
     def tables(self):
         """Each view with its table after the night."""
-        last = self.folder.state.root
-        is_as_before, has_lines = is_same(last / CATALOGUE, self.folder.catalogue.content), self.folder.has_lines
         for view in self.folder.views:
-            file = last / "views" / f"{view.name}.csv"
-            if view.is_base:
-                yield view, of_base(self.folder, view)
-            elif is_as_before and self.changed[view.name] == 0 and file.is_file() and view.name in self.before:
-                self.rows[view.name] = self.before[view.name]
-                yield view, Made([], file)
-            else:
-                table = self.answer.table(view.name)
-                self.rows[view.name] = counted(table) if has_lines else rows_of(table)
-                yield view, made([table], file)
+            yield view, of_base(self.folder, view) if view.is_base else self.derived(view.name)
+
+    def derived(self, name):
+        """The table of a derived view, with how many rows it has."""
+        file, table = self.kept.file(name), None
+        if file and self.changed[name] == 0:
+            self.rows[name] = self.kept.rows[name]
+            return Made([], file)
+        if self.answer.has_changes:
+            table = of_change(file, self.answer.table(name))
+            if table:
+                self.rows[name] = self.kept.rows[name] + sum_of(table.change)
+                return table
+            self.answer = self.again()
+        printed = self.answer.table(name)
+        self.rows[name] = counted(printed) if self.folder.has_lines else rows_of(printed)
+        return made([printed], self.kept.files[name])
 
     def sizes(self):
         """How many rows each view had, where that is known, has, and changed."""
         base = base_sizes(self.folder)
-        derived = {name: (self.before.get(name, ""), rows, self.changed[name]) for name, rows in self.rows.items()}
+        derived = {name: (self.kept.rows.get(name, ""), rows, self.changed[name]) for name, rows in self.rows.items()}
         return {view.name: base[view.name] if view.is_base else derived[view.name] for view in self.folder.views}
 
     def report(self):
@@ -105,5 +130,9 @@ def carried(folder, words):
     began = time.monotonic()
     warn(judged(folder).warnings)
     judge_after(folder, words.commit)
-    taken = chosen(folder, words)
-    return Night(folder, taken, refusals.night(folder, words, taken.strategy, words.through), began)
+    taken, kept = chosen(folder, words), Kept(folder)
+
+    def run(*options):
+        return refusals.night(folder, words, taken.strategy, [*words.through, *options])
+
+    return Night(folder, taken, kept, run(*CHANGES) if kept.can_take_changes() else run(), run, began)

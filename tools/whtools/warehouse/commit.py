@@ -5,13 +5,13 @@ import os
 from .carried import carried
 from .catalogue import Catalogue
 from .claim import Claim
-from .disk import keep, put, remove, sync
+from .disk import keep, put, remove, sync, write
 from .finding import Failure, of_system, warn
 from .folder import Folder
 from .inputs import Inputs
 from .status import BAD_INPUT, NOT_WRITTEN
 from .takeover import take_over
-from .versions import PART, TURNED, VERSIONS, place, point, prune, turn, whole
+from .versions import DELTAS, PART, TURNED, VERSIONS, place, point, prune, turn, whole
 
 
 def to_take(folder):
@@ -24,13 +24,25 @@ def to_take(folder):
     return inputs.to_take([view.name for view in catalogue.views if view.is_base])
 
 
+def write_deltas(folder, deltas):
+    """Writes the changes of the derived views that changed; without a file a view stayed as it was."""
+    os.makedirs(folder)
+    for name, change in deltas.items():
+        write(folder / f"{name}.csv", [change])
+
+
 def write_version(part, night):
     """Writes all files of a version. Those that are as in the last one are links to it. Answers the report."""
     last = night.folder.state.root
     for kind in ("data", "views"):
         os.makedirs(part / kind)
+    deltas = {}
     for view, table in night.tables():
         table.put(part / f"{'data' if view.is_base else 'views'}/{view.name}.csv", True)
+        if table.change:
+            deltas[view.name] = table.change
+    if night.answer.has_changes:
+        write_deltas(part / DELTAS, deltas)
     report = night.report()
     texts = {"strategy.txt": night.chosen.strategy, "plan.txt": night.chosen.plan, "report.txt": report}
     files = {file: text.encode() for file, text in texts.items() if text}

@@ -1,18 +1,20 @@
-"""The tables of a night as files: one that stays is a link to the one before it, a derived one is what the program printed, and a base
-table is the one before with what changed.
+"""The tables of a night as files: one that stays is a link to the one before it, another is the one before with what changed, and where
+that is not there, what the program printed.
 """
 
 import shutil
 from typing import NamedTuple
 
+from . import by_lines
 from .disk import link, write
 
 
 class Made(NamedTuple):
-    """A table: in pieces, or as the file that it is like."""
+    """A table: in pieces, or as the file that it is like; and its change, where that is known."""
 
     pieces: list
     like: object = None
+    change: bytes = b""
 
     def put(self, file, links):
         """Writes it; where it is like a file, as a link to that, if it may be one."""
@@ -35,3 +37,11 @@ def of_base(folder, view):
     if folder.is_unchanged(view):
         return Made([], last)
     return Made(folder.after(view)) if folder.data[view.name].is_made else made(folder.after(view), last)
+
+
+def of_change(file, change):
+    """The table of a derived view after the night: the one before, in this file, with a change as the program prints it. All records are
+    lines. None where rows leave that the file has not.
+    """
+    pieces = by_lines.merged(file.read_bytes(), change)
+    return pieces and Made(pieces, change=change)

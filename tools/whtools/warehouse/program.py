@@ -8,7 +8,7 @@ from mmap import ACCESS_READ, mmap
 from pathlib import Path
 from tempfile import TemporaryFile, gettempdir
 
-from ..bundle import readers, spans_of
+from ..bundle import has_changes, readers, spans_of
 from ..unproved import NotBuilt, unproved
 from .disk import telling
 from .finding import Failure, warn
@@ -90,15 +90,15 @@ def answer(program, command, bundle, options=()):
 
 
 class Night:
-    """The answer of a night: what stands above its tables, the readers' lines below them, and the tables, each read where it is asked
-    for.
+    """The answer of a night: what stands above its tables, the readers' lines below them, and the tables, or in their places the changes,
+    each read where it is asked for.
     """
 
     def __init__(self, file, seconds, names):
         self.file, self.seconds = file, seconds
         with mmap(file.fileno(), 0, access=ACCESS_READ) as whole:
             self.head, self.readers = whole[: whole.find(b"\nversion ")].decode(), readers(whole)
-            self.places = spans_of(whole, names)
+            self.places, self.has_changes = spans_of(whole, names), has_changes(whole)
 
     def table(self, name):
         start, end = self.places[name]
@@ -111,7 +111,7 @@ class Night:
 
 
 def night(folder, words, strategy, options=(), with_changes=True):
-    """The answer of a night, which has the tables of all derived views."""
+    """The answer of a night, which has the tables of all derived views, or their changes."""
     program, began, names = words.program, time.monotonic(), [view.name for view in folder.views if not view.is_base]
     printed = done(program, "night", folder.bundle(strategy, with_changes), options)
     found = Night(printed, time.monotonic() - began, names)

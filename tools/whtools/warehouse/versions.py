@@ -11,7 +11,7 @@ from .disk import remove, sync
 from .finding import Failure
 from .status import BAD_INPUT
 
-CURRENT, TURNED, VERSIONS = "current", "current.part", "versions"
+CURRENT, TURNED, VERSIONS, DELTAS = "current", "current.part", "versions", "deltas"
 NUMBER, LINK = re.compile(r"0|[1-9][0-9]*"), re.compile(r"versions/(0|[1-9][0-9]*)/?")
 PART, GONE = ".part", ".gone"
 

@@ -1,0 +1,72 @@
+"""Nights of which the program prints the changes: what becomes of the views' files, and what is kept of the changes."""
+
+from pathlib import Path
+
+from .shop import ANSWER, Shop
+
+HEAD = b"""comp sales from orders: 12
+inst orders: 2
+inst lines: 0
+inst products: 0
+inst sales: 2
+inst daily_by_product: 0
+inst daily_by_region: 4
+work 20
+version 1
+"""
+SALES = b"#,day,region,product,pieces,cost\n-1,Monday,north,jam,1,475\n1,Monday,north,jam,2,950\n"
+REGION = b"#,day,region,lines,cost\n-1,Monday,north,3,1375\n1,Monday,north,3,1850\n1,Sunday,north,1,9\n-1,Tuesday,south,1,1200\n"
+CHANGES = HEAD + b"changes sales\n" + SALES + b"changes daily_by_product\n#,day,product,lines,pieces,cost\nchanges daily_by_region\n" + REGION
+
+
+class Deltas(Shop):
+    def setUp(self):
+        super().setUp()
+        self.assertEqual(self.ran("night", "--commit"), (0, []))
+        self.answers_with(CHANGES)
+
+    def answers_with(self, changes):
+        """Has the program answer with these changes where they are asked for, and note its words."""
+        room = self.program.parent
+        (room / "changes").write_bytes(changes)
+        self.program.write_text(
+            f'#!/bin/sh\ncat > /dev/null\necho "$@" >> {room}/words\ncase "$*" in\n*changes) cat {room}/changes;;\n*) cat {room}/answer;; esac\n'
+        )
+
+    def words(self):
+        return (self.program.parent / "words").read_text().splitlines()
+
+    def view(self, name, version="current"):
+        return self.folder / version / f"views/{name}.csv"
+
+    def test_views_are_merged_and_what_changed_is_kept(self):
+        before = {name: self.view(name).read_bytes() for name in ("sales", "daily_by_region")}
+        self.assertEqual(self.ran("night", "--commit"), (0, []))
+        self.assertEqual(self.words(), ["night --print changes"])
+        self.assertEqual(self.view("sales").read_bytes(), before["sales"].replace(b"jam,1,475", b"jam,2,950"))
+        region = before["daily_by_region"].replace(b"Monday,north,3,1375", b"Monday,north,3,1850").replace(b"1,Tuesday,south,1,1200\n", b"")
+        self.assertEqual(self.view("daily_by_region").read_bytes(), region + b"1,Sunday,north,1,9\n")
+        self.assertTrue(self.view("daily_by_product").samefile(self.view("daily_by_product", "versions/1")))
+        deltas = {path.name: path.read_bytes() for path in (self.folder / "current/deltas").iterdir()}
+        self.assertEqual(deltas, {"sales.csv": SALES, "daily_by_region.csv": REGION})
+        self.assertFalse((self.folder / "versions/1/deltas").exists())
+        self.assertIn("\nsales,9,9,2\ndaily_by_product,8,8,0\ndaily_by_region,6,6,4\n", (self.folder / "current/report.txt").read_text())
+
+    def test_a_preview_has_the_same_tables(self):
+        self.assertEqual(self.ran("night"), (0, []))
+        self.assertIn(b"\n1,Monday,north,jam,2,950\n", (self.folder / "new/sales.csv").read_bytes())
+        self.assertEqual((self.folder / "new/daily_by_product.csv").read_bytes(), self.view("daily_by_product").read_bytes())
+
+    def test_tables_are_asked_for_where_a_view_has_not_the_rows_that_leave(self):
+        self.answers_with(CHANGES.replace(b"jam,1,475", b"jam,1,476"))
+        self.assertEqual(self.ran("night", "--commit"), (0, []))
+        self.assertEqual(self.words(), ["night --print changes", "night"])
+        self.assertIn(self.view("sales").read_bytes(), ANSWER.read_bytes())
+        self.assertFalse((self.folder / "current/deltas").exists())
+
+    def test_tables_are_asked_for_with_another_catalogue_and_where_a_view_is_missing(self):
+        self.edit("catalogue.toml", "# A small shop", "# A shop")
+        self.assertEqual(self.ran("night", "--commit"), (0, []))
+        Path(self.view("sales")).unlink()
+        self.assertEqual(self.ran("night", "--commit"), (0, []))
+        self.assertEqual(self.words(), ["night", "night"])
