@@ -30,8 +30,8 @@ one_more n m views bags more x wanted next each pushed below last =
     ⊎_elim
     (λ less. with_bag (slice_get views k) (bag_at bags k) (bag_at (bags ++ x ∷ []) k) (wanted k) (at_front bags x k (omega (arith, less, each))) (below k less))
     (λ more. let same : n ≡ k = omega (arith, more, l, next) in
-        with_bag (slice_get views k) x (bag_at (bags ++ x ∷ []) k) (wanted k) (at_end bags x k (omega (arith, same, each)))
-        (subst (λ (p : ℕ). IfSome (slice_get views p) (λ view. view.definition ≢ None → x ≡ wanted p)) same last))
+    with_bag (slice_get views k) x (bag_at (bags ++ x ∷ []) k) (wanted k) (at_end bags x k (omega (arith, same, each)))
+    (subst (λ (p : ℕ). IfSome (slice_get views p) (λ view. view.definition ≢ None → x ≡ wanted p)) same last))
     (cases_lt k n))
 
 -- no view stands behind the last one

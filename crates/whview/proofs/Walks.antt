@@ -116,13 +116,13 @@ fits_more : (rs : Counted) (e : Row × ℤ) → EachSumFits rs → FitsSigned w6
 fits_more rs e each last place =
     ⊎_elim
     (λ l. subst (λ (p : Option (Row × ℤ) × Counted). FitsWith p.0 p.1)
-        (λ i. (sym (same_get rs e place l) i, sym (take-append-le place rs (e ∷ []) (omega (arith, l))) i)) (each place))
+    (λ i. (sym (same_get rs e place l) i, sym (take-append-le place rs (e ∷ []) (omega (arith, l))) i)) (each place))
     (λ m. ⊎_elim
-        (λ l. subst (λ (o : Option (Row × ℤ)). FitsWith o (take place (rs ++ e ∷ []))) (sym (slice_get_past (rs ++ e ∷ []) place (omega (arith, l, longer rs e)))) tt)
-        (λ n. let at : place ≡ length rs = omega (arith, m, n) in
-            subst (λ (p : Option (Row × ℤ) × Counted). FitsWith p.0 p.1)
-            (λ i. (sym (get_last rs e place at) i, sym (take-append-le place rs (e ∷ []) (omega (arith, at)) ∙ take_all place rs (omega (arith, at))) i)) last)
-        (cases_lt (length rs) place))
+    (λ l. subst (λ (o : Option (Row × ℤ)). FitsWith o (take place (rs ++ e ∷ []))) (sym (slice_get_past (rs ++ e ∷ []) place (omega (arith, l, longer rs e)))) tt)
+    (λ n. let at : place ≡ length rs = omega (arith, m, n) in
+    subst (λ (p : Option (Row × ℤ) × Counted). FitsWith p.0 p.1)
+    (λ i. (sym (get_last rs e place at) i, sym (take-append-le place rs (e ∷ []) (omega (arith, at)) ∙ take_all place rs (omega (arith, at))) i)) last)
+    (cases_lt (length rs) place))
     (cases_lt place (length rs))
 
 -- ---- the walk
@@ -201,7 +201,7 @@ module _ (new old : Bag) (changed c l c' l' : Counted) (e : Row × ℤ) (u : IsU
   last_fits fits had =
       let q : Row = e.0 in
       let sum : count_in (changed ++ e ∷ []) q ≡ running_sum changed e =
-          count_in-append changed (e ∷ []) q ∙ same_sum (count_in changed q) (is_row q e.0) e.1 ∙ ap (λ b. count_in changed q +ℤ cond b e.1 (pos 0)) (itself q) in
+      count_in-append changed (e ∷ []) q ∙ same_sum (count_in changed q) (is_row q e.0) e.1 ∙ ap (λ b. count_in changed q +ℤ cond b e.1 (pos 0)) (itself q) in
       let some = none_below c' s.coming_rest.counts q in
       let others = none_below l' s.leaving_rest.counts q in
       let within = within_both _ _ _ (s.coming_rest.within q) (u.coming_within q) in

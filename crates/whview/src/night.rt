@@ -67,7 +67,12 @@ pub enum Outcome {
 
 impl Outcome {
     /// What is printed, with the names of these views.
-    fn text(&self, alloc: Global, shape: &Shape) -> Result<Vec<u8>, AllocError>
+    fn text<R: Threads + Sync>(
+        &self,
+        hands: &Hands<'_, R>,
+        alloc: Global,
+        shape: &Shape,
+    ) -> Result<Vec<u8>, AllocError>
         requires { IsWhole shape.now self.now }
         ensures { IfOk result (λ text. text.items ≡ text_of shape.now.names self.now) }
     {
@@ -80,7 +85,7 @@ impl Outcome {
                 texts,
                 carried,
                 shown,
-            } => carried_text(alloc, shape, views, texts, carried, shown),
+            } => carried_text(hands, alloc, shape, views, texts, carried, shown),
         }
     }
 
@@ -189,7 +194,11 @@ fn answer_with<
     } = input;
     let catalog = catalog_with(alloc, shape, &opening.views, test, value)?;
     let outcome = decide(rt, alloc, &catalog, how, opening, given)?;
-    let text = outcome.text(alloc, catalog.shape())?;
+    let hands = Hands {
+        rt,
+        threads: how.workers,
+    };
+    let text = outcome.text(&hands, alloc, catalog.shape())?;
     let status = outcome.status();
     Ok(Answer { text, status })
 }

@@ -10,11 +10,12 @@ ghost use Rattle.whview.specs.Inner.NightOutput.{IsShownWhole};
 use super::shown::Shown;
 use crate::answer::cause_text;
 use std::alloc::{AllocError, Global};
+use std::thread::Threads;
 use wh_carry::{CarryFault, Report};
 use wh_dag::Shape;
-use wh_load::{Dict, Names, WrittenView, write_expression, write_table};
+use wh_load::{Dict, Names, WrittenView, write_expression, write_table_wide};
 use wh_night::Served;
-use wh_row::Bag;
+use wh_row::{Bag, Hands};
 use wh_strategy::Expression;
 
 /// Appends a line of this text and number.
@@ -87,7 +88,8 @@ fn append_report(
 }
 
 /// Appends these rows of a derived view, written as a table is, under what they are and its name; nothing of a base view.
-fn append_view(
+fn append_view<R: Threads + Sync>(
+    hands: &Hands<'_, R>,
     out: &mut Vec<u8>,
     word: &[u8],
     name: &str,
@@ -103,11 +105,12 @@ fn append_view(
     out.extend_from_slice(word)?;
     out.extend_from_slice(name.as_bytes())?;
     out.push(b'\n')?;
-    write_table(out, &view.columns, rows, texts)
+    write_table_wide(hands, out, &view.columns, rows, texts)
 }
 
 /// Appends these rows of the derived views, which are their new tables or their changes.
-fn append_views(
+fn append_views<R: Threads + Sync>(
+    hands: &Hands<'_, R>,
     out: &mut Vec<u8>,
     word: &[u8],
     shape: &Shape,
@@ -121,6 +124,7 @@ fn append_views(
 {
     for view in 0..shape.len() {
         append_view(
+            hands,
             out,
             word,
             shape.name(view),
@@ -133,7 +137,8 @@ fn append_views(
 }
 
 /// Appends what is shown of the derived views.
-fn append_shown(
+fn append_shown<R: Threads + Sync>(
+    hands: &Hands<'_, R>,
     out: &mut Vec<u8>,
     shape: &Shape,
     views: &[WrittenView],
@@ -147,8 +152,10 @@ fn append_shown(
     ensures { OnOk result (out.new.items ≡ out.old.items ++ shown_text shown.now texts.now shape.now.names (map shown_view views.now) tables.now) }
 {
     match shown {
-        Shown::NewTables => append_views(out, b"view ", shape, views, texts, tables),
-        Shown::ChangesOf(changes) => append_views(out, b"changes ", shape, views, texts, changes),
+        Shown::NewTables => append_views(hands, out, b"view ", shape, views, texts, tables),
+        Shown::ChangesOf(changes) => {
+            append_views(hands, out, b"changes ", shape, views, texts, changes)
+        }
     }
 }
 
@@ -175,8 +182,9 @@ fn append_readers(alloc: Global, out: &mut Vec<u8>, rows: &[usize]) -> Result<()
     Ok(())
 }
 
-/// What is printed of a night that was carried out.
-pub(crate) fn carried_text(
+/// What is printed of a night that was carried out, by several threads where much is.
+pub(crate) fn carried_text<R: Threads + Sync>(
+    hands: &Hands<'_, R>,
     alloc: Global,
     shape: &Shape,
     views: &[WrittenView],
@@ -194,7 +202,15 @@ pub(crate) fn carried_text(
     let names = Names::of(alloc, shape)?;
     let mut text = Vec::new(alloc);
     append_report(alloc, &mut text, &names, &carried.report)?;
-    append_shown(&mut text, shape, views, texts, &carried.tables, shown)?;
+    append_shown(
+        hands,
+        &mut text,
+        shape,
+        views,
+        texts,
+        &carried.tables,
+        shown,
+    )?;
     append_readers(alloc, &mut text, &carried.rows)?;
     Ok(text)
 }

@@ -5,6 +5,6 @@ use Rattle.whview.specs.NightOutput.{views_text}
 use Rattle.whview.proofs.night.report.append_views.Given as goal
 
 abbrev pub invariant-loop-view : goal.invariant-loop-view
-invariant-loop-view l =
+invariant-loop-view g l =
     l.initial.out.items ++ views_text l.word l.texts l.shape.names 0 (map shown_view l.views) (bag_at l.rows)
     ≡ l.out.items ++ views_text l.word l.texts l.shape.names l.view (map shown_view (drop l.view l.views)) (bag_at l.rows)
