@@ -20,7 +20,8 @@ use wh_text::{Column, Dict};
 /// A thread is not worth its start for fewer rows.
 const FEW: usize = 10_000;
 
-/// Appends what [`write_table`] appends, by several threads, where there are rows enough for two.
+/// Appends what [`write_table`] appends, by several threads where there are rows enough for two. Where memory fails, nothing is
+/// appended. Takes O(b) time for b bytes of text, of which the threads share all but a copy.
 pub fn write_table_wide<R: Threads + Sync>(
     hands: &Hands<'_, R>,
     out: &mut Vec<u8>,
