@@ -20,7 +20,8 @@ fn drawn(alloc: Global, rows: usize) -> Result<Records, AllocError> {
             .wrapping_mul(6_364_136_223_846_793_005)
             .wrapping_add(1);
         let number = (state >> 33) as i64;
-        records.push(&[number % 6, number - 1_000_000_000], number % 9 + 1)?;
+        let count = (number % 9).wrapping_add(1);
+        records.push(&[number % 6, number.wrapping_sub(1_000_000_000)], count)?;
     }
     Ok(records)
 }
