@@ -24,6 +24,11 @@ shifted number views rows others k same =
     let e : number + suc k ≡ (number + 1) + k = omega arith in
     subst (λ (n : ℕ). IfSome (slice_get views k) (λ v. v.definition ≢ None → rows n ≡ others n)) e same
 
+first_rows : (number : ℕ) (view : ViewOf) (rows others : ℕ → Bag) → (view.definition ≢ None → rows (number + 0) ≡ others (number + 0)) → view.definition ≢ None → rows number ≡ others number
+first_rows number view rows others same =
+    let e : number + 0 ≡ number = omega arith in
+    subst (λ (n : ℕ). view.definition ≢ None → rows n ≡ others n) e same
+
 from_zero : (views : List ViewOf) (rows others : ℕ → Bag) (k : ℕ) → IfSome (slice_get views k) (λ v. v.definition ≢ None → rows k ≡ others k)
     → IfSome (slice_get views k) (λ v. v.definition ≢ None → rows (0 + k) ≡ others (0 + k))
 from_zero views rows others k same =
@@ -36,7 +41,7 @@ from_number : (word : List ℕ) (texts : Texts) (names : List (List ℕ)) (numbe
 from_number word texts names number [] rows others same = refl
 from_number word texts names number (view ∷ views) rows others same =
     ap (λ t. t ++ views_text word texts names (number + 1) views rows)
-    (same_view_text word texts (name_of names number) view (rows number) (others number) (same 0))
+    (same_view_text word texts (name_of names number) view (rows number) (others number) (first_rows number view rows others (same 0)))
     ∙ ap (λ t. view_text word texts (name_of names number) view (others number) ++ t)
     (from_number word texts names (number + 1) views rows others (λ k. shifted number views rows others k (same (suc k))))
 

@@ -1,7 +1,7 @@
 use Rattle.std.proofs.Common.{◌≡◌, ◌∙◌, ◌⊎◌, ap, inl, inr, map, subst, sym, true, List, [], ◌∷◌, Option, Result, Ok, Err}
 use Rattle.std.specs.Prelude.{IfErr, IfOk, MatchResult}
 use Rattle.clap.specs.Kinds.{or_else}
-use Rattle.clap.specs.Words.{App, HasKind, Kinds, Row, Text, fault_of, is_simple, is_simple_and_free, subcommand_of, takes}
+use Rattle.clap.specs.Words.{App, HasKind, Kinds, Row, Text, fault_of, is_simple, is_simple_and_free, subcommand_of, subcommand_rows_of, takes}
 use Rattle.whview.specs.CommandFault.{FailsAs}
 use Rattle.whview.specs.CommandLine.{IsAsked, print_fault, whview_app, words_fault}
 use Rattle.whview.specs.Inner.CommandLine.{NamesCommand}
@@ -56,7 +56,7 @@ returns-in-Ok-clause-taken c taken printable =
     let words : List Text = map (λ w. w.now) c.args.words.now in
     let same = c.in_ok-command.ensures in
     let found = (c.in-Ok.ensures.matches (is_whview_simple _ same)).1 ∙ ap (λ (a : App). subcommand_of a words) same in
-    none_else c.taken.result (print_fault _) (ap print_fault found ∙ printable) c.taken.ensures.fails
+    none_else c.taken.result (print_fault (subcommand_rows_of c.in-Ok.matches)) (ap print_fault found ∙ printable) c.taken.ensures.fails
 
 -- what fails by a kind that `clap` has found, fails so whatever else is wrong
 fails_first : (kinds others : Kinds) (f : CommandFault) → FailsAs kinds f → FailsAs (or_else kinds others) f
