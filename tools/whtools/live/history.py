@@ -1,7 +1,7 @@
 """What each night leaves of itself: when it ran, the rows of each view before and after it and of its change, and how long each step took."""
 
 from whtools.sql.dialect import COUNT
-from whtools.sql.tokens import joined, number, sql, text
+from whtools.sql.tokens import joined, number, sql, text, word
 
 NIGHTS, SIZES, STEPS = "~nights", "~sizes", "~steps"
 MOMENTS = "night~moments"
@@ -74,7 +74,7 @@ class History:
         added = "INSERT INTO {target} (night, view, pre, post, change) SELECT {night}, {view}, g.many, g.many, 0 FROM (SELECT {now} AS many) AS g"
         return sql(added, target=self.target(SIZES), night=self.number(), view=text(self.script.views[v].name), now=counted or now)
 
-    def steps(self, told, works):
+    def steps(self, told, works, night=None):
         """Each step with its predicted work, where there is one, and its seconds, where the engine tells the time while it works."""
         nothing = sql("NULL")
         rows = [
@@ -85,7 +85,7 @@ class History:
             "INSERT INTO {target} (night, step, told, work, seconds) SELECT {night}, l.step, l.told, CAST(l.work AS {whole}), {seconds}"
             " FROM (WITH listed (step, told, work) AS (VALUES {rows}) SELECT * FROM listed) AS l {moments}"
         )
-        return sql(added, target=self.target(STEPS), night=self.number(), rows=joined(rows), whole=self.dialect.kinds["int"],
+        return sql(added, target=self.target(STEPS), night=night or self.number(), rows=joined(rows), whole=self.dialect.kinds["int"],
                    seconds=self.seconds, moments=self.moments())  # fmt: skip
 
     seconds = sql("e.at - s.at")
@@ -113,30 +113,41 @@ class SwiftHistory(History):
     def moment(self, step):
         return sql("moments[{step}] := {now}", step=number(step), now=self.dialect.moment)
 
+    def opening_began(self):
+        return super().began()
+
+    def began(self):
+        """A night is written down when it is over, in one statement."""
+        return [self.moment(0)]
+
     def ended(self, told, works):
-        """The sizes of all views at once, each from its last ones; a view that has none yet is counted."""
+        """The night, its steps, and the sizes of all views, each from its last ones; a view that has none yet is counted."""
         views = self.script.views
         rows = [sql("({view}, coalesce(more{at}, 0), coalesce(moved{at}, 0))".replace("{at}", str(v)), view=self.dialect.text(view.name)) for v, view in enumerate(views)]
-        added = (
-            "INSERT INTO {target} (night, view, pre, post, change) SELECT {night}, l.view, p.post, p.post + l.more, l.moved"
+        night = sql("INSERT INTO {target} (night, began, ended) SELECT coalesce(max(b.night), 0) + 1, moments[0], {moment} FROM {target} AS b RETURNING night",
+                    target=self.target(NIGHTS), moment=self.dialect.moment)  # fmt: skip
+        sizes = sql(
+            "INSERT INTO {target} (night, view, pre, post, change) SELECT (SELECT b.night FROM ended AS b), l.view, p.post, p.post + l.more, l.moved"
             " FROM (VALUES {rows}) AS l (view, more, moved) CROSS JOIN LATERAL (SELECT s.post FROM {target} AS s WHERE s.view = l.view"
-            " ORDER BY s.night DESC LIMIT 1) AS p"
-        )
-        all_at_once = sql(added, target=self.target(SIZES), night=self.number(), rows=joined(rows))
+            " ORDER BY s.night DESC LIMIT 1) AS p RETURNING 1", target=self.target(SIZES), rows=joined(rows),
+        )  # fmt: skip
+        steps = [sql("stepped AS ({steps})", steps=self.steps(told, works, sql("(SELECT b.night FROM ended AS b)")))] if told else []
+        parts = [sql("ended AS ({night})", night=night), sql("sized AS ({sizes})", sizes=sizes), *steps]
         few = sql("touched < {many}", many=number(len(views)))
-        counted = self.dialect.only_where(few, [self.counted(v) for v in range(len(views))])
-        steps = [self.steps(told, works)] if told else []
-        return [all_at_once, sql("GET DIAGNOSTICS touched = ROW_COUNT"), *counted, *steps, self.closed()]
+        return [sql("WITH {parts} SELECT count(*) FROM sized INTO touched", parts=joined(parts)), *self.dialect.only_where(few, [self.counted()])]
 
-    def counted(self, v):
-        """The sizes of a view that had none before."""
-        _, now = self.before(v)
-        view = text(self.script.views[v].name)
+    def counted(self):
+        """The sizes of views that had none before."""
+        rows = []
+        for v, view in enumerate(self.script.views):
+            _, now = self.before(v)
+            rows.append(sql("SELECT {view}, {now}, coalesce({more}, 0), coalesce({moved}, 0)", view=self.dialect.text(view.name), now=now,
+                            more=word("more", v), moved=word("moved", v)))  # fmt: skip
         added = (
-            "INSERT INTO {target} (night, view, pre, post, change) SELECT {night}, {view}, g.rows - coalesce(more{at}, 0), g.rows, coalesce(moved{at}, 0)"
-            " FROM (SELECT {now} AS rows) AS g ON CONFLICT DO NOTHING"
-        ).replace("{at}", str(v))
-        return sql(added, target=self.target(SIZES), night=self.number(), view=view, now=now)
+            "INSERT INTO {target} (night, view, pre, post, change) SELECT {night}, l.view, l.many - l.more, l.many, l.moved"
+            " FROM ({rows}) AS l (view, many, more, moved) ON CONFLICT DO NOTHING"
+        )
+        return sql(added, target=self.target(SIZES), night=self.number(), rows=joined(rows, "UNION ALL"))
 
     # A step that had nothing to do tells no moment, and took no time.
     seconds = sql(

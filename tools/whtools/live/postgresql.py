@@ -13,9 +13,9 @@ EVENTS = (
     ("delete", "AFTER DELETE ON ", " REFERENCING OLD TABLE AS gone"),
     ("truncate", "BEFORE TRUNCATE ON ", ""),
 )
-# A column's type and, of an enumeration, its values: more of them may come behind, and none may get another name.
+# A column's place, its type and, of an enumeration, its values: more of them may come behind, and none may get another name.
 TYPE = (
-    "concat(format_type(a.atttypid, a.atttypmod), {comma}, (SELECT string_agg(concat(e.enumlabel, {comma}), {none} ORDER BY e.oid) FROM pg_enum AS e"
+    "concat(a.attnum, {comma}, format_type(a.atttypid, a.atttypmod), {comma}, (SELECT string_agg(concat(e.enumlabel, {comma}), {none} ORDER BY e.oid) FROM pg_enum AS e"
     " WHERE e.enumtypid = a.atttypid))"
 )
 # How full, in hundredths, a page is filled at first: a row that changes finds room beside itself then, and its indexes stay as they are. Of
@@ -28,6 +28,13 @@ BELOW = (
     " i.inhrelid FROM below AS b JOIN pg_inherits AS i ON i.inhparent = b.relation) SELECT * FROM below) AS b"
 )
 FIRED = "(SELECT count(*) FROM pg_trigger AS t WHERE t.tgrelid = {relation} AND t.tgfoid = {function}::regprocedure AND t.tgenabled = {always})"
+# What tells of a part p of a source whether its triggers are as they were made, where its rows lie, and whether its columns are as they were.
+TRIGGERS = "ARRAY(SELECT t.xmin FROM pg_trigger AS t WHERE t.tgrelid = {part} AND t.tgfoid = to_regprocedure({function}) ORDER BY t.oid)::text"
+FILE = "coalesce(pg_relation_filenode({part}), 0)"
+ATTRIBUTES = (
+    "ARRAY(SELECT a.xmin FROM pg_attribute AS a JOIN {columns} AS k ON k.name = a.attname WHERE k.view = {view} AND a.attrelid = {part} AND a.attnum > 0"
+    " ORDER BY a.attnum)::text"
+)
 WANTED = "(SELECT CASE c.relkind WHEN {ordinary} THEN 4 ELSE 3 END FROM pg_class AS c WHERE c.oid = {relation})"
 # The same of all sources at once; and what may be otherwise than it was captured, each a query for a sentence, with its words.
 ALL_BELOW = (
@@ -45,7 +52,12 @@ HOLES = (
      " WHERE NOT EXISTS (SELECT 1 FROM below AS b WHERE b.view = p.view AND b.relation = p.part)", "%s is no part of it any more"),
     ("SELECT format({told}, k.view, format({why}, k.name)) FROM {columns} AS k JOIN sources AS w ON w.view = k.view JOIN {state} AS c ON c.view = k.view"
      " LEFT JOIN pg_attribute AS a ON a.attrelid = c.source AND a.attname = k.name AND a.attnum > 0 AND NOT a.attisdropped"
-     " WHERE NOT starts_with(" + TYPE + ", k.type)", "its column %s is of another type, or its values have other names"),
+     " WHERE NOT starts_with(" + TYPE + ", k.type)", "its column %s is of another type, or its values have other names, or it was made anew"),
+    ("SELECT format({told}, p.view, format({why}, p.name)) FROM {noted} AS p JOIN sources AS w ON w.view = p.view WHERE p.triggers <> "
+     + TRIGGERS.replace("{part}", "p.part").replace("to_regprocedure({function})", "w.made"), "the triggers of %s were disabled or made anew"),
+    ("SELECT format({told}, p.view, format({why}, p.name)) FROM {noted} AS p JOIN sources AS w ON w.view = p.view WHERE p.file <> "
+     + FILE.replace("{part}", "p.part") + " AND p.attributes <> " + ATTRIBUTES.replace("{part}", "p.part").replace("{view}", "p.view"),
+     "columns of %s were written anew"),
 )  # fmt: skip
 UNTRUNCATED = "a table whose changes are captured is truncated at READ COMMITTED alone: another isolation does not see all rows that go"
 BUSY = "somebody is writing to %s all the time, and its triggers wait for a moment without: run the script again"
@@ -125,7 +137,8 @@ class Captures:
         tables = [
             (self.state, sql("view text PRIMARY KEY, source regclass NOT NULL, filled boolean NOT NULL"), []),
             (self.columns, sql("view text NOT NULL, name text NOT NULL, type text NOT NULL, PRIMARY KEY (view, name)"), []),
-            (self.parts, sql("view text NOT NULL, part oid NOT NULL, name text NOT NULL, PRIMARY KEY (view, part)"), []),
+            (self.parts, sql("view text NOT NULL, part oid NOT NULL, name text NOT NULL, triggers text NOT NULL, file oid NOT NULL,"
+                             " attributes text NOT NULL, PRIMARY KEY (view, part)"), []),
             (self.script.own(JUDGED), sql("print text NOT NULL"), []),
             *((self.script.own(said), columns, []) for said, columns in self.script.history.tables()),
             *(each for v in range(len(self.script.views)) for each in self.view_tables(v, sources)),
@@ -175,16 +188,15 @@ class Captures:
 
     def parts_noted(self, v):
         """The parts that a source has are noted, so that one that goes is missed."""
-        return self.query(v, "INSERT INTO {noted} SELECT {view}, b.relation, b.relation::regclass FROM " + BELOW + " ON CONFLICT DO NOTHING")
+        told = ", ".join(each.replace("{part}", "b.relation") for each in (TRIGGERS, FILE, ATTRIBUTES))
+        return self.query(v, "INSERT INTO {noted} SELECT {view}, b.relation, b.relation::regclass, " + told + " FROM " + BELOW + " ON CONFLICT DO NOTHING")
 
     def part_unnoted(self, v):
-        """What a trigger of a table in parts does first: a part that nobody noted is, so that it is missed also where it is gone before the
-        next night, and with it rows that came through the table."""
-        unnoted = self.query(
-            v, "SELECT 1 FROM {state} AS c CROSS JOIN LATERAL pg_partition_tree(c.source) AS p WHERE c.view = {view} AND NOT EXISTS (SELECT 1"
-               " FROM {noted} AS n WHERE n.view = {view} AND n.part = p.relid)",
-        )  # fmt: skip
-        return self.dialect.where(sql("EXISTS ({unnoted})", unnoted=unnoted), self.parts_noted(v))
+        """What a trigger does first where a table has parts or heirs: one that nobody noted is, so that it is missed also where it is gone
+        before the next night, and with it rows that came through the table."""
+        unnoted = self.query(v, "SELECT 1 FROM " + BELOW + " WHERE NOT EXISTS (SELECT 1 FROM {noted} AS n WHERE n.view = {view} AND n.part = b.relation)")
+        test = "EXISTS (SELECT 1 FROM pg_inherits AS i WHERE i.inhparent = TG_RELID) AND EXISTS ({unnoted})"
+        return self.dialect.where(sql(test, unnoted=unnoted), self.parts_noted(v))
 
     # ---- triggers
 
@@ -203,7 +215,7 @@ class Captures:
             "\nBEGIN\n  {first}IF TG_OP = {insert} THEN {inserted}{end}\n  ELSIF TG_OP = {delete} THEN {deleted}{end}\n"
             "  ELSIF TG_OP = {update} THEN {updated}{end}\n  ELSIF current_setting({isolation}) <> {wanted} THEN {refused}{end}\n"
             "  ELSE EXECUTE concat({before}, TG_RELID::regclass, {after}){end}\n  END IF{end}\n  RETURN NULL{end}\nEND{end}",
-            first=sql("{noted}{end}\n  ", noted=self.part_unnoted(v), end=END_OF_STATEMENT) if source.is_parted else sql(""),
+            first=sql("{noted}{end}\n  ", noted=self.part_unnoted(v), end=END_OF_STATEMENT),
             insert=text("INSERT"), delete=text("DELETE"), update=text("UPDATE"), inserted=sql("{insert} {rows}", insert=insert, rows=come),
             deleted=sql("{insert} {rows}", insert=insert, rows=gone), updated=sql("{insert} {rows}", insert=insert, rows=both),
             isolation=text("transaction_isolation"), wanted=text("read committed"), refused=self.dialect.raised(text(UNTRUNCATED)),
@@ -347,27 +359,40 @@ class Captures:
         gone += [self.dialect.where(is_empty, sql("DROP SCHEMA {schema}", schema=schema))]
         return [*(self.let_go(v) for v in base), *self.dialect.creation(gone)]
 
-    # ---- the tables of the night, which are judged where they changed
+    # ---- the tables of the night and of the application, which are judged where they changed
 
-    def print(self):
-        """What tells whether the night's tables are as they were: their columns, and whatever may act on their rows."""
+    def own(self):
+        """The tables of the night."""
         names = [self.script.said(v) for v in range(len(self.script.views))]
         names += [self.script.said(v, "~changes") for v in self.script.steps.base()]
-        return sql(
-            "(SELECT md5(string_agg(concat_ws({comma}, k.relname, k.relkind, k.relrowsecurity, k.relhasrules, k.relhassubclass, (SELECT"
-            " string_agg(concat_ws({comma}, a.attname, a.atttypid, a.atttypmod, a.attnotnull, a.attcollation, a.attgenerated, a.attidentity,"
-            " a.attisdropped), {comma} ORDER BY a.attnum) FROM pg_attribute AS a WHERE a.attrelid = k.oid AND a.attnum > 0),"
-            " (SELECT string_agg(concat_ws({comma}, t.tgname, t.tgtype, t.tgenabled, t.tgfoid), {comma} ORDER BY t.tgname) FROM pg_trigger AS t"
-            " WHERE t.tgrelid = k.oid)), {comma} ORDER BY k.relname)) FROM pg_class AS k WHERE k.relnamespace = to_regnamespace({schema})"
-            " AND k.relname IN ({names}))",
-            comma=text(","), schema=self.written(name(self.dialect.schema)), names=joined(list(map(text, names))),
+        return sql("ARRAY(SELECT k.oid FROM pg_class AS k WHERE k.relnamespace = to_regnamespace({schema}) AND k.relname IN ({names}))",
+                   schema=self.written(name(self.dialect.schema)), names=joined(list(map(text, names))))  # fmt: skip
+
+    def sources(self):
+        """The tables that are captured, with their parts and heirs."""
+        return sql("ARRAY(SELECT p.part FROM {noted} AS p)", noted=self.parts)
+
+    def print(self):
+        """What tells whether all of these are as they were, for this role: their columns, whatever may act on their rows, parts, and values of
+        enumerations. A row of the server's catalogue that is written anew has the number of another transaction."""
+        both, parts = sql("(own || captured)"), (
+            "SELECT k.xmin FROM pg_class AS k WHERE k.oid = ANY (own) ORDER BY k.oid",
+            "SELECT a.xmin FROM pg_attribute AS a WHERE a.attrelid = ANY {both} AND a.attnum > 0 ORDER BY a.attrelid, a.attnum",
+            "SELECT t.xmin FROM pg_trigger AS t WHERE t.tgrelid = ANY {both} ORDER BY t.oid",
+            "SELECT i.xmin FROM pg_inherits AS i WHERE i.inhparent = ANY {both} ORDER BY i.inhparent, i.inhrelid",
+            "SELECT e.xmin FROM pg_enum AS e JOIN pg_attribute AS a ON a.atttypid = e.enumtypid WHERE a.attrelid = ANY (captured) ORDER BY e.oid",
         )  # fmt: skip
+        return sql("concat_ws({comma}, current_user, {parts})", comma=text(","), parts=joined([sql("ARRAY(" + part + ")", both=both) for part in parts]))
+
+    def looked_at(self):
+        """The tables whose print is taken."""
+        return [sql("own := {own}", own=self.own()), sql("captured := {sources}", sources=self.sources())]
 
     def is_changed(self):
         return sql("NOT EXISTS (SELECT 1 FROM {judged} AS j WHERE j.print = {print})", judged=self.script.own(JUDGED), print=self.print())
 
-    def noted_as_judged(self):
-        """The tables passed: no trigger on them may change what a night writes, since it does not look again."""
+    def judged(self):
+        """A refusal of triggers on the night's tables that may change what it writes, since it does not look again."""
         judged = self.script.own(JUDGED)
         names = joined([text(self.script.said(v)) for v in range(len(self.script.views))])
         acting = sql(
@@ -380,14 +405,14 @@ class Captures:
         return [
             *self.dialect.refuse_with(acting),
             sql("DELETE FROM {judged}", judged=judged),
-            sql("INSERT INTO {judged} VALUES ({print})", judged=judged, print=self.print()),
         ]
 
-    # ---- a night's look at them
+    def noted_as_judged(self):
+        """All passed."""
+        return sql("INSERT INTO {judged} VALUES ({print})", judged=self.script.own(JUDGED), print=self.print())
 
     def whole(self):
-        """A refusal of a source that is not captured as it was, judged after its changes were taken: whatever has happened to it before is
-        seen then."""
+        """A refusal of a source that is not captured as it was."""
         base = self.script.steps.base()
         functions = [self.written(sql("{function}()", function=self.function(v))) for v in base]
         rows = [sql("({view}::text, {made}::regprocedure::oid)", view=self.view(v), made=made) for v, made in zip(base, functions)]

@@ -45,7 +45,11 @@ class LiveScript(Script):
         listed = [(works.expression(step), works.predicted(step)) for step in steps]
         ended = [] if self.dialect.takes else self.emptied()
         ended += self.dialect.settled() + [each for v in range(len(self.views)) for each in [*self.verified(v), *self.untouched(v)]]
-        return self.whole([*self.captures.whole(), *self.history.began()], steps, [*ended, *self.history.ended(*zip(*listed))], comment)
+        return self.whole([*self.looked_at(), *self.history.began()], steps, [*ended, *self.history.ended(*zip(*listed))], comment)
+
+    def looked_at(self):
+        """A refusal of tables that are not captured as they were."""
+        return self.captures.whole()
 
     def open(self, comment):
         """The derived views are filled from the mirrors; what is in the tables of changes stays there."""

@@ -18,9 +18,8 @@ from whtools.sql.formulas import Formulas
 from whtools.sql.postgresql import KEPT, LIMITS, PostgreSQL
 from whtools.sql.tokens import END_OF_STATEMENT, body, joined, name, number, sql, statements, text, word
 
-# How many rows of a view's change there are, that leave, that stay otherwise and that come; how many are absent, too many or not as the key
-# says; by how many its table grows, and how many change.
-COUNTERS = ("rows", "gone", "stay", "come", "wrong", "large", "torn", "more", "moved")
+# How many rows of a view's change there are, that leave, that stay otherwise and that come; by how many its table grows, and how many change.
+COUNTERS = ("rows", "gone", "stay", "come", "more", "moved")
 # Rows are looked up by places and keys; by PostgreSQL's own reckoning of disks that turn it would rather go through whole tables.
 LOOK_UPS = sql("PERFORM set_config({key}, {value}, TRUE)", key=text("random_page_cost"), value=text("1.1"))
 # Of so many rows on, places are gone to one by one: each has to be gone to in any case, and PostgreSQL would rather read the whole table.
@@ -52,7 +51,9 @@ class SwiftScript(SwiftGroups, Opening, LiveScript):
         numbers = [word(kind, v) for v in range(len(self.views)) for kind in COUNTERS]
         numbers += [word("made", v) for v in self.steps.derived() if not self.is_direct(v)]
         whole = [sql("{said} pg_catalog.int8", said=said) for said in [*numbers, word("lost")]]
-        return [*PostgreSQL.variables, *whole, sql("moments pg_catalog.timestamptz[]")]
+        refusals = [sql("{told} pg_catalog.text", told=self.counter("told", v)) for v in range(len(self.views))]
+        arrays = ["moments pg_catalog.timestamptz[]", "own pg_catalog.oid[]", "captured pg_catalog.oid[]"]
+        return [*PostgreSQL.variables, *whole, *refusals, *map(sql, arrays)]
 
     @cached_property
     def keys(self):
@@ -78,16 +79,14 @@ class SwiftScript(SwiftGroups, Opening, LiveScript):
     def counter(self, kind, v):
         return word(kind, v)
 
-    def counters(self, v):
-        return {kind: self.counter(kind, v) for kind in COUNTERS}
-
     def then(self, test, made):
         return self.dialect.only_where(test, made) if made else []
 
     def analyzed(self, v):
-        """Statistics of one column tell how many rows a change has, which is what plans go by: without them PostgreSQL supposes hundreds, and
-        goes through whole tables for a few."""
-        return [sql("ANALYZE {table} (n)", table=self.working(v, "net"))]
+        """Statistics of one column tell how many rows a change has, which is what plans of joins go by: without them PostgreSQL supposes
+        hundreds, and goes through whole tables for a few."""
+        is_joined = any(v in view.over and not self.is_direct(u) for u, view in enumerate(self.views))
+        return [sql("ANALYZE {table} (n)", table=self.working(v, "net"))] if is_joined else []
 
     # ---- steps
 
@@ -97,16 +96,18 @@ class SwiftScript(SwiftGroups, Opening, LiveScript):
             return sql("EXISTS (SELECT 1 FROM {changes} AS d)", changes=self.table(step.view, "~changes"))
         if step.kind == "comp":
             return joined([sql("{rows} > 0", rows=self.counter("rows", u)) for u in step.sources], "OR")
-        if step.kind == "finish" and not self.is_direct(step.view):
+        if step.kind == "finish":
             return sql("{made} > 0", made=self.counter("made", step.view))
         return sql("{rows} > 0", rows=self.counter("rows", step.view))
 
     def carried(self, steps, comment):
-        """The statements of steps, each with a comment above it; one that has something to do tells when it has done it."""
+        """The statements of steps, each with a comment above it; one that has something to do tells when it has done it, and one that only
+        judges does not."""
         found = []
         for at, step in enumerate(steps, 1):
             made = getattr(self, step.kind)(step)
-            found += [comment(step), *self.then(self.worth(step), [*made, self.history.moment(at)] if made else [])]
+            only_judges = step.kind == "judge" or (step.kind == "finish" and self.is_direct(step.view))
+            found += [comment(step), *(made if only_judges else self.then(self.worth(step), [*made, self.history.moment(at)] if made else []))]
         return found
 
     # ---- the changes of base views
@@ -158,32 +159,39 @@ class SwiftScript(SwiftGroups, Opening, LiveScript):
         )  # fmt: skip
 
     def judging(self, v):
-        """What is counted of the rows d of a change: by a key each row leaves, comes, or is one of two of which one leaves and one comes."""
-        tests = {"wrong": "d.n < 0 AND d.was + d.n < 0", "gone": "d.was + d.n = 0", "stay": "d.was > 0 AND d.was + d.n > 0", "come": "d.was = 0 AND d.n > 0"}
-        torn = sql("0")
+        """What is counted of the rows d of a change, and what is told where it is refused: by a key each row leaves, comes, or is one of two of
+        which one leaves and one comes."""
+        tests = {"gone": "d.was + d.n = 0", "stay": "d.was > 0 AND d.was + d.n > 0", "come": "d.was = 0 AND d.n > 0"}
         if self.is_keyed(v):
-            tests |= {"gone": "d.n = -1 AND d.pair = 1", "stay": "d.n = 1 AND d.place IS NOT NULL", "come": "d.n = 1 AND d.place IS NULL"}
-            pairs = sql("count(*) FILTER (WHERE d.n = 1 AND d.place IS NOT NULL AND d.pair = 2)")
-            torn = joined([sql("count(*)"), *(sql("count(*) FILTER (WHERE " + tests[kind] + ")") for kind in ("gone", "come")), pairs, pairs], "-")
-        found = {kind: sql("count(*) FILTER (WHERE " + test + ")") for kind, test in tests.items()}
-        most = self.dialect.whole(MOST)
-        large = sql("count(*) FILTER (WHERE d.n IS NULL OR d.n > 0 AND d.n > {most} - d.was)", most=most)
-        more, moved = (sql(f"greatest(least(coalesce(sum({each}), 0), {{most}}), - {{most}})::bigint", most=most) for each in ("d.n", "abs(d.n)"))
-        found |= {"rows": sql("count(*)"), "large": large, "torn": torn, "more": more, "moved": moved}
-        return {kind: found[kind] for kind in COUNTERS}
+            tests = {"gone": "d.n = -1 AND d.pair = 1", "stay": "d.n = 1 AND d.place IS NOT NULL", "come": "d.n = 1 AND d.place IS NULL"}
+        counted, most = {kind: self.many(sql(test)) for kind, test in tests.items()}, self.dialect.whole(MOST)
+        more, moved = sql("{come} - {gone}", **counted), sql("count(*)")
+        if not self.is_keyed(v):
+            more, moved = (sql(f"greatest(least(coalesce(sum({each}), 0), {{most}}), - {{most}})::bigint", most=most) for each in ("d.n", "abs(d.n)"))
+        refusals = [
+            (sql("{wrong} > 0", wrong=self.many(sql("d.n < 0 AND d.was + d.n < 0"))), self.told_absent(v)),
+            (sql("{large} > 0", large=self.many(sql("d.n IS NULL OR d.n > 0 AND d.n > {most} - d.was", most=most))), self.told_large(v)),
+        ]
+        if self.is_keyed(v):
+            pairs = self.many(sql("d.n = 1 AND d.place IS NOT NULL AND d.pair = 2"))
+            refusals.append((sql("count(*) <> {gone} + {come} + 2 * {pairs}", pairs=pairs, **counted), self.told_torn(v)))
+        return {"rows": sql("count(*)"), **counted, "more": more, "moved": moved, "told": self.first_told(refusals)}
+
+    def many(self, test):
+        return sql("count(*) FILTER (WHERE {test})", test=test)
+
+    def first_told(self, refusals):
+        """What is told by the first test that holds, if one does."""
+        whens = [sql("WHEN {test} THEN {told}", test=test, told=text(told)) for test, told in refusals]
+        return sql("CASE {whens} END", whens=joined(whens, ""))
 
     def judge(self, step):
         return self.judged(step.view)
 
     def judged(self, v):
-        """Refusals of what is absent, too large or otherwise than its key."""
-        tests = {"wrong": self.told_absent(v), "large": self.told_large(v), **({"torn": self.told_torn(v)} if self.is_keyed(v) else {})}
-        return self.refused_by(v, tests)
-
-    def refused_by(self, v, tests):
-        """Refusals where a number that was counted is not 0, in their order."""
-        tests = [(sql("{many} <> 0", many=self.counter(kind, v)), told) for kind, told in tests.items()]
-        return self.then(joined([test for test, _ in tests], "OR"), [self.refused_where(test, told) for test, told in tests])
+        """A refusal of what is absent, too large or otherwise than its key, by what was told of it."""
+        told = self.counter("told", v)
+        return [self.dialect.where(sql("{told} IS NOT NULL", told=told), self.dialect.raised(told))]
 
     def refused_where(self, test, told):
         return self.dialect.where(test, self.dialect.raised(text(told)))
@@ -209,18 +217,22 @@ class SwiftScript(SwiftGroups, Opening, LiveScript):
         """The change of a view that is over one other, whose change it is made of."""
         v, (term,) = step.view, step.terms
         if self.shape.is_summary(v):
-            return self.group_change(v, self.put(v, lambda: self.groups_placed(v, self.summed_rows(v, term)), self.judging_groups(v)))
+            return self.group_change(v, lambda: self.summed_rows(v, term))
         cells = self.cells(v, "r")
-        made = lambda: self.placed_rows(v, self.added_up(v, sql("({term}) AS r", term=self.term(v, term)), cells, word("r.n")))  # noqa: E731
-        return [self.made(v, "net", self.net_columns(v)), *self.put(v, made, self.judging(v)), *self.analyzed(v)]
+        rows = lambda: self.added_up(v, sql("({term}) AS r", term=self.term(v, term)), cells, word("r.n"))  # noqa: E731
+        made = self.put(lambda: self.counted(v, self.placed_rows(v, rows()), self.judging(v)))
+        return [self.made(v, "net", self.net_columns(v)), made, *self.analyzed(v)]
 
-    def put(self, v, made, judging):
-        """A statement that keeps a change, with what is counted of it; in 64 bits, or exactly where a number leaves them."""
-        return [self.in_64_bits(lambda: self.counted(v, made(), judging), [self.counted(v, made(), judging)])]
+    def put(self, made):
+        """A statement that keeps a change; in 64 bits, or exactly where a number leaves them."""
+        return self.in_64_bits(made, [made()])
 
     def counted(self, v, made, judging, before=None):
         """A statement that keeps a change, with what is counted of its rows d."""
-        query = sql("{before} ({made}) SELECT {numbers} FROM put AS d", before=before or sql("WITH put AS"), made=made, numbers=joined(judging.values()))
+        return self.counted_with(v, sql("{before} ({made})", before=before or sql("WITH put AS"), made=made), judging)
+
+    def counted_with(self, v, parts, judging):
+        query = sql("{parts} SELECT {numbers} FROM put AS d", parts=parts, numbers=joined(judging.values()))
         return sql("{query} INTO {into}", query=self.once(query), into=self.into(v, judging))
 
     def into(self, v, judging):
@@ -240,9 +252,12 @@ class SwiftScript(SwiftGroups, Opening, LiveScript):
             fast = made()
         finally:
             self.is_fast = False
-        return sql(
-            "BEGIN {fast} EXCEPTION WHEN numeric_value_out_of_range THEN {sure} END", fast=statements([fast], 2), sure=statements(sure, 2)
-        )
+        return self.unless_large([fast], sure)
+
+    def unless_large(self, made, otherwise):
+        """Statements, and what is done where a number in them leaves 64 bits."""
+        return sql("BEGIN {made} EXCEPTION WHEN numeric_value_out_of_range THEN {otherwise} END", made=statements(made, 2),
+                   otherwise=statements(otherwise, 2))  # fmt: skip
 
     def formulas(self, v, term):
         return Formulas(InSixtyFourBits(self.dialect.schema), self.column(v, term)) if self.is_fast else super().formulas(v, term)
@@ -283,10 +298,9 @@ class SwiftScript(SwiftGroups, Opening, LiveScript):
     def finish(self, step):
         """What was computed is added up, looked up and judged; a change that was made in one statement is only judged."""
         v = step.view
-        if self.shape.is_summary(v):
-            made = [] if self.is_direct(v) else self.group_change(v, [self.counted(v, self.groups_placed(v, self.summed_pending(v)), self.judging_groups(v))])
-            return [*made, *self.judged_groups(v)]
-        made = [] if self.is_direct(v) else self.joined_change(v)
+        if self.is_direct(v):
+            return self.judged(v)
+        made = self.group_change(v, lambda: self.summed_pending(v)) if self.shape.is_summary(v) else self.joined_change(v)
         return [*made, *self.judged(v)]
 
     def joined_change(self, v):
@@ -298,10 +312,9 @@ class SwiftScript(SwiftGroups, Opening, LiveScript):
 
     def inst(self, step):
         v = step.view
-        if self.shape.is_summary(v):
-            left, stayed, came = self.groups_put(v)
-        else:
-            left, stayed, came = self.rows_put(v)
+        if self.is_last(v):
+            return []
+        left, stayed, came = self.groups_put(v) if self.shape.is_summary(v) else self.rows_put(v)
         done = zip(("gone", "stay", "come"), ([self.once(left)], self.fitting(v, stayed), self.fitting(v, came)))
         put = [each for kind, made in done for each in self.then(sql("{many} > 0", many=self.counter(kind, v)), self.touching(v, kind, made))]
         is_large = sql("{rows} > {large}", rows=self.counter("rows", v), large=number(LARGE))
@@ -316,13 +329,12 @@ class SwiftScript(SwiftGroups, Opening, LiveScript):
         torn = sql("touched <> {many}", many=self.counter(kind, v))
         return [*made, sql("GET DIAGNOSTICS touched = ROW_COUNT"), self.refused_where(torn, self.told_torn(v))]
 
-    def deleted(self, v, kind, test):
-        return sql("DELETE FROM {table} AS t USING {change} AS d WHERE t.ctid = d.place AND {test}", table=self.table(v),
-                   change=self.working(v, kind), test=test)  # fmt: skip
+    def deleted(self, v, change, test):
+        return sql("DELETE FROM {table} AS t USING {change} AS d WHERE t.ctid = d.place AND {test}", table=self.table(v), change=change, test=test)
 
-    def inserted(self, v, kind, columns, shown, test):
+    def inserted(self, v, change, columns, shown, test):
         return sql("INSERT INTO {table} ({columns}) SELECT {shown} FROM {change} AS d WHERE {test}", table=self.table(v),
-                   columns=joined(columns), shown=joined(shown), change=self.working(v, kind), test=test)  # fmt: skip
+                   columns=joined(columns), shown=joined(shown), change=change, test=test)  # fmt: skip
 
     def rows_put(self, v):
         """The statements by which rows leave, change and come."""
@@ -331,11 +343,11 @@ class SwiftScript(SwiftGroups, Opening, LiveScript):
         if not self.is_keyed(v):
             sets = sql("{count} = d.was + d.n", count=COUNT)
             stayed = sql(changed + "d.was > 0 AND d.was + d.n > 0", table=self.table(v), sets=sets, net=net)
-            return self.deleted(v, "net", sql("d.was + d.n = 0")), stayed, self.inserted(v, "net", columns, cells, sql("d.was = 0 AND d.n > 0"))
+            return self.deleted(v, net, sql("d.was + d.n = 0")), stayed, self.inserted(v, net, columns, cells, sql("d.was = 0 AND d.n > 0"))
         sets = [sql("{column} = d.{cell}", column=column, cell=cell) for place, (column, cell) in enumerate(zip(self.users(v), self.cells(v)))
                 if place not in self.keys[v]]  # fmt: skip
         stayed = sql(changed + "d.n > 0", table=self.table(v), sets=joined(sets), net=net)
-        return self.deleted(v, "net", sql("d.n < 0 AND d.pair = 1")), stayed, self.inserted(v, "net", columns, cells, sql("d.place IS NULL"))
+        return self.deleted(v, net, sql("d.n < 0 AND d.pair = 1")), stayed, self.inserted(v, net, columns, cells, sql("d.place IS NULL"))
 
     # ---- a look afterwards is not needed: every statement has told how many rows it touched, and the tables are the night's own
 
@@ -347,11 +359,15 @@ class SwiftScript(SwiftGroups, Opening, LiveScript):
 
     # ---- what was judged once
 
+    def looked_at(self):
+        """Whether tables are captured as they were is judged with all else that is judged once."""
+        return []
+
     def whole(self, before, steps, after, comment):
         """The tables are judged where they are not as they were when they last passed: nothing else than the night makes use of them."""
         tables = [self.table(v) for v in range(len(self.views))]
-        checks = self.dialect.block([*self.checked.statements(tables), *self.captures.noted_as_judged()])
-        judged = self.then(self.captures.is_changed(), [self.once(checks)])
+        checks = self.dialect.block([*self.checked.statements(tables), *self.captures.judged()])
+        judged = [*self.captures.looked_at(), *self.then(self.captures.is_changed(), [self.once(checks), *self.captures.whole(), self.captures.noted_as_judged()])]
         made = before + self.carried(steps, comment) + after
         kept = KEPT if any(word("collapsed").tokens[0] in each.tokens for each in made) else []
         self.dialect.variables = self.variables()

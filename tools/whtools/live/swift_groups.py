@@ -1,7 +1,7 @@
 """Summaries in nights as fast as a good hand writes them: each group that changes is found once, with its sums before and after."""
 
 from whtools.sql.dialect import summed
-from whtools.sql.tokens import joined, number, sql, word
+from whtools.sql.tokens import joined, number, sql, text, word
 
 PLACED, COMING = sql("d.place IS NOT NULL"), sql("d.place IS NULL")
 
@@ -9,77 +9,102 @@ PLACED, COMING = sql("d.place IS NOT NULL"), sql("d.place IS NULL")
 class SwiftGroups:
     """The statements of a summary's change and of its Inst."""
 
-    def grouped(self, cells, numbers, rows, lost):
-        """Groups with what is added to their sums, where that is anything."""
-        changed = joined([sql("{each} <> 0", each=each) for each in summed(numbers)], "OR")
-        return sql(
-            "SELECT {shown} FROM {rows} {grouped} HAVING {changed} {lost}", shown=joined([*cells, *summed([*numbers, lost])]), rows=rows,
-            grouped=sql("GROUP BY {cells}", cells=joined(cells)) if cells else sql(""), changed=changed,
-            lost=sql("OR sum({lost}) > 0", lost=lost),
-        )  # fmt: skip
-
-    def summed_rows(self, v, term):
-        """What a term adds to each group."""
-        numbers = [sql("r.n"), *(sql("r.n * r.{sum}", sum=word("s", at)) for at in range(2, self.shape.sums(v) + 1))]
-        rows = sql("({term}) AS r", term=self.term(v, term))
-        return self.grouped(self.cells(v, "r")[: self.shape.groups(v)], numbers, rows, sql("r.lost"))
-
-    def summed_pending(self, v):
-        """What all terms together add to each group."""
-        rows = sql("{pending} AS r", pending=self.working(v, "pending"))
-        return self.grouped(self.cells(v, "r")[: self.shape.groups(v)], self.summed_columns(v, "s", "r"), rows, sql("r.lost"))
-
-    def group_change(self, v, put):
-        """Each group that changes with its sums before and after, and its place, in one pass; and where a view is over this one, rows."""
-        own = [sql("{sum} numeric", sum=each) for each in [*self.summed_columns(v, "o"), *self.summed_columns(v, "a"), *self.lost_column(v)]]
-        table = self.made(v, "beside", [*self.typed_cells(v, self.shape.groups(v)), *own, sql("place tid")])
-        lost = [self.refused_where(sql("lost > 0"), self.told_range(v))] if self.shape.checked(v) else []
-        return [table, *put, *lost, *self.group_rows(v)]
+    def is_last(self, v):
+        """Whether a view is a summary that none is over: nothing reads it in a night, so that the statement that makes its change puts it too."""
+        return self.shape.is_summary(v) and not any(v in view.over for view in self.views)
 
     def lost_column(self, v):
         """Where a sum is over an output that may have no value, how many have none."""
         return [word("lost")] if self.shape.checked(v) else []
 
-    def groups_placed(self, v, added):
-        groups = self.shape.groups(v)
-        cells, own = self.cells(v)[:groups], [*self.summed_columns(v, "o"), *self.summed_columns(v, "a"), *self.lost_column(v)]
-        lost = [sql("g.lost") for _ in self.lost_column(v)]
-        before = [sql("coalesce({column}, 0)", column=column) for column in self.read(v)[groups:]]
-        after = [sql("{was}::numeric + g.{added}", was=was, added=added) for was, added in zip(before, self.summed_columns(v, "s"))]
-        on = joined([sql("{a} = g.{b}", a=a, b=b) for a, b in zip(self.read(v), cells)], "AND") if groups else sql("1 = 1")
+    # ---- what is added to groups
+
+    def grouped(self, v, numbers, rows):
+        """Groups with what is added to their sums, where that is anything."""
+        cells = self.cells(v, "r")[: self.shape.groups(v)]
+        lost = [sql("sum(r.{lost})", lost=each) for each in self.lost_column(v)]
+        changed = [sql("{each} <> 0", each=each) for each in summed(numbers)] + [sql("{each} > 0", each=each) for each in lost]
         return sql(
-            "INSERT INTO {beside} ({columns}, place) SELECT {shown}, t.ctid FROM ({added}) AS g ({given}, lost) LEFT JOIN {table} AS t ON {on}"
-            " RETURNING {told}, place",
-            beside=self.working(v, "beside"), columns=joined([*cells, *own]), added=added, table=self.table(v), on=on,
-            shown=joined([*(sql("g.{cell}", cell=cell) for cell in cells), *before, *after, *lost]), given=joined([*cells, *self.summed_columns(v, "s")]),
-            told=joined([*self.summed_columns(v, "a"), *self.lost_column(v)]),
+            "SELECT {shown} FROM {rows} {grouped} HAVING {changed}", shown=joined([*cells, *summed(numbers), *lost]), rows=rows,
+            grouped=sql("GROUP BY {cells}", cells=joined(cells)) if cells else sql(""), changed=joined(changed, "OR"),
         )  # fmt: skip
 
-    def judging_groups(self, v):
-        """What is counted of the groups d that change."""
-        lost = joined([self.dialect.is_lost(each) for each in self.summed_columns(v, "a", "d")], "OR")
-        tests = {
-            "large": lost,
-            "wrong": sql("d.a1 < 0"),
-            "gone": sql("d.a1 = 0 AND {placed}", placed=PLACED),
-            "stay": sql("d.a1 <> 0 AND {placed}", placed=PLACED),
-            "come": sql("d.a1 <> 0 AND {coming}", coming=COMING),
-        }
-        counted = {kind: sql("count(*) FILTER (WHERE {test})", test=test) for kind, test in tests.items()}
-        counted |= {
-            "rows": sql("count(*)"),
-            "more": sql("{come} - {gone}", **counted),
-            "moved": sql("{come} + {gone} + 2 * {stay}", **counted),
-            **{"lost": sql("coalesce(sum(d.lost), 0)") for _ in self.lost_column(v)},
-        }
-        return counted
+    def summed_rows(self, v, term):
+        """What a term adds to each group."""
+        numbers = [sql("r.n"), *(sql("r.n * r.{sum}", sum=word("s", at)) for at in range(2, self.shape.sums(v) + 1))]
+        return self.grouped(v, numbers, sql("({term}) AS r", term=self.term(v, term)))
 
-    def judged_groups(self, v):
-        return self.refused_by(v, {"large": self.told_range(v), "wrong": self.told_absent(v)})
+    def summed_pending(self, v):
+        """What all terms together add to each group."""
+        return self.grouped(v, self.summed_columns(v, "s", "r"), sql("{pending} AS r", pending=self.working(v, "pending")))
+
+    def groups_placed(self, v, added):
+        """Each group that changes, with its sums before and after, and its place."""
+        groups, given = self.shape.groups(v), [*self.summed_columns(v, "s"), *self.lost_column(v)]
+        cells, read = self.cells(v)[:groups], self.read(v)
+        on = joined([sql("{a} = g.{b}", a=a, b=b) for a, b in zip(read, cells)], "AND") if groups else sql("1 = 1")
+        before = [sql("coalesce({column}, 0)", column=column) for column in read[groups:]]
+        after = [sql("{was}::numeric + g.{sum}", was=was, sum=each) for was, each in zip(before, self.summed_columns(v, "s"))]
+        sums = after if self.is_last(v) else before + after
+        shown = [sql("g.{cell}", cell=cell) for cell in cells] + sums + [sql("g.{lost}", lost=each) for each in self.lost_column(v)]
+        return sql("SELECT {shown}, t.ctid FROM ({added}) AS g ({given}) LEFT JOIN {table} AS t ON {on}", shown=joined(shown), added=added,
+                   given=joined([*cells, *given]), table=self.table(v), on=on)  # fmt: skip
+
+    def placed_columns(self, v):
+        """The columns of these; the sums before are wanted for the views over this one."""
+        sums = [each for letter in ("a" if self.is_last(v) else "oa") for each in self.summed_columns(v, letter)]
+        return [*self.cells(v)[: self.shape.groups(v)], *sums, *self.lost_column(v), word("place")]
+
+    # ---- a summary's change
+
+    def group_change(self, v, added):
+        """The groups that change are found in one pass: of a view that none is over they are put by it, and else kept, and made rows of."""
+        table, found = [self.made(v, "beside", self.beside_columns(v))], lambda: self.counted(v, self.groups_kept(v, added()), self.judging_groups(v))
+        sure = found
+        if self.is_last(v):
+            told = sql("{told} := {range}", told=self.counter("told", v), range=text(self.told_range(v)))
+            table, found = [], lambda: self.groups_at_once(v, added())
+            sure = lambda: self.unless_large([found()], [told])  # noqa: E731
+        lost = [self.refused_where(sql("lost > 0"), self.told_range(v))] if self.shape.checked(v) else []
+        return [*table, self.in_64_bits(found, [sure()]) if self.is_direct(v) else sure(), *lost, *self.group_rows(v)]
+
+    def beside_columns(self, v):
+        own = [sql("{sum} numeric", sum=each) for each in self.placed_columns(v)[self.shape.groups(v) : -1]]
+        return [*self.typed_cells(v, self.shape.groups(v)), *own, sql("place tid")]
+
+    def groups_kept(self, v, added):
+        """The statement that keeps the groups that change, and gives what is counted."""
+        columns = self.placed_columns(v)
+        return sql("INSERT INTO {beside} ({columns}) {placed} RETURNING {told}", beside=self.working(v, "beside"), columns=joined(columns),
+                   placed=self.groups_placed(v, added), told=joined([*self.summed_columns(v, "a"), *self.lost_column(v), word("place")]))  # fmt: skip
+
+    def groups_at_once(self, v, added):
+        """One statement for a change and its Inst: it counts what was put, too."""
+        put = sql("put ({columns}) AS ({placed})", columns=joined(self.placed_columns(v)), placed=self.groups_placed(v, added))
+        done = [sql("{kind} AS ({made} RETURNING 1)", kind=word(kind), made=made) for kind, made in zip(("gone", "stay", "come"), self.groups_put(v))]
+        judging = self.judging_groups(v)
+        torn = joined([sql("(SELECT count(*) FROM {kind}) <> {many}", kind=word(kind), many=judging[kind]) for kind in ("gone", "stay", "come")], "OR")
+        judging["told"] = self.first_told([*self.refused_groups(v), (torn, self.told_torn(v))])
+        return self.counted_with(v, sql("WITH {parts}", parts=joined([put, *done])), judging)
+
+    def judging_groups(self, v):
+        """What is counted of the groups d that change, and what is told where they are refused."""
+        tests = {"gone": "d.a1 = 0 AND {placed}", "stay": "d.a1 > 0 AND {placed}", "come": "d.a1 > 0 AND {coming}"}
+        counted = {kind: self.many(sql(test, placed=PLACED, coming=COMING)) for kind, test in tests.items()}
+        return {
+            "rows": sql("count(*)"), **counted, "more": sql("{come} - {gone}", **counted), "moved": sql("{come} + {gone} + 2 * {stay}", **counted),
+            "told": self.first_told(self.refused_groups(v)), **{"lost": sql("coalesce(sum(d.lost), 0)") for _ in self.lost_column(v)},
+        }  # fmt: skip
+
+    def refused_groups(self, v):
+        """What is refused of groups that are kept; of those that are put at once a sum that leaves 64 bits does not come into its column."""
+        lost = joined([self.dialect.is_lost(each) for each in self.summed_columns(v, "a", "d")], "OR")
+        tests = [] if self.is_last(v) else [(lost, self.told_range(v))]
+        return [(sql("{many} > 0", many=self.many(test)), told) for test, told in [*tests, (sql("d.a1 < 0"), self.told_absent(v))]]
 
     def group_rows(self, v):
         """The rows before leave, and those after come, for the views over this one."""
-        if not any(v in view.over for view in self.views):
+        if self.is_last(v):
             return []
         cells = self.cells(v)[: self.shape.groups(v)]
         parts = [
@@ -92,9 +117,9 @@ class SwiftGroups:
 
     def groups_put(self, v):
         """The statements by which groups leave, change and come."""
-        groups = self.shape.groups(v)
+        groups, change = self.shape.groups(v), word("put") if self.is_last(v) else self.working(v, "beside")
         columns, shown = self.users(v), [*self.cells(v, "d")[:groups], *self.summed_columns(v, "a", "d")]
         sets = joined([sql("{column} = {sum}", column=column, sum=each) for column, each in zip(columns[groups:], shown[groups:])])
-        changed = sql("UPDATE {table} AS t SET {sets} FROM {beside} AS d WHERE t.ctid = d.place AND d.a1 <> 0", table=self.table(v), sets=sets,
-                      beside=self.working(v, "beside"))  # fmt: skip
-        return self.deleted(v, "beside", sql("d.a1 = 0")), changed, self.inserted(v, "beside", columns, shown, sql("d.a1 <> 0 AND d.place IS NULL"))
+        changed = sql("UPDATE {table} AS t SET {sets} FROM {change} AS d WHERE t.ctid = d.place AND d.a1 > 0", table=self.table(v), sets=sets,
+                      change=change)  # fmt: skip
+        return self.deleted(v, change, sql("d.a1 = 0")), changed, self.inserted(v, change, columns, shown, sql("d.a1 > 0 AND d.place IS NULL"))

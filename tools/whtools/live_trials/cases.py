@@ -133,6 +133,18 @@ OF_POSTGRESQL = {
     "heirs": Case("UPDATE lines SET pieces = pieces + 1; INSERT INTO special_lines VALUES (4, 'product 4', 4, 'gift'); DELETE FROM ONLY lines WHERE id < 4;"
                   " TRUNCATE ONLY lines;", made=HEIRS),
     "a trigger that is disabled": Case("ALTER TABLE lines DISABLE TRIGGER ALL; DELETE FROM lines WHERE id = 3;", refused="lines has no triggers"),
+    "triggers that are disabled for a while": Case(
+        "ALTER TABLE lines DISABLE TRIGGER ALL; DELETE FROM lines WHERE id = 3; DO $$ DECLARE t text; BEGIN FOR t IN SELECT tgname FROM pg_trigger WHERE tgrelid"
+        " = 'lines'::regclass AND NOT tgisinternal LOOP EXECUTE format('ALTER TABLE lines ENABLE ALWAYS TRIGGER %I', t); END LOOP; END $$;",
+        refused="the triggers of lines were disabled",
+    ),
+    "a column whose values are written anew": Case("ALTER TABLE lines ALTER pieces TYPE smallint USING pieces + 1;", refused="columns of lines were written anew"),
+    "a column that is made anew": Case("ALTER TABLE lines DROP COLUMN pieces; ALTER TABLE lines ADD COLUMN pieces smallint NOT NULL DEFAULT 2;",
+                                       refused="its column pieces is of another type"),
+    "an heir that comes, is written to and goes again": Case(
+        "CREATE TABLE more () INHERITS (lines); INSERT INTO more VALUES (5, 'product 2', 5); UPDATE lines SET pieces = pieces + 1 WHERE id = 5; DROP TABLE more;",
+        refused="more is no part of it any more",
+    ),
     "a column of another type": Case("ALTER TABLE lines ALTER pieces TYPE int; UPDATE lines SET pieces = 70000 WHERE id = 1;",
                                      refused="its column pieces is of another type"),
     "an enumeration that gets a value": Case("ALTER TYPE colour ADD VALUE 'red';" + NEW_LINES.replace("900", "8"), made=COLOURS),

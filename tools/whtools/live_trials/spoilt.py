@@ -47,8 +47,8 @@ class NoGroupChanges(SwiftScript):
 class NothingIsAbsent(SwiftScript):
     """Whether a row that leaves is there is not looked at."""
 
-    def refused_where(self, test, told):
-        return super().refused_where(sql("1 = 0") if told.startswith("refused absent") else test, told)
+    def first_told(self, refusals):
+        return super().first_told([(test, told) for test, told in refusals if not told.startswith("refused absent")])
 
 
 def unnoticed_beside(live, kind, times=5):
