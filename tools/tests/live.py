@@ -5,9 +5,11 @@ import subprocess
 import unittest
 from types import SimpleNamespace
 
+from whtools.live.database import Table
 from whtools.live.keys import Keys
 from whtools.live.measured import Step, fitted, measured, steps_of
 from whtools.live.parsed import NotTaken, parsed
+from whtools.live.proposed import Proposed
 from whtools.live.sizes import Past, within
 from whtools.live.sqlite import LiveSQLite
 from whtools.live.turned import Told, Unturned, literal_apart, of_postgresql, of_sqlite
@@ -79,6 +81,31 @@ class Parsed(unittest.TestCase):
             with self.assertRaises(NotTaken, msg=text) as told:
                 parsed(text)
             self.assertIn(word, str(told.exception))
+
+    def test_numbers_that_are_not_read_are_no_names(self):
+        for text in "SELECT x + 1e3 FROM a", "SELECT x + 0x10 FROM a", "SELECT x FROM a WHERE x > .5", "SELECT x FROM a WHERE x IN (1, NULL)":
+            with self.assertRaises(NotTaken, msg=text):
+                parsed(text)
+
+    def test_the_statement_that_makes_a_view_names_its_columns(self):
+        made = parsed('CREATE VIEW main."a AS b"(c, "d e") AS SELECT x, y FROM main.t;')
+        self.assertEqual([said for _, said in made.shown], ["c", "d e"])
+        self.assertEqual(made.tables, [("main", "t", "t")])
+        with self.assertRaises(NotTaken):
+            parsed("CREATE VIEW v(c) AS SELECT x, y FROM t")
+
+    def test_what_is_not_taken_is_told_in_one_line(self):
+        names = "x\n[[view]]\nname = 'y'", "z\u2028"
+        found = Proposed("postgresql", {name: Table(name, [], []) for name in names}, {})
+        self.assertEqual([len(line.splitlines()) for line in found.told()], [1, 1])
+        self.assertEqual([line[0] for line in found.text().splitlines() if line], ["#", "#"])
+
+    def test_columns_named_like_conditions_are_joined(self):
+        tables = {name: Table(name, [Told("all", "int", "int4", None, None, False)], []) for name in ("a", "b")}
+        found = Proposed("postgresql", tables, {"v": 'SELECT a."all" FROM public.a JOIN public.b USING ("all")', "w": "SELECT a.x FROM other.a"}, "public")
+        self.assertIn('join = [["a.all", "b.all"]]', found.text())
+        self.assertEqual(len(found.told()), 1)
+        self.assertIn("another schema", found.told()[0])
 
     def test_conditions_in_brackets(self):
         where = parsed("SELECT x FROM a WHERE ((x + 1) * 2) > 3 AND (y = 'it''s' OR NOT (z IS NULL))").where

@@ -39,8 +39,8 @@ def proposed(words):
     dialect = DIALECTS[words.engine]()
     database = asked(words, dialect)
     schema = words.source or database.own_schema
-    found = Proposed(words.engine, database.tables(schema), database.views(schema))
-    for each in found.left:
+    found = Proposed(words.engine, database.tables(schema), database.views(schema), schema)
+    for each in found.told():
         print(f"tools/sql: {each}", file=sys.stderr)
     return [found.text().rstrip("\n")]
 

@@ -1,7 +1,6 @@
 """An application's database as it is asked: PostgreSQL through psql, which finds the server as it always does, or a file of SQLite."""
 
 import json
-import re
 import sqlite3
 import subprocess
 from pathlib import Path
@@ -11,17 +10,19 @@ from whtools.live.turned import DIGITS, Told
 from whtools.sql.tokens import END_OF_STATEMENT, Unfit, joined, name, sql, text
 
 
-# What stands between a view's name and its SELECT.
-AS = re.compile(r"\bAS\b", re.IGNORECASE)
+
+# What is written through a parent fires no trigger of its heirs.
+HEIR = "it inherits from {parent}, through which its rows may change unnoticed: capture {parent}, whose rows they are too"
 
 
 class Table(NamedTuple):
-    """An ordinary or partitioned table: its columns, and its keys without NULLs, the primary one first and then the narrowest, by names."""
+    """An ordinary or partitioned table: its columns, its keys without NULLs, the primary one first and then the narrowest, by names, and why
+    it cannot be captured, or None."""
 
     name: str
     columns: list
     keys: list
-    is_parted: bool = False
+    unfit: str | None = None
 
 
 class PostgreSQLAsked:
@@ -68,36 +69,37 @@ class PostgreSQLAsked:
         )  # fmt: skip
         columns, keys = self.rows(self.columns_query(of), self.keys_query(of))
         found = {}
-        for table, is_parted, column, shown, type_name, modifier, *others in columns:
+        for table, parent, column, shown, type_name, modifier, *others in columns:
             digits = (modifier - 4) >> 16 & 0xFFFF if modifier >= 4 else None
             places = modifier - 4 & 0x7FF if modifier >= 4 else None
-            found.setdefault(table, Table(table, [], [], is_parted)).columns.append(Told(column, shown, type_name, digits, places, *others))
+            found.setdefault(table, Table(table, [], [], parent and HEIR.format(parent=parent))).columns.append(Told(column, shown, type_name, digits, places, *others))
         for table, key in keys:
             found[table].keys.append(key)
         return found
 
     def views(self, schema):
-        """The views of a schema with their texts, kept ones and others, by their names."""
+        """The views of a schema with their texts, kept ones and others, by their names; each table stands there with its schema."""
         query = sql(
             "SELECT json_build_array(c.relname, pg_get_viewdef(c.oid)) FROM pg_class AS c JOIN pg_namespace AS s ON s.oid = c.relnamespace"
             " WHERE s.nspname = {schema} AND c.relkind IN ({kinds}) ORDER BY c.relname", schema=text(schema), kinds=joined([text("v"), text("m")]),
         )  # fmt: skip
-        return dict(self.rows(query)[0])
+        nowhere = sql("SET search_path = pg_catalog{end}", end=END_OF_STATEMENT)
+        return dict(self.rows(query, before=[nowhere])[0])
 
     def columns_query(self, of):
-        """Each column by its base type: an enumeration's is told as such."""
+        """Each column by its base type: an enumeration's is told as such, unless a domain hides whether its values are renamed."""
         return sql(
             "WITH RECURSIVE b (relation, place, type, modifier, nothing) AS (SELECT a.attrelid, a.attnum, a.atttypid, a.atttypmod,"
             " NOT a.attnotnull FROM pg_attribute AS a WHERE a.attnum > 0 AND NOT a.attisdropped AND a.attrelid IN (SELECT c.oid FROM {of})"
             " UNION ALL SELECT b.relation, b.place, t.typbasetype, CASE WHEN b.modifier = -1 THEN t.typtypmod ELSE b.modifier END,"
             " b.nothing AND NOT t.typnotnull FROM b JOIN pg_type AS t ON t.oid = b.type AND t.typtype = {domain})"
-            " SELECT json_build_array(c.relname, c.relkind = {parted}, a.attname, format_type(a.atttypid, a.atttypmod),"
-            " CASE WHEN t.typtype = {of_enum} THEN {enum} WHEN n.nspname <> {own} THEN {other} ELSE t.typname END, b.modifier, b.nothing,"
+            " SELECT json_build_array(c.relname, (SELECT min(i.inhparent::regclass::text) FROM pg_inherits AS i WHERE i.inhrelid = c.oid), a.attname, format_type(a.atttypid, a.atttypmod),"
+            " CASE WHEN t.typtype = {of_enum} AND t.oid = a.atttypid THEN {enum} WHEN n.nspname <> {own} THEN {other} ELSE t.typname END, b.modifier, b.nothing,"
             " EXISTS (SELECT 1 FROM pg_collation AS l WHERE l.oid = a.attcollation AND NOT l.collisdeterministic))"
             " FROM b JOIN pg_type AS t ON t.oid = b.type JOIN pg_namespace AS n ON n.oid = t.typnamespace"
             " JOIN pg_attribute AS a ON a.attrelid = b.relation AND a.attnum = b.place JOIN pg_class AS c ON c.oid = b.relation"
             " WHERE t.typtype <> {domain} ORDER BY c.relname, a.attnum",
-            of=of, parted=text("p"), domain=text("d"), of_enum=text("e"), enum=text("enum"), own=text("pg_catalog"), other=text(""),
+            of=of, domain=text("d"), of_enum=text("e"), enum=text("enum"), own=text("pg_catalog"), other=text(""),
         )  # fmt: skip
 
     def keys_query(self, of):
@@ -140,9 +142,9 @@ class SQLiteAsked:
         return {said: self.table(said) for said in own}
 
     def views(self, _):
-        """The views of the file with their texts, by their names; what they call their columns stands in the text."""
+        """The views of the file, each with the statement that makes it, by their names."""
         made = self.rows(sql("SELECT s.name, s.sql FROM sqlite_master AS s WHERE s.type = {view} ORDER BY s.rowid", view=text("view")))[0]
-        return {said: AS.split(text_of, 1)[-1] for said, text_of in made}
+        return dict(made)
 
     def table(self, said):
         columns, indexes = self.rows(
@@ -153,12 +155,15 @@ class SQLiteAsked:
         )  # fmt: skip
         primary = [column for column, _, _, place in sorted(columns, key=lambda column: column[3]) if place]
         is_rowid = len(primary) == 1 and next(kind for column, kind, *_ in columns if column == primary[0]).upper() == "INTEGER"
-        folded = self.folded(said, [column for column, *_ in columns])
+        try:
+            folded = self.folded(said, [column for column, *_ in columns])
+        except (sqlite3.Error, Unfit) as fault:
+            return Table(said, [], [], f"its columns cannot be compared: {fault}")
         told = [self.told(*column[:3], is_rowid and column[0] == primary[0], column[0] in folded) for column in columns]
         filled = {each.name for each in told if not each.may_be_null}
         keys = [primary] if primary and filled.issuperset(primary) else []
         keys += [key for key in map(self.indexed, [index for index, _, partial in indexes if not partial]) if key and filled.issuperset(key)]
-        return Table(said, told, keys)
+        return Table(said, told, keys, "it is WITHOUT ROWID" if self.is_without_rowid(said) else None)
 
     def indexed(self, index):
         """The columns of an index, or none where it is over more than columns."""
@@ -177,8 +182,6 @@ class SQLiteAsked:
                 ((collation,),) = copy.execute("SELECT coll FROM pragma_index_xinfo('by column') WHERE key = 1").fetchall()
                 found |= {column} if collation != "BINARY" else set()
                 copy.execute('DROP INDEX "by column"')
-        except sqlite3.Error as fault:
-            raise Unfit(f"{table} cannot be captured: {fault}") from fault
         finally:
             copy.close()
         return found

@@ -4,7 +4,7 @@ import re
 from typing import NamedTuple
 
 TOKEN = re.compile(
-    r"(?P<blank>\s+|--[^\n]*|/\*.*?\*/)|(?P<name>\"(?:[^\"]|\"\")+\"|`[^`]+`)|(?P<text>[Ee]?'(?:[^']|'')*')|(?P<number>\d+(?:\.\d+)?)"
+    r"(?P<blank>\s+|--[^\n]*|/\*.*?\*/)|(?P<name>\"(?:[^\"]|\"\")+\"|`[^`]+`)|(?P<text>[Ee]?'(?:[^']|'')*')|(?P<number>\d+(?:\.\d+)?(?![\w.]))"
     r"|(?P<word>[^\W\d]\w*)|(?P<mark>::|<>|!=|<=|>=|==|\|\||.)",
     re.DOTALL,
 )
@@ -17,7 +17,7 @@ CLAUSES = {
     "WITH": "it has WITH", "CASE": "it has CASE", "OVER": "it has a window", "FILTER": "it has FILTER", "WINDOW": "it has a window",
     "EXISTS": "it has EXISTS", "LIKE": "it has LIKE", "ILIKE": "it has ILIKE", "VALUES": "it has VALUES", "FETCH": "it has FETCH",
 }  # fmt: skip
-RESERVED = {"SELECT", "FROM", "WHERE", "GROUP", "BY", "JOIN", "INNER", "CROSS", "ON", "USING", "AND", "OR", "NOT", "AS", "IN", "IS", "BETWEEN", "ANY", *CLAUSES}
+RESERVED = {"SELECT", "FROM", "WHERE", "GROUP", "BY", "JOIN", "INNER", "CROSS", "ON", "USING", "AND", "OR", "NOT", "AS", "IN", "IS", "BETWEEN", "ANY", "ALL", "NULL", *CLAUSES}
 
 
 class NotTaken(Exception):
@@ -25,8 +25,8 @@ class NotTaken(Exception):
 
 
 class Select(NamedTuple):
-    """What is shown, each with its name; the tables, each with the name that it has there; pairs of columns that are equal; a condition, or
-    None; and the groups, or None where there are none."""
+    """What is shown, each with its name; the tables, each with its schema or None and the name that it has there; what joins them; a condition,
+    or None; and the groups, or None where there are none."""
 
     shown: list
     tables: list
@@ -91,6 +91,22 @@ class Parser:
 
     # ---- the statement
 
+    def heading(self):
+        """What a statement that makes a view calls its columns, if it does, and what it makes is gone through."""
+        if not self.took("CREATE"):
+            return None
+        self.want("VIEW")
+        self.took("IF", "NOT", "EXISTS")
+        self.name()
+        while self.took("."):
+            self.name()
+        names = None
+        if self.took("("):
+            names = self.listed(self.name)
+            self.want(")")
+        self.want("AS")
+        return names
+
     def select(self):
         self.want("SELECT")
         shown = self.listed(self.output)
@@ -127,7 +143,8 @@ class Parser:
                 pass
             elif self.took("USING"):
                 self.want("(")
-                self.equal += [(name, [alias for _, alias in found], [alias for _, alias in more]) for name in self.listed(self.name)]
+                sides = [[alias for *_, alias in side] for side in (found, more)]
+                self.equal += [("using", name, *sides) for name in self.listed(self.name)]
                 self.want(")")
             else:
                 self.want("ON")
@@ -143,14 +160,14 @@ class Parser:
             found = self.joined()
             self.want(")")
             return found
-        name = self.name()
+        schema, name = None, self.name()
         while self.took("."):
-            name = self.name()
+            schema, name = name, self.name()
         if self.said == "(":
             raise NotTaken(f"it is over the function {name}")
         kind, said = self.tokens[self.at]
         named = self.took("AS") or kind == "name" or kind == "word" and said.upper() not in RESERVED
-        return [(name, self.name() if named else name)]
+        return [(schema, name, self.name() if named else name)]
 
     # ---- conditions
 
@@ -170,23 +187,34 @@ class Parser:
         return ("not", self.negated()) if self.took("NOT") else self.compared()
 
     def compared(self):
-        """A comparison, or a condition in brackets, which is told from an expression in brackets by what follows."""
-        start = self.at
+        """A comparison, or a condition in brackets, which is told from an expression in brackets by what follows. Where it is neither, the
+        reason is that of the reading which went further."""
+        start, reached, reason = self.at, -1, None
         if self.took("("):
             try:
                 found = self.condition()
                 self.want(")")
                 if self.said not in (*COMPARED, "+", "-", "*", "::", "IS", "IN", "BETWEEN", "NOT"):
                     return found
-            except NotTaken:
-                pass
+            except NotTaken as why:
+                reached, reason = self.at, why
             self.at = start
+        try:
+            return self.compared_with()
+        except NotTaken:
+            if self.at < reached:
+                raise reason from None
+            raise
+
+    def compared_with(self):
         left = self.expression()
         if self.said in COMPARED:
             sign = COMPARED[self.said]
             self.at += 1
             if self.took("ANY"):
                 return self.one_of(left, self.array()) if sign == "=" else self.refuse("it compares with an array")
+            if self.took("ALL"):
+                return ("not", self.one_of(left, self.array())) if sign == "<>" else self.refuse("it compares with an array")
             return ("compared", sign, left, self.expression())
         return self.tested(left)
 
@@ -208,7 +236,7 @@ class Parser:
         elif is_not or left[0] != "column":
             raise NotTaken(CLAUSES.get(self.said) or f"{self.tokens[self.at][1]!r} stands where a comparison is read")
         else:
-            found = ("compared", "=", left, ("number", 1, 0))
+            found = ("compared", "<>", left, ("number", 0, 0))
         return ("not", found) if is_not else found
 
     def one_of(self, left, members):
@@ -251,15 +279,15 @@ class Parser:
         return found
 
     def casts(self, found):
-        """An expression with the types that it is cast to."""
+        """An expression with the types that it is cast to, none of which may cut or round."""
         while self.took("::"):
-            said = self.name().lower()
+            kind, said = self.tokens[self.at][0], self.name()
+            said = f'"{said}"' if kind == "name" else said.lower()
             while self.said in ("VARYING", "PRECISION", "WITH", "WITHOUT", "TIME", "ZONE"):
                 said += f" {self.said.lower()}"
                 self.at += 1
-            if self.took("("):
-                self.listed(self.expression)
-                self.want(")")
+            if self.said in ("(", "."):
+                raise NotTaken(f"it casts to {said}, with more that is said of that type")
             while self.took("["):
                 self.want("]")
             found = ("cast", said, found)
@@ -314,5 +342,11 @@ class Parser:
 
 
 def parsed(text):
-    """The SELECT of a view's text."""
-    return Parser(text).select()
+    """The SELECT of a view's text, or of the statement that makes it."""
+    parser = Parser(text)
+    names, found = parser.heading(), parser.select()
+    if names is None:
+        return found
+    if len(names) != len(found.shown):
+        raise NotTaken("it calls its columns otherwise than it shows them")
+    return found._replace(shown=[(value, said) for (value, _), said in zip(found.shown, names)])

@@ -50,6 +50,8 @@ HOLES = (
      "%s has no triggers"),
     ("SELECT format({told}, p.view, format({why}, p.name)) FROM {noted} AS p JOIN sources AS w ON w.view = p.view"
      " WHERE NOT EXISTS (SELECT 1 FROM below AS b WHERE b.view = p.view AND b.relation = p.part)", "%s is no part of it any more"),
+    ("SELECT format({told}, w.view, format({why}, i.inhparent::regclass)) FROM sources AS w JOIN {state} AS c ON c.view = w.view JOIN pg_inherits AS i"
+     " ON i.inhrelid = c.source", "it inherits from %s, through which its rows may change unnoticed"),
     ("SELECT format({told}, k.view, format({why}, k.name)) FROM {columns} AS k JOIN sources AS w ON w.view = k.view JOIN {state} AS c ON c.view = k.view"
      " LEFT JOIN pg_attribute AS a ON a.attrelid = c.source AND a.attname = k.name AND a.attnum > 0 AND NOT a.attisdropped"
      " WHERE NOT starts_with(" + TYPE + ", k.type)", "its column %s is of another type, or its values have other names, or it was made anew"),
@@ -379,7 +381,7 @@ class Captures:
             "SELECT k.xmin FROM pg_class AS k WHERE k.oid = ANY (own) ORDER BY k.oid",
             "SELECT a.xmin FROM pg_attribute AS a WHERE a.attrelid = ANY {both} AND a.attnum > 0 ORDER BY a.attrelid, a.attnum",
             "SELECT t.xmin FROM pg_trigger AS t WHERE t.tgrelid = ANY {both} ORDER BY t.oid",
-            "SELECT i.xmin FROM pg_inherits AS i WHERE i.inhparent = ANY {both} ORDER BY i.inhparent, i.inhrelid",
+            "SELECT i.xmin FROM pg_inherits AS i WHERE i.inhparent = ANY {both} OR i.inhrelid = ANY {both} ORDER BY i.inhparent, i.inhrelid",
             "SELECT e.xmin FROM pg_enum AS e JOIN pg_attribute AS a ON a.atttypid = e.enumtypid WHERE a.attrelid = ANY (captured) ORDER BY e.oid",
         )  # fmt: skip
         return sql("concat_ws({comma}, current_user, {parts})", comma=text(","), parts=joined([sql("ARRAY(" + part + ")", both=both) for part in parts]))

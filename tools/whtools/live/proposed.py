@@ -8,18 +8,23 @@ from typing import NamedTuple
 from whtools.live.parsed import NotTaken, parsed
 from whtools.live.sources import turned_by
 from whtools.live.turned import NULL, Unturned, literal_apart
+from whtools.sql.dialect import LEAST, MOST
 
 NAME = re.compile(r"[A-Za-z_][A-Za-z0-9_]{0,63}")
 MOST_COLUMNS, MOST_VIEWS, MOST_CHILDREN = 64, 64, 6
 OPPOSITE = {"=": "<>", "<>": "=", "<": ">=", ">=": "<", ">": "<=", "<=": ">"}
 TURNED_ROUND = {"=": "=", "<>": "<>", "<": ">", ">": "<", "<=": ">=", ">=": "<="}
-WHOLE, TEXT, DAY, MOMENT = "number", "text", "day", "moment"
+WHOLE, TEXT, DAY, MOMENT, ZONED = "number", "text", "day", "moment", "moment with a zone"
+MOMENTS = (MOMENT, ZONED)
 CASTS = {
     **dict.fromkeys(("smallint", "integer", "bigint", "int", "int2", "int4", "int8", "numeric", "decimal"), WHOLE),
-    **dict.fromkeys(("text", "character varying", "varchar", "character", "bpchar", "char", "uuid"), TEXT),
+    **dict.fromkeys(("text", "character varying", "varchar", "bpchar", "uuid"), TEXT),
     "date": DAY,
-    **dict.fromkeys(("timestamp", "timestamptz", "timestamp with time zone", "timestamp without time zone"), MOMENT),
+    **dict.fromkeys(("timestamp", "timestamp without time zone"), MOMENT),
+    **dict.fromkeys(("timestamptz", "timestamp with time zone"), ZONED),
 }  # fmt: skip
+# What no column is taken for that is cast to it: texts that are equal by it are not so to the byte.
+OF_LITERALS = ("bpchar", "uuid")
 
 
 class Column(NamedTuple):
@@ -49,7 +54,7 @@ def holds(told):
     """What a column of the application's holds, once it is turned."""
     said = told.type.lower()
     if "timestamp" in said or "datetime" in said:
-        return MOMENT
+        return ZONED if said == "timestamptz" else MOMENT
     return DAY if said == "date" else None
 
 
@@ -66,7 +71,8 @@ def seconds(said):
 
 
 # How a day or a moment is written where its text is compared as its time is.
-FORMS = {DAY: re.compile(r"\d{4}-\d\d-\d\d"), MOMENT: re.compile(r"\d{4}-\d\d-\d\d \d\d:\d\d:\d\d([+-]\d\d(:\d\d)?)?")}
+TIME = r"\d{4}-\d\d-\d\d \d\d:\d\d:\d\d"
+FORMS = {DAY: re.compile(r"\d{4}-\d\d-\d\d"), MOMENT: re.compile(TIME), ZONED: re.compile(TIME + r"[+-]\d\d(:\d\d)?")}
 
 
 def literal(said, wanted):
@@ -76,8 +82,8 @@ def literal(said, wanted):
             raise NotTaken(f"it compares with {said!r}, which is not written as a {wanted}")
         if wanted == DAY:
             return Value(days(said), DAY)
-        if wanted == MOMENT:
-            return Value(seconds(said), MOMENT)
+        if wanted in MOMENTS:
+            return Value(seconds(said), wanted)
         whole, _, places = said.strip().partition(".")
         return Value(int(whole + places), WHOLE, len(places))
     except ValueError as fault:
@@ -92,6 +98,13 @@ def scaled(value, places):
     return value.formula * unit if isinstance(value.formula, int) else ["*", value.formula, unit]
 
 
+def is_wide(value):
+    """Whether a formula has a number that leaves 64 bits."""
+    if isinstance(value, (list, tuple)):
+        return any(map(is_wide, value))
+    return isinstance(value, int) and not LEAST <= value <= MOST
+
+
 def toml(value):
     """A value as TOML writes it."""
     if isinstance(value, dict):
@@ -104,10 +117,12 @@ def toml(value):
 class Reader:
     """Reads one view's SELECT over views that are taken already."""
 
-    def __init__(self, select, known):
+    def __init__(self, select, known, schema=None):
         self.select, self.known = select, known
         self.children = {}
-        for name, alias in select.tables:
+        for other, name, alias in select.tables:
+            if other not in (None, schema):
+                raise NotTaken(f"it is over {other}.{name}, which stands in another schema than {schema}")
             if name not in known:
                 raise NotTaken(f"it is over {name}, which is not taken")
             if name in self.children.values():
@@ -136,7 +151,7 @@ class Reader:
 
     def merged(self):
         """The columns that USING made one of."""
-        return {each[0] for each in self.select.equal if each[0] not in ("compared", "all", "any", "not", "null")}
+        return {each[1] for each in self.select.equal if each[0] == "using"}
 
     def value(self, given):
         match given:
@@ -154,9 +169,12 @@ class Reader:
 
     def cast(self, to, value):
         wanted = CASTS.get(to)
-        if isinstance(value.formula, dict) and wanted in (DAY, MOMENT, WHOLE):
+        if isinstance(value.formula, dict) and wanted in (DAY, *MOMENTS, WHOLE):
             return literal(value.formula["text"], wanted)
-        if wanted is None or wanted != value.holds or (to not in ("numeric", "decimal") and value.holds == WHOLE and value.places):
+        if isinstance(value.formula, dict) and to == "bpchar":
+            return Value({"text": value.formula["text"].rstrip(" ")}, TEXT)
+        is_cut = to not in ("numeric", "decimal") and value.holds == WHOLE and value.places
+        if wanted is None or wanted != value.holds or is_cut or (to in OF_LITERALS and not isinstance(value.formula, dict)):
             raise NotTaken(f"it casts to {to}")
         return value
 
@@ -217,7 +235,7 @@ class Reader:
     def compared(self, sign, left, right):
         if left.holds == TEXT and sign not in ("=", "<>"):
             raise NotTaken(f"it compares texts by {sign}")
-        if left.holds == MOMENT:
+        if left.holds in MOMENTS:
             first = isinstance(left.formula, int)
             if left.is_reference == right.is_reference or (TURNED_ROUND[sign] if first else sign) not in (">=", "<"):
                 raise NotTaken("it compares moments otherwise than by >= and < with a whole second, and whole seconds are kept")
@@ -230,7 +248,7 @@ class Reader:
         """All that has to hold: what the joins say, and the condition."""
         found = []
         for each in self.select.equal:
-            found += [each] if each[0] in ("compared", "all", "any", "not", "null") else self.used(*each)
+            found += self.used(*each[1:]) if each[0] == "using" else [each]
         waiting = [*found, *([self.select.where] if self.select.where else [])]
         found = []
         while waiting:
@@ -266,7 +284,7 @@ class Reader:
             return False
         left, right = self.value(left), self.value(right)
         pair = [left.formula, right.formula]
-        if len({reference.partition(".")[0] for reference in pair}) < 2 or (left.holds, left.places) != (right.holds, right.places) or left.holds == MOMENT:
+        if len({reference.partition(".")[0] for reference in pair}) < 2 or (left.holds, left.places) != (right.holds, right.places) or left.holds in MOMENTS:
             return False
         self.join.append(pair)
         nulls = left.nulls | right.nulls
@@ -319,6 +337,10 @@ class Reader:
             columns.append(Column(said, value.holds, value.places, bool(value.nulls - self.filled)))
         if extra := [said for value, said in shown if value.formula not in [each.formula for each in asked]]:
             raise NotTaken(f"its column {extra[0]} is neither a group nor a count or a sum")
+        if twice := [said for _, said in shown if said not in {column.name for column in columns}]:
+            raise NotTaken(f"its column {twice[0]} is a group that it has already: leave one out")
+        if not asked:
+            notes.append("where it is over no rows it has none, and not one with 0")
         counts, sums = self.aggregates()
         count = next((said for said in counts if said), None) or self.free(columns, sums)
         if not counts:
@@ -338,7 +360,7 @@ class Reader:
         value = self.value(given)
         if not value.is_reference:
             raise NotTaken("it groups by an expression: make a view that keeps it, and group that")
-        if value.holds == MOMENT:
+        if value.holds in MOMENTS:
             raise NotTaken(f"it groups by the moment {value.formula}, of which whole seconds are kept")
         return value
 
@@ -365,8 +387,8 @@ class Reader:
 class Proposed:
     """The catalogue of a database: the views that are taken, in their order, and what is not taken, each with the reason."""
 
-    def __init__(self, engine, tables, views):
-        self.known, self.lines, self.left = {}, [], []
+    def __init__(self, engine, tables, views, schema=None):
+        self.known, self.lines, self.left, self.schema = {}, [], [], schema
         for table in tables.values():
             self.attempt(table.name, lambda table=table: self.add_table(engine, table))
         waiting = dict(views)
@@ -379,8 +401,8 @@ class Proposed:
     def over(self, text):
         """The tables that a view is over, as far as it is read."""
         try:
-            return {name for name, _ in parsed(text).tables}
-        except NotTaken:
+            return {name for _, name, _ in parsed(text).tables}
+        except (NotTaken, RecursionError):
             return set()
 
     def attempt(self, name, add):
@@ -390,10 +412,13 @@ class Proposed:
             if len(self.known) == MOST_VIEWS:
                 raise NotTaken(f"a catalogue has {MOST_VIEWS} views at most")
             add()
-        except NotTaken as why:
-            self.left.append(f"{name} is not taken: {why}")
+        except (NotTaken, RecursionError) as why:
+            reason = why if isinstance(why, NotTaken) else "its expressions lie too deep within each other"
+            self.left.append(f"{name} is not taken: {reason}")
 
     def add_table(self, engine, table):
+        if table.unfit:
+            raise NotTaken(table.unfit)
         told = {each.name: each for each in table.columns}
         columns, without = [], []
         for said, found in turned_by(engine, table).items():
@@ -414,18 +439,24 @@ class Proposed:
         listed = toml([f"{column.name}:text" if column.kind == "text" else column.name for column in columns])
         nulls = [column.name for column in columns if column.may_be_null]
         more = [f"nulls = {toml(nulls)}"] if nulls else []
-        sure = {column.name for column in columns if not column.may_be_null and column.holds != MOMENT}
+        sure = {column.name for column in columns if not column.may_be_null and column.holds not in MOMENTS}
         keys = [key for key in table.keys if sure.issuperset(key) and len(key) < len(columns)]
         more += [f"key = {toml(keys[0])}"] if keys else []
         self.lines += ["[[view]]", f"name = {toml(table.name)}", f"columns = {listed}", *more, ""]
 
     def add_view(self, name, text):
-        found, columns, notes = Reader(parsed(text), self.known).table(name)
+        found, columns, notes = Reader(parsed(text), self.known, self.schema).table(name)
         if len(columns) > MOST_COLUMNS:
             raise NotTaken(f"it has more than {MOST_COLUMNS} columns")
+        if any(map(is_wide, found.values())):
+            raise NotTaken("it has a number that leaves 64 bits")
         self.known[name] = columns
         self.lines += [*(f"# {note}" for note in notes), "[[view]]", *(f"{key} = {toml(value)}" for key, value in found.items()), ""]
 
     def text(self):
         """The catalogue, with what is not taken above it."""
-        return "".join(f"{line}\n" for line in [*(f"# {each}" for each in self.left), *([""] if self.left else []), *self.lines])
+        return "".join(f"{line}\n" for line in [*(f"# {each}" for each in self.told()), *([""] if self.left else []), *self.lines])
+
+    def told(self):
+        """What is not taken, each in one line: a name in it may have any letters."""
+        return ["".join(letter if letter.isprintable() else repr(letter)[1:-1] for letter in each) for each in self.left]

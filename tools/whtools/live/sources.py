@@ -9,14 +9,12 @@ TURNS = {"postgresql": turned.of_postgresql, "sqlite": turned.of_sqlite}
 
 
 class Source(NamedTuple):
-    """A table of the application: its schema and name, its columns as they are turned, in the view's order, what of them is a key, and whether
-    it is in parts."""
+    """A table of the application: its schema and name, its columns as they are turned, in the view's order, and what of them is a key."""
 
     schema: str
     table: str
     columns: list
     key: list
-    is_parted: bool
 
     @property
     def said(self):
@@ -39,6 +37,8 @@ def turned_by(engine, table):
 
 def source(engine, view, schema, table, wanted=()):
     """The table that a base view mirrors, where its columns are turned as the view has them and a key is one that is wanted."""
+    if table.unfit:
+        raise Unfit(f"{view.name} cannot be captured: {table.unfit}")
     turned_columns, columns = turned_by(engine, table), []
     for said, kind in view.columns:
         found = turned_columns.get(said)
@@ -55,7 +55,7 @@ def source(engine, view, schema, table, wanted=()):
     keys = [key for key in table.keys if apart.issuperset(key)]
     if wanted and not any(set(key) <= set(wanted) for key in keys):
         raise Unfit(f"{view.name}: the catalogue has the key {', '.join(wanted)}, and the table {table.name} has no unique key of these columns")
-    return Source(schema, table.name, columns, keys[0] if keys else [], table.is_parted)
+    return Source(schema, table.name, columns, keys[0] if keys else [])
 
 
 def sources(script, asked, schema):

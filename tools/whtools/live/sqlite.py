@@ -66,8 +66,6 @@ class Captures:
         if taken and state not in there:
             raise Unfit(f"there is a table {taken[0]} already, which is none of --capture's: name another word by --schema")
         for v, source in sources.items():
-            if database.is_without_rowid(source.table):
-                raise Unfit(f"{self.script.views[v].name} cannot be captured: its table is WITHOUT ROWID")
             for column in source.columns:
                 self.judge_column(v, source, column, database)
         return there

@@ -219,7 +219,7 @@ class SwiftScript(SwiftGroups, Opening, LiveScript):
         if self.shape.is_summary(v):
             return self.group_change(v, lambda: self.summed_rows(v, term))
         cells = self.cells(v, "r")
-        rows = lambda: self.added_up(v, sql("({term}) AS r", term=self.term(v, term)), cells, word("r.n"))  # noqa: E731
+        rows = lambda: self.added_up(v, sql("({term}) AS r", term=self.term(v, term)), cells, sql("r.n"))  # noqa: E731
         made = self.put(lambda: self.counted(v, self.placed_rows(v, rows()), self.judging(v)))
         return [self.made(v, "net", self.net_columns(v)), made, *self.analyzed(v)]
 

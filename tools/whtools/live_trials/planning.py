@@ -2,12 +2,14 @@
 
 from collections import Counter
 
+from whtools.catalogue import views_of
 from whtools.databases.nights import written
 from whtools.live.command import DIALECTS
 from whtools.live.database import ASKED
-from whtools.live.proposed import DAY, MOMENT, TEXT, Proposed
+from whtools.live.proposed import DAY, MOMENT, TEXT, ZONED, Proposed
 from whtools.live.turned import NULL
 from whtools.sql.tokens import Unfit
+from whtools.warehouses import Warehouse
 
 # Views of the application, each with the word of the reason for which it is not taken, or none where it is.
 VIEWS = {
@@ -21,6 +23,11 @@ VIEWS = {
     "whole": ("SELECT count(*) AS many, sum(p.price * 2 + 1) AS doubled FROM products AS p WHERE p.price > 2.5", ""),
     "regions": ("SELECT o.region, count(o.region) AS many FROM orders AS o WHERE o.region IS NOT NULL GROUP BY o.region", ""),
     "late": ("SELECT o.id FROM orders AS o WHERE o.at >= '2026-01-01 00:00:05'", ""),
+    "signs": ("SELECT l.id, l.pieces * -1 AS minus, - l.pieces + 2 AS rest FROM lines AS l WHERE l.pieces NOT IN (2, 3)", ""),
+    "over_one": ("SELECT f.product FROM few AS f", ""),
+    "twice_grouped": ("SELECT o.region AS a, o.region AS b, count(*) AS n FROM orders AS o GROUP BY o.region", "already"),
+    "beyond": ("SELECT o.id FROM orders AS o WHERE o.id < 99999999999999999999", "64 bits"),
+    "deep": (f"SELECT l.id, {' + '.join(['l.pieces'] * 700)} AS s FROM lines AS l", "too deep"),
     "outer_lines": ("SELECT o.id, l.pieces FROM orders AS o LEFT JOIN lines AS l ON l.id = o.id", "outer join"),
     "first": ("SELECT l.product, min(l.pieces) AS least FROM lines AS l GROUP BY l.product", "MIN"),
     "sums_nulls": ("SELECT p.product, sum(p.price) AS price FROM products AS p GROUP BY p.product", "may be NULL"),
@@ -32,8 +39,57 @@ VIEWS = {
     "moments_of": ("SELECT o.at, count(*) AS many FROM orders AS o GROUP BY o.at", "moment"),
     "large": ("SELECT l.product, count(*) AS many FROM lines AS l GROUP BY l.product HAVING count(*) > 1", "HAVING"),
 }  # fmt: skip
+# The same of one engine, and what is made for them.
+OWN = {
+    "postgresql": {
+        "blanks": ("SELECT c.code FROM codes AS c WHERE c.code = 'ab  '", ""),
+        "of_a_domain": ("SELECT c.many * 2 AS many FROM codes AS c", ""),
+        "hidden": ("SELECT c.shade FROM codes AS c", "cannot be had"),
+        "elsewhere": ("SELECT l.id FROM other.lines AS l", "another schema"),
+        "rounded": ("SELECT p.price::numeric(10,1) AS price FROM products AS p", "casts to numeric"),
+        "cut": ("SELECT o.region::varchar(3) AS region FROM orders AS o", "casts to character varying"),
+        "padded": ("SELECT l.id FROM lines AS l WHERE l.product::char(9) = 'product 1'", "casts to character"),
+        "without_zone": ("SELECT o.id FROM orders AS o WHERE o.at >= '2026-01-01 00:00:05'::timestamp", "moment"),
+        "heirs": ("SELECT h.id FROM heir AS h", "not taken"),
+    },
+    "sqlite": {
+        "named": ("(pieces, id) AS SELECT l.id, l.pieces FROM lines AS l", ""),
+        "over_named": ("SELECT n.pieces FROM named AS n WHERE n.id > 2", ""),
+        "true_ones": ("SELECT l.id FROM lines AS l WHERE l.pieces AND NOT l.pieces = 3", ""),
+        "hexadecimal": ("SELECT l.id, l.pieces + 0x10 FROM lines AS l", "stands where"),
+        "exponent": ("SELECT l.id, l.pieces + 1e3 FROM lines AS l", "stands where"),
+        "without_rows": ("SELECT c.a FROM codes AS c", "not taken"),
+        "nowhere": ("SELECT n.a FROM no_table AS n", "not taken"),
+    },
+}  # fmt: skip
+MADE = {
+    "postgresql": "CREATE SCHEMA other; CREATE TABLE other.lines (id int); CREATE TABLE heir () INHERITS (lines); CREATE TYPE colour AS ENUM ('red', 'blue');"
+                  " CREATE DOMAIN shade AS colour; CREATE DOMAIN many AS int CHECK (VALUE > 0);"
+                  " CREATE TABLE codes (code char(5) NOT NULL, many many NOT NULL, shade shade); INSERT INTO codes VALUES ('ab', 1, 'red'), ('ab c', 2, 'blue');"
+                  """ CREATE TABLE "a
+[[view]]
+name = 'b'" (id int);""",
+    "sqlite": """CREATE TABLE codes (a INT NOT NULL PRIMARY KEY) WITHOUT ROWID; CREATE TABLE "a
+[[view]]
+name = 'b'" (id INT);""",
+}  # fmt: skip
+UNMADE = {
+    "postgresql": """DROP SCHEMA other CASCADE; DROP TABLE heir, codes, "a
+[[view]]
+name = 'b'"; DROP DOMAIN shade, many; DROP TYPE colour;""",
+    "sqlite": """DROP TABLE codes; DROP TABLE "a
+[[view]]
+name = 'b'";""",
+}
+LATER = (
+    "UPDATE lines SET pieces = pieces + 1 WHERE id < 20; DELETE FROM orders WHERE id = 7; UPDATE products SET price = NULL WHERE product = 'product 3';"
+    " UPDATE orders SET region = NULL WHERE id = 2;",
+    "UPDATE orders SET region = 'region 1' WHERE id < 9; UPDATE products SET price = 3.25; INSERT INTO lines VALUES (3, 'product 3', 2);"
+    " UPDATE orders SET paid = NOT paid WHERE id > 30;",
+)  # fmt: skip
 OF_COLUMN = {
-    "postgresql": {DAY: "({c} - DATE '1970-01-01')", MOMENT: "floor(extract(epoch FROM {c}))::bigint", TEXT: "{c}::text", "number": "({c} * {unit})::bigint"},
+    "postgresql": {DAY: "({c} - DATE '1970-01-01')", MOMENT: "floor(extract(epoch FROM {c}))::bigint", TEXT: "{c}::text", "number": "({c} * {unit})::bigint",
+                   ZONED: "floor(extract(epoch FROM {c}))::bigint"},
     "sqlite": {DAY: "unixepoch({c}) / 86400", MOMENT: "unixepoch({c})", TEXT: "{c}", "number": "CAST(round({c} * {unit}) AS INTEGER)"},
 }
 
@@ -64,30 +120,43 @@ def catalogue_mistakes(live):
     """The catalogue of a database with views of many kinds: what is taken is the same as the view, and what is not has its reason."""
     live.fresh()
     live.database.run(live.words("--uncapture"))
-    live.database.make([f"CREATE VIEW {name} AS {text};" for name, (text, _) in VIEWS.items()])
+    views = {**VIEWS, **OWN[live.engine]}
+    made = [f"CREATE VIEW {name} {text if text.startswith('(') else 'AS ' + text};" for name, (text, _) in views.items()]
+    live.database.make([MADE[live.engine], *made])
     found, wrong = told(live, "--catalogue"), []
-    for name, (_, reason) in VIEWS.items():
+    for name, (_, reason) in views.items():
         lines = [line for line in found.told.splitlines() if f" {name} is not taken" in line]
         if bool(lines) != bool(reason) or (reason and reason not in lines[0]):
             wrong.append(f"of {name} is told {lines}, and not {reason!r}")
-    path = live.path / "of the database"
+    path = live.path / f"of the database of {live.engine}"
     path.mkdir(exist_ok=True)
     (path / "catalogue.toml").write_text(found.text)
     wrong += [] if wrong else same_views(live, path)
-    live.database.make([f"DROP VIEW {name};" for name in reversed(VIEWS)])
+    live.database.make([*(f"DROP VIEW {name};" for name in reversed(views)), UNMADE[live.engine]])
     return [f"a catalogue: {text}" for text in wrong]
 
 
 def same_views(live, path):
-    """What the views that were taken have otherwise than the application's, once they are filled."""
+    """What the views that were taken have otherwise than the application's, once they are filled, and after each of two nights."""
     for words in (["--capture"], ["--live", "--open"]):
         script = told(live, *words, path)
         if fault := live.database.run(script.text):
             return [fault]
     database = ASKED[live.engine](live.database.address, DIALECTS[live.engine]())
-    known = Proposed(live.engine, database.tables(database.own_schema), database.views(database.own_schema)).known
-    wrong = []
-    for name in (name for name, (_, reason) in VIEWS.items() if not reason):
+    known = Proposed(live.engine, database.tables(database.own_schema), database.views(database.own_schema), database.own_schema).known
+    wrong, views = unlike_views(live, known), Warehouse(views_of((path / "catalogue.toml").read_text()))
+    (path / "strategy.txt").write_bytes(views.listed(views.one_way()).partition(b"\n")[2])
+    for text in LATER:
+        live.database.asked(text)
+        fault = live.database.run(told(live, "--live", path).text)
+        wrong += [fault] if fault else unlike_views(live, known)
+    return wrong + [fault for fault in [live.database.run(told(live, "--uncapture", path).text)] if fault]
+
+
+def unlike_views(live, known):
+    """What the views that were taken have otherwise than the application's."""
+    wrong, views = [], {**VIEWS, **OWN[live.engine]}
+    for name in (name for name, (_, reason) in views.items() if not reason):
         there = [column for column in known[name] if not column.name.endswith("_sum") and column.name != "rows"]
         own = f"SELECT {', '.join(shown(live.engine, column) for column in there)} FROM {name}"
         has_counts = '"#"' if is_joined(live, name) else "1"
@@ -97,11 +166,12 @@ def same_views(live, path):
         for *row, count in rows:
             found[tuple(row)] += count
         wrong += [] if found == Counter(map(tuple, wanted)) else [f"{name} has {dict(found)}, and not {wanted}"[:500]]
-    return wrong + [fault for fault in [live.database.run(told(live, "--uncapture", path).text)] if fault]
+    return wrong
 
 
 def is_joined(live, name):
-    return "GROUP BY" not in VIEWS[name][0] and "count(" not in VIEWS[name][0]
+    text = {**VIEWS, **OWN[live.engine]}[name][0]
+    return "GROUP BY" not in text and "count(" not in text
 
 
 # ---- sizes and plans
