@@ -152,6 +152,12 @@ class Measures(unittest.TestCase):
         listed = [("comp sold from sales", None, 0.5), ("comp sold from shops", None, 0.0)]
         self.assertEqual([step.seconds for step in steps_of(script, listed, sizes)], [0.5])
 
+    def test_an_inst_that_its_comp_carried_out_is_no_measure(self):
+        catalogue = Catalogue(KEYED.format(""))
+        script = SimpleNamespace(catalogue=catalogue, steps=Steps(catalogue.views))
+        listed = [("comp by_region from sold", None, 0.5), ("inst sold", None, 0.25), ("inst by_region", None, 0.0)]
+        self.assertEqual([step.kind for step in steps_of(script, listed, [Past(9, 9, 2)] * 4)], ["comp", "inst"])
+
     def test_sizes_stay_sizes(self):
         self.assertEqual(within(5, -9, 3), (2, 3))
         self.assertEqual(within(2, -9, 9), (0, 9))

@@ -69,8 +69,9 @@ class History:
                    last=last, now=now)  # fmt: skip
 
     def opened(self, v, counted=None):
-        """The rows of a view that was just filled, where they were counted, or as they are."""
-        _, now = self.before(v)
+        """The rows of a view that was just filled, where they were counted, or as they are; of a mirror as they were told last."""
+        last, now = self.before(v)
+        now = now if self.script.views[v].over else sql("coalesce({last}, {now})", last=last, now=now)
         added = "INSERT INTO {target} (night, view, pre, post, change) SELECT {night}, {view}, g.many, g.many, 0 FROM (SELECT {now} AS many) AS g"
         return sql(added, target=self.target(SIZES), night=self.number(), view=text(self.script.views[v].name), now=counted or now)
 
@@ -135,6 +136,14 @@ class SwiftHistory(History):
         parts = [sql("ended AS ({night})", night=night), sql("sized AS ({sizes})", sizes=sizes), *steps]
         few = sql("touched < {many}", many=number(len(views)))
         return [sql("WITH {parts} SELECT count(*) FROM sized INTO touched", parts=joined(parts)), *self.dialect.only_where(few, [self.counted()])]
+
+    def filled(self, v):
+        """The rows of a mirror that a statement has just filled, each of which counts once: those of a night before the first."""
+        added = (
+            "INSERT INTO {target} (night, view, pre, post, change) VALUES (0, {view}, touched, touched, 0) ON CONFLICT (night, view) DO UPDATE SET"
+            " pre = excluded.pre, post = excluded.post"
+        )
+        return [sql("GET DIAGNOSTICS touched = ROW_COUNT"), sql(added, target=self.target(SIZES), view=text(self.script.views[v].name))]
 
     def counted(self):
         """The sizes of views that had none before."""

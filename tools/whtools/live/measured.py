@@ -47,8 +47,8 @@ class Counted:
 
 
 def steps_of(script, listed, sizes):
-    """The steps of a night from its history, with their true rows, without Comps of what did not change, which read nothing; none where it has
-    views that the catalogue has not."""
+    """The steps of a night from its history, with their true rows, without Comps of what did not change, which read nothing, and Insts that
+    their Comps carried out; none where it has views that the catalogue has not."""
     counted, found = Counted(sizes), []
     for told, _, seconds in listed:
         words = told.split(" ")
@@ -58,6 +58,9 @@ def steps_of(script, listed, sizes):
         if any(name not in script.catalogue.names for name in names):
             return []
         view, *sources = (script.catalogue.names[name] for name in names)
+        if words[0] == "inst" and not float(seconds):
+            counted.installed.add(view)
+            continue
         if sources and not any(sizes[source].change for source in sources):
             continue
         terms = script.steps.terms(view, tuple(sources)) if words[0] == "comp" else ()

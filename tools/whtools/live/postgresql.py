@@ -329,7 +329,8 @@ class Captures:
         insert = "INSERT INTO {mirror} ({columns}) SELECT {shown}, {count} FROM {source} AS r {grouped}"
         count = sql("1") if source.key else sql("count(*)")
         grouping = sql("") if source.key else sql("GROUP BY {cells}", cells=joined(grouped))
-        return [sql(insert, mirror=self.script.table(v), columns=columns, shown=source.shown, count=count, source=source.said, grouped=grouping)]
+        filled = sql(insert, mirror=self.script.table(v), columns=columns, shown=source.shown, count=count, source=source.said, grouped=grouping)
+        return [filled, *(self.script.history.filled(v) if source.key else [])]
 
     def difference(self, v, source):
         cells = joined(self.script.cells(v))

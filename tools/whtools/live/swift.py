@@ -52,7 +52,7 @@ class SwiftScript(SwiftGroups, Opening, LiveScript):
         numbers += [word("made", v) for v in self.steps.derived() if not self.is_direct(v)]
         whole = [sql("{said} pg_catalog.int8", said=said) for said in [*numbers, word("lost")]]
         refusals = [sql("{told} pg_catalog.text", told=self.counter("told", v)) for v in range(len(self.views))]
-        arrays = ["moments pg_catalog.timestamptz[]", "own pg_catalog.oid[]", "captured pg_catalog.oid[]"]
+        arrays = ["moments pg_catalog.timestamptz[]", "own pg_catalog.oid[]", "captured pg_catalog.oid[]", "places pg_catalog.tid[]"]
         return [*PostgreSQL.variables, *whole, *refusals, *map(sql, arrays)]
 
     @cached_property
@@ -236,7 +236,7 @@ class SwiftScript(SwiftGroups, Opening, LiveScript):
         return sql("{query} INTO {into}", query=self.once(query), into=self.into(v, judging))
 
     def into(self, v, judging):
-        return joined([word("lost") if kind == "lost" else self.counter(kind, v) for kind in judging])
+        return joined([word(kind) if kind in ("lost", "places") else self.counter(kind, v) for kind in judging])
 
     def computed_term(self, v, term):
         """A term in numbers of 64 bits; where one leaves them, exactly, with the words for what does."""

@@ -66,7 +66,8 @@ class SwiftGroups:
             table, found = [], lambda: self.groups_at_once(v, added())
             sure = lambda: self.unless_large([found()], [told])  # noqa: E731
         lost = [self.refused_where(sql("lost > 0"), self.told_range(v))] if self.shape.checked(v) else []
-        return [*table, self.in_64_bits(found, [sure()]) if self.is_direct(v) else sure(), *lost, *self.group_rows(v)]
+        gone = self.gone_at_once(v) if self.is_last(v) else []
+        return [*table, self.in_64_bits(found, [sure()]) if self.is_direct(v) else sure(), *lost, *gone, *self.group_rows(v)]
 
     def beside_columns(self, v):
         own = [sql("{sum} numeric", sum=each) for each in self.placed_columns(v)[self.shape.groups(v) : -1]]
@@ -79,13 +80,20 @@ class SwiftGroups:
                    placed=self.groups_placed(v, added), told=joined([*self.summed_columns(v, "a"), *self.lost_column(v), word("place")]))  # fmt: skip
 
     def groups_at_once(self, v, added):
-        """One statement for a change and its Inst: it counts what was put, too."""
+        """One statement for a change and its Inst: it counts what was put, too, and gives the places of groups that leave, as hardly any does."""
         put = sql("put ({columns}) AS ({placed})", columns=joined(self.placed_columns(v)), placed=self.groups_placed(v, added))
-        done = [sql("{kind} AS ({made} RETURNING 1)", kind=word(kind), made=made) for kind, made in zip(("gone", "stay", "come"), self.groups_put(v))]
+        _, *done = self.groups_put(v)
+        done = [sql("{kind} AS ({made} RETURNING 1)", kind=word(kind), made=made) for kind, made in zip(("stay", "come"), done)]
         judging = self.judging_groups(v)
-        torn = joined([sql("(SELECT count(*) FROM {kind}) <> {many}", kind=word(kind), many=judging[kind]) for kind in ("gone", "stay", "come")], "OR")
+        torn = joined([sql("(SELECT count(*) FROM {kind}) <> {many}", kind=word(kind), many=judging[kind]) for kind in ("stay", "come")], "OR")
         judging["told"] = self.first_told([*self.refused_groups(v), (torn, self.told_torn(v))])
+        judging["places"] = sql("array_agg(d.place) FILTER (WHERE d.a1 = 0 AND {placed})", placed=PLACED)
         return self.counted_with(v, sql("WITH {parts}", parts=joined([put, *done])), judging)
+
+    def gone_at_once(self, v):
+        """Groups that leave."""
+        many, gone = self.counter("gone", v), sql("DELETE FROM {table} AS t WHERE t.ctid = ANY (places)", table=self.table(v))
+        return self.then(sql("{many} > 0", many=many), self.touching(v, "gone", [gone]))
 
     def judging_groups(self, v):
         """What is counted of the groups d that change, and what is told where they are refused."""
