@@ -373,7 +373,7 @@ class Captures:
 
     def sources(self):
         """The tables that are captured, with their parts and heirs."""
-        return sql("ARRAY(SELECT p.part FROM {noted} AS p)", noted=self.parts)
+        return sql("ARRAY(SELECT p.part FROM {noted} AS p ORDER BY p.part)", noted=self.parts)
 
     def print(self):
         """What tells whether all of these are as they were, for this role: their columns, whatever may act on their rows, parts, and values of
@@ -385,7 +385,7 @@ class Captures:
             "SELECT i.xmin FROM pg_inherits AS i WHERE i.inhparent = ANY {both} OR i.inhrelid = ANY {both} ORDER BY i.inhparent, i.inhrelid",
             "SELECT e.xmin FROM pg_enum AS e JOIN pg_attribute AS a ON a.atttypid = e.enumtypid WHERE a.attrelid = ANY (captured) ORDER BY e.oid",
         )  # fmt: skip
-        return sql("concat_ws({comma}, current_user, {parts})", comma=text(","), parts=joined([sql("ARRAY(" + part + ")", both=both) for part in parts]))
+        return sql("concat_ws({comma}, current_user, captured, {parts})", comma=text(","), parts=joined([sql("ARRAY(" + part + ")", both=both) for part in parts]))
 
     def looked_at(self):
         """The tables whose print is taken."""
@@ -396,7 +396,6 @@ class Captures:
 
     def judged(self):
         """A refusal of triggers on the night's tables that may change what it writes, since it does not look again."""
-        judged = self.script.own(JUDGED)
         names = joined([text(self.script.said(v)) for v in range(len(self.script.views))])
         acting = sql(
             "SELECT format({told}, k.relname, t.tgname) FROM pg_trigger AS t JOIN pg_class AS k ON k.oid = t.tgrelid"
@@ -405,14 +404,12 @@ class Captures:
             told=text("table %s does not fit: the trigger %s may change what a night writes; use one that is fired AFTER and writes elsewhere"),
             schema=self.written(name(self.dialect.schema)), names=names,
         )  # fmt: skip
-        return [
-            *self.dialect.refuse_with(acting),
-            sql("DELETE FROM {judged}", judged=judged),
-        ]
+        return self.dialect.refuse_with(acting)
 
     def noted_as_judged(self):
-        """All passed."""
-        return sql("INSERT INTO {judged} VALUES ({print})", judged=self.script.own(JUDGED), print=self.print())
+        """All passed, as it is now."""
+        judged = self.script.own(JUDGED)
+        return [sql("DELETE FROM {judged}", judged=judged), sql("INSERT INTO {judged} VALUES ({print})", judged=judged, print=self.print())]
 
     def whole(self):
         """A refusal of a source that is not captured as it was."""

@@ -367,7 +367,7 @@ class SwiftScript(SwiftGroups, Opening, LiveScript):
         """The tables are judged where they are not as they were when they last passed: nothing else than the night makes use of them."""
         tables = [self.table(v) for v in range(len(self.views))]
         checks = self.dialect.block([*self.checked.statements(tables), *self.captures.judged()])
-        judged = [*self.captures.looked_at(), *self.then(self.captures.is_changed(), [self.once(checks), *self.captures.whole(), self.captures.noted_as_judged()])]
+        judged = [*self.captures.looked_at(), *self.then(self.captures.is_changed(), [self.once(checks), *self.captures.whole(), *self.captures.noted_as_judged()])]
         made = before + self.carried(steps, comment) + after
         kept = KEPT if any(word("collapsed").tokens[0] in each.tokens for each in made) else []
         self.dialect.variables = self.variables()
