@@ -122,15 +122,15 @@ class SwiftHistory(History):
         return [self.moment(0)]
 
     def ended(self, told, works):
-        """The night, its steps, and the sizes of all views, each from its last ones; a view that has none yet is counted."""
+        """The night, its steps, and the sizes of all views, each from those of the last night; a view that was not in it is counted."""
         views = self.script.views
         rows = [sql("({view}, coalesce(more{at}, 0), coalesce(moved{at}, 0))".replace("{at}", str(v)), view=self.dialect.text(view.name)) for v, view in enumerate(views)]
         night = sql("INSERT INTO {target} (night, began, ended) SELECT coalesce(max(b.night), 0) + 1, moments[0], {moment} FROM {target} AS b RETURNING night",
                     target=self.target(NIGHTS), moment=self.dialect.moment)  # fmt: skip
         sizes = sql(
-            "INSERT INTO {target} (night, view, pre, post, change) SELECT (SELECT b.night FROM ended AS b), l.view, p.post, p.post + l.more, l.moved"
-            " FROM (VALUES {rows}) AS l (view, more, moved) CROSS JOIN LATERAL (SELECT s.post FROM {target} AS s WHERE s.view = l.view"
-            " ORDER BY s.night DESC LIMIT 1) AS p RETURNING 1", target=self.target(SIZES), rows=joined(rows),
+            "INSERT INTO {target} (night, view, pre, post, change) SELECT (SELECT b.night FROM ended AS b), l.view, s.post, s.post + l.more, l.moved"
+            " FROM (VALUES {rows}) AS l (view, more, moved) JOIN {target} AS s ON s.view = l.view AND s.night = (SELECT max(b.night) FROM {target} AS b)"
+            " RETURNING 1", target=self.target(SIZES), rows=joined(rows),
         )  # fmt: skip
         steps = [sql("stepped AS ({steps})", steps=self.steps(told, works, sql("(SELECT b.night FROM ended AS b)")))] if told else []
         parts = [sql("ended AS ({night})", night=night), sql("sized AS ({sizes})", sizes=sizes), *steps]

@@ -21,7 +21,7 @@ from whtools.sql.tokens import END_OF_STATEMENT, body, joined, name, number, sql
 # How many rows of a view's change there are, that leave, that stay otherwise and that come; by how many its table grows, and how many change.
 COUNTERS = ("rows", "gone", "stay", "come", "more", "moved")
 # Rows are looked up by places and keys; by PostgreSQL's own reckoning of disks that turn it would rather go through whole tables.
-LOOK_UPS = sql("PERFORM set_config({key}, {value}, TRUE)", key=text("random_page_cost"), value=text("1.1"))
+LOOK_UPS = sql("SET LOCAL random_page_cost = {cost}", cost=text("1.1"))
 # Of so many rows on, places are gone to one by one: each has to be gone to in any case, and PostgreSQL would rather read the whole table.
 LARGE = 500
 
@@ -52,6 +52,7 @@ class SwiftScript(SwiftGroups, Opening, LiveScript):
         numbers += [word("made", v) for v in self.steps.derived() if not self.is_direct(v)]
         whole = [sql("{said} pg_catalog.int8", said=said) for said in [*numbers, word("lost")]]
         refusals = [sql("{told} pg_catalog.text", told=self.counter("told", v)) for v in range(len(self.views))]
+        refusals += [sql("{there} pg_catalog.bool", there=self.counter("there", v)) for v in self.steps.base()]
         arrays = ["moments pg_catalog.timestamptz[]", "own pg_catalog.oid[]", "captured pg_catalog.oid[]", "places pg_catalog.tid[]"]
         return [*PostgreSQL.variables, *whole, *refusals, *map(sql, arrays)]
 
@@ -93,7 +94,7 @@ class SwiftScript(SwiftGroups, Opening, LiveScript):
     def worth(self, step):
         """A test of whether a step has anything to do."""
         if step.kind == "net":
-            return sql("EXISTS (SELECT 1 FROM {changes} AS d)", changes=self.table(step.view, "~changes"))
+            return self.counter("there", step.view)
         if step.kind == "comp":
             return joined([sql("{rows} > 0", rows=self.counter("rows", u)) for u in step.sources], "OR")
         if step.kind == "finish":
@@ -360,8 +361,10 @@ class SwiftScript(SwiftGroups, Opening, LiveScript):
     # ---- what was judged once
 
     def looked_at(self):
-        """Whether tables are captured as they were is judged with all else that is judged once."""
-        return []
+        """Which base views have changes, asked at once; whether tables are captured as they were is judged with all else that is judged once."""
+        base = self.steps.base()
+        tests = [sql("EXISTS (SELECT 1 FROM {changes} AS d)", changes=self.table(v, "~changes")) for v in base]
+        return [sql("SELECT {tests} INTO {there}", tests=joined(tests), there=joined([self.counter("there", v) for v in base]))]
 
     def whole(self, before, steps, after, comment):
         """The tables are judged where they are not as they were when they last passed: nothing else than the night makes use of them."""
