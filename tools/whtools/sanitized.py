@@ -1,5 +1,7 @@
 """The program without its proofs, compiled so that its addresses or its threads are looked at while it runs."""
 
+import re
+
 from whtools.unproved import object_of, ran
 
 # What newer compilers call and an older one's library does not have: it looks at these calls by their own names.
@@ -10,6 +12,49 @@ void *__tsan_memmove(void *to, const void *from, size_t size) { return memmove(t
 void *__tsan_memset(void *to, int byte, size_t size) { return memset(to, byte, size); }
 """
 LIBRARIES = ["-rdynamic", "-lm", "-ldl", "-lpthread", "-lrt"]
+# Each form of an atomic access, the call that stands in its place, and what is called: valgrind is told what comes before and after.
+ACCESSES = [
+    (r"= load atomic i64, ptr (%\w+) seq_cst, align 8", r"= call i64 @watched_load(ptr \1)"),
+    (r"store atomic i64 (%?\w+), ptr (%\w+) seq_cst, align 8", r"call void @watched_store(ptr \2, i64 \1)"),
+    (r"= atomicrmw (add|sub|xchg) ptr (%\w+), i64 (%?\w+) seq_cst, align 8", r"= call i64 @watched_\1(ptr \2, i64 \3)"),
+    (r"= cmpxchg ptr (%\w+), i64 (%?\w+), i64 (%?\w+) seq_cst seq_cst, align 8", r"= call { i64, i1 } @watched_cas(ptr \1, i64 \2, i64 \3)"),
+]
+WATCHED = """
+declare void @told_before(ptr)
+declare void @told_after(ptr)
+define internal i64 @watched_load(ptr %p) noinline {
+  %r = load atomic i64, ptr %p seq_cst, align 8
+  call void @told_after(ptr %p)
+  ret i64 %r
+}
+define internal void @watched_store(ptr %p, i64 %v) noinline {
+  call void @told_before(ptr %p)
+  store atomic i64 %v, ptr %p seq_cst, align 8
+  ret void
+}
+define internal { i64, i1 } @watched_cas(ptr %p, i64 %a, i64 %b) noinline {
+  call void @told_before(ptr %p)
+  %r = cmpxchg ptr %p, i64 %a, i64 %b seq_cst seq_cst, align 8
+  call void @told_after(ptr %p)
+  ret { i64, i1 } %r
+}
+"""
+CHANGED = """
+define internal i64 @watched_{way}(ptr %p, i64 %v) noinline {{
+  call void @told_before(ptr %p)
+  %r = atomicrmw {way} ptr %p, i64 %v seq_cst, align 8
+  call void @told_after(ptr %p)
+  ret i64 %r
+}}
+"""
+TOLD = """\
+#include <valgrind/{tool}.h>
+void told_before(void *place) {{ ANNOTATE_HAPPENS_BEFORE(place); }}
+void told_after(void *place) {{ ANNOTATE_HAPPENS_AFTER(place); }}
+"""
+# No complaint is of an access that is atomic itself.
+PASSED_OVER = "{{\n  atomic\n  {}\n  fun:watched_*\n}}\n"
+TOOLS = {"helgrind": "Helgrind:Race", "drd": "drd:ConflictingAccess"}
 
 
 def parts(kit):
@@ -27,19 +72,42 @@ def for_addresses(kit, room):
 
 def for_threads(kit, room, ordered=True):
     """Builds the program whose threads are looked at; where it is not ordered, its atomic accesses order nothing else."""
-    taken = (room / "module.bc").read_bytes()
-    if not ordered:
-        (room / "module.bc").write_bytes(without_order(kit, room))
-    module = object_of(kit, room, "-O1", "-fsanitize=thread", kept=b" sanitize_thread")
-    (room / "module.bc").write_bytes(taken)
+    changed = None if ordered else text_of(kit, room).replace(" seq_cst", " monotonic")
+    module = object_of_changed(kit, room, changed, "-fsanitize=thread", kept=b" sanitize_thread")
     (room / "copies.c").write_text(COPIES)
     ran(["cc", "-c", "-O0", "-fno-builtin", room / "copies.c", "-o", room / "copies.o"])
     ran(["clang", "-fsanitize=thread", "-o", room / "threads", module, room / "copies.o", *parts(kit)])
     return room / "threads"
 
 
-def without_order(kit, room):
-    """What was taken, as text in which atomic accesses order nothing else."""
-    words = ["-S", "-emit-llvm", "-O0", "-Xclang", "-disable-llvm-passes", "-x", "ir", room / "module.bc", "-o", room / "unordered.ll"]
+def for_valgrind(kit, room):
+    """Builds a program for each of valgrind's tools for threads, which tells it what its atomic accesses order: the words to run it by."""
+    text = text_of(kit, room)
+    for form, call in ACCESSES:
+        text = re.sub(form, call, text)
+    text += WATCHED + "".join(CHANGED.format(way=way) for way in ("add", "sub", "xchg"))
+    module, words = object_of_changed(kit, room, text), {}
+    for tool, complaint in TOOLS.items():
+        source, passed_over = room / f"{tool}.c", room / f"{tool}.supp"
+        source.write_text(TOLD.format(tool=tool))
+        passed_over.write_text(PASSED_OVER.format(complaint))
+        ran(["cc", "-O1", "-o", room / tool, source, module, *parts(kit), *LIBRARIES])
+        words[tool] = ["valgrind", "-q", f"--tool={tool}", f"--suppressions={passed_over}", room / tool]
+    return words
+
+
+def text_of(kit, room):
+    """What was taken, as text."""
+    words = ["-S", "-emit-llvm", "-O0", "-Xclang", "-disable-llvm-passes", "-x", "ir", room / "module.bc", "-o", room / "taken.ll"]
     ran([kit / "toolchain/bin/clang", *words])
-    return (room / "unordered.ll").read_bytes().replace(b" seq_cst", b" monotonic")
+    return (room / "taken.ll").read_text()
+
+
+def object_of_changed(kit, room, text, *more, kept=b""):
+    """Compiles this text in place of what was taken, where there is one."""
+    taken = (room / "module.bc").read_bytes()
+    if text is not None:
+        (room / "module.bc").write_text(text)
+    module = object_of(kit, room, "-O1", *more, kept=kept)
+    (room / "module.bc").write_bytes(taken)
+    return module
