@@ -1,4 +1,5 @@
-"""Tests of what judges findings of the fuzzer, of how bundles are changed, and of what refuses calls and tells the most memory."""
+"""Tests of what judges findings of the fuzzer, of how bundles are changed, of what refuses calls and tells the most memory, and of how
+valgrind is told of atomic accesses."""
 
 import random
 import shutil
@@ -12,6 +13,8 @@ from whtools.fuzzed import mutator
 from whtools.fuzzed.targets import TARGETS, asked_in
 from whtools.mutated import changed
 from whtools.program import ROOT
+from whtools.sanitized import watched
+from whtools.unproved import NotBuilt
 
 NIGHT = next(example for example in examples() if example.name == "night_two_tables")
 
@@ -60,6 +63,22 @@ class Changed(unittest.TestCase):
             for most in (1, 100, 10000):
                 found = mutator.fuzz(bytearray(given), None, most)
                 self.assertTrue(0 < len(found) <= most)
+
+
+class Watched(unittest.TestCase):
+    def test_a_call_stands_in_the_place_of_each_atomic_access(self):
+        for access, call in (
+            ("%r1 = load atomic i64, ptr %a0 seq_cst, align 8", "%r1 = call i64 @watched_load(ptr %a0)"),
+            ("store atomic i64 7, ptr %a0 seq_cst, align 8", "call void @watched_store(ptr %a0, i64 7)"),
+            ("%r1 = atomicrmw sub ptr %a0, i64 %a1 seq_cst, align 8", "%r1 = call i64 @watched_sub(ptr %a0, i64 %a1)"),
+            ("%r1 = cmpxchg ptr %a0, i64 0, i64 %a2 seq_cst seq_cst, align 8", "%r1 = call { i64, i1 } @watched_cas(ptr %a0, i64 0, i64 %a2)"),
+        ):
+            self.assertEqual(watched(f"  {access}\n").splitlines()[0], f"  {call}")
+
+    def test_an_access_of_another_form_is_refused(self):
+        for access in ("%r1 = load atomic i32, ptr %a0 seq_cst, align 4", "fence seq_cst", "%r1 = atomicrmw or ptr %a0, i64 1 seq_cst, align 8"):
+            with self.subTest(access=access), self.assertRaises(NotBuilt):
+                watched(f"  {access}\n")
 
 
 @unittest.skipUnless(shutil.which("cc"), "there is no C compiler")

@@ -2,7 +2,7 @@
 
 import re
 
-from whtools.unproved import object_of, ran
+from whtools.unproved import NotBuilt, object_of, ran
 
 # What newer compilers call and an older one's library does not have: it looks at these calls by their own names.
 COPIES = """\
@@ -19,6 +19,7 @@ ACCESSES = [
     (r"= atomicrmw (add|sub|xchg) ptr (%\w+), i64 (%?\w+) seq_cst, align 8", r"= call i64 @watched_\1(ptr \2, i64 \3)"),
     (r"= cmpxchg ptr (%\w+), i64 (%?\w+), i64 (%?\w+) seq_cst seq_cst, align 8", r"= call { i64, i1 } @watched_cas(ptr \1, i64 \2, i64 \3)"),
 ]
+ATOMIC = re.compile(r"^ +(?:%\w+ = )?(?:load atomic|store atomic|atomicrmw|cmpxchg|fence) .*", re.MULTILINE)
 WATCHED = """
 declare void @told_before(ptr)
 declare void @told_after(ptr)
@@ -82,11 +83,7 @@ def for_threads(kit, room, ordered=True):
 
 def for_valgrind(kit, room):
     """Builds a program for each of valgrind's tools for threads, which tells it what its atomic accesses order: the words to run it by."""
-    text = text_of(kit, room)
-    for form, call in ACCESSES:
-        text = re.sub(form, call, text)
-    text += WATCHED + "".join(CHANGED.format(way=way) for way in ("add", "sub", "xchg"))
-    module, words = object_of_changed(kit, room, text), {}
+    module, words = object_of_changed(kit, room, watched(text_of(kit, room))), {}
     for tool, complaint in TOOLS.items():
         source, passed_over = room / f"{tool}.c", room / f"{tool}.supp"
         source.write_text(TOLD.format(tool=tool))
@@ -94,6 +91,15 @@ def for_valgrind(kit, room):
         ran(["cc", "-O1", "-o", room / tool, source, module, *parts(kit), *LIBRARIES])
         words[tool] = ["valgrind", "-q", f"--tool={tool}", f"--suppressions={passed_over}", room / tool]
     return words
+
+
+def watched(text):
+    """The text where a call stands in the place of each atomic access."""
+    for form, call in ACCESSES:
+        text = re.sub(form, call, text)
+    if left := ATOMIC.search(text):
+        raise NotBuilt(f"an atomic access of a form that this tool does not know: {left[0]}")
+    return text + WATCHED + "".join(CHANGED.format(way=way) for way in ("add", "sub", "xchg"))
 
 
 def text_of(kit, room):
