@@ -7,9 +7,10 @@ import subprocess
 import tempfile
 import unittest
 from pathlib import Path
+from unittest.mock import patch
 
 from whtools.examples import examples
-from whtools.fuzzed import mutator
+from whtools.fuzzed import mutator, targets
 from whtools.fuzzed.targets import TARGETS, asked_in
 from whtools.mutated import changed
 from whtools.program import ROOT
@@ -45,6 +46,11 @@ class Judged(unittest.TestCase):
         for text, status, more in ((own[:-3], 0, ""), (own, 1, ""), (own, 0, "echo trap >&2"), (b"", 0, "kill -SEGV $$"), (b"fault what\n", 3, "")):
             with self.subTest(text=text, status=status):
                 self.assertIsNotNone(TARGETS["night"].mistake(self.program(text, status, more), NIGHT.bundle))
+
+    def test_a_run_that_works_for_too_long_is_noticed(self):
+        with patch.object(targets, "SECONDS", 1):
+            said = TARGETS["night"].mistake(self.program(b"", 0, "exec sh -c 'while :; do :; done'"), NIGHT.bundle)
+        self.assertEqual(said, "no answer in 1 seconds of a processor")
 
     def test_the_command_of_a_first_line(self):
         for line, command in ((b"night --workers 2\n@", "night"), (b"  plan\n", "plan"), (b"", ""), (b"\n", "")):

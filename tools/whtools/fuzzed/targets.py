@@ -1,6 +1,8 @@
 """What is fuzzed: the words of the program, what it begins with, and how a finding is judged."""
 
 import re
+import resource
+import signal
 import subprocess
 from dataclasses import dataclass
 
@@ -10,10 +12,17 @@ from whtools.examples import examples
 from whtools.program import ROOT
 
 KEPT = ROOT / "tools/tests/fuzzed"
-MOST_BYTES, SECONDS = 16384, 10
+MOST_BYTES = 16384
+# How long a processor may work at an answer, and how long it may take where other work has the processors.
+SECONDS, PATIENCE = 10, 600
 # A search by the usual budget takes longer than a run that seems to hang.
 BUDGET = ["--budget", "2000"]
 SEATS = ["--workers", "2", "--readers", "2", "--page-keys", "3"]
+
+
+def limited():
+    """Before a run begins: a processor may work at it for so long."""
+    resource.setrlimit(resource.RLIMIT_CPU, (SECONDS, SECONDS + 1))
 
 
 @dataclass(frozen=True)
@@ -39,9 +48,11 @@ class Target:
     def mistake(self, started, given):
         """What is wrong with the program's answer to a bundle, or None."""
         try:
-            ran = subprocess.run([started, *self.words], input=given, capture_output=True, timeout=SECONDS)
+            ran = subprocess.run([started, *self.words], input=given, capture_output=True, timeout=PATIENCE, preexec_fn=limited)
         except subprocess.TimeoutExpired:
-            return f"no answer in {SECONDS} seconds"
+            return f"no answer in {PATIENCE} seconds"
+        if ran.returncode == -signal.SIGXCPU:
+            return f"no answer in {SECONDS} seconds of a processor"
         command = self.words[0] if self.words else asked_in(given)
         text, status = ran.stdout, ran.returncode
         if status == 2 and not self.words and not ran.stderr:
