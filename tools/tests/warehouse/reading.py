@@ -57,7 +57,7 @@ class Reads(Kept):
     def test_the_commands_of_the_docs(self):
         self.night()
         page = (TOOLS.parent / "docs/WAREHOUSE.md").read_text()
-        commands = re.findall(r"`tools/warehouse (read shop [^`]*|init shop [^`]*)`", page)
+        commands = re.findall(r"`(?:tools/warehouse )?(read shop [^`]*|init shop [^`]*)`", page)
         self.assertEqual([command.split()[0] for command in commands], ["read", "init"])
         ran = subprocess.run([TOOLS / "warehouse", *commands[0].split()], cwd=self.folder.parent, capture_output=True, text=True, check=True)
         self.assertEqual(len(ran.stdout.splitlines()), 5)
