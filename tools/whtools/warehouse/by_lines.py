@@ -95,7 +95,7 @@ def own_form(content, start, header, is_counted):
         return header + written(added(body[1:].split(b"\n")))
     if len(set(lines)) < len(lines):
         return header + written(Counter(lines))
-    return header + body[1:] + b"\n" if is_counted else b"".join([header, b"1,", b"\n1,".join(lines), b"\n"])
+    return b"".join([header, memoryview(body)[1:], b"\n"] if is_counted else [header, b"1,", b"\n1,".join(lines), b"\n"])
 
 
 def added(lines):
