@@ -1,4 +1,4 @@
-"""What docs/WAREHOUSE.md says of SQL, limits, statuses and backups, tried as it is written."""
+"""What docs/WAREHOUSE.md says of SQL, limits and backups, tried as it is written, and the statuses of docs/OPERATING.md."""
 
 import re
 import shutil
@@ -73,8 +73,9 @@ class Limits(unittest.TestCase):
         options = {option: most for what, most in list(told.items())[12:] for option in re.findall("`(--[a-z-]+)`", what)}
         self.assertEqual(options, {option: [most] for option, (_, most) in command.RANGES.items()})
 
-    def test_each_status_stands_there_with_what_to_do(self):
-        told = re.findall(r"^\| ([0-9, ]+) \| [^|]+ \| [^|]+ \|$", PAGE, re.MULTILINE)
+    def test_each_status_stands_in_the_page_on_refusals_with_what_to_do(self):
+        page = (TOOLS.parent / "docs/OPERATING.md").read_text()
+        told = re.findall(r"^\| ([0-9, ]+) \| [^|]+ \| [^|]+ \| [^|]+ \|$", page, re.MULTILINE)
         wanted = [status.DONE, status.REFUSED, status.BAD_WORDS, status.BAD_INPUT, status.SPENT, status.NOT_WRITTEN, status.AT_WORK]
         self.assertEqual(told, [*map(str, [*wanted, status.NO_ANSWER]), "129, 130, 143"])
 

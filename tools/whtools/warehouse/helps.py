@@ -36,4 +36,4 @@ def help_of(command):
     lines = [f"tools/warehouse {command} {WORDS.get(command, 'FOLDER')}{' [OPTIONS]' if options else ''}", ""]
     lines += [(import_module(f"whtools.warehouse.{command}").__doc__ or "").strip()]
     lines += ["", *(f"    {option:20} {text}" for option, text in options)] if options else []
-    return "\n".join([*lines, "", "Statuses and recipes are in docs/WAREHOUSE.md."])
+    return "\n".join([*lines, "", "Statuses are in docs/OPERATING.md, recipes in docs/WAREHOUSE.md."])
