@@ -38,6 +38,10 @@ There are 14 examples, twenty-one bundles, 31 edits in `must-fail/` and 35 edits
 ## Two ways on
 
 See [the second](#two-ways-on-1).
+
+```text
+longest chain, in thousands of lines of source, specs and proofs: low 3; together 3
+```
 """
 PAGE = """# `low`: rows
 
@@ -65,6 +69,7 @@ FILES = {
     "docs/PLANTED.md": "[Back](WAYS.md).\n",
     "crates/low/README.md": PAGE,
     "crates/low/src/lib.rt": LIB,
+    "crates/low/src/long.rt": "\n" * 3000,
     "crates/low/specs/Kept.antt": "-- gone_definition\nIsKept : Set\n",
     "crates/low/proofs/put_row/Answers.antt": "lemma_of_proofs = refl\n",
     "crates.txt": "# rows\nlow:\n\n# high\n" + "".join(f"high{n}:\n" for n in range(11)),
@@ -108,8 +113,11 @@ SPOILT = [
     ("docs/WAYS.md", "11 calls", "1,011 calls", "says '1,011 calls', where 11 are counted"),
     ("docs/WAYS.md", "`kept` and `rows`", "`kept` and `low`", "docs/WAYS.md:6: put_row: no clause is named low"),
     ("docs/WAYS.md", "`kept`; of `low` `rows`", "`kept`, `low`", "docs/WAYS.md:10: put_row: no clause is named low"),
+    ("docs/WAYS.md", "low 3", "low 4", "docs/WAYS.md:18: says 4 thousand lines of low, where 3,0"),
+    ("docs/WAYS.md", "together 3", "together 2", "docs/WAYS.md:18: says 2 thousand lines of all, where 3,0"),
     ("docs/WAYS.md", "66 cases", "67 cases", "docs/WAYS.md:6: says '67 cases', where 66 are counted"),
-    ("docs/PLANTED.md", "[Back]", "x" * 12 * 1024 + " [Back]", "docs/PLANTED.md:1: it has 12,306 bytes, and may have 12,288"),
+    ("docs/PLANTED.md", "[Back]", "x" * 5 * 1024 + " [Back]", "docs/PLANTED.md:1: it has 5,138 bytes, and may have 5,120"),
+    ("docs/WAYS.md", "[Back]", "x" * 220_000 + " [Back]", "README.md:1: it and docs/ have 221,"),
     ("crates/low/README.md", "It has rows.", "It has rows." * 100, "crates/low/README.md:1: its part by hand has 1,"),
     ("docs/WAYS.md", "the planned ones", "the wide forms", "docs/WAYS.md:6: says 'wide forms': of forms"),
     ("docs/WAYS.md", "the planned ones", "to be given later", "says 'to be given later': of what was to come"),

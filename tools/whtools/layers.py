@@ -34,9 +34,9 @@ def reduced(used):
     return {crate: [each for each in direct if not any(each in under[other] for other in direct)] for crate, direct in used.items()}
 
 
-def lines_of(crate):
+def lines_of(crate, root=ROOT):
     """How many lines of source, specs and proofs a crate has."""
-    folders = (ROOT / "crates" / crate / kind for kind in ("src", "specs", "proofs"))
+    folders = (root / "crates" / crate / kind for kind in ("src", "specs", "proofs"))
     files = (path for folder in folders for kind in ("rt", "antt") for path in folder.rglob(f"*.{kind}"))
     return sum(path.read_bytes().count(b"\n") for path in files)
 

@@ -4,6 +4,7 @@ import ast
 import re
 from collections import defaultdict
 
+from whtools.layers import lines_of
 from whtools.papers.paper import Judged, line_of
 from whtools.sources import uses
 
@@ -20,6 +21,8 @@ SAID = re.compile(
 )
 MADE = re.compile(r"^(\d+) (call|law)s?(?: and (\d+) laws?)?: ", re.MULTILINE)
 CRATE = re.compile(r"\b(?:wh|test)_\w+|\bwhview(?:_main)?\b")
+# How a map tells the lines of crates, in thousands.
+LINES = re.compile(r"^longest chain, in thousands of lines\b[^:\n]*: (?P<crates>.*); together (?P<all>\d+)$", re.MULTILINE)
 # What one tool tries, as papers tell it on a line that names this tool: the word, the tool, and the file and the name of the list.
 OF_A_TOOL = {
     "cases": ("try_live", "tools/whtools/live_trials/cases.py", "OF"),
@@ -118,3 +121,15 @@ def judged_counts(papers, counted):
             if right is not None:
                 told = " or ".join(f"{each:,}" for each in sorted(right - {0}))
                 yield Judged(paper.name, line, "" if number in right else f"says {found[0]!r}, where {told} are counted")
+
+
+def judged_lines(papers, root):
+    """The thousands of lines of crates that a map tells: within a tenth of those that they have, and half a thousand for rounding."""
+    for paper in papers.values():
+        for found in LINES.finditer(paper.by_hand):
+            told = {crate: int(thousands) for crate, thousands in re.findall(r"(\w+) (\d+)", found["crates"])}
+            has = {crate: lines_of(crate, root) for crate in told}
+            for what, thousands, lines in (*((crate, told[crate], has[crate]) for crate in told), ("all", int(found["all"]), sum(has.values()))):
+                fault = f"says {thousands} thousand lines of {what}, where {lines:,} are counted"
+                near = abs(1000 * thousands - lines) <= lines / 10 + 500
+                yield Judged(paper.name, line_of(paper.by_hand, found.start()), "" if near else fault)

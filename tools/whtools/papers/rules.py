@@ -17,13 +17,16 @@ MOST = {
     "docs/FORMATS.md": 29,
     "docs/OPERATING.md": 6,
     "docs/PERFORMANCE.md": 12,
-    "docs/PLANTED.md": 12,
+    "docs/PLANTED.md": 5,
     "docs/PROMISES.md": 20,
-    "docs/SQL.md": 10,
-    "docs/TESTING.md": 12,
-    "docs/WAREHOUSE.md": 10,
+    "docs/SQL.md": 8.5,
+    "docs/TESTING.md": 10,
+    "docs/WAREHOUSE.md": 8,
 }
 MOST_OF_A_HEAD = 1.2
+# The most bytes of all that a reader has before him: the papers at the top and in docs/.
+MOST_TOGETHER = 220_000
+TOGETHER = re.compile(r"(?:README|CONTRIBUTING|CHANGELOG)\.md|docs/\w+\.md")
 # What was said of things before they were there, and what stands outside of the repository.
 FORBIDDEN = [
     (r"\bwide forms?\b", "of forms that there are no more"),
@@ -44,6 +47,12 @@ def judged_sizes(papers):
         if most:
             size, what = len(paper.by_hand.encode()), "its part by hand" if head else "it"
             yield Judged(name, 1, "" if size <= most * KB else f"{what} has {size:,} bytes, and may have {int(most * KB):,}")
+
+
+def judged_together(papers):
+    """The papers at the top and in docs/ as one."""
+    size = sum(len(paper.text.encode()) for name, paper in papers.items() if TOGETHER.fullmatch(name))
+    yield Judged("README.md", 1, "" if size <= MOST_TOGETHER else f"it and docs/ have {size:,} bytes together, and may have {MOST_TOGETHER:,}")
 
 
 def judged_words(papers):
