@@ -37,6 +37,26 @@ def told(over):
     return f"the shape is {' and '.join(kinds)}: no plan needs a search"
 
 
+def why(over, names):
+    """Lines that say of what kind a shape is, in words of its views: what makes it a tree or uniform, or which views keep it from that."""
+    lines = []
+    if is_tree(over):
+        lines.append("a tree: no view is under two others")
+    else:
+        u = next(u for u in range(len(over)) if sum(u in each for each in over) > 1)
+        lines.append(f"no tree: {names[u]} is under {', '.join(names[v] for v, each in enumerate(over) if u in each)}")
+    level = levels(over)
+    if is_uniform(over):
+        lines.append("uniform: each view is over views of the level just below its own; base views are level 0")
+    else:
+        v = next(v for v, each in enumerate(over) if any(level[u] != level[v] - 1 for u in each))
+        of = ", ".join(f"{names[u]} of level {level[u]}" for u in over[v])
+        lines.append(f"not uniform: {names[v]} is over {of}; base views are level 0, and each other one is a level above its highest")
+    if not is_tree(over) and not is_uniform(over):
+        lines.append("that is no fault, and nothing has to be mended: the plan of least work is looked for longer")
+    return lines
+
+
 # ---- what is drawn
 
 

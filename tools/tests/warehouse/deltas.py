@@ -22,7 +22,7 @@ CHANGES = HEAD + b"changes sales\n" + SALES + b"changes daily_by_product\n#,day,
 class Deltas(Shop):
     def setUp(self):
         super().setUp()
-        self.assertEqual(self.ran("night", "--commit"), (0, []))
+        self.assertEqual(self.ran("night", "--commit", "--always"), (0, []))
         self.answers_with(CHANGES)
 
     def answers_with(self, changes):
@@ -41,7 +41,7 @@ class Deltas(Shop):
 
     def test_views_are_merged_and_what_changed_is_kept(self):
         before = {name: self.view(name).read_bytes() for name in ("sales", "daily_by_region")}
-        self.assertEqual(self.ran("night", "--commit"), (0, []))
+        self.assertEqual(self.ran("night", "--commit", "--always"), (0, []))
         self.assertEqual(self.words(), ["night --print changes"])
         self.assertEqual(self.view("sales").read_bytes(), before["sales"].replace(b"jam,1,475", b"jam,2,950"))
         region = before["daily_by_region"].replace(b"Monday,north,3,1375", b"Monday,north,3,1850").replace(b"1,Tuesday,south,1,1200\n", b"")
@@ -59,14 +59,14 @@ class Deltas(Shop):
 
     def test_tables_are_asked_for_where_a_view_has_not_the_rows_that_leave(self):
         self.answers_with(CHANGES.replace(b"jam,1,475", b"jam,1,476"))
-        self.assertEqual(self.ran("night", "--commit"), (0, []))
+        self.assertEqual(self.ran("night", "--commit", "--always"), (0, []))
         self.assertEqual(self.words(), ["night --print changes", "night"])
         self.assertIn(self.view("sales").read_bytes(), ANSWER.read_bytes())
         self.assertFalse((self.folder / "current/deltas").exists())
 
     def test_tables_are_asked_for_with_another_catalogue_and_where_a_view_is_missing(self):
         self.edit("catalogue.toml", "# A small shop", "# A shop")
-        self.assertEqual(self.ran("night", "--commit"), (0, []))
+        self.assertEqual(self.ran("night", "--commit", "--always"), (0, []))
         Path(self.view("sales")).unlink()
-        self.assertEqual(self.ran("night", "--commit"), (0, []))
+        self.assertEqual(self.ran("night", "--commit", "--always"), (0, []))
         self.assertEqual(self.words(), ["night", "night"])

@@ -25,8 +25,8 @@ class Kept(Shop):
     """A shop with its nights."""
 
     def night(self, *words):
-        """A night that is kept, which is done."""
-        status, told = self.ran("night", "--commit", *words)
+        """A night that is kept, which is done, also where nothing changed."""
+        status, told = self.ran("night", "--commit", "--always", *words)
         self.assertEqual(status, 0, told)
         return told
 

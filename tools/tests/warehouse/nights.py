@@ -11,6 +11,7 @@ from .shop import ANSWER, SHOP, SIZES, TOOLS, Shop, contents
 
 
 PRODUCTS = b'#,product,price\n1,bread,300\n1,"tea, black",800\n1,jam,475\n1,honey,950\n'
+BY_THESE = " by these sizes of before the night, whose own work stands below"
 
 
 class Nights(Shop):
@@ -63,7 +64,7 @@ class Nights(Shop):
         self.assertEqual(self.ran("night"), (0, []))
         self.assertEqual(Path(f"{self.program}.words").read_text().split(), ["night", "plan", "certify", "night"])
         report = (self.folder / "new/report.txt").read_text()
-        self.assertTrue(report.startswith("strategy planned, sizes from the change files and the last report: certified\nseconds: "), report)
+        self.assertTrue(report.startswith(f"strategy planned, sizes from the change files and the last report: certified{BY_THESE}\nseconds: "), report)
         self.assertIn("\nsales,9,9,8\n", report)
 
     def test_a_report_tells_where_the_time_is_and_which_work_is_idle(self):
@@ -75,7 +76,9 @@ class Nights(Shop):
         (self.folder / "sizes.csv").write_text(SIZES.replace("products,3,4,3", "products,3,3,0"))
         command = [sys.executable, TOOLS / "warehouse", "explain", self.folder, "--program", self.program]
         told = subprocess.run(command, capture_output=True, text=True, check=True).stdout.splitlines()
-        place = told.index("comp sales from products: 16")
+        place = told.index("comp sales from products: 16, 0 changed")
+        self.assertEqual(told[0], "comp sales from orders: 12, 2 changed")
+        self.assertEqual(told[-1], "work 92, 56 changed")
         self.assertTrue(told[place + 1].endswith("; no changed row goes through it, so nothing is looked up"), told[place + 1])
         self.assertEqual(sum(line.endswith("nothing is looked up") for line in told), 1)
 
@@ -91,7 +94,7 @@ class Nights(Shop):
         self.assertEqual(self.ran("night", "--commit"), (0, []))
         stays = ANSWER.read_bytes().removesuffix(b"status 0\n").replace(b"inst daily_by_region: 8", b"inst daily_by_region: 0")
         self.answers(stays.partition(b"view daily_by_region")[0] + b"view daily_by_region\nnone\n", 0)
-        self.assertEqual(self.ran("night", "--commit"), (0, []))
+        self.assertEqual(self.ran("night", "--commit", "--always"), (0, []))
         one, two = (self.folder / "versions" / number / "views/daily_by_region.csv" for number in "12")
         self.assertTrue(one.samefile(two))
         self.edit("catalogue.toml", "# A small shop", "# A shop")
@@ -114,6 +117,56 @@ class Nights(Shop):
         self.assertNotIn(b"honey", (self.folder / "current/data/products.csv").read_bytes())
         names = ["lines.csv", "orders.csv", "products.12.csv", "products.3.csv", "products.csv"]
         self.assertEqual(sorted(path.name for path in (self.folder / "current/changes").iterdir()), names)
+
+    def test_counts_that_leave_64_bits_over_several_files_are_told_with_the_row_and_the_files(self):
+        for name, count in (("products.csv", 2**62), ("products.1.csv", 1), ("products.2.csv", 2**62), ("products.3.csv", -5)):
+            rows = f"1,jam,475\n{count},plum,120\n" if count > 0 else f"{count},plum,1\n5,plum,1\n"
+            (self.folder / "changes" / name).write_text(f"#,product,price\n{rows}")
+        before = {file: text for file, text in contents(self.folder).items() if file.startswith("changes/")}
+        told = (
+            f"changes/products.2.csv:3:1: the row plum,120 would change {2**63 + 1} times, which leaves 64 bits: {2**62} at changes/products.csv:3,"
+            f" 1 at changes/products.1.csv:3, {2**62} at changes/products.2.csv:3; put less of it into one night"
+        )
+        for words in (["lint"], ["night"], ["night", "--commit"], ["plan"]):
+            self.assertEqual(self.ran(*words), (3, [told]))
+        self.assertEqual({file: text for file, text in contents(self.folder).items() if file.startswith("changes/")}, before)
+        self.assertFalse((self.folder / "versions/1").exists())
+        (self.folder / "changes/products.3.csv").write_text("#,product,price\n-2,plum,120\n")
+        self.assertEqual(self.ran("lint"), (0, []))
+
+    def test_a_night_in_which_nothing_changed_makes_no_version_unless_it_is_asked_to(self):
+        self.assertEqual(self.printed("--commit")[0], 0)
+        says = "nothing changed: version 1 stays the current one{}; with --always a version is made all the same\n"
+        self.assertEqual(self.printed("--commit", "--keep", "1"), (0, says.format("")))
+        self.assertEqual(self.versions(), ["1"])
+        for name in ("orders.csv", "orders.2.csv"):
+            (self.folder / "changes" / name).write_text("#,id,day,region\n")
+        stay = "; changes/orders.2.csv, changes/orders.csv without rows stay"
+        self.assertEqual(self.printed("--commit"), (0, says.format(stay)))
+        self.assertEqual(self.ran("night", "--always"), (2, ["--always goes with --commit, which makes no version where nothing changed"]))
+        (self.folder / "changes/orders.2.csv").write_text("#,id,dag,region\n")
+        self.assertEqual(self.ran("night", "--commit")[0], 3)
+        (self.folder / "changes/orders.2.csv").unlink()
+        self.edit("strategy.txt", "inst orders\n", "")
+        self.assertEqual(self.ran("night", "--commit")[0], 1)
+        (self.folder / "strategy.txt").write_bytes((SHOP / "strategy.txt").read_bytes())
+        self.assertEqual(self.printed("--commit", "--always")[0], 0)
+        self.assertEqual(self.versions(), ["1", "2"])
+        self.assertFalse((self.folder / "changes/orders.csv").exists())
+        (self.folder / "changes/orders.csv").write_text("#,id,day,region\n1,9,Friday,north\n-1,9,Friday,north\n")
+        self.assertEqual(self.printed("--commit")[0], 0)
+        self.edit("catalogue.toml", "# A small shop", "# A shop")
+        self.assertEqual(self.printed("--commit")[0], 0)
+        self.assertEqual(self.versions(), ["1", "2", "3", "4"])
+
+    def printed(self, *words):
+        """The status of a night, and what it prints."""
+        command = [sys.executable, TOOLS / "warehouse", "night", self.folder, *words, "--program", self.program]
+        ran = subprocess.run(command, stdout=subprocess.PIPE, text=True)
+        return ran.returncode, ran.stdout
+
+    def versions(self):
+        return sorted(path.name for path in (self.folder / "versions").iterdir())
 
     def test_each_of_several_files_of_changes_is_judged_at_its_own_places(self):
         (self.folder / "changes/products.1.csv").write_text("#,product,price\n-1,plum,1x\n-1,plum,120\n")

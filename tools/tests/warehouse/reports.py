@@ -101,7 +101,8 @@ class Reports(Kept):
         self.answers_each()
         read, text = self.reported("1")
         self.assertIn("inst 9: 8", read.text)
-        self.assertIn("5 comp sales from products 19 6 inst products 3", read.text)
+        self.assertIn("98 rows, as the metric counts, 2 more than the bound, 96; 62 changed ones are gone through", read.text)
+        self.assertIn("5 comp sales from products 19 3 6 inst products 3 3", read.text)
         self.assertIn("orders base 5 7 +2 2 lines base 7 9 +2 6 products base 3 4 +1 3", read.text)
         beside = "the bound what every correct strategy costs at least 96 the least plan certified, scope all 96"
         beside += " this night the strategy that was carried out 98 +2"
@@ -178,7 +179,7 @@ class Reports(Kept):
         file = self.folder / "versions/1/report.txt"
         file.chmod(0o644)
         file.write_text(file.read_text().replace("comp sales from lines: 16\n", "comp sales from lines: 16, 0.25 s\n"))
-        self.assertIn("comp sales from lines 16 0.250 4 inst lines 6 0.000", self.reported()[0].text)
+        self.assertIn("comp sales from lines 16 6 0.250 4 inst lines 6 6 0.000", self.reported()[0].text)
 
     def test_rows_that_nobody_counted_are_counted_by_a_night_without_changes(self):
         self.night()

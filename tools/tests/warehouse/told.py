@@ -133,6 +133,39 @@ class Told(Shop):
         told = "catalogue.toml:8:8: this is not TOML: Invalid value"
         self.assertEqual(self.ran("check"), (3, [told]))
 
+    def test_each_fault_of_a_shape_is_told_with_what_to_write(self):
+        text = (self.folder / "catalogue.toml").read_text()
+        name, over = 'name = "lines"', 'over = ["orders", "lines", "products"]'
+        wrong = {
+            (name, 'name = "orders"'): "8:8: a view is named orders already, in line 4; give this one another name, or take one of them out",
+            (over, over.replace("orders", "daily_by_region")): "18:9: sales is over daily_by_region, which stands below it; move the [[view]] of "
+            "daily_by_region above that of sales",
+            (over, over.replace("orders", "sales")): "18:9: sales is over itself; a view is over views that stand above it: name one of them in "
+            "its place",
+            (over, over.replace("orders", "ordes")): "18:9: sales is over ordes, and no view has that name; did you mean orders?",
+            (over, over.replace("orders", "xyz")): "18:9: sales is over xyz, and no view has that name; above it are orders, lines, products",
+            (over, over.replace("products", "orders")): "18:28: sales is over orders twice; take one out, or for rows of it beside others write a "
+            "view over orders and join that one",
+            (over, "over = []"): '18:1: sales: over names the views above it that it reads, one at least, such as over = ["orders"]; a base view has '
+            "columns and no over",
+        }
+        for (old, new), told in wrong.items():
+            with self.subTest(new=new):
+                self.assertIn(old, text)
+                (self.folder / "catalogue.toml").write_text(text.replace(old, new))
+                status, lines = self.ran("lint")
+                self.assertEqual(status, 3)
+                self.assertIn(f"catalogue.toml:{told}", lines)
+
+    def test_too_many_views(self):
+        views = "".join(f'[[view]]\nname = "v{number}"\ncolumns = ["x"]\n' for number in range(64))
+        (self.folder / "catalogue.toml").write_text(f'{views}[[view]]\nname = "w"\nover = ["v0", "v1", "v2", "v3", "v4", "v5", "v6"]\nkeep = []\n')
+        lines = self.ran("lint")[1]
+        most = "this is the 65th view, and a catalogue has 64 at most; take those out that nobody reads, or part it in two"
+        self.assertIn(f"catalogue.toml:193:1: {most}", lines)
+        joined = "w is over 7 views, and 6 are the most; join some of them in a view of their own, and have it be over that one"
+        self.assertIn(f"catalogue.toml:195:1: {joined}", lines)
+
     def test_a_key_of_another_form(self):
         self.edit("catalogue.toml", 'count = "lines"\nsum = [["pieces"', 'sum = [["pieces"')
         told = "catalogue.toml:29:1: daily_by_product: a summary has count, the name of the column that counts"
@@ -218,6 +251,7 @@ class Told(Shop):
                 self.assertTrue(ran.stdout.startswith(f"tools/warehouse {command} "), ran.stdout)
                 listed = [option for option, commands, _ in OPTIONS if command in commands]
                 self.assertEqual([option for option, _, _ in OPTIONS if f"\n    {option} " in ran.stdout], listed)
+                self.assertTrue("--unproved" in ran.stdout and "--program FILE" in ran.stdout, ran.stdout)
 
     def test_each_option_that_a_command_takes_stands_in_its_help(self):
         taken = {(option, command) for command, options in (words_of.OPTIONS | words_of.GOES_THROUGH).items() for option in options}

@@ -8,7 +8,7 @@ from types import SimpleNamespace
 
 from whtools.bundle import parts_of
 from whtools.cases.sizes import texts
-from whtools.kinds import told
+from whtools.kinds import told, why
 from whtools.warehouse import weights
 from whtools.warehouse.explain import Step
 from whtools.warehouse.given_sizes import GivenSizes
@@ -22,6 +22,7 @@ WEIGHTED = (
 )  # fmt: skip
 SEEN = "".join(f"1,{document},{100000 + 10 * document + visit}\n" for document in range(10, 16) for visit in range(10))
 UNIFORM, NEITHER = "the shape is uniform: no plan needs a search", "the shape is neither a tree nor uniform: a plan may need a search"
+LEVELS = "uniform: each view is over views of the level just below its own; base views are level 0"
 NIGHT = "comp seen from documents: 104\ninst documents: 4\ncomp seen from visits: 16\ninst visits: 10\ninst seen: 40\nwork 174\nversion 1\n"
 
 
@@ -38,7 +39,7 @@ class Weights(Shop):
         self.assertEqual(self.ran("lint"), (0, []))
         steps = [line for line in self.printed("explain")[0] if not line.startswith(" ")]
         # 2 changed orders of weight 3, 7 old lines and 3 old products; then the 8 changed sales of weight 5
-        self.assertEqual((steps[0], steps[8]), ("comp sales from orders: 12, by weight 16", "inst sales: 8, by weight 40"))
+        self.assertEqual((steps[0], steps[8]), ("comp sales from orders: 12, 2 changed, by weight 16", "inst sales: 8, 8 changed, by weight 40"))
 
     def test_weights_that_are_wrong(self):
         wrong = WEIGHTED.replace("orders,5,7,2,3", "orders,5,7,2,0").replace("lines,7,9,6,1", "lines,7,9,6,1001")
@@ -117,7 +118,7 @@ class Weights(Shop):
         (self.folder / "sizes.csv").write_text(SIZES)
         self.assertEqual(self.ran("night", "--weights", "cells")[0], 0)
         report = (self.folder / "new/report.txt").read_text()
-        self.assertIn("; weights by cells: certified\n", report)
+        self.assertIn("; weights by cells: certified by these sizes of before the night, whose own work stands below\n", report)
         self.assertIn("\nview,pre,post,change\norders,5,7,2\n", report)
         self.assertIn(b"@sizes\nview,pre,post,change,weight\norders,5,7,2,3\n", (self.program.parent / "program.bundle").read_bytes())
 
@@ -127,17 +128,25 @@ class Kinds(Shop):
         command = [sys.executable, TOOLS / "warehouse", "lint", self.folder]
         more = '[[view]]\nname = "more"\nover = ["orders", "sales"]\njoin = [["orders.id", "sales.pieces"]]\ngroup = []\ncount = "n"\n'
         ran = subprocess.run(command, capture_output=True, text=True, check=True)
-        self.assertEqual((ran.stdout, ran.stderr), (f"{UNIFORM}\n", ""))
+        told = f"{UNIFORM}\n    no tree: sales is under daily_by_product, daily_by_region\n    {LEVELS}\n"
+        self.assertEqual((ran.stdout, ran.stderr), (told, ""))
         with (self.folder / "catalogue.toml").open("a") as catalogue:
             catalogue.write(more)
         ran = subprocess.run(command, capture_output=True, text=True)
-        self.assertEqual(ran.stdout, f"{NEITHER}\n")
+        not_uniform = "not uniform: more is over orders of level 0, sales of level 1; base views are level 0, and each other one is a level"
+        told = [
+            "no tree: orders is under sales, more",
+            f"{not_uniform} above its highest",
+            "that is no fault, and nothing has to be mended: the plan of least work is looked for longer",
+        ]
+        self.assertEqual(ran.stdout, "\n    ".join([NEITHER, *told]) + "\n")
         self.edit("catalogue.toml", 'over = ["orders", "sales"]', 'over = ["orders", "sale"]')
         ran = subprocess.run(command, capture_output=True, text=True)
         self.assertEqual((ran.stdout, ran.returncode), ("", 3))
 
     def test_the_words_for_each_kind(self):
         self.assertEqual(told([[], [], [0, 1]]), "the shape is a tree and uniform: no plan needs a search")
+        self.assertEqual(why([[], [], [0, 1]], ["A", "B", "V"]), ["a tree: no view is under two others", LEVELS])
         self.assertEqual(told([[], [], [0], [2, 1]]), "the shape is a tree: no plan needs a search")
         self.assertEqual(told([[], [], [0, 1], [0, 1]]), UNIFORM)
         self.assertEqual(told([[], [], [0, 1], [0, 2]]), NEITHER)

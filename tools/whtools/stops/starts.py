@@ -11,7 +11,8 @@ from typing import NamedTuple
 from whtools.stops import old_layout
 from whtools.stops.shop import SHOP, Hand, base_tables
 
-COMMIT = ("--commit",)
+# A night of a trial makes its version also where an earlier one took all changes.
+COMMIT = ("--commit", "--always")
 LEAVING = [(-1, ("4", "jam", "2"))]
 WRONG = (("no such", "1"), ("wrong", "1.5"))
 NOT_LOOKED_AT = re.compile(r"^(data/[a-z]+\.csv):.* move it away$", re.MULTILINE)

@@ -11,6 +11,8 @@ from itertools import pairwise
 
 # How much of a table is looked through at a time.
 BLOCK = 2**15
+# How many lines are looked for each by itself.
+FEW = 6
 # The counts of a table that are not 1.
 COUNTS = re.compile(rb"\n(?!1,)([0-9]+),")
 # Counts so long that few of them together may leave 64 bits.
@@ -89,13 +91,22 @@ def own_form(content, start, header, is_counted):
     """The table in the tool's own form, of records that are lines and have no fault. The rows stay in their order."""
     if start == len(content):
         return header
-    body = b"\n" + (content[start:].replace(b"\r\n", b"\n") if b"\r" in content else content[start:]).removesuffix(b"\n")
-    lines = body.split(b"\n1," if is_counted else b"\n")[1:]
-    if is_counted and body.count(b"\n") > len(lines):
-        return header + written(added(body[1:].split(b"\n")))
-    if len(set(lines)) < len(lines):
-        return header + written(Counter(lines))
-    return b"".join([header, memoryview(body)[1:], b"\n"] if is_counted else [header, b"1,", b"\n1,".join(lines), b"\n"])
+    body = (content[start:].replace(b"\r\n", b"\n") if b"\r" in content else content[start:]).removesuffix(b"\n")
+    has_counts = is_counted and not (body.startswith(b"1,") and body.count(b"\n1,") == body.count(b"\n"))
+    if has_counts or may_repeat(body):
+        lines = body.split(b"\n")
+        return header + written(added(lines) if is_counted else Counter(lines))
+    return b"".join([header, body, b"\n"] if is_counted else [header, b"1,", body.replace(b"\n", b"\n1,"), b"\n"])
+
+
+def may_repeat(body):
+    """Whether a line may stand twice. Only a number is kept of each line, which takes less memory than the line; two lines could share it."""
+    seen, count = set(), 0
+    for _, block in blocks(body, 0):
+        lines = block.removesuffix(b"\n").split(b"\n")
+        seen.update(map(hash, lines))
+        count += len(lines)
+    return len(seen) < count
 
 
 def added(lines):
@@ -120,12 +131,21 @@ def blocks(content, start):
         start = end
 
 
+def standing(content, start, lines):
+    """Those of these lines that may stand in a table, each with a place before it. Few are soonest looked for one by one."""
+    if len(lines) <= FEW:
+        yield from ((start, line) for line in lines)
+        return
+    for at, block in blocks(content, start):
+        yield from ((at, line) for line in lines.keys() & block.split(b"\n"))
+
+
 def places(content, start, rows):
     """Where the lines of these rows, as lines have them, begin and end in a table of the tool's own, and how often each counts."""
     once, found = {b"1," + row: row for row in rows}, {}
-    for at, block in blocks(content, start):
-        for line in once.keys() & block.split(b"\n"):
-            place = content.find(b"\n" + line + b"\n", at - 1) + 1
+    for at, line in standing(content, start, once):
+        place = content.find(b"\n" + line + b"\n", at - 1) + 1
+        if place:
             found[once[line]] = place, place + len(line) + 1, 1
     for other in COUNTS.finditer(content, start - 1):
         end = content.find(b"\n", other.end())

@@ -114,7 +114,8 @@ def chosen(folder, words):
         if failure.status != SPENT:
             raise
         return Chosen(written(at_once(folder.views)), "strategy view by view: the search for a plan was given up")
-    return Chosen(strategy_of(plan), f"strategy planned, sizes {source}: {certified(folder, words, plan, sizes)}", plan)
+    verdict = f"{certified(folder, words, plan, sizes)} by these sizes of before the night, whose own work stands below"
+    return Chosen(strategy_of(plan), f"strategy planned, sizes {source}: {verdict}", plan)
 
 
 def judge_after(folder, is_kept):

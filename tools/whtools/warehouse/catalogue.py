@@ -67,7 +67,7 @@ class Catalogue:
     """The views of a catalogue and its findings. What the program passes over is a fault, and where one is lenient a warning."""
 
     def __init__(self, folder, lenient=False):
-        self.views, self.findings, self.lenient, self.content = [], [], lenient, b""
+        self.views, self.findings, self.lenient, self.content, self.all_names = [], [], lenient, b"", []
         file = folder / FILE
         if not file.is_file():
             self.find(Place(FILE), "there is no catalogue.toml in this folder")
@@ -79,6 +79,7 @@ class Catalogue:
         if not isinstance(tables, list) or not all(isinstance(table, dict) for table in tables):
             self.find(Place(FILE), "there is no [[view]] in this catalogue")
             return
+        self.all_names = [table.get("name") for table in tables]
         where = places(text)
         where += [((1, 1), {})] * (len(tables) - len(where))
         for table, (heading, keys) in zip(tables, where):
@@ -160,9 +161,11 @@ class Catalogue:
         elif not isinstance(view.table["name"], str) or not NAME.fullmatch(view.table["name"]):
             self.find(view.value_place("name"), "a name is a letter or underscore, then letters, digits and underscores, 64 at most")
         elif view.name in self.names:
-            self.find(view.value_place("name"), f"an earlier view is named {view.name}")
+            line = self.views[self.names.index(view.name)].value_place("name").line
+            text = f"a view is named {view.name} already, in line {line}; give this one another name, or take one of them out"
+            self.find(view.value_place("name"), text)
         if len(self.views) == MOST_VIEWS:
-            self.find(view.heading, "a catalogue has 64 views at most")
+            self.find(view.heading, "this is the 65th view, and a catalogue has 64 at most; take those out that nobody reads, or part it in two")
 
     def judge_base(self, view):
         columns = view.table.get("columns")
@@ -204,17 +207,29 @@ class Catalogue:
         """Whether all children of a view are views before it."""
         over, earlier = view.table["over"], len(self.findings)
         if not isinstance(over, list) or not all(isinstance(name, str) for name in over) or not over:
-            self.find(view.place("over"), f"{view.name}: over is an array of the names of earlier views, one at least")
+            example = f'over = ["{self.names[0]}"]' if self.names else 'over = ["orders"]'
+            text = f"{view.name}: over names the views above it that it reads, one at least, such as {example}; a base view has columns and no over"
+            self.find(view.place("over"), text)
             return False
         if len(over) > MOST_CHILDREN:
-            self.find(view.place("over"), f"{view.name} is over {len(over)} views; 6 are the most")
+            text = f"{view.name} is over {len(over)} views, and 6 are the most; join some of them in a view of their own, and have it be over that one"
+            self.find(view.place("over"), text)
         for number, name in enumerate(over):
             if name not in self.names:
-                text = f"{view.name} is over {name}, which is no earlier view{nearest(name, self.names)}"
-                self.find(view.place("over", number), text)
+                self.find(view.place("over", number), self.not_above(view, name))
             elif name in over[:number]:
-                self.find(view.place("over", number), f"{view.name} is over {name} twice")
+                text = f"{view.name} is over {name} twice; take one out, or for rows of it beside others write a view over {name} and join that one"
+                self.find(view.place("over", number), text)
         return len(self.findings) == earlier
+
+    def not_above(self, view, name):
+        """What is wrong with a name in `over` that no view above has, and what to write."""
+        if name == view.name:
+            return f"{view.name} is over itself; a view is over views that stand above it: name one of them in its place"
+        if name in self.all_names:
+            return f"{view.name} is over {name}, which stands below it; move the [[view]] of {name} above that of {view.name}"
+        near = nearest(name, self.names) or (f"; above it are {', '.join(self.names)}" if self.names else "; no view stands above it")
+        return f"{view.name} is over {name}, and no view has that name{near}"
 
     # ---- a derived view's columns
 

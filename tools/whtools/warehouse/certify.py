@@ -1,4 +1,6 @@
-"""`certify`: judges the folder's plan.txt, or a plan that is made for it."""
+"""`certify`: judges the folder's plan.txt, or a plan that is made for it; by which sizes, it says on standard error."""
+
+import sys
 
 from .folder import sound
 from .planning import certified, planned
@@ -10,8 +12,9 @@ def run(words):
     folder = sound(words.folder)
     file = folder.path / "plan.txt"
     if file.is_file():
-        plan, sizes = file.read_bytes().decode(errors="replace"), sizes_text(folder, words)[0]
+        plan, (sizes, source) = file.read_bytes().decode(errors="replace"), sizes_text(folder, words)
     else:
-        plan, sizes, _ = planned(folder, words)
+        plan, sizes, source = planned(folder, words)
+    print(f"sizes {source}", file=sys.stderr)
     print(certified(folder, words, plan, sizes, words.through))
     return DONE

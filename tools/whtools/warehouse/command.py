@@ -54,6 +54,7 @@ class Words:
     def __init__(self, words):
         given = list(words)
         self.named, self.unproved, self.commit, self.keep, self.lenient, self.through = None, False, False, None, False, []
+        self.always = False
         self.weights, self.options = None, {}
         self.command = given.pop(0) if given else ""
         if self.command not in COMMANDS:
@@ -71,6 +72,8 @@ class Words:
             raise Failure(BAD_WORDS, "--unproved and --program FILE name two programs; give one")
         if self.keep and not self.commit:
             raise Failure(BAD_WORDS, "--keep goes with --commit, which makes the versions")
+        if self.always and not self.commit:
+            raise Failure(BAD_WORDS, "--always goes with --commit, which makes no version where nothing changed")
 
     @cached_property
     def program(self):
@@ -89,6 +92,8 @@ class Words:
         word = given.pop(0)
         if word == "--commit" and self.command == "night":
             self.commit = True
+        elif word == "--always" and self.command == "night":
+            self.always = True
         elif word == "--lenient" and self.command == "lint":
             self.lenient = True
         elif word in (*WITH_A_VALUE, *OPTIONS.get(self.command, ())) and not given:

@@ -4,12 +4,14 @@ import os
 
 from .carried import carried
 from .catalogue import Catalogue
+from .check import strategy_of
 from .claim import Claim
 from .disk import keep, put, remove, sync, write
 from .finding import Failure, of_system, warn
-from .folder import Folder
+from .folder import Folder, judged
 from .inputs import Inputs
 from .status import BAD_INPUT, NOT_WRITTEN
+from .strategy import FILE as STRATEGY
 from .takeover import take_over
 from .versions import DELTAS, PART, TURNED, VERSIONS, place, point, prune, turn, whole
 
@@ -100,10 +102,45 @@ def finish(words, number):
         raise Failure(NOT_WRITTEN, f"the night is done and is version {number}, but {of_system(errors[0])}; the next night sees to it")
 
 
+def quiet(words):
+    """Where a night would change nothing, what is told of it, and else None: the version is of this catalogue and has all base tables, and
+    no file of changes has a row. Files with a header alone stay where they are.
+    """
+    inputs = Inputs(words.folder)
+    files = [source for sources in inputs.changes.values() for source in sources]
+    inputs.state.release()
+    is_quiet = inputs.state.report.is_file() and inputs.is_catalogue_as_before() and not any(map(has_rows, files))
+    if words.always or not is_quiet:
+        return None
+    folder = judged(Folder(words.folder))
+    folder.state.release()
+    if any(not records.is_made for records in folder.data.values()):
+        return None
+    if (words.folder / STRATEGY).is_file():
+        strategy_of(folder)
+    warn(folder.warnings)
+    empty = ", ".join(sorted(source.told for source in files))
+    stays = f"; {empty} without rows stay{'s' * (len(files) == 1)}" if empty else ""
+    return f"nothing changed: version {folder.state.number} stays the current one{stays}; with --always a version is made all the same\n"
+
+
+def has_rows(source):
+    """Whether a file of changes has more than one line."""
+    with open(source.path, "rb") as file:
+        file.readline()
+        return any(line.strip() for line in file)
+
+
 def commit(words, interrupts):
-    """A night that is kept. Answers its report."""
-    judged = take_over(words.folder, interrupts)
+    """A night that is kept. Answers its report, or that there was nothing to keep."""
+    sound = take_over(words.folder, interrupts)
+    told = quiet(words)
+    if told:
+        remove(words.folder / "new")
+        if words.keep:
+            prune(words.folder, words.keep)
+        return told
     number = whole(words.folder)[-1] + 1
-    report = decided(words, interrupts, number, judged)
+    report = decided(words, interrupts, number, sound)
     finish(words, number)
     return report

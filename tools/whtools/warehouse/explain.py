@@ -1,4 +1,5 @@
-"""`explain`: a strategy line by line: what is read, old or new, how many rows, what they count by weight, and why it stands there."""
+"""`explain`: a strategy line by line: its work, which is all rows of what it reads, how many changed rows really go through it, what is
+read, old or new, what it counts by weight, and why it stands there."""
 
 from itertools import combinations
 
@@ -93,5 +94,7 @@ def run(words):
     has_weights = any(step.weight(step.view) > 1 for _, step in listed)
     for line, step in listed:
         by_weight = f", by weight {step.work()}" if has_weights else ""
-        print(f"{line}: {step.rows()}{by_weight}\n    {step.text()}")
+        print(f"{line}: {step.rows()}, {step.changed()} changed{by_weight}\n    {step.text()}")
+    rows, changed, work = (sum(map(each, (step for _, step in listed))) for each in (Step.rows, Step.changed, Step.work))
+    print(f"work {rows}, {changed} changed{f', by weight {work}' if has_weights else ''}")
     return DONE

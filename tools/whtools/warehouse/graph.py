@@ -17,7 +17,8 @@ TIP = (
 )
 LEGEND = [
     "A box is a view: under its name the step that installs it, and how many rows that puts.",
-    "A cell below it is a Comp from the view that its arrow comes from: its step, how many rows it reads, and how many of them changed.",
+    "A cell below it is a Comp from the view that its arrow comes from: its step, its work in rows, and how many changed rows go through it.",
+    "Work is all rows of what a Comp reads; those that did not change are looked at only where changed ones lead to them.",
 ]
 
 

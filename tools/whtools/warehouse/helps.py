@@ -7,6 +7,7 @@ WITHOUT_PROGRAM = ("lint", "pack", "unpack", "diff", "init", "read", "serve")
 OPTIONS = [
     ("--commit", ("night",), "keeps the night: takes the changes and makes a version"),
     ("--keep K", ("night",), "with --commit: the newest K versions stay, 1 or more; without it all do"),
+    ("--always", ("night",), "with --commit: makes a version also where nothing changed"),
     ("--lenient", ("lint",), "has keys that the program does not look at as warnings"),
     ("--workers N", ("night",), "how many workers compute at once, 1 to 16; without it 1"),
     ("--readers N", ("night",), "how many readers go through the tables of before meanwhile, 0 to 16: a trial of the promise, and no service"),
@@ -27,13 +28,14 @@ PROGRAM = [
     ("--unproved", "by the program that is built without its proof, within minutes"),
     ("--program FILE", "by another program than the repository's proved one"),
 ]
+WITHOUT = [("--unproved, --program FILE", "are taken as everywhere, and change nothing: this command asks no program")]
 
 
 def help_of(command):
     """What a command does, and its options."""
     options = [(option, text) for option, commands, text in OPTIONS if command in commands]
-    options += PROGRAM if command not in WITHOUT_PROGRAM else []
-    lines = [f"tools/warehouse {command} {WORDS.get(command, 'FOLDER')}{' [OPTIONS]' if options else ''}", ""]
+    options += WITHOUT if command in WITHOUT_PROGRAM else PROGRAM
+    lines = [f"tools/warehouse {command} {WORDS.get(command, 'FOLDER')} [OPTIONS]", ""]
     lines += [(import_module(f"whtools.warehouse.{command}").__doc__ or "").strip()]
-    lines += ["", *(f"    {option:20} {text}" for option, text in options)] if options else []
+    lines += ["", *(f"    {option:20} {text}" for option, text in options)]
     return "\n".join([*lines, "", "Statuses are in docs/OPERATING.md, recipes in docs/WAREHOUSE.md."])

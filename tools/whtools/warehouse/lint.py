@@ -2,7 +2,7 @@
 
 import sys
 
-from ..kinds import shape_of, told
+from ..kinds import shape_of, told, why
 from .folder import Folder
 from .given_sizes import GivenSizes
 from .limits import after, sizes_after
@@ -29,5 +29,6 @@ def run(words):
     for finding in sorted(findings):
         print(finding, file=sys.stderr)
     if not any(not finding.warns for finding in folder.catalogue.findings):
-        print(told(shape_of(folder.views)))
+        shape = shape_of(folder.views)
+        print("\n    ".join([told(shape), *why(shape, [view.name for view in folder.views])]))
     return DONE if all(finding.warns for finding in findings) else BAD_INPUT

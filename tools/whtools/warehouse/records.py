@@ -14,6 +14,8 @@ from .numbers import NUMBER, number_of
 from .packing import merged
 from .written import text_of
 
+# What a count may be.
+LEAST, MOST = -(2**63), 2**63 - 1
 # How much of a cell is told that is no number.
 SHOWN = 80
 # What is often meant by a cell that is no number; in docs/WAREHOUSE.md are the recipes.
@@ -212,7 +214,7 @@ class Reading:
         row = tuple(cells)
         self.rows[row] += count
         self.lines.setdefault(row, line)
-        if not -(2**63) <= self.rows[row] < 2**63:
+        if not LEAST <= self.rows[row] <= MOST:
             self.find(line, 1, f"with this record the row counts {self.rows[row]} times, which leaves 64 bits")
 
     def find_length(self, record, wanted, line):
@@ -263,9 +265,19 @@ class Changes:
         for records in self.files:
             self.rows.update(records.rows)
 
-    @property
+    @cached_property
     def findings(self):
-        return [finding for records in self.files for finding in records.findings]
+        return [finding for records in self.files for finding in records.findings] or self.beyond()
+
+    def beyond(self):
+        """Rows whose counts leave 64 bits together, where those of each file do not."""
+        found = []
+        for row in [row for row, count in self.rows.items() if not LEAST <= count <= MOST] if len(self.files) > 1 else ():
+            of = [(records, records.lines[row], records.rows[row]) for records in self.files if row in records.rows]
+            told = ", ".join(f"{count} at {records.file}:{line}" for records, line, count in of)
+            text = f"the row {shown(row)} would change {self.rows[row]} times, which leaves 64 bits: {told}; put less of it into one night"
+            found.append(Finding(Place(of[-1][0].file, of[-1][1]), text))
+        return found
 
     @property
     def content(self):

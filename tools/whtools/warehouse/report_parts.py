@@ -56,12 +56,17 @@ def of_rows(night, names):
     return f"now {sum(night.told.sizes[name][1] for name in names):,}" if None in before else f"of {sum(before):,} before"
 
 
+def touched(night):
+    """How many changed rows go through all steps."""
+    return sum(step.changed() for step in night.steps())
+
+
 def figures(night, strategies):
     """The night in a few numbers."""
     derived = [view.name for view in night.views if not view.is_base]
     moved = sum(1 for name in derived if night.told.sizes[name][2])
     listed = [
-        ("Work", f"{night.told.work:,}", f"rows read and put{than_bound(night, strategies)}"),
+        ("Work", f"{night.told.work:,}", f"rows, as the metric counts{than_bound(night, strategies)}; {touched(night):,} changed ones are gone through"),
         ("Base rows changed", f"{night.told.changed(night.bases):,}", of_rows(night, night.bases)),
         ("Derived rows changed", f"{night.told.changed(derived):,}", of_rows(night, derived)),
         ("Derived views changed", f"{moved} of {len(derived)}", "each is its definition over the new tables"),
@@ -110,7 +115,7 @@ def step_row(night, place, line, step):
         parts = [("delta", delta), ("read", counted - delta)]
     else:
         parts = [("puts", counted)]
-    cells = [(str(place), "number fit"), (code(line), "fit"), bar(parts, max(night.told.rows)), number(counted)]
+    cells = [(str(place), "number fit"), (code(line), "fit"), bar(parts, max(night.told.rows)), number(counted), number(step.changed())]
     if any(seconds):
         took = seconds[place - 1] or 0
         cells += [bar([("bound", took)], max(filter(None, seconds))), (f"{took:,.3f}", "number")]
@@ -121,11 +126,12 @@ def steps(night):
     """A bar for each step."""
     listed = listed_steps(night)
     rows = [step_row(night, place, line, step) for place, (line, step) in enumerate(listed, 1)]
-    heads = [("", "number"), "step", "work", ("rows", "number")] + ["", ("seconds", "number")] * any(night.told.seconds)
+    heads = [("", "number"), "step", "work", ("rows", "number"), ("changed", "number")] + ["", ("seconds", "number")] * any(night.told.seconds)
     kinds = ("delta", "changed rows that a Comp reads"), ("read", "rows of the other tables of a Comp"), ("puts", "rows that an Inst puts")
     about = (
         "A Comp computes what a view's changes do to a view over it; its work is the rows of all that it is over, as the metric counts "
-        "them, whether or not it looks at each. An Inst makes a view's changes its rows."
+        "them, whether or not it looks at each. What it really goes through are the changed ones: with 0 of them nothing is looked up, "
+        "whatever its work. An Inst makes a view's changes its rows."
     )
     why = "".join(element("dt", code(line)) + element("dd", escape(step.text())) for line, step in listed)
     why = element("details", "<summary>Why each step stands where it does</summary>" + element("dl", why, class_="why"))
