@@ -97,6 +97,18 @@ class Changed(Lying):
                     self.assertEqual((b"\n" + lines)[start - 8 : start - 7], b"\n")
                     self.assertTrue(lines[start - 8 : end - 8].startswith(b"%d," % count))
 
+    def test_few_rows_are_found_one_by_one_where_many_are_found_together(self):
+        source = random.Random(9)
+        for _ in range(20):
+            before, others = rows(source, TEXTS, 12), rows(source, TEXTS, 6)
+            table = b"#,x,t,u\n" + b"".join(line_of(count, row) for row, count in before.items())
+            wanted, found = {row_of(row) for row in before | others}, []
+            for few in (0, 100):
+                with mock.patch.object(by_lines, "FEW", few):
+                    found.append(by_lines.places(table, 8, wanted))
+            self.assertEqual(*found)
+            self.assertEqual(set(found[0]), {row_of(row) for row in before})
+
     def test_rows_that_are_not_there_are_found_in_each_form_of_a_table(self):
         (self.folder / "c.csv").write_bytes(b'#,x,t,u\n-1,1,"a",b\n-2,2,a,b\n')
         changes = Changes([Source(self.folder / "c.csv", "c.csv")], SimpleNamespace(name="v", columns=COLUMNS))
