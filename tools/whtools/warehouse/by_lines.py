@@ -100,7 +100,7 @@ def own_form(content, start, header, is_counted):
 
 
 def may_repeat(body):
-    """Whether a line may stand twice. Only a number is kept of each line, which takes less memory than the line; two lines could share it."""
+    """Whether a line may stand twice. Only a number is kept of each, which takes less memory than the line; two lines could share one."""
     seen, count = set(), 0
     for _, block in blocks(body, 0):
         lines = block.removesuffix(b"\n").split(b"\n")

@@ -165,7 +165,8 @@ class Catalogue:
             text = f"a view is named {view.name} already, in line {line}; give this one another name, or take one of them out"
             self.find(view.value_place("name"), text)
         if len(self.views) == MOST_VIEWS:
-            self.find(view.heading, "this is the 65th view, and a catalogue has 64 at most; take those out that nobody reads, or part it in two")
+            text = "this is the 65th view, and a catalogue has 64 at most; take those out that nobody reads, or part it in two"
+            self.find(view.heading, text)
 
     def judge_base(self, view):
         columns = view.table.get("columns")
@@ -208,18 +209,18 @@ class Catalogue:
         over, earlier = view.table["over"], len(self.findings)
         if not isinstance(over, list) or not all(isinstance(name, str) for name in over) or not over:
             example = f'over = ["{self.names[0]}"]' if self.names else 'over = ["orders"]'
-            text = f"{view.name}: over names the views above it that it reads, one at least, such as {example}; a base view has columns and no over"
-            self.find(view.place("over"), text)
+            text = f"{view.name}: over names the views above it that it reads, one at least, such as {example}"
+            self.find(view.place("over"), f"{text}; a base view has columns and no over")
             return False
         if len(over) > MOST_CHILDREN:
-            text = f"{view.name} is over {len(over)} views, and 6 are the most; join some of them in a view of their own, and have it be over that one"
-            self.find(view.place("over"), text)
+            text = f"{view.name} is over {len(over)} views, and 6 are the most"
+            self.find(view.place("over"), f"{text}; join some of them in a view of their own, and have it be over that one")
         for number, name in enumerate(over):
             if name not in self.names:
                 self.find(view.place("over", number), self.not_above(view, name))
             elif name in over[:number]:
-                text = f"{view.name} is over {name} twice; take one out, or for rows of it beside others write a view over {name} and join that one"
-                self.find(view.place("over", number), text)
+                text = f"take one out, or for rows of it beside others write a view over {name} and join that one"
+                self.find(view.place("over", number), f"{view.name} is over {name} twice; {text}")
         return len(self.findings) == earlier
 
     def not_above(self, view, name):

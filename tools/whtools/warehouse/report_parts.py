@@ -65,8 +65,9 @@ def figures(night, strategies):
     """The night in a few numbers."""
     derived = [view.name for view in night.views if not view.is_base]
     moved = sum(1 for name in derived if night.told.sizes[name][2])
+    work = f"rows, as the metric counts{than_bound(night, strategies)}"
     listed = [
-        ("Work", f"{night.told.work:,}", f"rows, as the metric counts{than_bound(night, strategies)}; {touched(night):,} changed ones are gone through"),
+        ("Work", f"{night.told.work:,}", f"{work}; {touched(night):,} changed ones are gone through"),
         ("Base rows changed", f"{night.told.changed(night.bases):,}", of_rows(night, night.bases)),
         ("Derived rows changed", f"{night.told.changed(derived):,}", of_rows(night, derived)),
         ("Derived views changed", f"{moved} of {len(derived)}", "each is its definition over the new tables"),
