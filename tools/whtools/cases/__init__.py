@@ -3,6 +3,7 @@
 import contextlib
 import os
 import resource
+import select
 import signal
 import subprocess
 from dataclasses import dataclass
@@ -133,12 +134,21 @@ class WithoutOutput(Unwritten):
         return self.ended(started, None, lambda: os.close(1))
 
 
+def wait_until_unheard(writing):
+    """Waits until nobody can read the pipe: a process that another thread is just starting has its end for a moment."""
+    poll = select.poll()
+    poll.register(writing, 0)
+    while not any(event & select.POLLERR for _, event in poll.poll(100)):
+        pass
+
+
 class Unheard(Unwritten):
     """A case whose output goes into a pipe of which nobody reads."""
 
     def mistake(self, started):
         reading, writing = os.pipe()
         os.close(reading)
+        wait_until_unheard(writing)
         with open(writing, "wb") as pipe:
             return self.ended(started, pipe)
 
