@@ -64,6 +64,16 @@ class Deltas(Shop):
         self.assertIn(self.view("sales").read_bytes(), ANSWER.read_bytes())
         self.assertFalse((self.folder / "current/deltas").exists())
 
+    def test_tables_are_asked_for_where_a_view_has_not_as_many_rows_as_were_told(self):
+        file = self.view("daily_by_region").resolve()
+        file.chmod(0o644)
+        lines = file.read_bytes().splitlines(keepends=True)
+        file.write_bytes(b"".join(lines[:1] + [line for line in lines[1:] if b"Monday,south" not in line]))
+        self.assertLess(len(file.read_bytes().splitlines()), len(lines))
+        self.assertEqual(self.ran("night", "--commit", "--always"), (0, []))
+        self.assertEqual(self.words(), ["night --print changes", "night"])
+        self.assertIn(self.view("daily_by_region").read_bytes(), ANSWER.read_bytes())
+
     def test_tables_are_asked_for_with_another_catalogue_and_where_a_view_is_missing(self):
         self.edit("catalogue.toml", "# A small shop", "# A shop")
         self.assertEqual(self.ran("night", "--commit", "--always"), (0, []))

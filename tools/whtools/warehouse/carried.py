@@ -66,7 +66,7 @@ class Night:
             self.rows[name] = self.kept.rows[name]
             return Made([], file)
         if self.answer.has_changes:
-            table = of_change(file, self.answer.table(name))
+            table = of_change(file, self.kept.rows[name], self.answer.table(name))
             if table:
                 self.rows[name] = self.kept.rows[name] + sum_of(table.change)
                 return table

@@ -39,9 +39,10 @@ def of_base(folder, view):
     return Made(folder.after(view)) if folder.data[view.name].is_made else made(folder.after(view), last)
 
 
-def of_change(file, change):
+def of_change(file, rows, change):
     """The table of a derived view after the night: the one before, in this file, with a change as the program prints it. All records are
-    lines. None where rows leave that the file has not.
+    lines. None where the file has not as many rows as were told, or not those that leave.
     """
-    pieces = by_lines.merged(file.read_bytes(), change)
+    before = file.read_bytes()
+    pieces = by_lines.merged(before, change) if by_lines.counted(before) == rows else None
     return pieces and Made(pieces, change=change)
