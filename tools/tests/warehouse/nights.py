@@ -159,6 +159,14 @@ class Nights(Shop):
         self.assertEqual(self.printed("--commit")[0], 0)
         self.assertEqual(self.versions(), ["1", "2", "3", "4"])
 
+    def test_changes_whose_lines_end_by_a_carriage_return_alone_are_rows(self):
+        self.assertEqual(self.printed("--commit")[0], 0)
+        for content, versions in ((b"#,id,day,region\r\r\n", ["0", "1"]), (b"#,id,day,region\r1,8,Thursday,south\r", ["0", "1", "2"])):
+            (self.folder / "changes/orders.csv").write_bytes(content)
+            self.assertEqual(self.printed("--commit")[0], 0)
+            self.assertEqual(self.versions(), versions)
+        self.assertIn(b"\n1,8,Thursday,south\n", (self.folder / "current/data/orders.csv").read_bytes())
+
     def printed(self, *words):
         """The status of a night, and what it prints."""
         command = [sys.executable, TOOLS / "warehouse", "night", self.folder, *words, "--program", self.program]

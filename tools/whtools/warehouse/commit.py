@@ -1,6 +1,7 @@
 """A night that is kept: it takes its changes, makes its version beside the others, and one rename decides that it counts."""
 
 import os
+from itertools import islice
 
 from .carried import carried
 from .catalogue import Catalogue
@@ -125,10 +126,10 @@ def quiet(words):
 
 
 def has_rows(source):
-    """Whether a file of changes has more than one line."""
+    """Whether a file of changes has more than its header; a carriage return alone ends a line too."""
     with open(source.path, "rb") as file:
-        file.readline()
-        return any(line.strip() for line in file)
+        lines = (line for read in file for line in read.split(b"\r") if line.strip())
+        return len(list(islice(lines, 2))) > 1
 
 
 def commit(words, interrupts):
