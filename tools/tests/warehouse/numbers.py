@@ -55,6 +55,13 @@ class Told(Shop):
             status, lines = self.ran(*words)
             self.assertEqual((status, lines[0]), (3, told), words)
 
+    def test_so_are_those_of_which_it_takes_thousands(self):
+        count, row = 10**15 - 1, "7,Monday,north"
+        record = (2**63 - 1) // count + 1
+        (self.folder / "changes/orders.csv").write_text("#,id,day,region\n" + f"{count},{row}\n" * record)
+        told = f"changes/orders.csv:{record + 1}:1: with this record the row counts {count * record} times, which leaves 64 bits"
+        self.assertEqual(self.ran("lint"), (3, [told]))
+
     def test_a_header_of_another_form_says_what_to_do(self):
         cures = {"id,day,region": "; # is how many of a row come, or with - leave", "#;id;day;region": "; part the cells by commas"}
         for header, cure in (cures | {"#,id,region,day": "; put the columns in that order"}).items():

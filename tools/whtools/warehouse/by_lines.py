@@ -15,8 +15,8 @@ BLOCK = 2**15
 FEW = 6
 # The counts of a table that are not 1.
 COUNTS = re.compile(rb"\n(?!1,)([0-9]+),")
-# Counts so long that few of them together may leave 64 bits.
-LONG_COUNTS = re.compile(rb"\n-?[0-9]{16,},")
+# Counts so long that as many of them as an input can have may leave 64 bits together.
+LONG_COUNTS = re.compile(rb"\n-?[0-9]{13,},")
 OTHERS = bytes(set(range(256)) - set(b'"\n'))
 NUMBER, POSITIVE, CHANGED = rb"[+-]?[0-9]{1,18}+", rb"[1-9][0-9]{0,17}+", rb"-?[1-9][0-9]{0,17}+"
 QUOTED, PLAIN = rb'"(?:[^"\0]++|"")*+"', rb'[^",\r\n\0]'
