@@ -38,6 +38,12 @@ class Reads(Kept):
         first = "#,product,price\n1,bread,300\n1,jam,450\n1,\"tea, black\",800\n"
         self.assertEqual(self.read("products", "--version", "0"), first)
 
+    def test_a_table_whose_lines_end_by_a_carriage_return_alone(self):
+        table = self.folder / "data/products.csv"
+        table.write_bytes(table.read_bytes().replace(b"\n", b"\r"))
+        self.night()
+        self.assertEqual(self.read("products", "--version", "0", "--where", "price=450"), "#,product,price\n1,jam,450\n")
+
     def test_rows_with_a_value_and_so_many_of_them(self):
         self.night()
         jam = '#,day,product,lines,pieces,cost\n1,Monday,jam,1,1,475\n'

@@ -71,15 +71,14 @@ def value_of(cell, kind):
 
 
 class Table:
-    """A table in a file that does not change. `starts` has where each 1,024th row begins, as far as that is known."""
+    """A table in a file that does not change. `starts` has where the rows behind each 1,024th begin, as far as that is known."""
 
     def __init__(self, name, path, kinds):
         self.name, self.path = name, path
         with path.open("rb") as file:
             begin = len(MARK) if file.read(len(MARK)) == MARK else 0
-            lines = Lines(file, begin)
-            header = next(filter(None, csv.reader(iter(lines))), [])
-            self.starts = {0: lines.at}
+            header = next(filter(None, csv.reader(iter(Lines(file, begin)))), [])
+            self.starts = {0: begin}
         counted = header[:1] == ["#"]
         names = header[counted:]
         self.columns = Columns(names, [kinds.get(column, "text") for column in names], counted)
@@ -89,7 +88,8 @@ class Table:
         step = min(after // STEP, len(self.starts) - 1)
         with self.path.open("rb") as file:
             lines = Lines(file, self.starts[step])
-            numbered = enumerate(filter(None, csv.reader(iter(lines))), step * STEP + 1)
+            # At the beginning the header stands, as if it were row 0.
+            numbered = enumerate(filter(None, csv.reader(iter(lines))), step * STEP + (step > 0))
             for number, record in numbered:
                 if number % STEP == 0 and lines.at is not None and number // STEP == len(self.starts):
                     self.starts[number // STEP] = lines.at
