@@ -221,6 +221,10 @@ class Rows(Kept):
         self.assertEqual(found, {(2, "tea, black"): [2, 3], (3, "two\nlines"): [1, 0], (4, 'two\n"lines'): [0, 1]})
         by_hand = b'\xef\xbb\xbfid,name\r\n2,"tea, black"\r\n1,jam\r\n+2,"tea, black"\r\n3,"two\nlines"\r\n'
         self.assertEqual(report_rows.differences(by_hand, new, self.COLUMNS), found)
+        counted = b'\n"#",id,name\n1,1,jam\n2,2,"tea, black"\n1,3,"two\nlines"\n'
+        self.assertEqual(report_rows.differences(counted, new, self.COLUMNS), found)
+        returns = b'\rid,name\r2,"tea, black"\r\r1,jam\r+2,"tea, black"\r3,"two\nlines"\r'
+        self.assertEqual(report_rows.differences(returns, new, self.COLUMNS), found)
         self.assertEqual(report_rows.differences(old, old, self.COLUMNS), {})
 
     def test_columns_that_were_other_ones_are_told_and_kinds_that_were_others_are_borne(self):
@@ -263,6 +267,8 @@ class Rows(Kept):
         file = self.folder / "changes/products.csv"
         found = report_rows.of_changes([file, file], [("product", "text"), ("price", "int")])
         self.assertEqual(found[("jam", 450)], [2, 0])
+        file.write_bytes(b"\r#,product,price\r-1,jam,450\r")
+        self.assertEqual(report_rows.of_changes([file], [("product", "text"), ("price", "int")]), {("jam", 450): [1, 0]})
 
 
 class Certificates(Kept):

@@ -3,6 +3,7 @@
 import csv
 import io
 import os
+import re
 from typing import NamedTuple
 
 from ..bundle import part, unpack
@@ -13,6 +14,8 @@ from .reading import records, value_of
 from .strategy import at_once, written
 
 FIRST, CANDIDATES = 8, 400
+# The first line that is not empty, and its end.
+HEADER = re.compile(rb"[\r\n]*([^\r\n]*)[\r\n]*")
 
 
 class Changed(NamedTuple):
@@ -36,22 +39,32 @@ def is_written(content):
     return content.startswith((b"#,", b"#\n")) and b"\r" not in content
 
 
+def header_of(content):
+    """The header of a table."""
+    return next(csv.reader([HEADER.match(content.removeprefix(MARK))[1].decode(errors="replace")]), [])
+
+
 def names_in(content):
     """The columns of a table, without that of the counts."""
-    header = next(csv.reader(io.StringIO(content.removeprefix(MARK).partition(b"\n")[0].decode(errors="replace"))), [])
+    header = header_of(content)
     return header[header[:1] == ["#"] :]
+
+
+def below(content):
+    """What stands below the header of a table that no night wrote, whose lines may end in any way, in one piece."""
+    return [content[HEADER.match(content).end() :]]
 
 
 def differences(before, after, columns):
     """The rows whose counts differ between the texts of two tables, each with its count before and after."""
     contents = [content.removeprefix(MARK) for content in (before, after)]
-    tables = [records(content if is_written(content) else content.replace(b"\r\n", b"\n")) for content in contents]
+    tables = [records(content) if is_written(content) else below(content) for content in contents]
     if all(map(is_written, contents)):
         old, new = map(set, tables)
         tables = [old - new, new - old]
     found = {}
     for place, (content, lines) in enumerate(zip(contents, tables)):
-        for row, count in rows_of(lines, columns, content.startswith((b"#", b'"#"'))):
+        for row, count in rows_of(lines, columns, header_of(content)[:1] == ["#"]):
             found.setdefault(row, [0, 0])[place] += count
     return {row: counts for row, counts in found.items() if counts[0] != counts[1]}
 
@@ -60,7 +73,7 @@ def of_changes(files, columns):
     """What files of changes add up to: a row that leaves was there as often, and one that comes is there afterwards."""
     found = {}
     for file in files:
-        for row, count in rows_of(records(file.read_bytes()), columns):
+        for row, count in rows_of(below(file.read_bytes()), columns):
             found[row] = found.get(row, 0) + count
     return {row: [max(-count, 0), max(count, 0)] for row, count in found.items() if count}
 
