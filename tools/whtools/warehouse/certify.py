@@ -1,7 +1,6 @@
 """`certify`: judges the folder's plan.txt, or a plan that is made for it; by which sizes, it says on standard error."""
 
-import sys
-
+from .finding import warn
 from .folder import sound
 from .planning import certified, planned
 from .sizes import sizes_text
@@ -15,6 +14,6 @@ def run(words):
         plan, (sizes, source) = file.read_bytes().decode(errors="replace"), sizes_text(folder, words)
     else:
         plan, sizes, source = planned(folder, words)
-    print(f"sizes {source}", file=sys.stderr)
+    warn([f"sizes {source}"])
     print(certified(folder, words, plan, sizes, words.through))
     return DONE

@@ -1,7 +1,6 @@
 """The words of tools/warehouse, and which command they mean."""
 
 import gc
-import os
 import sys
 import traceback
 from functools import cached_property
@@ -15,6 +14,7 @@ from .numbers import MOST, is_between
 from .program import own
 from .status import BAD_INPUT, BAD_WORDS, DONE, NO_ANSWER, NOT_WRITTEN
 from .stopped import is_stopped
+from .streams import drop, opened
 from .takeover import is_pending
 from .weights import KINDS
 
@@ -149,7 +149,7 @@ def judge_folder(words):
     stopped = is_stopped(words.folder) or is_pending(words.folder)
     who = at_work(words.folder)
     if who:
-        print(f"{who}; what is told here is without the changes that it has taken", file=sys.stderr)
+        warn([f"{who}; what is told here is without the changes that it has taken"])
     elif stopped and (is_stopped(words.folder) or is_pending(words.folder)):
         told = f"a night was stopped in {words.folder}; `tools/warehouse night {words.folder} --commit` finishes or undoes it"
         raise Failure(BAD_INPUT, told)
@@ -157,6 +157,7 @@ def judge_folder(words):
 
 def main(given, about):
     """Carries a command out, and answers its status."""
+    opened()
     if not given or given[0] in HELPS:
         print(about if len(given) < 2 or given[1] not in COMMANDS else help_of(given[1]), file=sys.stdout if given else sys.stderr)
         return DONE if given else BAD_WORDS
@@ -179,7 +180,7 @@ def main(given, about):
         warn([f"tools/warehouse: {of_system(error)}"])
         status = NOT_WRITTEN
     except Exception:
-        traceback.print_exc()
+        warn([traceback.format_exc().rstrip("\n")])
         warn(["tools/warehouse: this is a fault of the tool itself; a night that was under way is undone"])
         status = NO_ANSWER
     drop_output()
@@ -191,4 +192,4 @@ def drop_output():
     try:
         sys.stdout.flush()
     except OSError:
-        os.dup2(os.open(os.devnull, os.O_WRONLY), sys.stdout.fileno())
+        drop(sys.stdout)

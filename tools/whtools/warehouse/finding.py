@@ -4,6 +4,7 @@ import sys
 from difflib import get_close_matches
 from typing import NamedTuple
 
+from .streams import drop
 
 # A byte order mark, which may stand before a table, and what is told of it where it may not.
 MARK = b"\xef\xbb\xbf"
@@ -36,9 +37,12 @@ class Finding(NamedTuple):
 
 
 def warn(lines):
-    """Tells what does not end a command."""
-    for line in lines:
-        print(line, file=sys.stderr)
+    """Tells what does not end a command. Where standard error cannot be written, the status alone tells."""
+    try:
+        for line in lines:
+            print(line, file=sys.stderr, flush=True)
+    except OSError:
+        drop(sys.stderr)
 
 
 def of_system(error):

@@ -1,8 +1,7 @@
 """`lint`: all that is wrong in a folder, a line each, warnings too; and of what kind its shape is."""
 
-import sys
-
 from ..kinds import shape_of, told, why
+from .finding import warn
 from .folder import Folder
 from .given_sizes import GivenSizes
 from .limits import after, sizes_after
@@ -26,8 +25,7 @@ def run(words):
         folder.findings += null_findings(folder.catalogue)
     findings = folder.findings + strategy_findings(folder) + GivenSizes(folder.path, folder.views).findings
     findings += after(sizes_after(folder))
-    for finding in sorted(findings):
-        print(finding, file=sys.stderr)
+    warn(sorted(findings))
     if not any(not finding.warns for finding in folder.catalogue.findings):
         shape = shape_of(folder.views)
         print("\n    ".join([told(shape), *why(shape, [view.name for view in folder.views])]))

@@ -4,7 +4,7 @@ import sys
 
 from .packing import left_out, pack
 from .catalogue import Catalogue
-from .finding import Failure
+from .finding import Failure, warn
 from .inputs import Inputs
 from .limits import judge, over_the_limit
 from .status import BAD_INPUT, DONE
@@ -16,8 +16,7 @@ def run(words):
     faults = [finding for finding in found if not finding.warns]
     if faults:
         raise Failure(BAD_INPUT, *faults)
-    for path in left_out(words.folder):
-        print(f"tools/warehouse: {path} is no part of a bundle", file=sys.stderr)
+    warn(f"tools/warehouse: {path} is no part of a bundle" for path in left_out(words.folder))
     try:
         bundle = pack(words.folder)
     except ValueError as error:

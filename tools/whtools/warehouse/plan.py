@@ -1,7 +1,6 @@
 """`plan`: a plan of least work for a folder, on standard output; from where its sizes are, on standard error."""
 
-import sys
-
+from .finding import warn
 from .folder import sound
 from .planning import planned
 from .status import DONE
@@ -9,6 +8,6 @@ from .status import DONE
 
 def run(words):
     plan, _, source = planned(sound(words.folder), words, words.through)
-    print(f"sizes {source}", file=sys.stderr)
+    warn([f"sizes {source}"])
     print(plan, end="")
     return DONE

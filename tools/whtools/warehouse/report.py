@@ -49,7 +49,8 @@ def put(file, text):
     part = file.with_name(f".{file.name}.{os.getpid()}")
     try:
         with telling(file):
-            part.write_bytes(text.encode())
+            # A folder's name may be no text.
+            part.write_bytes(text.encode(errors="replace"))
             os.rename(part, file)
     finally:
         remove(part)

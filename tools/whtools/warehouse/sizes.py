@@ -3,12 +3,11 @@ given or proposed."""
 
 import csv
 import io
-import sys
 
 from ..sizes import MOST_ROWS, ROWS, WITH_WEIGHTS
 from . import program, refusals
 from .by_lines import counted, counted_through, has_whole_lines
-from .finding import Failure
+from .finding import Failure, warn
 from .folder import sound
 from .given_sizes import FILE, GivenSizes
 from .status import BAD_INPUT, DONE
@@ -138,6 +137,6 @@ def sizes_text(folder, words):
 
 def run(words):
     text, source = sizes_text(sound(words.folder), words)
-    print(f"sizes {source}", file=sys.stderr)
+    warn([f"sizes {source}"])
     print(text, end="")
     return DONE
