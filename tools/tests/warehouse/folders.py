@@ -8,6 +8,9 @@ import sys
 import time
 from contextlib import contextmanager
 from pathlib import Path
+from unittest import mock
+
+from whtools.warehouse import stopped
 
 from .shop import SHOP, TOOLS, Shop, contents
 
@@ -312,6 +315,14 @@ class Settled(Kept):
         self.assertEqual(self.ran("night"), (0, [self.FINISHED]))
         self.assertEqual((os.readlink(self.folder / "current"), self.versions()), ("versions/2", ["1", "2"]))
         self.assertFalse((self.folder / "current.part").is_symlink())
+
+    def test_a_rest_that_cannot_be_removed_is_told_and_ends_no_night(self):
+        rest = self.folder / "versions/0.gone"
+        (self.folder / "versions/0").rename(rest)
+        with mock.patch.object(stopped, "remove", side_effect=PermissionError(13, "Permission denied", f"{rest}/data")):
+            told = stopped.unremoved(rest)
+        self.assertEqual(told, [f"{rest} is not wanted any more, and cannot be removed: {rest}/data: Permission denied"])
+        self.assertEqual((stopped.settle(self.folder), rest.exists()), ([], False))
 
     def test_without_current_the_newest_version_counts(self):
         os.unlink(self.folder / "current")

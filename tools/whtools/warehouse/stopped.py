@@ -2,6 +2,7 @@
 
 from .claim import put_back
 from .disk import remove, sync
+from .finding import of_system
 from .versions import GONE, PART, TURNED, VERSIONS, ending, named, point, turn, whole
 
 FINISHED = "a night that was stopped is finished"
@@ -19,12 +20,21 @@ def is_stopped(folder):
     return is_behind(folder) or bool(ending(folder, PART))
 
 
+def unremoved(scrap):
+    """Removes what nobody reads any more. Where that cannot be, as of another owner's, nights go on; what is told of it."""
+    try:
+        remove(scrap)
+    except OSError as error:
+        return [f"{scrap} is not wanted any more, and cannot be removed: {of_system(error)}"]
+    return []
+
+
 def settle(folder):
     """Finishes a night that was decided, undoes one that was not, and says so."""
     said = []
     remove(folder / TURNED)
     for scrap in [*ending(folder, GONE), folder / "new.part", folder / "new.old"]:
-        remove(scrap)
+        said += unremoved(scrap)
     if is_behind(folder):
         sync(folder / VERSIONS)
         point(folder, whole(folder)[-1])
