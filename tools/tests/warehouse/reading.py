@@ -9,8 +9,9 @@ import subprocess
 import sys
 from pathlib import Path
 from threading import Thread
+from unittest import mock
 
-from whtools.warehouse import held
+from whtools.warehouse import held, versions
 from whtools.warehouse.finding import Failure
 from whtools.warehouse.reading import STEP, Table, selected
 
@@ -175,3 +176,34 @@ class Holding(Kept):
         kept = held.hold(self.folder / "versions/0")
         self.assertIsNotNone(kept)
         os.close(kept)
+
+    def test_who_holds_a_version_alone_has_nobody_wait_for_long(self):
+        self.night()
+        handle = os.open(self.folder / "versions/1", os.O_RDONLY)
+        fcntl.flock(handle, fcntl.LOCK_EX)
+        told = (f"{self.folder}/versions/1 is held by somebody alone; readers hold it by flock --shared",)
+        with mock.patch.object(versions, "PATIENCE", 0.05):
+            for hold in (lambda: versions.State(self.folder), lambda: held.Held(self.folder), lambda: held.Held(self.folder, 1)):
+                with self.assertRaises(Failure) as found:
+                    hold()
+                self.assertEqual((found.exception.status, found.exception.lines), (6, told))
+        os.close(handle)
+        self.assertEqual(versions.State(self.folder).number, 1)
+
+    def test_a_version_that_goes_while_it_is_waited_for_is_none(self):
+        self.night()
+        self.put()
+        self.night()
+        version, handle = self.folder / "versions/1", os.open(self.folder / "versions/1", os.O_RDONLY)
+        os.unlink(self.folder / "current")
+        os.symlink("versions/1", self.folder / "current")
+        fcntl.flock(handle, fcntl.LOCK_EX)
+
+        def turn(_):
+            os.unlink(self.folder / "current")
+            os.symlink("versions/2", self.folder / "current")
+            version.rename(version.with_name("1.gone"))
+
+        with mock.patch.object(versions.time, "sleep", turn):
+            self.assertEqual(versions.State(self.folder).number, 2)
+        os.close(handle)

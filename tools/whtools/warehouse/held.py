@@ -1,11 +1,10 @@
 """Versions that are held while they are read. Nothing here waits: a version that is being removed is one that is gone."""
 
-import fcntl
 import os
 
 from .finding import Failure
-from .status import BAD_INPUT
-from .versions import VERSIONS, named, place, whole
+from .status import AT_WORK, BAD_INPUT
+from .versions import ALONE, VERSIONS, is_shared, named, place, whole
 
 
 def hold(version):
@@ -14,14 +13,16 @@ def hold(version):
         handle = os.open(version, os.O_RDONLY | os.O_DIRECTORY)
     except OSError:
         return None
-    try:
-        fcntl.flock(handle, fcntl.LOCK_SH | fcntl.LOCK_NB)
-        if version.is_dir():
-            return handle
-    except BlockingIOError:
-        pass
+    if is_shared(handle) and version.is_dir():
+        return handle
     os.close(handle)
     return None
+
+
+def lost(folder, number, text):
+    """That a version is not there, by this text, or that it is and cannot be held."""
+    version = place(folder, number)
+    return Failure(AT_WORK, f"{version} {ALONE}") if version.is_dir() else Failure(BAD_INPUT, text)
 
 
 def hold_current(folder):
@@ -35,7 +36,7 @@ def hold_current(folder):
         if handle is not None:
             return number, handle
         if number == tried:
-            raise Failure(BAD_INPUT, f"{folder / 'current'} names {VERSIONS}/{number}, which is not there")
+            raise lost(folder, number, f"{folder / 'current'} names {VERSIONS}/{number}, which is not there")
         tried = number
 
 
@@ -44,7 +45,7 @@ def hold_one(folder, number):
     handle = hold(place(folder, number))
     if handle is None:
         there = ", ".join(map(str, whole(folder))) or "none"
-        raise Failure(BAD_INPUT, f"there is no version {number} in {folder}; there are {there}")
+        raise lost(folder, number, f"there is no version {number} in {folder}; there are {there}")
     return number, handle
 
 

@@ -6,14 +6,27 @@
 import fcntl
 import os
 import re
+import time
 
 from .disk import remove, sync
 from .finding import Failure
-from .status import BAD_INPUT
+from .status import AT_WORK, BAD_INPUT
 
 CURRENT, TURNED, VERSIONS, DELTAS = "current", "current.part", "versions", "deltas"
 NUMBER, LINK = re.compile(r"0|[1-9][0-9]*"), re.compile(r"versions/(0|[1-9][0-9]*)/?")
 PART, GONE = ".part", ".gone"
+# For how many seconds a version is waited for that somebody holds alone, how long at a time, and what is told then.
+PATIENCE, PAUSE = 5, 0.01
+ALONE = "is held by somebody alone; readers hold it by flock --shared"
+
+
+def is_shared(handle):
+    """Whether the shared lock could be taken."""
+    try:
+        fcntl.flock(handle, fcntl.LOCK_SH | fcntl.LOCK_NB)
+    except BlockingIOError:
+        return False
+    return True
 
 
 def whole(folder):
@@ -83,12 +96,17 @@ class State:
         return self.folder / "views/report.txt" if self.number is None else self.root / "report.txt"
 
     def hold(self):
-        """Takes the shared lock on the version, and answers whether it is still there."""
+        """Takes the shared lock on the version, and answers whether it is still there. Nobody is waited for for long."""
         try:
             handle = os.open(self.root, os.O_RDONLY | os.O_DIRECTORY)
         except OSError:
             return False
-        fcntl.flock(handle, fcntl.LOCK_SH)
+        due = time.monotonic() + PATIENCE
+        while not is_shared(handle) and self.root.is_dir():
+            if time.monotonic() > due:
+                os.close(handle)
+                raise Failure(AT_WORK, f"{self.root} {ALONE}")
+            time.sleep(PAUSE)
         if self.root.is_dir():
             self.handle = handle
             return True
