@@ -1,5 +1,6 @@
 """What a night writes, and from where its sizes are."""
 
+import os
 import subprocess
 import sys
 from pathlib import Path
@@ -101,6 +102,29 @@ class Nights(Shop):
         self.answer_as_the_shop()
         self.assertEqual(self.ran("night", "--commit"), (0, []))
         self.assertTrue((self.folder / "current/views/daily_by_region.csv").samefile(one))
+
+    def test_a_table_that_was_written_after_its_night_is_told_and_all_views_are_made_anew(self):
+        self.assertEqual(self.ran("night", "--commit"), (0, []))
+        stays = ANSWER.read_bytes().removesuffix(b"status 0\n").replace(b"inst daily_by_region: 8", b"inst daily_by_region: 0")
+        self.answers(stays, 0)
+        view = (self.folder / "current/views/daily_by_region.csv").read_bytes()
+        for number, name in enumerate(("views/daily_by_region.csv", "data/orders.csv"), 1):
+            file = self.folder / f"versions/{number}/{name}"
+            file.chmod(0o644)
+            file.write_bytes(file.read_bytes().replace(b"Wednesday,south", b"Wednesday,west"))
+            status, told = self.ran("night", "--commit")
+            warned = f"versions/{number}/{name}:1:1: warning: this was written after its night"
+            self.assertEqual((status, [line.partition(", and ")[0] for line in told]), (0, [warned]))
+            self.assertEqual(os.readlink(self.folder / "current"), f"versions/{number + 1}")
+            self.assertEqual((self.folder / "current/views/daily_by_region.csv").read_bytes(), view)
+        self.assertEqual(self.ran("night", "--commit"), (0, []))
+        self.assertEqual(os.readlink(self.folder / "current"), "versions/3")
+
+    def test_a_view_that_a_version_has_lost_is_made_where_nothing_changed(self):
+        self.assertEqual(self.ran("night", "--commit"), (0, []))
+        (self.folder / "versions/1/views/sales.csv").unlink()
+        self.assertEqual(self.ran("night", "--commit"), (0, []))
+        self.assertTrue((self.folder / "versions/2/views/sales.csv").is_file())
 
     def sizes(self):
         command = [sys.executable, TOOLS / "warehouse", "sizes", self.folder, "--program", self.program]

@@ -33,7 +33,7 @@ class Kept:
 
     def __init__(self, folder):
         self.folder, self.rows, last = folder, told_rows(folder), folder.state.root
-        self.is_as_before = is_same(last / CATALOGUE, folder.catalogue.content)
+        self.is_as_before = is_same(last / CATALOGUE, folder.catalogue.content) and not folder.inputs.later
         self.files = {view.name: last / "views" / f"{view.name}.csv" for view in folder.views if not view.is_base}
 
     def file(self, name):

@@ -104,8 +104,8 @@ def finish(words, number):
 
 
 def quiet(words):
-    """Where a night would change nothing, what is told of it, and else None: the version is of this catalogue and has all base tables, and
-    no file of changes has a row. Files with a header alone stay where they are.
+    """Where a night would change nothing, what is told of it, and else None: the version is of this catalogue and has all tables as they
+    were made, and no file of changes has a row. Files with a header alone stay where they are.
     """
     inputs = Inputs(words.folder)
     files = [source for sources in inputs.changes.values() for source in sources]
@@ -115,7 +115,8 @@ def quiet(words):
         return None
     folder = judged(Folder(words.folder))
     folder.state.release()
-    if any(not records.is_made for records in folder.data.values()):
+    tables = [folder.state.root / f"views/{view.name}.csv" for view in folder.views if not view.is_base]
+    if any(not records.is_made for records in folder.data.values()) or not all(table.is_file() for table in tables):
         return None
     if (words.folder / STRATEGY).is_file():
         strategy_of(folder)

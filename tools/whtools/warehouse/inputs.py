@@ -50,7 +50,8 @@ class Inputs:
         self.places = {"data": part / "given", "changes": part / "changes"} if part else {kind: folder / kind for kind in FORMS}
         self.changes = by_view(self.places["changes"], "changes", CHANGES)
         self.carried = tables(self.state.root / "data", self.state.told)
-        if self.state.number and self.is_catalogue_as_before():
+        self.later = self.written_later()
+        if self.state.number and self.is_catalogue_as_before() and not self.later:
             self.carried = {name: source._replace(is_made=True) for name, source in self.carried.items()}
         self.given = {} if self.state.number is None else tables(self.places["data"], "data")
 
@@ -58,6 +59,13 @@ class Inputs:
         """Whether the catalogue is that of the version, so that its tables have been judged by it."""
         files = [folder / "catalogue.toml" for folder in (self.folder, self.state.root)]
         return all(file.is_file() for file in files) and files[0].read_bytes() == files[1].read_bytes()
+
+    def written_later(self):
+        """The tables of the version that somebody wrote after its night: they are newer than its folder, in which they were made."""
+        root = self.state.root
+        made = root.stat().st_mtime_ns if self.state.number else 0
+        files = [path for kind in ("data", "views") for path in entries(root / kind)] if self.state.number else []
+        return [path.relative_to(self.folder) for path in files if path.is_file() and path.stat().st_mtime_ns > made]
 
     def table(self, name):
         """The table of a base view, or None."""
@@ -79,7 +87,8 @@ class Inputs:
     def findings(self, catalogue):
         """Files of data/ and changes/ that nothing reads, and tables that no night carries on."""
         bases = [view.name for view in catalogue.views if view.is_base]
-        found = []
+        text = "this was written after its night, and a version never changes; it is judged again, and all derived views are made anew"
+        found = [Finding(Place(str(path)), text, True) for path in self.later]
         for kind, form in (("data", TABLE), ("changes", CHANGES)):
             for path in entries(self.places[kind]):
                 found += filter(None, [self.judge(kind, form, path, bases, catalogue.names)])
