@@ -126,6 +126,20 @@ class Nights(Shop):
         self.assertEqual(self.ran("night", "--commit"), (0, []))
         self.assertTrue((self.folder / "versions/2/views/sales.csv").is_file())
 
+    def test_how_many_rows_a_view_had_is_left_open_where_it_is_defined_in_another_way(self):
+        self.assertEqual(self.ran("night", "--commit"), (0, []))
+        self.edit("catalogue.toml", '["cost", ["*", "lines.pieces", "products.price"]],', '["cost", "products.price"],')
+        self.assertEqual(self.ran("night", "--commit"), (0, []))
+        report = (self.folder / "current/report.txt").read_text()
+        self.assertIn("\nproducts,4,4,0\nsales,,9,8\ndaily_by_product,,8,8\ndaily_by_region,,6,8\n", report)
+        self.edit("catalogue.toml", 'sum = [["cost", "sales.cost"]]', "sum = []")
+        self.assertEqual(self.ran("night", "--commit"), (0, []))
+        report = (self.folder / "current/report.txt").read_text()
+        self.assertIn("\nsales,9,9,8\ndaily_by_product,8,8,8\ndaily_by_region,,6,8\n", report)
+        self.edit("catalogue.toml", "# A small shop", "# A shop")
+        self.assertEqual(self.ran("night", "--commit"), (0, []))
+        self.assertIn("\ndaily_by_region,6,6,8\n", (self.folder / "current/report.txt").read_text())
+
     def sizes(self):
         command = [sys.executable, TOOLS / "warehouse", "sizes", self.folder, "--program", self.program]
         ran = subprocess.run(command, capture_output=True, text=True, check=True)

@@ -7,6 +7,8 @@ import io
 from ..sizes import MOST_ROWS, ROWS, WITH_WEIGHTS
 from . import program, refusals
 from .by_lines import counted, counted_through, has_whole_lines
+from .catalogue import FILE as CATALOGUE
+from .catalogue import Catalogue
 from .finding import Failure, warn
 from .folder import sound
 from .given_sizes import FILE, GivenSizes
@@ -71,12 +73,26 @@ def rows_of(table):
     return counted(table) if has_whole_lines(table) else counted_through(table)
 
 
+def defined_as_before(folder):
+    """The names of the views that are defined as they were in the version, with all that they are over."""
+    if folder.inputs.is_catalogue_as_before() or not (folder.state.root / CATALOGUE).is_file():
+        return {view.name for view in folder.views}
+    before, found = {view.name: view.table for view in Catalogue(folder.state.root, lenient=True).views}, set()
+    for view in folder.views:
+        if view.table == before.get(view.name) and found.issuperset(view.over):
+            found.add(view.name)
+    return found
+
+
 def told_rows(folder):
-    """How many rows each derived view has, as far as it is known: from the last report, and none where all base tables are empty."""
+    """How many rows each derived view has, as far as it is known: from the last report, of views that are defined as they were; and none
+    where all base tables are empty.
+    """
     last, derived = last_report(folder), [view.name for view in folder.views if not view.is_base]
     if not any(before for before, _, _ in base_sizes(folder).values()):
         return dict.fromkeys(derived, 0)
-    return {name: last[name][1] for name in derived if name in last}
+    known = defined_as_before(folder) & last.keys()
+    return {name: last[name][1] for name in derived if name in known}
 
 
 def rows_before(folder, words):
