@@ -2,6 +2,7 @@
 
 import random
 import re
+import shutil
 from html.parser import HTMLParser
 from types import SimpleNamespace
 
@@ -207,6 +208,16 @@ class Reports(Kept):
         self.assertIn("Thursday", read.text)
         lost = "No rows are shown of sales, daily_by_product, daily_by_region : the version before is no longer there, or has other columns."
         self.assertIn(lost, read.text)
+
+
+    def test_a_catalogue_without_views_has_no_page(self):
+        (self.folder / "catalogue.toml").write_text("view = []\n")
+        for name in ("changes", "data"):
+            shutil.rmtree(self.folder / name)
+        (self.folder / "strategy.txt").unlink()
+        self.answers(b"work 0\nversion 1\n", 0)
+        self.night()
+        self.assertEqual(self.ran("report"), (3, [f"version 1 of {self.folder} has no views, and no page"]))
 
 
 class Rows(Kept):

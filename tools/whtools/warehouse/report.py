@@ -63,6 +63,8 @@ def run(words):
         faults = [finding for finding in night.catalogue.findings if not finding.warns]
         if faults:
             raise Failure(BAD_INPUT, *faults)
+        if not night.views:
+            raise Failure(BAD_INPUT, f"{night.title} of {words.folder} has no views, and no page")
         text = text_of(night, words)
     file = words.folder / FOLDER / f"{'preview' if night.number is None else night.number}.html"
     put(file, text)
