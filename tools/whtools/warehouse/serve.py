@@ -71,8 +71,8 @@ class Handler(BaseHTTPRequestHandler):
 
     def refused(self):
         """Why a request is refused before it is looked at, or None: another host's name, another site's form, a body that is long."""
-        length = self.headers.get("Content-Length", "0")
-        if not is_between(length, 0, MOST_BODY) or self.headers.get("Transfer-Encoding"):
+        length, *others = self.headers.get_all("Content-Length", ["0"])
+        if others or not is_between(length, 0, MOST_BODY) or self.headers.get("Transfer-Encoding"):
             self.close_connection = True
             return as_json(HTTPStatus.REQUEST_ENTITY_TOO_LARGE, {"error": "no request here has a body"})
         self.rfile.read(int(length))
