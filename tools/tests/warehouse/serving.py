@@ -110,6 +110,10 @@ class Rows(Served):
         self.assertNotIn(b"<script", body)
         self.assertIn("default-src 'none'", headers["Content-Security-Policy"])
         self.assertEqual(self.asked("/reports/1.html")[2], b"<!DOCTYPE html><title>a report</title>")
+        os.utime(self.folder / "reports/1.html", (1, 1))
+        told = f"there is no report 1.html; `tools/warehouse report {self.folder} 1` makes it"
+        self.refused("/reports/1.html", 404, told)
+        self.assertNotIn(b"/reports/1.html", self.asked("/", Accept="text/html")[2])
         self.assertIn("The views of version 1", Page(self.asked("/?version=1")[2].decode()).text)
 
     def test_a_head_has_no_body(self):
@@ -266,8 +270,12 @@ class Hostile(Served):
 
     def raw(self, target):
         """The first line of the answer to a request whose target is these bytes, and its body."""
+        return self.sent(b"GET %s HTTP/1.1\r\nHost: localhost\r\nConnection: close\r\n\r\n" % target)
+
+    def sent(self, request):
+        """The first line of the answer to these bytes, and what else comes."""
         with socket.create_connection(self.server.server_address, timeout=20) as connection:
-            connection.sendall(b"GET %s HTTP/1.1\r\nHost: localhost\r\nConnection: close\r\n\r\n" % target)
+            connection.sendall(request)
             head, _, body = b"".join(iter(lambda: connection.recv(4096), b"")).partition(b"\r\n\r\n")
         return head.partition(b"\r\n")[0], body
 
@@ -287,6 +295,11 @@ class Hostile(Served):
 
     def test_a_length_of_five_thousand_digits_is_too_long(self):
         self.refused("/session", 413, "no request here has a body", "POST", Content_Length="9" * 5000)
+
+    def test_a_request_with_two_lengths_is_refused_with_all_that_is_behind_it(self):
+        behind = b"GET /orders HTTP/1.1\r\nHost: localhost\r\n\r\n"
+        head, body = self.sent(b"POST /session HTTP/1.1\r\nHost: localhost\r\nContent-Length: 0\r\nContent-Length: 42\r\n\r\n" + behind)
+        self.assertEqual((head, json.loads(body)["error"]), (b"HTTP/1.1 413 Request Entity Too Large", "no request here has a body"))
 
     def test_a_request_that_comes_byte_by_byte_is_not_waited_for(self):
         with mock.patch.object(serve, "PATIENCE", 0.4), socket.create_connection(self.server.server_address) as slow:

@@ -18,10 +18,10 @@ from urllib.parse import parse_qsl, unquote, urlencode, urlsplit
 from .finding import Failure
 from .held import Held
 from .reading import Missing, Tables, as_object, csv_lines, selected, whole_number
-from .serve_page import page_of
+from .serve_page import is_page_of, page_of
 from .sessions import Full, Over, Sessions
 from .status import BAD_WORDS
-from .versions import named, whole
+from .versions import named, place, whole
 
 # How many pages of rows are made at once; each takes memory, and one processor makes them all.
 AT_ONCE = 16
@@ -288,11 +288,14 @@ class Answers:
         return Answer(HTTPStatus.OK, HTML, text.encode(), cookie("", 0) if over else {})
 
     def report(self, name):
-        """A page of a night, which `report` made; a link is none."""
+        """A page of a night, which `report` made; a link is none, nor is the page of a night whose number came again."""
+        file, version = self.folder / "reports" / name, place(self.folder, name.removesuffix(".html"))
         try:
-            handle = os.open(self.folder / "reports" / name, os.O_RDONLY | os.O_NOFOLLOW)
+            if version.is_dir() and not is_page_of(file, version):
+                raise FileNotFoundError
+            handle = os.open(file, os.O_RDONLY | os.O_NOFOLLOW)
         except OSError:
-            made = f"`tools/warehouse report {self.folder} {name.removesuffix('.html')}` makes it"
+            made = f"`tools/warehouse report {self.folder} {version.name}` makes it"
             raise Refused(HTTPStatus.NOT_FOUND, f"there is no report {name}; {made}") from None
         with io.FileIO(handle) as file:
             return Answer(HTTPStatus.OK, HTML, file.readall())

@@ -20,6 +20,14 @@ def report_of(folder, version):
         return None
 
 
+def is_page_of(file, version):
+    """Whether there is a page of a version: one that is older is of a night before, which was moved away."""
+    try:
+        return file.stat().st_mtime_ns >= version.stat().st_mtime_ns
+    except OSError:
+        return False
+
+
 def view_row(tables, name, sizes):
     """A view, with its columns and the ways to its rows."""
     view, version = tables.views.get(name), tables.number
@@ -41,7 +49,8 @@ def version_row(folder, version, current, shown):
     marks = [word for word, is_it in (("current", version == current), ("shown here", version == shown)) if is_it]
     tags = " ".join(element("span", mark, class_="tag") for mark in marks)
     name = element("a", f"version {version}", href=f"/?version={version}")
-    report = element("a", "report", href=f"/reports/{version}.html") if (folder / f"reports/{version}.html").is_file() else ""
+    has_page = is_page_of(folder / f"reports/{version}.html", place(folder, version))
+    report = element("a", "report", href=f"/reports/{version}.html") if has_page else ""
     numbers = [number(found.work), number(sum(size[2] for size in found.sizes.values()))] if found else ["", ""]
     return row([(name, "fit"), tags, (made, "fit"), *numbers, (report, "fit")])
 
