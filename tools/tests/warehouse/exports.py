@@ -48,6 +48,7 @@ class Differences(unittest.TestCase):
     def test_an_export_of_another_program_is_read_by_the_names_of_its_columns(self):
         before, changes = b'#,order_id,name\n1,1,jam\n1,2,"tea; black"\n', b"#,order_id,name\n-1,1,jam\n1,3,honey\n"
         forms = [b'name,order_id\n"tea; black",2\nhoney,3\n', b'\xef\xbb\xbfOrder ID;Name\r\n2;"tea; black"\r\n3;honey\r\n']
+        forms += [b'\nOrder ID|Name\n2|"tea; black"\n3|honey\n', b"Name,Order-ID\rtea; black,2\rhoney,3\r"]
         for after in [*forms, b"#\torder_id\tname\n1\t2\ttea; black\n1\t3\thoney\n"]:
             with self.subTest(after=after):
                 self.assertEqual(self.ran(before, after), (0, changes, []))

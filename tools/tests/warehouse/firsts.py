@@ -136,6 +136,7 @@ class Faults(Room):
         told = f"ROOM/t.csv:2:1: the record that begins here is not CSV: unexpected end of data; {cure}"
         self.judge(told, t='a,b\n1,"x\n2,y\n3,z\n')
         self.judge("ROOM/t.csv:2:1: this line is not UTF-8; iconv -f LATIN1 -t UTF-8 may make it so", t=b"a\n\xe4\n")
+        self.judge("ROOM/t.csv:1:1: this line is not UTF-8; iconv -f UTF-16 -t UTF-8 may make it so", t="a\n1\n".encode("utf-16"))
         self.judge("ROOM/t.csv:1:1: this file has 65 columns; a view has 1 to 64", t=",".join(f"c{n}" for n in range(65)))
         self.judge("ROOM/t.csv:1:1: the column # has counts, which are positive, and '-1' is none", t="#,a\n-1,2\n")
 

@@ -1,5 +1,6 @@
 """CSV files as other programs write them, read as base tables: their names, columns, kinds and rows."""
 
+import codecs
 import csv
 import io
 import re
@@ -17,7 +18,9 @@ from .written import text_of
 WHOLE, DECIMAL = re.compile(r"0|-?[1-9][0-9]{0,18}"), re.compile(r"[+-]?[0-9]+[.,][0-9]+")
 DATE = re.compile(r"[0-9]{4}-[0-9]{2}-[0-9]{2}([ T].*)?|[0-9]{1,2}[./][0-9]{1,2}[./][0-9]{4}")
 DAY = re.compile(r"(19|20)[0-9]{2}(0[1-9]|1[0-2])(0[1-9]|[12][0-9]|3[01])")
-DELIMITERS = ",;\t|"
+DELIMITERS, FIRST_LINE = ",;\t|", re.compile("[\r\n]*([^\r\n]*)")
+# What a text of 16 bits a letter begins with.
+MARKS_16 = (codecs.BOM_UTF16_LE, codecs.BOM_UTF16_BE)
 
 
 def name_of(text, usual):
@@ -112,10 +115,10 @@ class Export:
         try:
             text = self.path.read_bytes().removeprefix(MARK).decode()
         except UnicodeDecodeError as error:
-            line = self.path.read_bytes()[: error.start].count(b"\n") + 1
-            raise Failure(BAD_INPUT, f"{self.path}:{line}:1: this line is not UTF-8; iconv -f LATIN1 -t UTF-8 may make it so") from None
-        first = text.partition("\n")[0]
-        delimiter = max(DELIMITERS, key=first.count)
+            content = self.path.read_bytes()
+            line, other = content[: error.start].count(b"\n") + 1, "UTF-16" if content.startswith(MARKS_16) else "LATIN1"
+            raise Failure(BAD_INPUT, f"{self.path}:{line}:1: this line is not UTF-8; iconv -f {other} -t UTF-8 may make it so") from None
+        delimiter = max(DELIMITERS, key=FIRST_LINE.match(text)[1].count)
         self.reader = csv.reader(io.StringIO(text, newline=""), delimiter=delimiter, strict=True)
         return filter(None, self.read())
 
