@@ -207,6 +207,17 @@ class Pinned(Served):
         self.assertIn("Max-Age=0", headers["Set-Cookie"])
         self.assertEqual(self.found("/orders")["version"], 3)
 
+    def test_a_session_reads_no_other_version_of_the_number_that_it_pinned(self):
+        session = json.loads(self.asked("/session", "POST")[2])["session"]
+        (self.folder / "versions/2").rename(self.folder.parent / "moved")
+        os.unlink(self.folder / "current")
+        os.symlink("versions/1", self.folder / "current")
+        self.put(b"#,id,day,region\n1,9,Friday,north\n")
+        self.night()
+        self.assertEqual(self.found("/orders")["version"], 2)
+        told = "version 2 is another one than this session pinned, which was moved away"
+        self.refused(f"/orders?session={session}", 410, told)
+
     def test_sessions_are_bounded_and_of_their_names_nothing_can_be_guessed(self):
         sessions = Sessions(self.folder, 5, lambda: 0.0)
         names = {sessions.begin().name for _ in range(MOST)}

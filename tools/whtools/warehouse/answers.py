@@ -211,9 +211,13 @@ class Answers:
             raise Refused(HTTPStatus.CONFLICT, text)
         number = session.pin.number if session else number
         try:
-            return Held(self.folder, number)
+            held = Held(self.folder, number)
         except Failure as failure:
             raise self.lost(number, failure) from None
+        if session and not os.path.sameopenfile(held.handle, session.pin.held.handle):
+            held.release()
+            raise Refused(HTTPStatus.GONE, f"version {number} is another one than this session pinned, which was moved away")
+        return held
 
     def lost(self, number, failure):
         """Why a version cannot be read."""
