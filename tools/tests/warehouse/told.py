@@ -269,6 +269,17 @@ class Rules(Shop):
         (self.folder / "strategy.txt").write_text("".join(f"{line}\n" for line in lines))
         return self.ran("check")
 
+    def test_words_are_parted_by_spaces_and_tabs_alone(self):
+        lines = (SHOP / "strategy.txt").read_text().splitlines()
+        (self.folder / "strategy.txt").write_bytes("".join(f"\t{line}\t \r\n" for line in lines).encode())
+        self.assertEqual(self.ran("lint"), (0, []))
+        for mark in ("\r", "\xa0", "\x0b", "\f"):
+            (self.folder / "strategy.txt").write_bytes("\n".join([*lines[:2], f"{lines[2]}{mark}{lines[3]}", *lines[4:]]).encode())
+            status, told = self.ran("lint")
+            self.assertEqual((status, told[0].startswith("strategy.txt:3:")), (3, True), mark)
+            (self.folder / "strategy.txt").write_bytes("\n".join([*lines, mark + mark]).encode())
+            self.assertEqual(self.ran("lint")[0], 3, mark)
+
     def test_s1_a_comp_too_many_and_one_that_is_missing(self):
         rule = "rule S1, each view's changes are computed into each view over it, once: "
         lines = (SHOP / "strategy.txt").read_text().splitlines()

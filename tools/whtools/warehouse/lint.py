@@ -15,7 +15,7 @@ def strategy_findings(folder):
     file = folder.path / FILE
     if not file.is_file() or any(not finding.warns for finding in folder.catalogue.findings):
         return []
-    strategy = Strategy(file.read_text(errors="replace"), folder.views)
+    strategy = Strategy(file.read_bytes().decode(errors="replace"), folder.views)
     return strategy.findings or list(filter(None, [strategy.broken()]))
 
 

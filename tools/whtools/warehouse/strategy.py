@@ -2,6 +2,7 @@
 
 from types import SimpleNamespace
 
+from ..bundle import words_of
 from ..strategies import rules
 from .finding import MARK, MARKED, Finding, Place, nearest
 
@@ -37,11 +38,12 @@ class Strategy:
         if text.startswith(MARK.decode()):
             self.findings.append(Finding(Place(FILE), MARKED))
         for number, line in enumerate(text.removeprefix(MARK.decode()).split("\n"), 1):
-            if line.split():
-                self.take(line, number)
+            self.take(line, number)
 
     def take(self, line, number):
-        words = line.split()
+        words = next(iter(words_of([line])), None)
+        if not words:
+            return
         is_inst = words[0] == "inst" and len(words) == 2
         if not is_inst and not (words[0] == "comp" and len(words) > 3 and words[2] == "from"):
             text = f'"{" ".join(words)}" is no expression; it is "comp V from U .." or "inst V"'
