@@ -51,6 +51,10 @@ class Streams(Kept):
             self.assertIn(b"\xff", said)
         self.assertIn("sh?op", (odd / "reports/1.html").read_text())
 
+    def test_the_tool_is_found_by_its_own_place(self):
+        given = os.environ | {"PYTHONSAFEPATH": "1"}
+        self.assertEqual(self.ended(["lint", self.folder], stdout=subprocess.PIPE, stderr=subprocess.PIPE, env=given)[::2], (0, b""))
+
     def test_an_answer_that_is_not_there_is_empty(self):
         status, _, told = self.ended(["unpack", self.folder / "tables"], [0], stderr=subprocess.PIPE)
         self.assertEqual((status, told), (3, b"tools/warehouse: this answer is empty\n"))
