@@ -304,6 +304,12 @@ class Settled(Kept):
         self.assertEqual(self.ran("night"), (0, [self.UNDONE]))
         self.assertEqual(self.changes(), {"orders.csv": NEXT})
 
+    def test_files_that_are_one_on_the_disk_all_come_back(self):
+        self.stopped("changes/orders.csv")
+        os.link(self.folder / "versions/2.part/changes/orders.csv", self.folder / "versions/2.part/changes/orders.1.csv")
+        self.assertEqual(self.ran("night"), (0, [self.UNDONE]))
+        self.assertEqual(self.changes(), {"orders.csv": NEXT, "orders.1.csv": NEXT})
+
     def test_a_version_that_was_decided_becomes_the_current_one(self):
         self.put()
         self.night()

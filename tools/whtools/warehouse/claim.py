@@ -128,8 +128,12 @@ def files_back(taken, home):
     files = sorted(taken.iterdir())
     if files:
         os.makedirs(home, exist_ok=True)
+    there = identities(home) if files else ()
     for file in files:
-        give_back(file, home)
+        if identity(file.stat()) in there:
+            writable(file)
+        else:
+            give_back(file, home)
     if files:
         sync(home)
     for file in files:
@@ -138,10 +142,8 @@ def files_back(taken, home):
 
 
 def give_back(file, home):
-    """Links a file under its name, or where that is taken under the next free one. It may be there already."""
+    """Links a file under its name, or where that is taken under the next free one."""
     writable(file)
-    if is_there(file, home):
-        return
     for name in names(file.name):
         try:
             os.link(file, home / name)
@@ -156,11 +158,15 @@ def give_back(file, home):
             return
 
 
-def is_there(file, home):
-    """Whether a file stands in a folder, under whatever name."""
-    one = file.stat()
-    with os.scandir(home) as entries:
-        return any(os.path.samestat(one, entry.stat(follow_symlinks=False)) for entry in entries)
+def identity(found):
+    """By what a file is known, under whatever name it stands."""
+    return found.st_dev, found.st_ino
+
+
+def identities(folder):
+    """Those of all that stands in a folder; a file that a night gives back may be there already."""
+    with os.scandir(folder) as entries:
+        return {identity(entry.stat(follow_symlinks=False)) for entry in entries}
 
 
 def names(name):
