@@ -262,6 +262,18 @@ class Locked(Kept):
         self.assertEqual((ran.returncode, ran.stderr), (5, f"the night is done, and is versions/1; {cause}\n"))
 
 
+    def test_a_night_whose_lock_was_removed_is_undone_where_another_one_may_be_at_work(self):
+        self.night()
+        for content in (None, "process 1 on host here since 2026-11-28 02:15:00\n"):
+            self.put()
+            with self.under_way("--commit") as running:
+                (self.folder / ".lock").unlink()
+                if content:
+                    (self.folder / ".lock").write_text(content)
+            self.assertEqual((running.returncode, self.versions(), self.changes()), (6, ["0", "1"], {"orders.csv": NEXT}))
+            self.assertIn(f"{self.folder}/.lock was removed while this night was at work", running.told)
+
+
 class Settled(Kept):
     """What a stopped night left is finished or undone by the next."""
 

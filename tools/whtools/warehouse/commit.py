@@ -3,6 +3,7 @@
 import os
 from itertools import islice
 
+from . import lock
 from .carried import carried
 from .catalogue import Catalogue
 from .check import strategy_of
@@ -78,6 +79,7 @@ def decided(words, interrupts, number, judged):
             keep(part)
             point(words.folder, number)
             claim.judge()
+            lock.judge(words.folder)
         finally:
             interrupts.armed = False
         os.rename(part, place(words.folder, number))

@@ -41,6 +41,19 @@ def at_work(folder):
         os.close(handle)
 
 
+def mine():
+    """What the file that is locked begins with, where this process holds the lock."""
+    return f"process {os.getpid()} on host {os.uname().nodename} since "
+
+
+def judge(folder):
+    """Judges that the file that is locked is the one that this night signed: who removes it lets another night in."""
+    file = folder / FILE
+    if not file.is_file() or not file.read_bytes().startswith(mine().encode(errors="replace")):
+        told = f"{file} was removed while this night was at work, which lets another one in; nothing is changed"
+        raise Failure(AT_WORK, f"{told}; let the file be, the lock ends with its night")
+
+
 class Lock:
     """A folder is this night's alone. The system frees the lock when the process ends, however it ends."""
 
@@ -62,7 +75,7 @@ class Lock:
     def sign(self):
         """Writes who is at work."""
         since = time.strftime("%Y-%m-%d %H:%M:%S")
-        about = f"process {os.getpid()} on host {os.uname().nodename} since {since}\n{' '.join(sys.argv)}\n"
+        about = f"{mine()}{since}\n{' '.join(sys.argv)}\n"
         os.ftruncate(self.handle, 0)
         os.pwrite(self.handle, about.encode(errors="replace"), 0)
 
