@@ -190,6 +190,12 @@ class Holding(Kept):
         os.close(handle)
         self.assertEqual(versions.State(self.folder).number, 1)
 
+    def test_a_version_that_may_not_be_read_is_told_as_such(self):
+        self.night()
+        with mock.patch.object(os, "open", side_effect=PermissionError(13, "Permission denied")):
+            for hold in (lambda: versions.State(self.folder), lambda: held.Held(self.folder), lambda: held.Held(self.folder, 1)):
+                self.assertRaises(PermissionError, hold)
+
     def test_a_version_that_goes_while_it_is_waited_for_is_none(self):
         self.night()
         self.put()

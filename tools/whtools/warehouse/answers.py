@@ -15,7 +15,7 @@ from threading import BoundedSemaphore
 from typing import NamedTuple
 from urllib.parse import parse_qsl, unquote, urlencode, urlsplit
 
-from .finding import Failure
+from .finding import Failure, of_system
 from .held import Held
 from .reading import Missing, Tables, as_object, csv_lines, selected, whole_number
 from .serve_page import is_page_of, page_of
@@ -214,6 +214,8 @@ class Answers:
             held = Held(self.folder, number)
         except Failure as failure:
             raise self.lost(number, failure) from None
+        except OSError as error:
+            raise Refused(HTTPStatus.SERVICE_UNAVAILABLE, of_system(error)) from None
         if session and not os.path.sameopenfile(held.handle, session.pin.held.handle):
             held.release()
             raise Refused(HTTPStatus.GONE, f"version {number} is another one than this session pinned, which was moved away")

@@ -4,14 +4,14 @@ import os
 
 from .finding import Failure
 from .status import AT_WORK, BAD_INPUT
-from .versions import ALONE, VERSIONS, is_shared, named, place, whole
+from .versions import ALONE, NOT_THERE, VERSIONS, is_shared, named, place, whole
 
 
 def hold(version):
     """A handle by which nights let a version stay, or None where it is gone or is being removed."""
     try:
         handle = os.open(version, os.O_RDONLY | os.O_DIRECTORY)
-    except OSError:
+    except NOT_THERE:
         return None
     if is_shared(handle) and version.is_dir():
         return handle

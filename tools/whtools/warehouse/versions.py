@@ -15,6 +15,8 @@ from .status import AT_WORK, BAD_INPUT
 CURRENT, TURNED, VERSIONS, DELTAS = "current", "current.part", "versions", "deltas"
 NUMBER, LINK = re.compile(r"0|[1-9][0-9]*"), re.compile(r"versions/(0|[1-9][0-9]*)/?")
 PART, GONE = ".part", ".gone"
+# What a version is opened with that there is not; one that may not be read is told as such.
+NOT_THERE = (FileNotFoundError, NotADirectoryError)
 # For how many seconds a version is waited for that somebody holds alone, how long at a time, and what is told then.
 PATIENCE, PAUSE = 5, 0.01
 ALONE = "is held by somebody alone; readers hold it by flock --shared"
@@ -99,7 +101,7 @@ class State:
         """Takes the shared lock on the version, and answers whether it is still there. Nobody is waited for for long."""
         try:
             handle = os.open(self.root, os.O_RDONLY | os.O_DIRECTORY)
-        except OSError:
+        except NOT_THERE:
             return False
         due = time.monotonic() + PATIENCE
         while not is_shared(handle) and self.root.is_dir():
