@@ -125,7 +125,7 @@ def written(words):
     if words.sizes or words.sizes_after or words.costs:
         return of_database(words, script, asked(words, dialect))
     if words.uncapture:
-        return dialect.head + dialect.written(script.captures.uncapture())
+        return dialect.head + dialect.written(script.captures.uncapture(asked(words, dialect)))
     found = []
     for warning in catalogue.warnings if words.capture else ():
         print(f"tools/sql: {warning}", file=sys.stderr)

@@ -165,6 +165,10 @@ class SQLiteAsked:
         keys += [key for key in map(self.indexed, [index for index, _, partial in indexes if not partial]) if key and filled.issuperset(key)]
         return Table(said, told, keys, "it is WITHOUT ROWID" if self.is_without_rowid(said) else None)
 
+    def columns(self, table):
+        """The names of a table's columns."""
+        return [said for said, in self.rows(sql("SELECT x.name FROM pragma_table_xinfo({table}) AS x ORDER BY x.cid", table=text(table)))[0]]
+
     def indexed(self, index):
         """The columns of an index, or none where it is over more than columns."""
         columns = [column for column, in self.rows(sql("SELECT x.name FROM pragma_index_info({index}) AS x ORDER BY x.seqno", index=text(index)))[0]]

@@ -61,6 +61,8 @@ HOLES = (
      + FILE.replace("{part}", "p.part") + " AND p.attributes <> " + ATTRIBUTES.replace("{part}", "p.part").replace("{view}", "p.view"),
      "columns of %s were written anew"),
 )  # fmt: skip
+STRANGE = "there is a table %s already, which is none of --capture's: name another schema by --schema"
+UNKNOWN = "%s is captured too, and is not in this catalogue: a catalogue with all that is captured lets it go"
 UNTRUNCATED = "a table whose changes are captured is truncated at READ COMMITTED alone: another isolation does not see all rows that go"
 BUSY = "somebody is writing to %s all the time, and its triggers wait for a moment without: run the script again"
 
@@ -133,6 +135,15 @@ class Captures:
 
     # ---- tables
 
+    def no_strangers(self):
+        """A refusal of tables that have the night's names and were not made for it: those have counts, or room for groups that change."""
+        return self.dialect.refuse_with(sql(
+            "SELECT format({told}, k.oid::regclass) FROM pg_class AS k WHERE k.relnamespace = to_regnamespace({schema}) AND k.relname IN ({names})"
+            " AND NOT EXISTS (SELECT 1 FROM pg_attribute AS a WHERE a.attrelid = k.oid AND a.attname = {count})"
+            " AND NOT coalesce({room} = ANY (k.reloptions), FALSE) LIMIT 1", told=text(STRANGE), schema=self.written(name(self.dialect.schema)),
+            names=joined([text(each.said) for each in self.script.expected()]), count=text("#"), room=text(f"fillfactor={FILLED['summary']}"),
+        ))  # fmt: skip
+
     def made(self, sources):
         """The tables that are not there yet, the functions of the triggers, and what is captured."""
         schema = name(self.dialect.schema)
@@ -151,7 +162,8 @@ class Captures:
             is_missing = sql("to_regclass({table}) IS NULL", table=self.written(table))
             create = sql("CREATE TABLE {table} ({columns})", table=table, columns=columns)
             made += self.dialect.only_where(is_missing, [create, *more])
-        return self.dialect.creation([*made, *(each for v in sources for each in self.noted(v, sources[v]))])
+        noted = [each for v in sources for each in self.noted(v, sources[v])]
+        return self.dialect.creation([*self.no_strangers(), *made, *noted])
 
     def view_tables(self, v, sources):
         """The table of a view, with room on each page for rows that change; and that of its changes, which is not cut at its end, since whoever
@@ -347,20 +359,31 @@ class Captures:
         triggers = [each for v in sources for each in (self.fired(v), self.left(v))]
         return [*self.made(sources), *triggers, *self.filled(sources)]
 
-    def uncapture(self):
-        """Triggers first, so that no writer meets a table that is gone."""
+    def uncapture(self, _):
+        """Triggers first, so that no writer meets a table that is gone; what was not made by --capture stays as it is."""
         base = self.script.steps.base()
         tables = [self.script.table(v) for v in range(len(self.script.views))] + [self.script.table(v, "~changes") for v in base]
         tables += [self.state, self.columns, self.parts, self.script.own(JUDGED), *(self.script.own(said) for said, _ in self.script.history.tables())]
-        gone = [sql("DROP FUNCTION IF EXISTS {function}()", function=self.function(v)) for v in base]
-        gone += [sql("DROP TABLE IF EXISTS {table}", table=table) for table in tables]
+        gone = [sql("DROP TABLE IF EXISTS {table}", table=table) for table in tables]
         schema = name(self.dialect.schema)
         is_empty = sql(
-            "to_regnamespace({said}) IS NOT NULL AND NOT EXISTS (SELECT 1 FROM pg_depend AS d WHERE d.refclassid = {spaces}::regclass"
-            " AND d.refobjid = to_regnamespace({said}))", said=self.written(schema), spaces=text("pg_namespace"),
+            "NOT EXISTS (SELECT 1 FROM pg_depend AS d WHERE d.refclassid = {spaces}::regclass AND d.refobjid = to_regnamespace({said}))",
+            said=self.written(schema), spaces=text("pg_namespace"),
         )  # fmt: skip
-        gone += [self.dialect.where(is_empty, sql("DROP SCHEMA {schema}", schema=schema))]
-        return [*(self.let_go(v) for v in base), *self.dialect.creation(gone)]
+        functions = [sql("DROP FUNCTION IF EXISTS {function}()", function=self.function(v)) for v in base]
+        gone = [*functions, *gone, self.dialect.where(is_empty, sql("DROP SCHEMA {schema}", schema=schema))]
+        judged = self.dialect.creation(self.if_captured([*self.no_strangers(), *self.no_others()]))
+        return [*judged, *(self.let_go(v) for v in base), *self.dialect.creation(self.if_captured(gone))]
+
+    def if_captured(self, made):
+        """Statements that are carried out where anything was captured."""
+        return self.dialect.only_where(sql("to_regclass({state}) IS NOT NULL", state=self.written(self.state)), made)
+
+    def no_others(self):
+        """A refusal where more is captured than the catalogue has: its triggers want the tables that would go."""
+        views = joined([self.view(v) for v in self.script.steps.base()])
+        return self.dialect.refuse_with(sql("SELECT format({told}, c.view) FROM {state} AS c WHERE c.view NOT IN ({views}) LIMIT 1",
+                                            told=text(UNKNOWN), state=self.state, views=views))  # fmt: skip
 
     # ---- the tables of the night and of the application, which are judged where they changed
 

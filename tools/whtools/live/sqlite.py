@@ -183,12 +183,27 @@ class Captures:
         said = [said for v in self.script.steps.base() for said in self.trigger_names(v)]
         return [sql("DROP TRIGGER IF EXISTS {said}", said=self.named(each)) for each in said]
 
-    def uncapture(self):
-        base, script = self.script.steps.base(), self.script
+    def uncapture(self, database):
+        """What was not made by --capture stays as it is."""
+        base, script, there = self.script.steps.base(), self.script, database.names()
+        if f"{script.prefix}{CAPTURED}" not in there:
+            return self.dialect.creation(self.without_triggers())
+        self.judge_own(database, there)
         tables = [script.said(v) for v in range(len(script.views))] + [script.said(v, suffix) for v in base for suffix in ("~changes", REPLACED)]
         tables += [f"{script.prefix}{said}" for said in (CAPTURED, *(said for said, _ in script.history.tables()))]
         gone = [sql("DROP TABLE IF EXISTS {table}", table=self.named(said)) for said in tables]
         return self.dialect.creation([*self.without_triggers(), *gone])
+
+    def judge_own(self, database, there):
+        """Refuses tables that have the night's names and were not made for it, and to let go less than is captured."""
+        for each in self.script.expected():
+            columns = database.columns(each.said) if each.said.lower() in there else None
+            if columns is not None and [said.lower() for said in columns] != [said.lower() for said, _ in each.columns]:
+                raise Unfit(f"there is a table {each.said}, which is none of --capture's: name another word by --schema")
+        views = [self.script.views[v].name for v in self.script.steps.base()]
+        for said, in database.rows(sql("SELECT c.view FROM {state} AS c", state=self.state))[0]:
+            if said not in views and "~" not in said:
+                raise Unfit(f"{said} is captured too, and is not in this catalogue: a catalogue with all that is captured lets it go")
 
     # ---- a night's look at them
 

@@ -237,6 +237,35 @@ def uncapture_mistakes(live):
     return [f"--uncapture: {text}" for text in ([first] if first else []) + bare.differences(live.database.state())]
 
 
+# A table of the application's that has the name of one of the night's, by what it would be captured and let go; and less than is captured.
+TAKEN = {
+    "postgresql": ("CREATE TABLE lines (id int, product text, pieces int); INSERT INTO lines VALUES (7);", ("--schema", "public"), "lines"),
+    "sqlite": ("CREATE TABLE lines (id INT, product TEXT, pieces INT); CREATE TABLE shop_lines (id INT, product TEXT, pieces INT);"
+               " INSERT INTO shop_lines VALUES (7, 'x', 1);", ("--schema", "shop"), "shop_lines"),
+}  # fmt: skip
+OF_TAKEN = '[[view]]\nname = "lines"\ncolumns = ["id", "product:text", "pieces"]\n'
+
+
+def taken_mistakes(live):
+    """What is done to a table of the application's by captures that would take it for one of the night's."""
+    live.database.fresh()
+    made, words, name = TAKEN[live.engine]
+    live.database.make([made])
+    path, wrong, before = live.path / "taken", [], live.database.state()
+    path.mkdir(exist_ok=True)
+    (path / "catalogue.toml").write_text(OF_TAKEN)
+    for word, wanted in (("--uncapture", None), ("--capture", "none of --capture's"), ("--uncapture", None)):
+        found = asked(live, *words, word, path)
+        said = found.told if found.status else live.database.run(found.text)
+        wrong += [] if said is None is wanted or wanted and wanted in (said or "") else [f"{word} over {name} is told {said!r}"]
+        wrong += before.differences(live.database.state())
+    wrong += live.fresh()
+    found = asked(live, "--uncapture", path)
+    said = found.told if found.status else live.database.run(found.text)
+    wrong += [] if "not in this catalogue" in (said or "") else [f"less than is captured is let go, and told {said!r}"]
+    return [f"a table of the application's: {text}" for text in wrong + ([f"{told}" for told in [live.night()] if told] or live.mistakes())]
+
+
 REFUSED = {
     "CREATE TABLE other (id int)": ("[[view]]\nname = \"nowhere\"\ncolumns = [\"id\"]\n", "there is no table nowhere in"),
     "ALTER TABLE lines ADD COLUMN weight double precision": ("[[view]]\nname = \"lines\"\ncolumns = [\"id\", \"weight\"]\n", "neither a whole number nor a text"),
@@ -274,7 +303,7 @@ def refusal_mistakes(live):
 def mistakes(live, program):
     """All of these."""
     found = []
-    for tried in (catalogue_mistakes, lambda each: plan_mistakes(each, program), uncapture_mistakes, refusal_mistakes):
+    for tried in (catalogue_mistakes, lambda each: plan_mistakes(each, program), uncapture_mistakes, taken_mistakes, refusal_mistakes):
         try:
             found += tried(live)
         except (ValueError, Unfit) as fault:
