@@ -262,6 +262,12 @@ class Captures:
                            told=text("%s is a foreign table, whose changes are not captured"))  # fmt: skip
         return self.one_by_one(v, relations, missing, "SHARE ROW EXCLUSIVE", made, self.dialect.refuse_with(unfit))
 
+    def renamed(self, v):
+        """Triggers that have other names go, as those of a dump have: they would note each change beside the new ones."""
+        strange = sql("t.tgfoid = made AND NOT starts_with(t.tgname, concat({said}, made::oid, {blank}))", said=text("whview "), blank=text(" "))
+        relations = self.query(v, "SELECT DISTINCT t.tgrelid::regclass FROM pg_trigger AS t WHERE {strange}", strange=strange)
+        return self.dropped_from(v, relations, strange)
+
     def left(self, v):
         """The triggers of tables that are no part of a source any more go."""
         relations = self.query(v, "SELECT DISTINCT t.tgrelid::regclass FROM pg_trigger AS t WHERE t.tgfoid = {function}::regprocedure"
@@ -273,9 +279,9 @@ class Captures:
         relations = self.query(v, "SELECT DISTINCT t.tgrelid::regclass FROM pg_trigger AS t WHERE t.tgfoid = to_regprocedure({function})")
         return self.dropped_from(v, relations)
 
-    def dropped_from(self, v, relations):
-        there = self.query(v, "EXISTS (SELECT 1 FROM pg_trigger AS t WHERE t.tgrelid = part AND t.tgfoid = made)")
-        named = sql("SELECT t.tgname FROM pg_trigger AS t WHERE t.tgrelid = part AND t.tgfoid = made")
+    def dropped_from(self, v, relations, test=sql("t.tgfoid = made")):
+        there = self.query(v, "EXISTS (SELECT 1 FROM pg_trigger AS t WHERE t.tgrelid = part AND {test})", test=test)
+        named = sql("SELECT t.tgname FROM pg_trigger AS t WHERE t.tgrelid = part AND {test}", test=test)
         dropped = sql(
             "FOR finding IN {named} LOOP EXECUTE concat({drop}, quote_ident(finding), {on}, part){end} END LOOP",
             named=named, drop=text("DROP TRIGGER "), on=text(" ON "), end=END_OF_STATEMENT,
@@ -356,7 +362,7 @@ class Captures:
     # ---- scripts
 
     def capture(self, sources, _):
-        triggers = [each for v in sources for each in (self.fired(v), self.left(v))]
+        triggers = [each for v in sources for each in (self.renamed(v), self.fired(v), self.left(v))]
         return [*self.made(sources), *triggers, *self.filled(sources)]
 
     def uncapture(self, _):
