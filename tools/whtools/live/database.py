@@ -103,15 +103,17 @@ class PostgreSQLAsked:
         )  # fmt: skip
 
     def keys_query(self, of):
-        """The unique indexes over columns without NULLs, for each table the primary key first, and then the narrowest."""
+        """The unique indexes over columns without NULLs, for each table the primary key first, and then the narrowest. Heirs' rows are not in
+        the indexes of a table."""
         return sql(
             "SELECT json_build_array(c.relname, (SELECT json_agg(a.attname ORDER BY k) FROM generate_series(0, i.indnkeyatts - 1) AS k"
             " JOIN pg_attribute AS a ON a.attrelid = i.indrelid AND a.attnum = i.indkey[k])) FROM pg_index AS i"
             " JOIN pg_class AS c ON c.oid = i.indrelid WHERE c.oid IN (SELECT c.oid FROM {of}) AND i.indisunique AND i.indisvalid"
+            " AND (c.relkind = {parted} OR NOT EXISTS (SELECT 1 FROM pg_inherits AS h WHERE h.inhparent = c.oid))"
             " AND i.indpred IS NULL AND i.indexprs IS NULL AND NOT EXISTS (SELECT 1 FROM generate_series(0, i.indnkeyatts - 1) AS k"
             " JOIN pg_attribute AS a ON a.attrelid = i.indrelid AND a.attnum = i.indkey[k] WHERE NOT a.attnotnull)"
             " ORDER BY c.relname, i.indisprimary DESC, i.indnkeyatts, i.indexrelid",
-            of=of,
+            of=of, parted=text("p"),
         )  # fmt: skip
 
 

@@ -13,9 +13,11 @@ EVENTS = (
     ("delete", "AFTER DELETE ON ", " REFERENCING OLD TABLE AS gone"),
     ("truncate", "BEFORE TRUNCATE ON ", ""),
 )
-# A column's place, its type and, of an enumeration, its values: more of them may come behind, and none may get another name.
+# A column's place, its type and, of an enumeration, its values: more of them may come behind, and none may get another name. How a type of
+# one's own is called depends on the search path, its number does not; and a value may have a comma.
 TYPE = (
-    "concat(a.attnum, {comma}, format_type(a.atttypid, a.atttypmod), {comma}, (SELECT string_agg(concat(e.enumlabel, {comma}), {none} ORDER BY e.oid) FROM pg_enum AS e"
+    "concat(a.attnum, {comma}, CASE WHEN a.atttypid < 16384 THEN format_type(a.atttypid, a.atttypmod) ELSE a.atttypid::text END, {comma},"
+    " (SELECT string_agg(concat(length(e.enumlabel::text), {comma}, e.enumlabel, {comma}), {none} ORDER BY e.oid) FROM pg_enum AS e"
     " WHERE e.enumtypid = a.atttypid))"
 )
 # How full, in hundredths, a page is filled at first: a row that changes finds room beside itself then, and its indexes stay as they are. Of
@@ -36,6 +38,12 @@ ATTRIBUTES = (
     " ORDER BY a.attnum)::text"
 )
 WANTED = "(SELECT CASE c.relkind WHEN {ordinary} THEN 4 ELSE 3 END FROM pg_class AS c WHERE c.oid = {relation})"
+# Parts b of a source whose rows may change while no trigger is fired.
+UNFIT = (
+    ("JOIN pg_class AS k ON k.oid = b.relation WHERE k.relkind = {ordinary} AND k.relpersistence <> {logged}",
+     "%s is unlogged, and a crash would empty it unnoticed"),
+    ("JOIN pg_subscription_rel AS r ON r.srrelid = b.relation", "%s is written by logical replication, which fires no such triggers"),
+)  # fmt: skip
 # The same of all sources at once; and what may be otherwise than it was captured, each a query for a sentence, with its words.
 ALL_BELOW = (
     "WITH RECURSIVE sources (view, made) AS (VALUES {rows}), below (view, made, relation) AS (SELECT w.view, w.made, c.source::oid FROM sources AS w"
@@ -60,6 +68,10 @@ HOLES = (
     ("SELECT format({told}, p.view, format({why}, p.name)) FROM {noted} AS p JOIN sources AS w ON w.view = p.view WHERE p.file <> "
      + FILE.replace("{part}", "p.part") + " AND p.attributes <> " + ATTRIBUTES.replace("{part}", "p.part").replace("{view}", "p.view"),
      "columns of %s were written anew"),
+    ("SELECT format({told}, w.view, format({why}, c.source)) FROM sources AS w JOIN {state} AS c ON c.view = w.view JOIN pg_class AS k ON k.oid = c.source"
+     " WHERE k.relname <> w.view OR EXISTS (SELECT 1 FROM {noted} AS p WHERE p.view = w.view AND p.part = c.source AND to_regclass(p.name) <> p.part)",
+     "it is %s now, and another table may have its name"),
+    *(("SELECT format({told}, b.view, format({why}, b.relation::regclass)) FROM below AS b " + test, why) for test, why in UNFIT),
 )  # fmt: skip
 STRANGE = "there is a table %s already, which is none of --capture's: name another schema by --schema"
 UNKNOWN = "%s is captured too, and is not in this catalogue: a catalogue with all that is captured lets it go"
@@ -115,7 +127,7 @@ class Captures:
     def __init__(self, script):
         self.script, self.dialect = script, script.dialect
         self.state, self.columns, self.parts = (script.own(said) for said in (CAPTURED, COLUMNS, PARTS))
-        self.texts = {said: text(letter) for said, letter in (("ordinary", "r"), ("always", "A"), ("foreign", "f"), ("comma", ","), ("none", ""))}
+        self.texts = {said: text(letter) for said, letter in (("ordinary", "r"), ("always", "A"), ("foreign", "f"), ("logged", "p"), ("comma", ","), ("none", ""))}
 
     def view(self, v):
         return text(self.script.views[v].name)
@@ -151,7 +163,7 @@ class Captures:
             (self.state, sql("view text PRIMARY KEY, source regclass NOT NULL, filled boolean NOT NULL"), []),
             (self.columns, sql("view text NOT NULL, name text NOT NULL, type text NOT NULL, PRIMARY KEY (view, name)"), []),
             (self.parts, sql("view text NOT NULL, part oid NOT NULL, name text NOT NULL, triggers text NOT NULL, file oid NOT NULL,"
-                             " attributes text NOT NULL, PRIMARY KEY (view, part)"), []),
+                             " attributes text NOT NULL"), []),
             (self.script.own(JUDGED), sql("print text NOT NULL"), []),
             *((self.script.own(said), columns, []) for said, columns in self.script.history.tables()),
             *(each for v in range(len(self.script.views)) for each in self.view_tables(v, sources)),
@@ -181,17 +193,16 @@ class Captures:
     def noted(self, v, source):
         """What is captured, and by what function."""
         other = self.query(
-            v, "SELECT format({told}, c.source, {view}::text) FROM {state} AS c WHERE c.view = {view} AND c.source <> {source}::regclass",
+            v, "SELECT format({told}, c.source, {view}::text) FROM {state} AS c JOIN pg_class AS k ON k.oid = c.source WHERE c.view = {view}"
+            " AND c.source <> {source}::regclass AND k.relname = {view}",
             told=text("%s is captured as %s already: let it go first by --uncapture"), source=self.written(source.said),
         )  # fmt: skip
-        replicated = self.query(
-            v, "SELECT format({told}, r.srrelid::regclass) FROM pg_subscription_rel AS r WHERE r.srrelid = {source}::regclass",
-            told=text("%s is written by logical replication, which fires no such triggers"), source=self.written(source.said),
-        )  # fmt: skip
+        unfit = [self.query(v, "SELECT format({told}, b.relation::regclass) FROM " + BELOW + " " + test + " LIMIT 1", told=text(told)) for test, told in UNFIT]
         return [
             *self.dialect.refuse_with(other),
-            *self.dialect.refuse_with(replicated),
-            self.query(v, "INSERT INTO {state} VALUES ({view}, {source}::regclass, FALSE) ON CONFLICT DO NOTHING", source=self.written(source.said)),
+            self.query(v, "INSERT INTO {state} VALUES ({view}, {source}::regclass, FALSE) ON CONFLICT (view) DO UPDATE SET source = excluded.source",
+                       source=self.written(source.said)),
+            *(each for query in unfit for each in self.dialect.refuse_with(query)),
             self.query(v, "DELETE FROM {columns} WHERE view = {view}"),
             self.query(v, "INSERT INTO {columns} SELECT {view}, a.attname, " + TYPE + " FROM pg_attribute AS a WHERE a.attrelid = {source}::regclass"
                           " AND a.attname IN ({names})", source=self.written(source.said),
@@ -200,17 +211,30 @@ class Captures:
             self.captured_by(v, source),
         ]  # fmt: skip
 
+    def unnoted(self, v):
+        """A test of a part b that nobody noted."""
+        return self.query(v, "NOT EXISTS (SELECT 1 FROM {noted} AS n WHERE n.view = {view} AND n.part = b.relation)")
+
     def parts_noted(self, v):
         """The parts that a source has are noted, so that one that goes is missed."""
         told = ", ".join(each.replace("{part}", "b.relation") for each in (TRIGGERS, FILE, ATTRIBUTES))
-        return self.query(v, "INSERT INTO {noted} SELECT {view}, b.relation, b.relation::regclass, " + told + " FROM " + BELOW + " ON CONFLICT DO NOTHING")
+        return self.query(v, "INSERT INTO {noted} SELECT {view}, b.relation, b.relation::regclass, " + told + " FROM " + BELOW + " WHERE {unnoted}",
+                          unnoted=self.unnoted(v))  # fmt: skip
 
     def part_unnoted(self, v):
         """What a trigger does first where a table has parts or heirs: one that nobody noted is, so that it is missed also where it is gone
         before the next night, and with it rows that came through the table."""
-        unnoted = self.query(v, "SELECT 1 FROM " + BELOW + " WHERE NOT EXISTS (SELECT 1 FROM {noted} AS n WHERE n.view = {view} AND n.part = b.relation)")
+        unnoted = self.query(v, "SELECT 1 FROM " + BELOW + " WHERE {unnoted}", unnoted=self.unnoted(v))
         test = "EXISTS (SELECT 1 FROM pg_inherits AS i WHERE i.inhparent = TG_RELID) AND EXISTS ({unnoted})"
         return self.dialect.where(sql(test, unnoted=unnoted), self.parts_noted(v))
+
+    def parts_without_key(self, v):
+        """By a key of the noted parts, which they once had, a writer that notes one would wait for another writer that does."""
+        keys = sql("FROM pg_constraint AS k WHERE k.conrelid = part AND k.contype = {primary}", primary=text("p"))
+        relations, there = self.query(v, "SELECT {parts}::regclass", parts=self.written(self.parts)), sql("EXISTS (SELECT 1 {keys})", keys=keys)
+        dropped = sql("EXECUTE concat({alter}, part, {drop}, (SELECT quote_ident(k.conname) {keys}))", alter=text("ALTER TABLE "),
+                      drop=text(" DROP CONSTRAINT "), keys=keys)  # fmt: skip
+        return self.one_by_one(v, relations, there, "ACCESS EXCLUSIVE", [dropped], [])
 
     # ---- triggers
 
@@ -237,7 +261,7 @@ class Captures:
         )  # fmt: skip
         return sql(
             "CREATE OR REPLACE FUNCTION {function}() RETURNS trigger LANGUAGE plpgsql SECURITY DEFINER SET search_path = pg_catalog, pg_temp"
-            " AS {program}",
+            " SET row_security = off AS {program}",
             function=self.function(v), program=body(program),
         )  # fmt: skip
 
@@ -363,7 +387,7 @@ class Captures:
 
     def capture(self, sources, _):
         triggers = [each for v in sources for each in (self.renamed(v), self.fired(v), self.left(v))]
-        return [*self.made(sources), *triggers, *self.filled(sources)]
+        return [*self.made(sources), self.parts_without_key(next(iter(sources))), *triggers, *self.filled(sources)]
 
     def uncapture(self, _):
         """Triggers first, so that no writer meets a table that is gone; what was not made by --capture stays as it is."""
@@ -405,16 +429,19 @@ class Captures:
         return sql("ARRAY(SELECT p.part FROM {noted} AS p ORDER BY p.part)", noted=self.parts)
 
     def print(self):
-        """What tells whether all of these are as they were, for this role: their columns, whatever may act on their rows, parts, and values of
-        enumerations. A row of the server's catalogue that is written anew has the number of another transaction."""
+        """What tells whether all of these are as they were, for this role: their columns, whatever may act on their rows, parts, names, and
+        values of enumerations. A row of the server's catalogue that is written anew has the number of another transaction."""
         both, parts = sql("(own || captured)"), (
             "SELECT k.xmin FROM pg_class AS k WHERE k.oid = ANY (own) ORDER BY k.oid",
             "SELECT a.xmin FROM pg_attribute AS a WHERE a.attrelid = ANY {both} AND a.attnum > 0 ORDER BY a.attrelid, a.attnum",
             "SELECT t.xmin FROM pg_trigger AS t WHERE t.tgrelid = ANY {both} ORDER BY t.oid",
             "SELECT i.xmin FROM pg_inherits AS i WHERE i.inhparent = ANY {both} OR i.inhrelid = ANY {both} ORDER BY i.inhparent, i.inhrelid",
+            "SELECT concat_ws({comma}, k.relname, k.relnamespace, k.relpersistence) FROM pg_class AS k WHERE k.oid = ANY (captured) ORDER BY k.oid",
+            "SELECT r.xmin FROM pg_subscription_rel AS r WHERE r.srrelid = ANY (captured) ORDER BY r.srrelid, r.srsubid",
             "SELECT e.xmin FROM pg_enum AS e JOIN pg_attribute AS a ON a.atttypid = e.enumtypid WHERE a.attrelid = ANY (captured) ORDER BY e.oid",
         )  # fmt: skip
-        return sql("concat_ws({comma}, current_user, captured, {parts})", comma=text(","), parts=joined([sql("ARRAY(" + part + ")", both=both) for part in parts]))
+        listed = joined([sql("ARRAY(" + part + ")", both=both, comma=text(",")) for part in parts])
+        return sql("concat_ws({comma}, current_user, captured, {parts})", comma=text(","), parts=listed)
 
     def looked_at(self):
         """The tables whose print is taken."""

@@ -7,8 +7,8 @@ import subprocess
 import threading
 from pathlib import Path
 
-from whtools.databases.engines import Session
-from whtools.live_trials.cases import NEW_LINES, NEW_ORDER
+from whtools.databases.engines import Broken, Session
+from whtools.live_trials.cases import NEW_LINES, NEW_ORDER, PARTED
 
 # A lock that is waited for longer than this is told by the server's log.
 LONGEST_MS = 10
@@ -87,6 +87,26 @@ def within_mistakes(live):
         wrong += [] if told and "must be called before any query" in told and live.pending() == before else [f"after {begun_as} it was told {told!r}"]
         wrong += [f"{told}" for told in [live.night()] if told] + live.mistakes()
     return [f"a night within a transaction: {text}" for text in wrong]
+
+
+def part_mistakes(live):
+    """Two writers after a part has come that is not captured: neither waits for the other one."""
+    database, wrong = live.database, live.fresh(PARTED)
+    database.asked("CREATE TABLE more PARTITION OF lines FOR VALUES FROM (2000) TO (3000);")
+    first, second = (Session(database.server, database.name) for _ in range(2))
+    first.asked("BEGIN;" + NEW_ORDER + NEW_LINES)
+    try:
+        second.asked("SET lock_timeout = '5s'; INSERT INTO lines VALUES (3, 'product 3', 3);")
+    except Broken as told:
+        wrong.append(str(told)[:300])
+    first.asked("COMMIT;")
+    for session in (first, second):
+        session.close()
+    told = live.night()
+    wrong += [] if "more has no triggers" in (told or "") else [f"the night was told {told!r}"]
+    told = live.capture() or live.night()
+    wrong += [told] if told else live.mistakes()
+    return [f"writers after a part has come: {text}" for text in wrong]
 
 
 # ---- a thousand small transactions

@@ -66,6 +66,7 @@ ATTACHED = (
 COLOURS = (
     "CREATE TYPE colour AS ENUM ('region 1', 'region 2', 'region 3'); ALTER TABLE orders ALTER region TYPE colour USING region::colour;"
 )
+ANEW = "CREATE TABLE lines (id int NOT NULL, product text NOT NULL, pieces smallint NOT NULL);"
 HEIRS = "CREATE TABLE special_lines (why text) INHERITS (lines); INSERT INTO special_lines VALUES (3, 'product 3', 3, 'gift');"
 OF_POSTGRESQL = {
     "COPY": Case("COPY lines FROM PROGRAM 'printf \"1,product 2,7\\n2,product 3,8\\n\"' (FORMAT csv);"),
@@ -158,6 +159,27 @@ OF_POSTGRESQL = {
     "an enumeration whose value gets another name": Case(
         "ALTER TYPE colour RENAME VALUE 'region 1' TO 'region one'; UPDATE orders SET paid = TRUE WHERE id = 1;", made=COLOURS,
         refused="its column region is of another type, or its values have other names",
+    ),
+    "an enumeration whose value gets a comma": Case(
+        "ALTER TYPE colour RENAME VALUE 'region 3' TO 'region 3,region 4'; UPDATE orders SET paid = TRUE WHERE id = 3;", made=COLOURS,
+        refused="its column region is of another type, or its values have other names",
+    ),
+    "a table that is made anew": Case(
+        f"CREATE TABLE new_lines AS SELECT * FROM lines; DROP TABLE lines; {ANEW} INSERT INTO lines SELECT * FROM new_lines WHERE id > 2;"
+        + NEW_LINES.replace("900", "4"), refused="its table is gone",
+    ),
+    "a table in the place of another one": Case(
+        f"ALTER TABLE lines RENAME TO old_lines; {ANEW} INSERT INTO lines SELECT * FROM old_lines WHERE id > 2;" + NEW_LINES.replace("900", "4"),
+        refused="it is old_lines now, and another table may have its name",
+    ),
+    "an heir's row with the key of another one": Case(
+        "INSERT INTO special (product, price) VALUES ('product 1', 3), ('product 1', 4), ('product 2', 2.25); DELETE FROM ONLY products WHERE product = 'product 2';",
+        made="CREATE TABLE special (why text) INHERITS (products);",
+    ),
+    "TRUNCATE by a role from which rows are hidden": Case(
+        'ALTER FUNCTION wh."lines~capture"() OWNER TO seller; GRANT USAGE ON SCHEMA wh TO seller; GRANT ALL ON ALL TABLES IN SCHEMA wh TO seller;'
+        " GRANT SELECT ON lines TO seller; GRANT USAGE ON SCHEMA public TO seller; ALTER TABLE lines ENABLE ROW LEVEL SECURITY;"
+        " CREATE POLICY few ON lines USING (id < 9); INSERT INTO lines VALUES (3, 'product 3', 3); TRUNCATE lines;", fails="row-level security",
     ),
     "a table by another name": Case("ALTER TABLE lines RENAME TO positions; INSERT INTO positions VALUES (4, 'product 4', 4); ALTER TABLE positions RENAME TO lines;"),
 }  # fmt: skip

@@ -266,6 +266,28 @@ def taken_mistakes(live):
     return [f"a table of the application's: {text}" for text in wrong + ([f"{told}" for told in [live.night()] if told] or live.mistakes())]
 
 
+# What comes to a captured table by which its rows change unnoticed, what takes it away again, and what is told.
+LATER_UNFIT = {
+    "ALTER TABLE lines SET UNLOGGED;": ("ALTER TABLE lines SET LOGGED;", "lines is unlogged"),
+    "CREATE SUBSCRIPTION s CONNECTION 'host=/nowhere' PUBLICATION p WITH (connect = false, slot_name = NONE); SET allow_system_table_mods = on;"
+    " INSERT INTO pg_subscription_rel (srsubid, srrelid, srsubstate) SELECT s.oid, 'lines'::regclass, 'r' FROM pg_subscription AS s;"
+    " SET allow_system_table_mods = off;": ("DROP SUBSCRIPTION s;", "lines is written by logical replication"),
+}  # fmt: skip
+
+
+def unfit_mistakes(live):
+    """Captures and nights of tables whose rows come to change while no trigger is fired."""
+    wrong = live.fresh()
+    for made, (unmade, word) in LATER_UNFIT.items() if live.engine == "postgresql" else ():
+        live.database.asked(made)
+        for told in (live.night(), live.capture()):
+            wrong += [] if word in (told or "") else [f"{word} is not told, but {told!r}"]
+        live.database.asked(unmade)
+        told = live.night()
+        wrong += [told] if told else live.mistakes()
+    return [f"a table that is not fit any more: {text}" for text in wrong]
+
+
 REFUSED = {
     "CREATE TABLE other (id int)": ("[[view]]\nname = \"nowhere\"\ncolumns = [\"id\"]\n", "there is no table nowhere in"),
     "ALTER TABLE lines ADD COLUMN weight double precision": ("[[view]]\nname = \"lines\"\ncolumns = [\"id\", \"weight\"]\n", "neither a whole number nor a text"),
@@ -303,7 +325,7 @@ def refusal_mistakes(live):
 def mistakes(live, program):
     """All of these."""
     found = []
-    for tried in (catalogue_mistakes, lambda each: plan_mistakes(each, program), uncapture_mistakes, taken_mistakes, refusal_mistakes):
+    for tried in (catalogue_mistakes, lambda each: plan_mistakes(each, program), uncapture_mistakes, taken_mistakes, unfit_mistakes, refusal_mistakes):
         try:
             found += tried(live)
         except (ValueError, Unfit) as fault:
