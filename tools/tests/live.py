@@ -9,9 +9,11 @@ from whtools.live.database import Table
 from whtools.live.keys import Keys
 from whtools.live.measured import Step, fitted, measured, steps_of
 from whtools.live.parsed import NotTaken, parsed
+from whtools.live.postgresql import LivePostgreSQL
 from whtools.live.proposed import Proposed
 from whtools.live.sizes import Past, within
 from whtools.live.sqlite import LiveSQLite
+from whtools.live.swift import SwiftScript
 from whtools.live.turned import Told, Unturned, literal_apart, of_postgresql, of_sqlite
 from whtools.program import ROOT
 from whtools.sql.catalogue import Catalogue
@@ -134,6 +136,18 @@ class KeysThatFollow(unittest.TestCase):
     def test_a_key_that_is_none(self):
         with self.assertRaises(Unfit):
             keys('key = ["town"]')
+
+
+class NamesThatAreCut(unittest.TestCase):
+    def test_they_are_the_same_whatever_is_asked_for_first(self):
+        names, suffixes = ["x" * 62 + letter for letter in "abc"], ("~key", "~changes", "~capture", "~1")
+        text = KEYED.format("").replace("sales", names[0]).replace("shops", names[1]).replace("sold", names[2])
+        first, then = (SwiftScript(Catalogue(text), LivePostgreSQL("wh")) for _ in range(2))
+        said = {(v, suffix): first.said(v, suffix) for suffix in suffixes for v in (0, 1)}
+        for suffix in suffixes:
+            then.said(2, suffix)
+        self.assertEqual({(v, suffix): then.said(v, suffix) for v, suffix in reversed(said)}, said)
+        self.assertEqual(len(set(said.values())), len(said))
 
 
 class Measures(unittest.TestCase):

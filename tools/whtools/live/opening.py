@@ -11,7 +11,8 @@ class Opening:
         derived = self.steps.derived()
         made = [each for v in derived for each in self.filled(v)]
         sizes = [self.history.opened(v, self.counted_rows(v)) for v in range(len(self.views))]
-        return self.whole([*self.history.opening_began(), *made], [], [*sizes, self.history.closed(), *self.captures.noted_as_judged()], comment)
+        ended = [*sizes, *self.captures.noted_as_opened(), self.history.closed(), *self.captures.noted_as_judged()]
+        return self.whole([*self.history.opening_began(), *made], [], ended, comment)
 
     def counted_rows(self, v):
         """How many rows were put into a view each of which counts once, if it is such a view."""

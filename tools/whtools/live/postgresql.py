@@ -1,5 +1,6 @@
 """PostgreSQL as tables are captured there: by statement triggers with transition tables, beside writers that do not wait."""
 
+from whtools.live.history import SIZES
 from whtools.live.turned import NULL
 from whtools.sql.dialect import COUNT
 from whtools.sql.postgresql import SETTINGS, PostgreSQL
@@ -466,6 +467,27 @@ class Captures:
         """All passed, as it is now."""
         judged = self.script.own(JUDGED)
         return [sql("DELETE FROM {judged}", judged=judged), sql("INSERT INTO {judged} VALUES ({print})", judged=judged, print=self.print())]
+
+    # ---- by what definitions the views were filled: in the table of columns each stands by no name
+
+    def noted_as_opened(self):
+        """The views are filled as the catalogue has them."""
+        found = []
+        for v, said in self.script.definitions().items():
+            found.append(self.query(v, "DELETE FROM {columns} WHERE view = {view} AND name = {none}"))
+            found.append(self.query(v, "INSERT INTO {columns} VALUES ({view}, {none}, {print})", print=text(said)))
+        return found
+
+    def opened(self):
+        """A refusal of a view that was never filled, or by another definition."""
+        listed = [sql("({view}, {print})", view=self.view(v), print=text(said)) for v, said in self.script.definitions().items()]
+        unlike = sql(
+            "SELECT w.view FROM (VALUES {listed}) AS w (view, print) LEFT JOIN {columns} AS k ON k.view = w.view AND k.name = {none} WHERE k.type <> w.print"
+            " OR k.type IS NULL AND NOT EXISTS (SELECT 1 FROM {sizes} AS s WHERE s.view = w.view) LIMIT 1",
+            listed=joined(listed), columns=self.columns, none=text(""), sizes=self.script.own(SIZES),
+        )  # fmt: skip
+        told = sql("SELECT replace({told}, {hole}, u.view) FROM ({unlike}) AS u", told=text(self.script.told_unopened("%s")), hole=text("%s"), unlike=unlike)
+        return self.dialect.refuse_with(told) if listed else []
 
     def whole(self):
         """A refusal of a source that is not captured as it was."""

@@ -1,5 +1,7 @@
 """Scripts over mirrors of tables that applications go on writing to."""
 
+from hashlib import sha256
+
 from whtools.live.history import History
 from whtools.sql.comments import Comments
 from whtools.sql.names import Names
@@ -17,11 +19,21 @@ class LiveScript(Script):
         self.prefixed = Names(dialect, [prefix + view.name for view in catalogue.views])
         super().__init__(catalogue, dialect)
         self.catalogue, self.history, self.captures = catalogue, History(self), dialect.captures(self)
+        self.name_all()
 
     # ---- names
 
     def said(self, v, suffix=""):
         return self.prefixed.of(self.prefix + self.views[v].name, suffix)
+
+    def name_all(self):
+        """Names that are cut are told apart in the order in which they are asked for first: whatever is written, that of the views."""
+        indexes = self.asked_for()
+        for v in range(len(self.views)):
+            self.constraint(v, self.key_of(v, ()))
+            more = range(1, len(indexes[v]) + 1)
+            for suffix in (*more, *(() if self.views[v].over else ("changes", "capture"))):
+                self.said(v, f"~{suffix}")
 
     def own(self, suffix):
         """A table that is of no view, such as the history of nights."""
@@ -48,8 +60,15 @@ class LiveScript(Script):
         return self.whole([*self.looked_at(), *self.history.began()], steps, [*ended, *self.history.ended(*zip(*listed))], comment)
 
     def looked_at(self):
-        """A refusal of tables that are not captured as they were."""
-        return self.captures.whole()
+        """A refusal of tables that are not captured as they were, and of views that are not filled as the catalogue has them."""
+        return [*self.captures.whole(), *self.captures.opened()]
+
+    def told_unopened(self, said):
+        return f"view {said} was not filled by the definition that the catalogue has: run tools/sql --live --open"
+
+    def definitions(self):
+        """The numbers of the derived views, each with a digest of its definition."""
+        return {v: sha256("\n".join(self.words.definition(v)).encode()).hexdigest() for v in self.steps.derived()}
 
     def open(self, comment):
         """The derived views are filled from the mirrors; what is in the tables of changes stays there."""
@@ -57,7 +76,8 @@ class LiveScript(Script):
         cleared = [each for v in reversed(derived) for each in self.cleared(v)]
         ended = self.dialect.settled() + [each for v in derived for each in self.verified(v)]
         sizes = [self.history.opened(v) for v in range(len(self.views))]
-        return self.whole([*self.history.began(), *cleared], self.steps.opening(), [*ended, *sizes, self.history.closed()], comment)
+        ended = [*ended, *sizes, *self.captures.noted_as_opened(), self.history.closed()]
+        return self.whole([*self.history.began(), *cleared], self.steps.opening(), ended, comment)
 
     def whole(self, before, steps, after, comment):
         """A transaction of all this, which locks the mirrors and the views alone."""

@@ -1,5 +1,6 @@
 """SQLite as tables are captured there: by triggers row by row, in the same file, where one writes at a time."""
 
+from whtools.live.history import SIZES
 from whtools.live.turned import NULL, again
 from whtools.sql.dialect import COUNT
 from whtools.sql.sqlite import SQLite
@@ -201,9 +202,31 @@ class Captures:
             if columns is not None and [said.lower() for said in columns] != [said.lower() for said, _ in each.columns]:
                 raise Unfit(f"there is a table {each.said}, which is none of --capture's: name another word by --schema")
         views = [self.script.views[v].name for v in self.script.steps.base()]
-        for said, in database.rows(sql("SELECT c.view FROM {state} AS c", state=self.state))[0]:
-            if said not in views and "~" not in said:
+        for said, in database.rows(sql("SELECT c.view FROM {state} AS c WHERE c.filled = 1", state=self.state))[0]:
+            if said not in views:
                 raise Unfit(f"{said} is captured too, and is not in this catalogue: a catalogue with all that is captured lets it go")
+
+    # ---- by what definitions the views were filled
+
+    def noted_as_opened(self):
+        """The views are filled as the catalogue has them."""
+        state = self.dialect.target(f"{self.script.prefix}{CAPTURED}")
+        return [
+            sql("INSERT OR REPLACE INTO {state} VALUES ({view}, {print}, 0)", state=state, view=text(self.script.views[v].name), print=text(said))
+            for v, said in self.script.definitions().items()
+        ]  # fmt: skip
+
+    def opened(self):
+        """Refusals of views that were never filled, or by another definition."""
+        found = []
+        for v, said in self.script.definitions().items():
+            query = sql(
+                "SELECT 1 WHERE EXISTS (SELECT 1 FROM {state} AS c WHERE c.view = {view} AND c.source <> {print}) OR NOT EXISTS (SELECT 1 FROM {state}"
+                " AS c WHERE c.view = {view}) AND NOT EXISTS (SELECT 1 FROM {sizes} AS s WHERE s.view = {view})",
+                state=self.state, view=text(self.script.views[v].name), print=text(said), sizes=self.script.own(SIZES),
+            )  # fmt: skip
+            found += self.dialect.refuse(self.script.told_unopened(self.script.views[v].name), query)
+        return found
 
     # ---- a night's look at them
 

@@ -361,10 +361,11 @@ class SwiftScript(SwiftGroups, Opening, LiveScript):
     # ---- what was judged once
 
     def looked_at(self):
-        """Which base views have changes, asked at once; whether tables are captured as they were is judged with all else that is judged once."""
+        """Which base views have changes, asked at once, behind whether views are filled as the catalogue has them; whether tables are captured
+        as they were is judged with all else that is judged once."""
         base = self.steps.base()
         tests = [sql("EXISTS (SELECT 1 FROM {changes} AS d)", changes=self.table(v, "~changes")) for v in base]
-        return [sql("SELECT {tests} INTO {there}", tests=joined(tests), there=joined([self.counter("there", v) for v in base]))]
+        return [*self.captures.opened(), sql("SELECT {tests} INTO {there}", tests=joined(tests), there=joined([self.counter("there", v) for v in base]))]
 
     def whole(self, before, steps, after, comment):
         """The tables are judged where they are not as they were when they last passed: nothing else than the night makes use of them."""

@@ -266,6 +266,28 @@ def taken_mistakes(live):
     return [f"a table of the application's: {text}" for text in wrong + ([f"{told}" for told in [live.night()] if told] or live.mistakes())]
 
 
+def definition_mistakes(live):
+    """Nights over views that were never filled, or by another definition: they are refused until the views are filled."""
+    path, wrong, word = live.path / "defined", live.fresh(), "was not filled by the definition"
+    path.mkdir(exist_ok=True)
+    text = (live.path / "catalogue.toml").read_text()
+    (path / "catalogue.toml").write_text(text.replace('["*", "orders.paid", 2]', '["*", "orders.paid", 3]'))
+    (path / "strategy.txt").write_bytes((live.path / "strategy.txt").read_bytes())
+    live.database.asked("UPDATE orders SET paid = NOT paid;")
+    for of in (path, live.path):
+        night, opening = (told(live, "--live", *words, of).text for words in ((), ("--open",)))
+        fault = live.database.run(night)
+        wrong += [] if word in (fault or "") else [f"a night by another definition is told {fault!r}"]
+        fault = live.database.run(opening) or live.database.run(night)
+        wrong += [fault] if fault else []
+    wrong += live.mistakes()
+    for words in ("--uncapture", "--capture"):
+        live.database.run(live.words(words))
+    fault = live.night()
+    wrong += [] if word in (fault or "") else [f"a night without --open is told {fault!r}"]
+    return [f"a definition: {each}" for each in wrong]
+
+
 # What comes to a captured table by which its rows change unnoticed, what takes it away again, and what is told.
 LATER_UNFIT = {
     "ALTER TABLE lines SET UNLOGGED;": ("ALTER TABLE lines SET LOGGED;", "lines is unlogged"),
@@ -325,7 +347,8 @@ def refusal_mistakes(live):
 def mistakes(live, program):
     """All of these."""
     found = []
-    for tried in (catalogue_mistakes, lambda each: plan_mistakes(each, program), uncapture_mistakes, taken_mistakes, unfit_mistakes, refusal_mistakes):
+    for tried in (catalogue_mistakes, lambda each: plan_mistakes(each, program), uncapture_mistakes, taken_mistakes, definition_mistakes, unfit_mistakes,
+                  refusal_mistakes):
         try:
             found += tried(live)
         except (ValueError, Unfit) as fault:
