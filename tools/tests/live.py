@@ -71,6 +71,14 @@ class Turned(unittest.TestCase):
             self.assertEqual(literal_apart(cell or "N"), turned if cell else "N")
 
 
+    def test_numbers_that_a_real_does_not_have_are_no_numbers(self):
+        (said,) = LiveSQLite().written([of_sqlite(Told("x", "DECIMAL(10,2)", "DECIMAL(10,2)", 10, 2, False)).said])
+        wanted = {12.5: 1250, -7: -700, 9999999999999.25: 999999999999925, "abc": "abc", 10**14: None, -1e30: None, float("inf"): None, -(2**63): None}
+        for cell, turned in wanted.items():
+            found = sqlite3.connect(":memory:").execute(f"SELECT {said} FROM (SELECT ? AS x) AS r", [cell]).fetchone()[0]
+            self.assertEqual(found if turned is not None else found[:7], "beyond " if turned is None else turned)
+
+
 class Parsed(unittest.TestCase):
     def test_what_is_not_taken_is_told(self):
         for text, word in {

@@ -165,7 +165,13 @@ class SQLiteAsked:
         filled = {each.name for each in told if not each.may_be_null}
         keys = [primary] if primary and filled.issuperset(primary) else []
         keys += [key for key in map(self.indexed, [index for index, _, partial in indexes if not partial]) if key and filled.issuperset(key)]
-        return Table(said, told, keys, "it is WITHOUT ROWID" if self.is_without_rowid(said) else None)
+        return Table(said, told, keys, self.unfit(said, [column for column, *_ in columns]))
+
+    def unfit(self, table, columns):
+        """Why rows cannot be told by their numbers, or None."""
+        if self.is_without_rowid(table):
+            return "it is WITHOUT ROWID"
+        return "its column _rowid_ hides the numbers of the rows" if "_rowid_" in map(str.lower, columns) else None
 
     def columns(self, table):
         """The names of a table's columns."""
@@ -206,10 +212,14 @@ class SQLiteAsked:
                                   main=text("main")))[0][0][0])  # fmt: skip
 
     def unique(self, table):
-        """Of each unique index its columns, None for an expression, and by what collation each is compared."""
+        """Of each unique index its columns, None for an expression; by what collation each is compared; and whether REPLACE puts another value
+        in the place of a NULL there."""
         listed = self.rows(sql("SELECT l.name FROM pragma_index_list({table}) AS l WHERE l.{unique} = 1", table=text(table), unique=name("unique")))
-        query = "SELECT x.name, x.coll FROM pragma_index_xinfo({index}) AS x WHERE x.key = 1"
-        return [self.rows(sql(query, index=text(index)))[0] for index, in listed[0]]
+        query = (
+            "SELECT x.name, x.coll, EXISTS (SELECT 1 FROM pragma_table_xinfo({table}) AS c WHERE c.name = x.name AND c.{notnull} AND c.dflt_value IS NOT NULL)"
+            " FROM pragma_index_xinfo({index}) AS x WHERE x.key = 1"
+        )
+        return [self.rows(sql(query, index=text(index), table=text(table), notnull=name("notnull")))[0] for index, in listed[0]]
 
 
 ASKED = {"postgresql": PostgreSQLAsked, "sqlite": SQLiteAsked}

@@ -21,6 +21,8 @@ class LiveScript(Script):
         self.catalogue, self.history, self.captures = catalogue, History(self), dialect.captures(self)
         self.name_all()
 
+    cure = ": put it right in the table that is captured, and run tools/sql --capture"
+
     # ---- names
 
     def said(self, v, suffix=""):

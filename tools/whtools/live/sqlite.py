@@ -11,6 +11,13 @@ CAPTURED = "~captured"
 # of it is gone afterwards was replaced. A note of a row that stayed does no harm: it is taken back where that row changes or leaves.
 REPLACED = "~replaced"
 
+# Whether a row r and the one that comes have the same in a column of a unique index; or, of a NULL that REPLACE fills, may have.
+SAME = "r.{column} = new.{column} COLLATE {by}"
+SAME_OR_FILLED = f"(new.{{column}} IS NULL OR {SAME})"
+# The unique indexes s of a table by the statements that made them.
+UNIQUE = "{schema}.sqlite_master AS s WHERE s.type = {index} AND s.tbl_name = {source} COLLATE NOCASE AND s.sql LIKE {unique}"
+OF_UNIQUE = "~unique"
+
 
 class LiveSQLite(SQLite):
     """Nights find nobody else writing, and so take all changes. How long a step takes nothing tells while a statement runs, but a function
@@ -85,9 +92,9 @@ class Captures:
         """Whether a row r of the table and the row that comes cannot both stay."""
         found = [sql("r._rowid_ = new._rowid_")]
         for columns in database.unique(source.table):
-            if any(said is None for said, _ in columns):
+            if any(said is None for said, *_ in columns):
                 raise Unfit(f"{source.table} cannot be captured: it has a unique index over an expression, by which REPLACE takes rows away")
-            pairs = [sql("r.{column} = new.{column} COLLATE {by}", column=name(said), by=word(by)) for said, by in columns]
+            pairs = [sql(SAME_OR_FILLED if fills else SAME, column=name(said), by=word(by)) for said, by, fills in columns]
             found.append(sql("({pairs})", pairs=joined(pairs, "AND")))
         return joined(found, "OR")
 
@@ -167,7 +174,12 @@ class Captures:
                 mirror=script.table(v), columns=joined([*script.users(v), COUNT]), cells=cells, source=name(source.table), filled=is_filled),
             difference,
             sql("INSERT OR REPLACE INTO {state} VALUES ({view}, {source}, 1)", state=self.state, view=view, source=text(source.table)),
+            sql("INSERT OR REPLACE INTO {state} SELECT {view} || {suffix}, coalesce(group_concat(s.sql, {end}), {none}), 0 FROM " + UNIQUE,
+                state=self.state, view=view, suffix=text(OF_UNIQUE), end=text(";"), none=text(""), **self.unique_parts(text(source.table))),
         ]  # fmt: skip
+
+    def unique_parts(self, source):
+        return {"schema": name(self.dialect.schema), "index": text("index"), "source": source, "unique": text("CREATE UNIQUE INDEX%")}
 
     # ---- scripts
 
@@ -242,5 +254,14 @@ class Captures:
                 schema=name(self.dialect.schema), kind=text("trigger"), names=joined(list(map(text, names))), many=number(len(names)),
                 state=self.state, view=text(view),
             )  # fmt: skip
-            found += [*self.dialect.refuse(told, query), sql("DELETE FROM {replaced}", replaced=self.replaced(v))]
+            found += [*self.dialect.refuse(told, query), *self.indexed_as_it_was(v), sql("DELETE FROM {replaced}", replaced=self.replaced(v))]
         return found
+
+    def indexed_as_it_was(self, v):
+        """A refusal of a table with a unique index more, by which REPLACE takes rows away that no trigger notes."""
+        view = text(self.script.views[v].name)
+        source = sql("(SELECT c.source FROM {state} AS c WHERE c.view = {view})", state=self.state, view=view)
+        query = sql("SELECT 1 FROM {state} AS u JOIN " + UNIQUE + " AND instr(u.source, s.sql) = 0 AND u.view = {view} || {suffix}",
+                    state=self.state, view=view, suffix=text(OF_UNIQUE), **self.unique_parts(source))  # fmt: skip
+        told = f"table {self.script.views[v].name} is not captured as it was: it has a unique index more; run tools/sql --capture"
+        return self.dialect.refuse(told, query)

@@ -129,9 +129,13 @@ def day_or_moment(template):
 
 
 def units_of_reals(places):
-    wanted = "CASE WHEN typeof({cell}) IN ({kinds}) THEN CAST(round({cell} * {unit}) AS INTEGER) ELSE {cell} END"
-    kinds = joined([text("integer"), text("real")])
-    return lambda cell: sql(wanted, cell=cell, kinds=kinds, unit=number(10**places))
+    """A number of so many places; one that a REAL has not to the last digit is told as a text, which a night refuses."""
+    wanted = (
+        "CASE WHEN typeof({cell}) NOT IN ({kinds}) THEN {cell} WHEN {cell} BETWEEN - {most} AND {most} THEN CAST(round({cell} * {unit}) AS INTEGER)"
+        " ELSE {beyond} || {cell} END"
+    )
+    kinds, most = joined([text("integer"), text("real")]), number(10 ** (MOST_DIGITS["sqlite"] - places))
+    return lambda cell: sql(wanted, cell=cell, kinds=kinds, unit=number(10**places), most=most, beyond=text("beyond "))
 
 
 MOMENTS = day_or_moment("unixepoch({cell})")

@@ -208,6 +208,14 @@ OF_SQLITE = {
         "REPLACE INTO products (product, price) VALUES ('product 1', 1.25); REPLACE INTO products (product, price, about) VALUES ('q', 4.25, 'x');",
         made="CREATE UNIQUE INDEX one ON products (price) WHERE price < 9;",
     ),
+    "REPLACE that fills a NULL": Case(
+        "REPLACE INTO orders (id, day, at, paid, region) SELECT 1900, day, at, NULL, region FROM orders WHERE id = 2;"
+        " UPDATE OR REPLACE orders SET paid = NULL, region = 'region 2', at = (SELECT at FROM orders WHERE id = 6) WHERE id = 7;",
+        made="CREATE UNIQUE INDEX one ON orders (paid, region, at);",
+    ),
+    "a unique index that comes later": Case(
+        "CREATE UNIQUE INDEX later ON products (price); REPLACE INTO products (product, price) VALUES ('q', 1.25);", refused="it has a unique index more"
+    ),
     "a row that gets its number": Case("INSERT INTO orders (id, day) VALUES (-1, '2026-01-01'); INSERT INTO orders (day, region) VALUES ('2026-01-01', 'new');"
                                        "INSERT INTO orders (day, region) VALUES ('2026-01-02', 'new');"),
     "a trigger that writes on": Case(

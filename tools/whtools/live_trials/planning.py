@@ -321,6 +321,14 @@ FOLDED = {
                   " COLLATE folded)",
     "sqlite": "CREATE TABLE named (id int, said text COLLATE NOCASE)",
 }  # fmt: skip
+OWN_REFUSED = {
+    "postgresql": {
+        "CREATE UNLOGGED TABLE loose (id int)": ('[[view]]\nname = "loose"\ncolumns = ["id"]\n', "is unlogged"),
+        "CREATE TABLE numbered (id int PRIMARY KEY, x int NOT NULL); CREATE TABLE heirs () INHERITS (numbered)": (
+            '[[view]]\nname = "numbered"\ncolumns = ["id", "x"]\nkey = ["id"]\n', "has no unique key of these columns"),
+    },
+    "sqlite": {"CREATE TABLE hidden (id INT, _RowId_ INT)": ('[[view]]\nname = "hidden"\ncolumns = ["id"]\n', "hides the numbers of the rows")},
+}  # fmt: skip
 OF_FOLDED = ('[[view]]\nname = "named"\ncolumns = ["id", "said:text"]\n', "takes unequal texts for equal ones")
 
 
@@ -330,7 +338,7 @@ def refusal_mistakes(live):
     live.database.run(live.words("--uncapture"))
     path, wrong = live.path / "refused", []
     path.mkdir(exist_ok=True)
-    for made, (catalogue, word) in [*REFUSED.items(), (FOLDED[live.engine], OF_FOLDED)]:
+    for made, (catalogue, word) in [*REFUSED.items(), (FOLDED[live.engine], OF_FOLDED), *OWN_REFUSED[live.engine].items()]:
         live.database.make([made + ";"])
         (path / "catalogue.toml").write_text(catalogue)
         before = live.database.state().definitions

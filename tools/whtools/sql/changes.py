@@ -12,6 +12,9 @@ LEAVES_ONCE, COMES_ONCE = sql("d.pair IS NULL AND d.n < 0"), sql("d.pair IS NULL
 class Changes:
     """The statements that make changes, judge them and find their rows."""
 
+    # What is told behind a cell of another kind.
+    cure = ""
+
     def change_tables(self, v):
         """The change: rows d with their numbers, counts, how often each was there, and the other row of a pair; and the places of rows."""
         kinds, whole = self.dialect.kinds, self.dialect.kinds["int"]
@@ -33,7 +36,7 @@ class Changes:
         v = step.view
         table, counts = self.changes(v), self.dialect.halves(self.dialect.read_count(sql("t.{count}", count=COUNT)))
         wrong = self.dialect.wrong_cells(self.read(v), self.kinds(v), sql("t.{count}", count=COUNT))
-        told = f"table {self.views[v].name}~changes does not fit: a cell or a count of it is of another kind than its column"
+        told = f"table {self.views[v].name}~changes does not fit: a cell or a count of it is of another kind than its column{self.cure}"
         judged = self.dialect.refuse(told, sql("SELECT 1 FROM {table} AS t WHERE {wrong}", table=table, wrong=wrong)) if wrong else []
         return judged + self.added_up(v, sql("{table} AS t", table=table), self.read(v), counts)
 
