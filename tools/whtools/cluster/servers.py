@@ -27,6 +27,15 @@ WANTED = {
     "fsync_metadata": 1,
     "data_type_default_nullable": 0,
     "use_query_cache": 0,
+    # What servers say is added up, once for all of them, and where there is nothing that is told by a 0.
+    "distributed_group_by_no_merge": 0,
+    "distributed_product_mode": "deny",
+    "optimize_skip_unused_shards": 0,
+    "empty_result_for_aggregation_by_empty_set": 0,
+    "aggregate_functions_null_for_empty": 0,
+    "group_by_use_nulls": 0,
+    "decimal_check_overflow": 1,
+    "extremes": 0,
     # Rows that are left out without a word: of a server that is down, of what is more than a limit, of what cannot be read.
     "skip_unavailable_shards": 0,
     **{f"{what}_overflow_mode": "throw" for what in OVERFLOWS},

@@ -27,9 +27,12 @@ CONFIG = """<yandex><logger><level>warning</level><log>{folder}/log</log></logge
 SHARD = "<shard><replica><host>127.0.0.1</host><port>{tcp}</port></replica></shard>"
 USERS = """<yandex><profiles><default><max_memory_usage>{memory}</max_memory_usage><max_threads>1</max_threads>
 <background_pool_size>2</background_pool_size><skip_unavailable_shards>1</skip_unavailable_shards></default>
-<hasty><max_threads>1</max_threads><max_rows_to_group_by>1</max_rows_to_group_by><group_by_overflow_mode>any</group_by_overflow_mode></hasty></profiles>
+<hasty><max_threads>1</max_threads><max_rows_to_group_by>1</max_rows_to_group_by><group_by_overflow_mode>any</group_by_overflow_mode></hasty>
+<own_ways><max_threads>1</max_threads><distributed_group_by_no_merge>1</distributed_group_by_no_merge><distributed_product_mode>local</distributed_product_mode>
+<empty_result_for_aggregation_by_empty_set>1</empty_result_for_aggregation_by_empty_set><extremes>1</extremes></own_ways></profiles>
 <users><default><password></password><networks><ip>127.0.0.1</ip></networks><profile>default</profile><quota>default</quota></default>
 <hasty><password></password><networks><ip>127.0.0.1</ip></networks><profile>hasty</profile><quota>default</quota></hasty>
+<own_ways><password></password><networks><ip>127.0.0.1</ip></networks><profile>own_ways</profile><quota>default</quota></own_ways>
 <clerk><password>se'cret \\ word</password><networks><ip>127.0.0.1</ip></networks><profile>default</profile><quota>default</quota></clerk>
 </users><quotas><default></default></quotas></yandex>
 """

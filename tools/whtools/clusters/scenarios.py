@@ -289,6 +289,14 @@ def hasty(servers):
     return ends(lambda: Session(small.client(found)).read(J), "Limit for rows") + small.differs()
 
 
+def own_ways(servers):
+    """A profile by which servers are not added up, and nothing is told by no row, changes no contents."""
+    found = [Server(server.address, ("own_ways", "")) for server in servers]
+    for server in found:
+        server.learn()
+    return ended(Small(found, SHARES), [({(2, 7): -1, (9, 1): 1}, {(9, "oak"): 2}, None), ({(9, 1): -1}, {(9, "oak"): -2, (1, "elm"): 1}, None), ({}, {}, None)])
+
+
 def by_hand(servers):
     """Rows that somebody puts into a slot are told of: of one that is to come before a night, of one that is listed by readers and folds."""
     small = Small(servers)
@@ -368,5 +376,5 @@ def wrong_answers(_=None):
 
 SCENARIOS = [
     refusals, committed_whole, twice_at_once, work_is_told, given_up, folded_between, swept_in_a_night, behind_a_fold, reader_and_sweep,
-    sleeper, lost_insert, lost_commit, by_hand, at_the_limits, past_64_bits, hasty, wrong_answers, *ASLEEP,
+    sleeper, lost_insert, lost_commit, by_hand, at_the_limits, past_64_bits, hasty, own_ways, wrong_answers, *ASLEEP,
 ]  # fmt: skip

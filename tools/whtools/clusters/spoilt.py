@@ -221,6 +221,7 @@ def waits(on):
     return waited(on)[0]
 
 
+UNADDED = {name: value for name, value in servers.WANTED.items() if name != "distributed_group_by_no_merge"}
 UNSAID = {name: value for name, value in servers.WANTED.items() if not name.endswith("_overflow_mode")}
 
 SPOILT = [
@@ -250,6 +251,7 @@ SPOILT = [
     Spoilt("the newest version by a number seen before", [(Versions, "newest", by_number)], asleep.a_reader_asleep),
     Spoilt("a version's time by its client", [(Versions, "followed", by_clients)], asleep.slept_before_the_commit),
     Spoilt("what a profile leaves out", [(servers, "WANTED", UNSAID)], scenarios.hasty),
+    Spoilt("what a profile adds up", [(servers, "WANTED", UNADDED)], scenarios.own_ways),
     Spoilt("counts of 64 bits", [(slots, "exact", lambda counted: counted)], scenarios.past_64_bits),
     Spoilt("readers that hold versions", [(Slots, "now", held)], waits),
     Spoilt("versions dropped as they are read", [(Versions, "taken_away", dropped_at_once)], read_beside_sweeps),
