@@ -6,6 +6,7 @@ import re
 import shutil
 import subprocess
 import sys
+import threading
 import time
 from contextlib import contextmanager
 from pathlib import Path
@@ -27,6 +28,8 @@ esac
 exec {clang} "$@"
 """
 MINUTES = "three minutes or less on four processors that are free"
+# How many seconds a build took there, and after how many of silence it is told that it goes on.
+ELSEWHERE, EVERY = 125, 15
 
 
 class NotBuilt(Exception):
@@ -104,15 +107,35 @@ def take(kit, room, crate):
         raise NotBuilt(f"rt try compiled nothing: {tried.stderr.strip()[-2000:]}")
 
 
+@contextmanager
+def going_on(say, what):
+    """Says every few seconds that a step goes on, until it is over."""
+    over = threading.Event()
+
+    def tell():
+        while not over.wait(EVERY):
+            say(f"still {what}")
+
+    teller = threading.Thread(target=tell, daemon=True)
+    teller.start()
+    try:
+        yield
+    finally:
+        over.set()
+        teller.join()
+
+
 def build(crate, say):
     """Builds the program of a crate in a room of its own, and answers where it lies."""
     found = kit()
     with TemporaryDirectory(prefix="unproved-") as name:
         room = Path(name)
         say(f"building the program without proofs, the first time, in {MINUTES}")
-        take(found, room, crate)
+        with going_on(say, "gathering what is to be compiled"):
+            take(found, room, crate)
         say("compiling it")
-        program = compiled(found, room)
+        with going_on(say, "compiling it"):
+            program = compiled(found, room)
         ran([program, "--help"])
         kept = crate / "out/unproved" / crate.name
         shutil.move(program, kept.with_suffix(".part"))
@@ -120,11 +143,12 @@ def build(crate, say):
 
 
 @contextmanager
-def alone(folder):
+def alone(folder, say):
     """One build at a time: a second one waits, and finds what the first has made."""
     folder.mkdir(parents=True, exist_ok=True)
     with open(folder / ".lock", "w") as lock:
-        fcntl.flock(lock, fcntl.LOCK_EX)
+        with going_on(say, "waiting for a build that another command has begun"):
+            fcntl.flock(lock, fcntl.LOCK_EX)
         yield
 
 
@@ -143,9 +167,10 @@ def unproved(root):
     folder, begun = crate / "out/unproved", time.monotonic()
 
     def say(text):
-        print(f"whview: {text} ({time.monotonic() - begun:.0f} s so far)", file=sys.stderr, flush=True)
+        seconds = f"{time.monotonic() - begun:.0f} s so far, {ELSEWHERE} s in all elsewhere"
+        print(f"whview: {text} ({seconds})", file=sys.stderr, flush=True)
 
-    with alone(folder):
+    with alone(folder, say):
         if not built(root):
             total = ran([root / "tools/built", "--unproved", "--sum"])
             (folder / "sources.sum").unlink(missing_ok=True)
