@@ -11,7 +11,8 @@ import unittest
 from pathlib import Path
 
 from whtools.tables import bag_of
-from whtools.warehouse.exports import Export, name_of, own_names
+from whtools.warehouse import sums
+from whtools.warehouse.exports import Column, Export, name_of, own_names
 from whtools.warehouse.folder import Folder
 from whtools.warehouse.proposals import catalogue_text, proposed
 
@@ -54,7 +55,8 @@ class First(Room):
         status, told, errors = self.ran("init", "new", *files)
         self.assertEqual((status, errors), (0, []))
         self.assertEqual(told[3], "lines_joined: lines joined by lines.id = orders.id, lines.product = products.product")
-        self.assertEqual(told[4], "lines_joined_by_day: lines_joined by day, with the sums of pieces, price")
+        self.assertEqual(told[4], "lines_joined_by_day: lines_joined by day, with the sums of pieces")
+        self.assertEqual(told[5], "    price is not added up: it is of products, a row of which stands beside many of lines")
         found = Folder(self.room / "new")
         self.assertEqual((found.findings, found.catalogue.names[:3]), ([], ["lines", "orders", "products"]))
         self.assertEqual(dict(found.views[0].columns), {"id": "int", "product": "text", "pieces": "int"})
@@ -106,6 +108,56 @@ class First(Room):
         self.assertEqual((summary["group"], summary["count"]), ([["kind", "visits.kind"]], "rows"))
         self.assertEqual(summary["sum"], [["minutes", "visits.minutes"]])
 
+    def test_only_numbers_of_the_many_side_are_added_up_and_no_unit_prices(self):
+        lines = "id,article,pieces,unit_price,weight,paid\n" + "".join(
+            f"{number % 3},A{number % 2},{number},{100 + number},{'75'[number % 2]},{number * number}\n" for number in range(1, 9)
+        )
+        files = {"lines": lines, "articles": "article,stock\nA0,7\nA1,9\n", "orders": "id,who,total\n0,Ann,5\n1,Bob,6\n2,Ann,7\n"}
+        views, told = self.made(**files)
+        self.assertEqual(views["lines_joined_by_article"]["sum"], [["pieces", "lines_joined.pieces"], ["paid", "lines_joined.paid"]])
+        why = {
+            "unit_price": "by its name it is a price, of which a sum says nothing",
+            "weight": "each article has one value of it, as an article has one price",
+            "stock": "it is of articles, a row of which stands beside many of lines",
+            "total": "it is of orders, a row of which stands beside many of lines",
+        }
+        text = (self.room / "folder/catalogue.toml").read_text()
+        for name, cause in why.items():
+            self.assertIn(f"    {name} is not added up: {cause}", told)
+            self.assertIn(f"# {name} is not added up: {cause}.\n", text)
+
+    def test_a_number_goes_with_a_key_where_each_of_several_has_one_value_of_it(self):
+        def goes(keys, cells):
+            return sums.goes_with(Column("n", list(cells)), Column("key", list(keys)))
+
+        self.assertTrue(goes("aabb", "1122"))
+        self.assertFalse(goes("aabb", "1121"))
+        self.assertFalse(goes("aabb", "1111"))
+        self.assertFalse(goes("aaaa", "1111"))
+        self.assertFalse(goes("abc", "123"))
+
+    def test_a_column_of_another_kind_than_the_key_that_it_is_named_for_is_told_with_what_to_do(self):
+        orders, customers = "id,customer\n1,007\n2,012\n3,007\n", "customer,name\n7,Ann\n12,Bob\n"
+        views, told = self.made(orders=orders, customers=customers)
+        self.assertEqual(set(views) - {"orders", "customers"}, {"customers_by_name", "orders_by_customer"} & set(views))
+        line = "not joined: orders.customer, a text such as '007', and customers.customer, a number such as 7, since a text equals no number; "
+        line += "write 007 and 7 alike in both files, and run init again"
+        self.assertIn(line, told)
+        self.assertIn(f"\n# N{line[1:]}.\n", (self.room / "folder/catalogue.toml").read_text())
+        self.put(orders="id,customer\n1,7\n2,\n3,12\n", others="customer,name\n007,Ann\n012,Bob\n")
+        gaps = self.ran("init", "gaps", "orders.csv", "customers.csv")[1]
+        gap = "since a text equals no number; put a number that nothing else has into the empty cells of customer, and run init again"
+        self.assertTrue(any(line.endswith(gap) for line in gaps), gaps)
+        self.put(orders="id,customer\n1,7\n2,12\n3,12\n")
+        other = self.ran("init", "other", *self.put(buys="id,customer\n1,7\n2,12\n3,12\n"), "others.csv")[1]
+        start = "not joined: others.customer, a text such as '007', and buys.customer, a number such as 7, since a text equals no number; write"
+        self.assertEqual(len([each for each in other if each.startswith(start)]), 1, other)
+
+    def test_a_column_of_which_too_few_values_are_there_is_told(self):
+        _, told = self.made(a="code_x,n\n1,1\n2,1\n9,1\n9,2\n", b="code_x,m\n1,1\n2,2\n")
+        line = "not joined: a.code_x, of which 2 of 3 values are in b.code_x; where they belong together add the pair to a view's join"
+        self.assertEqual([each for each in told if each.startswith("not joined")], [line])
+
     def test_files_as_other_programs_write_them(self):
         text = b'\xef\xbb\xbfOrder ID;Name;Name;;2nd\r\n1;"a;b";x;;"two\nlines"\r\n\r\n2;c;y;;z\r\n'
         (self.room / "My Orders (2).csv").write_bytes(text)
@@ -146,7 +198,7 @@ class Faults(Room):
         (self.room / "there").mkdir()
         (self.room / "there/x").write_text("")
         self.assertEqual(self.ran("init", "new"), (2, [], ["init takes a folder and CSV files"]))
-        self.assertEqual(self.ran("init", "new", "u.csv"), (3, [], ["there is no file u.csv"]))
+        self.assertEqual(self.ran("init", "new", "u.csv"), (2, [], ["there is no file u.csv"]))
         self.assertEqual(self.ran("init", "there", "t.csv"), (2, [], ["there is there already; a new folder is made"]))
         self.assertEqual(self.ran("init", "new", "t.csv", "T.csv"), (3, [], ["T.csv and t.csv would both be the view t; rename one"]))
         many = (2, [], ["65 files are given, and a catalogue has 64 views at most"])

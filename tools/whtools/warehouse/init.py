@@ -8,7 +8,7 @@ from .disk import remove, telling
 from .exports import Export
 from .finding import Failure, warn
 from .folder import Folder, judged
-from .proposals import Joined, catalogue_text, proposed
+from .proposals import Joined, catalogue_text, proposed, unjoined
 from .status import BAD_INPUT, BAD_WORDS, DONE
 
 
@@ -20,7 +20,7 @@ def judge_words(words):
         raise Failure(BAD_WORDS, f"{len(words.folders) - 1} files are given, and a catalogue has {MOST_VIEWS} views at most")
     for path in words.folders[1:]:
         if not path.is_file():
-            raise Failure(BAD_INPUT, f"there is no file {path}")
+            raise Failure(BAD_WORDS, f"there is no file {path}")
 
 
 def exports(paths):
@@ -39,12 +39,14 @@ def told(tables, views):
     for table in tables:
         yield f"{table.name}: {len(table.columns)} columns, {table.rows} rows of {table.path}"
         yield from (f"    {column.note}" for column in table.columns if column.note)
+    yield from unjoined(tables)
     for view in views:
         if isinstance(view, Joined):
             pairs = (f"{way.table.name}.{way.column.name} = {way.other.name}.{way.key.name}" for way in view.taken)
             yield f"{view.name}: {view.table.name} joined by {', '.join(pairs)}"
         else:
             yield f"{view.name}: {view.over} by {view.group}" + f", with the sums of {', '.join(view.sums)}" * bool(view.sums)
+            yield from (f"    {name} is not added up: {why}" for name, why in view.left.items())
 
 
 def run(words):

@@ -1,10 +1,13 @@
 """A first catalogue of tables: which columns lead from one to another, views that follow them, and summaries."""
 
+from itertools import permutations
 from typing import NamedTuple
 
+from .apart import why_apart
 from .catalogue import MOST_CHILDREN, MOST_VIEWS
 from .exports import free
 from .formulas import MOST_COLUMNS
+from .sums import why_not
 
 # Names that say nothing of what they number, so that a key of this name leads to no other one.
 GENERAL = ("id", "key", "no", "nr", "number", "code", "name", "date", "type", "status")
@@ -70,6 +73,22 @@ def candidates(table, other):
     return [Way(table, column, other, key) for column, key in fit]
 
 
+def unjoined(tables):
+    """What is to be told of columns that are named as if they led to another table, and do not, once of two tables that no way joins."""
+    joined, told = [{way.table.name, way.other.name} for way in ways(tables)], {}
+    for table, other in permutations(tables, 2):
+        both = frozenset((table.name, other.name))
+        if both not in joined and both not in told:
+            told |= {both: text for text in list(filter(None, map(why_apart, named_alike(table, other))))[:1]}
+    return list(told.values())
+
+
+def named_alike(table, other):
+    """The columns of a table that are named for a key of another, as if they were ways."""
+    pairs = [(column, key) for key in other.columns if key.is_key for column in table.columns if names_agree(column, other, key)]
+    return [Way(table, column, other, key) for column, key in pairs if column.name != key.name or key.name not in GENERAL]
+
+
 def followed(table, known):
     """The ways that lead from a table on, each to a table that was not reached before, as many as a view can be over."""
     reached, taken = [table], []
@@ -121,17 +140,19 @@ class Joined(NamedTuple):
 
 
 class Summary(NamedTuple):
-    """What a joined view, or a table, comes to by one of its texts."""
+    """What a joined view, or a table, comes to by one of its texts; and the numbers that are not added up, each with the cause."""
 
     name: str
     over: str
     group: str
     sums: list
+    left: dict
 
     def lines(self):
         """The view as TOML."""
         count = free("rows", [self.group, *self.sums])
         yield f"# What {self.over} comes to by {self.group}."
+        yield from (f"# {name} is not added up: {why}." for name, why in self.left.items())
         yield from ("[[view]]", f'name = "{self.name}"', f'over = ["{self.over}"]')
         yield f'group = [["{self.group}", "{self.over}.{self.group}"]]'
         yield f'count = "{count}"'
@@ -140,14 +161,25 @@ class Summary(NamedTuple):
             yield f"sum = [{', '.join(pairs)}]"
 
 
-def summary_of(over, columns, leading, taken):
+class Source(NamedTuple):
+    """What a summary is over: a view with its columns, the table whose rows it has, and the ways that lead on from that."""
+
+    name: str
+    columns: dict
+    facts: object
+    ways: list
+
+
+def summary_of(source, leading, taken):
     """A summary by the text with fewest values, over the numbers that are neither keys nor lead to one; None without such a text."""
-    texts = [(len(column.values), name) for name, (_, column) in columns.items() if is_group(column)]
+    texts = [(len(column.values), name) for name, (_, column) in source.columns.items() if is_group(column)]
     if not texts:
         return None
     group = min(texts)[1]
-    numbers = [name for name, (table, column) in columns.items() if column.kind == "int" and is_measure(table, column, leading)]
-    return Summary(free(f"{over}_by_{group}"[:60], taken), over, group, numbers[:MOST_SUMS])
+    numbers = {name: at for name, at in source.columns.items() if at[1].kind == "int" and is_measure(*at, leading)}
+    left = {name: why_not(*at, source) for name, at in numbers.items()}
+    sums = [name for name in numbers if not left[name]][:MOST_SUMS]
+    return Summary(free(f"{source.name}_by_{group}"[:60], taken), source.name, group, sums, {name: why for name, why in left.items() if why})
 
 
 def is_group(column):
@@ -184,11 +216,11 @@ def proposed(tables):
 
 def with_summaries(tables, joined, taken, leading):
     """The joined views, and of each a summary; where no table leads to another, summaries of the tables."""
-    sources = [(view.name, view.columns) for view in joined]
-    sources = sources or [(table.name, {column.name: (table, column) for column in table.columns}) for table in tables]
+    sources = [Source(view.name, view.columns, view.table, view.taken) for view in joined]
+    own = [Source(table.name, {column.name: (table, column) for column in table.columns}, table, []) for table in tables]
     found = list(joined)
-    for name, columns in sources:
-        summary = summary_of(name, columns, leading, taken)
+    for source in sources or own:
+        summary = summary_of(source, leading, taken)
         if summary:
             taken.append(summary.name)
             found.append(summary)
@@ -203,6 +235,7 @@ def catalogue_text(tables, views):
         lines += [f"# {column.note}." for column in table.columns if column.note]
         columns = ", ".join(column.written for column in table.columns)
         lines += ["[[view]]", f'name = "{table.name}"', f"columns = [{columns}]"]
+    lines += [""] * bool(tables) + [f"# {text[:1].upper()}{text[1:]}." for text in unjoined(tables)]
     for view in views:
         lines += ["", *view.lines()]
     return "\n".join(lines) + "\n"
