@@ -8,9 +8,11 @@ import sys
 import time
 from contextlib import contextmanager
 from pathlib import Path
+from threading import Thread
 from unittest import mock
 
-from whtools.warehouse import stopped
+from whtools.warehouse import lock, stopped
+from whtools.warehouse.finding import Failure
 
 from .shop import SHOP, TOOLS, Shop, contents
 
@@ -107,16 +109,13 @@ class Laid(Kept):
         before = contents(self.folder)
         self.answers(b"refused range sales\nleft given-up\n", 1)
         self.assertEqual(self.ran("night", "--commit"), (1, ["refused range sales", "left given-up"]))
-        self.assertEqual(self.without_lock(contents(self.folder)), self.without_lock(before))
-
-    def without_lock(self, found):
-        return {file: content for file, content in found.items() if file != ".lock"}
+        self.assertEqual(contents(self.folder), before)
 
     def test_a_fault_in_the_first_tables_leaves_them_to_be_mended(self):
         self.edit("data/products.csv", "bread,300", "bread,12.50")
         before = contents(self.folder)
         self.assertEqual(self.ran("night", "--commit")[0], 3)
-        self.assertEqual(self.without_lock(contents(self.folder)), before)
+        self.assertEqual(contents(self.folder), before)
 
     def test_findings_name_the_files_as_they_lay_before_the_night(self):
         self.night()
@@ -218,6 +217,52 @@ class Locked(Kept):
         os.unlink(self.folder / "changes/notes.txt")
         self.assertEqual((running.returncode, self.changes()), (0, {"orders.csv": NEXT}))
         self.assertEqual((self.folder / "versions/1/changes/orders.csv").read_bytes(), (SHOP / "changes/orders.csv").read_bytes())
+
+    def test_the_file_that_is_locked_is_there_as_long_as_a_night_is_at_work(self):
+        with self.under_way():
+            self.assertTrue((self.folder / ".lock").is_file())
+        self.assertFalse((self.folder / ".lock").exists())
+        self.answers(b"refused range sales\nleft given-up\n", 1)
+        for words in (["night"], ["night", "--commit"]):
+            self.assertEqual(self.ran(*words)[0], 1)
+            self.assertFalse((self.folder / ".lock").exists())
+
+    def test_whoever_waits_for_a_lock_that_is_removed_takes_the_one_that_is_there(self):
+        with lock.Lock(self.folder):
+            handle = os.open(self.folder / ".lock", os.O_RDWR)
+        self.assertFalse((self.folder / ".lock").exists())
+        waiting = lock.Lock(self.folder)
+        waiting.handle = handle
+        self.assertTrue(lock.taken(handle, fcntl.LOCK_EX))
+        self.assertFalse(waiting.is_there())
+        with lock.Lock(self.folder) as second:
+            self.assertFalse(waiting.is_there())
+            self.assertTrue(second.is_there())
+            self.assertRaises(Failure, lock.Lock(self.folder).__enter__)
+            self.assertTrue((self.folder / ".lock").is_file())
+        os.close(handle)
+
+    def test_many_nights_that_wait_for_each_other_are_at_work_one_by_one(self):
+        inside, most, done = [], [], []
+
+        def work():
+            while len(done) < 60:
+                try:
+                    with lock.Lock(self.folder):
+                        inside.append(1)
+                        most.append(len(inside))
+                        time.sleep(0.001)
+                        inside.pop()
+                        done.append(1)
+                except Failure:
+                    pass
+
+        threads = [Thread(target=work) for _ in range(6)]
+        for thread in threads:
+            thread.start()
+        for thread in threads:
+            thread.join()
+        self.assertEqual((max(most), (self.folder / ".lock").exists()), (1, False))
 
     def test_a_lock_whose_holder_was_killed_is_free(self):
         with self.under_way("--commit") as running:

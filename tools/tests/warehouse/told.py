@@ -81,12 +81,8 @@ class Told(Shop):
         self.assertEqual(self.ran("lint", "--lenient"), (0, [without, told.format("warning: ")]))
         before = contents(self.folder)
         self.assertEqual(self.ran("night", "--commit"), (3, [without, told.format("")]))
-        self.assertEqual(self.told(before), before)
+        self.assertEqual(contents(self.folder), before)
         self.assertEqual(self.ran("pack"), (3, [told.format("")]))
-
-    def told(self, before):
-        """What a folder holds, but for the file that is locked."""
-        return {file: content for file, content in contents(self.folder).items() if file in before or file != ".lock"}
 
     def test_a_function_that_there_is_not_and_what_stands_beside_the_views(self):
         self.edit("catalogue.toml", 'sum = [["pieces"', 'avg = [["mean", "sales.cost"]]\nsum = [["pieces"')
@@ -104,7 +100,7 @@ class Told(Shop):
         before = contents(self.folder)
         for words in (["lint"], ["night"], ["night", "--commit"], ["plan"]):
             self.assertEqual(self.ran(*words), (3, [told]))
-        self.assertEqual(self.told(before), before)
+        self.assertEqual(contents(self.folder), before)
 
     def test_files_of_data_and_changes_that_nothing_reads(self):
         os.rename(self.folder / "changes/orders.csv", self.folder / "changes/orders.CSV")

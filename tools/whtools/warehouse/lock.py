@@ -1,9 +1,12 @@
-"""One night at a time: the lock of a folder, and who holds it."""
+"""One night at a time: the lock of a folder, and who holds it. The file that is locked is there as long as a night is at work; one whose
+night was killed goes with the next.
+"""
 
 import fcntl
 import os
 import sys
 import time
+from contextlib import suppress
 
 from .disk import telling
 from .finding import Failure
@@ -58,18 +61,21 @@ class Lock:
     """A folder is this night's alone. The system frees the lock when the process ends, however it ends."""
 
     def __init__(self, folder):
-        self.folder = folder
+        self.file, self.folder = folder / FILE, folder
 
     def __enter__(self):
-        self.handle = os.open(self.folder / FILE, os.O_RDWR | os.O_CREAT, 0o644)
-        with telling(self.folder / FILE):
+        with telling(self.file):
             is_taken = self.is_taken()
         if not is_taken:
             who = told(self.folder, self.handle)
             os.close(self.handle)
             raise Failure(AT_WORK, f"{who}; try again when it has ended")
-        with telling(self.folder / FILE):
-            self.sign()
+        try:
+            with telling(self.file):
+                self.sign()
+        except OSError:
+            self.__exit__()
+            raise
         return self
 
     def sign(self):
@@ -80,12 +86,26 @@ class Lock:
         os.pwrite(self.handle, about.encode(errors="replace"), 0)
 
     def is_taken(self):
-        """Tries for a moment."""
-        for _ in range(TRIES):
-            if taken(self.handle, fcntl.LOCK_EX):
+        """Tries for a moment. A file that its holder removed meanwhile locks nobody out, and is opened anew."""
+        for number in range(TRIES):
+            if number:
+                os.close(self.handle)
+                time.sleep(PAUSE)
+            self.handle = os.open(self.file, os.O_RDWR | os.O_CREAT, 0o644)
+            if taken(self.handle, fcntl.LOCK_EX) and self.is_there():
                 return True
-            time.sleep(PAUSE)
         return False
 
+    def is_there(self):
+        """Whether the file that is locked is the one that others find."""
+        try:
+            return os.path.samestat(os.stat(self.file), os.fstat(self.handle))
+        except FileNotFoundError:
+            return False
+
     def __exit__(self, *_):
+        """Removes the file before it lets go: who opened it before finds that it is no longer there. Another night's file stays."""
+        with suppress(OSError):
+            if self.is_there():
+                os.unlink(self.file)
         os.close(self.handle)
