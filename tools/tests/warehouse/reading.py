@@ -82,7 +82,7 @@ class Reads(Kept):
         cases = {
             ("sale",): (2, f"version 1 has no view 'sale'; it has {has}; did you mean sales?"),
             ("../data/orders",): (2, f"version 1 has no view '../data/orders'; it has {has}; did you mean orders?"),
-            ("sales", "--version", "9"): (3, f"there is no version 9 in {self.folder}; there are 0, 1"),
+            ("sales", "--version", "9"): (2, f"there is no version 9 in {self.folder}; there are 0, 1"),
             ("sales", "--version", "../1"): (2, f"--version is a number from 0 to {2**63 - 1:,}, and not '../1'"),
             ("sales", "--limit", "-1"): (2, f"--limit is a number from 0 to {2**63 - 1:,}, and not '-1'"),
             ("sales", "--limit", "1" * 30): (2, f"--limit is a number from 0 to {2**63 - 1:,}, and not '{'1' * 30}'"),

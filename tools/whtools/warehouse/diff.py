@@ -17,7 +17,7 @@ from .exports import Export as FreeExport
 from .exports import name_of
 from .finding import MARK, Failure
 from .numbers import MOST, is_between
-from .status import BAD_INPUT, DONE
+from .status import BAD_INPUT, BAD_WORDS, DONE
 from .written import text_of
 
 
@@ -26,7 +26,7 @@ class Export:
 
     def __init__(self, path):
         if not path.is_file():
-            raise Failure(BAD_INPUT, f"there is no file {path}")
+            raise Failure(BAD_WORDS, f"there is no file {path}")
         self.path, content = path, path.read_bytes().removeprefix(MARK)
         self.content = content.replace(b"\r\n", b"\n") if has_whole_lines(content) else content
         header = next(self.records(), [])

@@ -3,7 +3,7 @@
 import os
 
 from .finding import Failure
-from .status import AT_WORK, BAD_INPUT
+from .status import AT_WORK, BAD_INPUT, BAD_WORDS
 from .versions import ALONE, NOT_THERE, VERSIONS, is_shared, named, place, whole
 
 
@@ -19,10 +19,10 @@ def hold(version):
     return None
 
 
-def lost(folder, number, text):
-    """That a version is not there, by this text, or that it is and cannot be held."""
+def lost(folder, number, status, text):
+    """That a version is not there, by this status and text, or that it is and cannot be held."""
     version = place(folder, number)
-    return Failure(AT_WORK, f"{version} {ALONE}") if version.is_dir() else Failure(BAD_INPUT, text)
+    return Failure(AT_WORK, f"{version} {ALONE}") if version.is_dir() else Failure(status, text)
 
 
 def hold_current(folder):
@@ -36,7 +36,7 @@ def hold_current(folder):
         if handle is not None:
             return number, handle
         if number == tried:
-            raise lost(folder, number, f"{folder / 'current'} names {VERSIONS}/{number}, which is not there")
+            raise lost(folder, number, BAD_INPUT, f"{folder / 'current'} names {VERSIONS}/{number}, which is not there")
         tried = number
 
 
@@ -45,7 +45,7 @@ def hold_one(folder, number):
     handle = hold(place(folder, number))
     if handle is None:
         there = ", ".join(map(str, whole(folder))) or "none"
-        raise lost(folder, number, f"there is no version {number} in {folder}; there are {there}")
+        raise lost(folder, number, BAD_WORDS, f"there is no version {number} in {folder}; there are {there}")
     return number, handle
 
 
