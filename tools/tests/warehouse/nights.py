@@ -6,13 +6,15 @@ import sys
 from pathlib import Path
 
 from whtools.bundle import unpack
+from whtools.warehouse import headlines, sizes
 from whtools.warehouse.catalogue import Catalogue
+from whtools.warehouse.folder import Folder
 
 from .shop import ANSWER, SHOP, SIZES, TOOLS, Shop, contents
 
 
 PRODUCTS = b'#,product,price\n1,bread,300\n1,"tea, black",800\n1,jam,475\n1,honey,950\n'
-BY_THESE = " by these sizes of before the night, whose own work stands below"
+ONE_BY_ONE = "strategy: view by view, as the catalogue has them, without a plan: "
 
 
 class Nights(Shop):
@@ -20,7 +22,7 @@ class Nights(Shop):
         before = contents(self.folder)
         self.assertEqual(self.ran("night"), (0, []))
         after = contents(self.folder)
-        made = {f"new/{view.name}.csv" for view in Catalogue(SHOP).views} | {"new/report.txt", ".lock"}
+        made = {f"new/{view.name}.csv" for view in Catalogue(SHOP).views} | {"new/report.txt", "new/catalogue.toml"}
         self.assertEqual(set(after) - set(before), made)
         self.assertEqual({file: after[file] for file in before}, before)
         self.assertEqual(after["new/products.csv"], PRODUCTS)
@@ -55,25 +57,31 @@ class Nights(Shop):
         (self.folder / "strategy.txt").unlink()
         self.program.write_text(
             f"#!/bin/sh\ncat > /dev/null\necho $1 >> {self.program}.words\ncase $1 in\nplan) printf 'scope all\nwork 98\n{kept}';;\n"
-            f"certify) echo certified;;\n*) cat {self.program.parent}/answer;; esac\n"
+            f"certify) echo certified all work 98;;\n*) cat {self.program.parent}/answer;; esac\n"
         )
         self.assertEqual(self.ran("night", "--commit"), (0, []))
         self.assertEqual(Path(f"{self.program}.words").read_text().split(), ["night"])
         report = (self.folder / "current/report.txt").read_text()
-        self.assertTrue(report.startswith("strategy view by view: the sizes below are the first, and the next night is planned\nseconds: "), report)
+        first = f"{ONE_BY_ONE}no sizes are known yet; the next night is planned by those that stand below\nwork: 98 rows "
+        self.assertTrue(report.startswith(first), report)
         self.assertTrue(report.endswith("products,3,4,3\nsales,,9,8\ndaily_by_product,,8,8\ndaily_by_region,,6,8\n"), report)
         self.assertEqual(self.ran("night"), (0, []))
         self.assertEqual(Path(f"{self.program}.words").read_text().split(), ["night", "plan", "certify", "night"])
         report = (self.folder / "new/report.txt").read_text()
-        self.assertTrue(report.startswith(f"strategy planned, sizes from the change files and the last report: certified{BY_THESE}\nseconds: "), report)
+        by = "by the sizes that were expected (from the change files and the last report)"
+        first = f"strategy: a plan of work 98; certified: no correct strategy has less, {by}\nwork: 98 rows "
+        self.assertTrue(report.startswith(first), report)
         self.assertIn("\nsales,9,9,8\n", report)
 
     def test_a_report_tells_where_the_time_is_and_which_work_is_idle(self):
         (self.folder / "changes/products.csv").unlink()
         self.assertEqual(self.ran("night"), (0, []))
         lines = (self.folder / "new/report.txt").read_text().splitlines()
-        self.assertRegex(lines[1], r"^seconds: [0-9]+\.[0-9]{2} in the program, [0-9]+\.[0-9]{2} in all but for the end of writing$")
-        self.assertEqual(lines[2], "no changed row goes through 1 of 5 Comps, which are 19 of the work")
+        given = "strategy: that of strategy.txt, whatever its work; without this file a night plans, as `tools/warehouse plan"
+        self.assertEqual(lines[0], f"{given} {self.folder}` shows")
+        idle = "19 of them are those of 1 of 5 Comps without a changed row, where nothing was looked up"
+        self.assertEqual(lines[1], f"work: 98 rows as it was carried out; {idle}")
+        self.assertRegex(lines[2], r"^time: [0-9]+\.[0-9]{2} s in all but for the end of writing, [0-9]+\.[0-9]{2} s of it in the program$")
         (self.folder / "sizes.csv").write_text(SIZES.replace("products,3,4,3", "products,3,3,0"))
         command = [sys.executable, TOOLS / "warehouse", "explain", self.folder, "--program", self.program]
         told = subprocess.run(command, capture_output=True, text=True, check=True).stdout.splitlines()
@@ -82,6 +90,53 @@ class Nights(Shop):
         self.assertEqual(told[-1], "work 92, 56 changed")
         self.assertTrue(told[place + 1].endswith("; no changed row goes through it, so nothing is looked up"), told[place + 1])
         self.assertEqual(sum(line.endswith("nothing is looked up") for line in told), 1)
+
+    def test_what_is_known_of_a_plan_is_told_with_among_which_strategies_and_by_which_sizes(self):
+        rows, weights = SIZES, SIZES.replace("change\n", "change,weight\n").replace("\n", ",2\n")
+        by = "by the sizes that were expected (given in sizes.csv)"
+        one_way = f"strategy: a plan of work 12; certified: no strategy whose Comps take one view each has less, {by}"
+        self.assertEqual(headlines.planned("certified one-way work 12", rows, "given in sizes.csv"), one_way)
+        by_weight = f"strategy: a plan of work 12 by weight; certified: no correct strategy has less, {by}"
+        self.assertEqual(headlines.planned("certified all work 12", weights, "given in sizes.csv"), by_weight)
+        other = f"strategy: a plan, {by}; of it the program says rejected work"
+        self.assertEqual(headlines.planned("rejected work", rows, "given in sizes.csv"), other)
+        sizes = {"a": (1, 1, 1), "b": (1, 1, 0)}
+        self.assertEqual(headlines.work("comp c from a: 3\ninst a: 1\nwork 4", sizes), "work: 4 rows as it was carried out; changed rows went through each Comp")
+        idle = "work: 9 rows as it was carried out; 5 of them are those of 1 of 2 Comps without a changed row, where nothing was looked up"
+        self.assertEqual(headlines.work("comp c from a b: 3\ncomp c from b: 5\ninst a: 1\nwork 9", sizes), idle)
+
+    def test_the_sizes_of_a_view_that_was_defined_otherwise_are_told_of_none_over_it(self):
+        def known():
+            return sizes.as_before(Folder(self.folder))
+
+        self.assertEqual(self.ran("night", "--commit"), (0, []))
+        views = {view.name for view in Catalogue(SHOP).views}
+        told = ["sizes from the change files and the last report"]
+        self.edit("catalogue.toml", "# A small shop", "# A shop")
+        self.assertEqual((known(), self.sizes()[1]), (views, told))
+        self.edit("catalogue.toml", 'sum = [["cost", "sales.cost"]]', 'sum = [["cost", "sales.pieces"]]')
+        self.assertEqual(known(), views - {"daily_by_region"})
+        self.edit("catalogue.toml", 'join = [["orders.id", "lines.id"]', 'where = ["<", "lines.pieces", 3]\njoin = [["orders.id", "lines.id"]')
+        self.assertEqual(known(), {"orders", "lines", "products"})
+        (self.folder / "versions/1/catalogue.toml").unlink()
+        self.assertEqual(known(), set())
+
+    def test_after_another_definition_sizes_are_measured_and_the_report_leaves_open_what_nobody_counted(self):
+        self.assertEqual(self.ran("night", "--commit"), (0, []))
+        self.edit("catalogue.toml", 'join = [["orders.id", "lines.id"]', 'where = ["<", "lines.pieces", 3]\njoin = [["orders.id", "lines.id"]')
+        (self.folder / "changes/orders.csv").write_bytes(b"#,id,day,region\n1,8,Thursday,north\n")
+        self.program.write_text(self.program.read_text().replace("cat >", f"echo $1 >> {self.program}.words\ncat >"))
+        measured, told = self.sizes()
+        self.assertEqual((measured[1], told), ("orders,7,8,1", ["sizes measured by a night that is not kept"]))
+        self.assertEqual(Path(f"{self.program}.words").read_text().split(), ["night", "night"])
+        (self.folder / "strategy.txt").unlink()
+        self.assertEqual(self.ran("night"), (0, []))
+        lines = (self.folder / "new/report.txt").read_text().splitlines()
+        why = "the catalogue has other views than the night before, whose sizes nobody knows; the next night is planned by those that stand below"
+        self.assertEqual(lines[0], ONE_BY_ONE + why)
+        anew = "views: computed anew, since catalogue.toml is another one than that of version 1; "
+        self.assertEqual(lines[3], f"{anew}what changed is counted by their definitions of now, over the tables before and after")
+        self.assertEqual(lines[-3:], ["sales,,9,8", "daily_by_product,,8,8", "daily_by_region,,6,8"])
 
     def test_the_first_rows_of_a_warehouse_are_known_to_be_none_before_them(self):
         for name in ("orders", "lines", "products"):
@@ -236,12 +291,12 @@ class Programs(Shop):
     def judge(self, script, status, told):
         """Runs each command that asks the program."""
         self.program.write_text(f"#!/bin/sh\n{script}\n")
-        before = {file: text for file, text in contents(self.folder).items() if file != ".lock"}
+        before = contents(self.folder)
         for words in (["night"], ["check"], ["plan"], ["certify"]):
             asked = "check" if words == ["check"] else "night"
             with self.subTest(words=words):
                 self.assertEqual(self.ran(*words), (status, [f"{self.program} {asked} {told}; nothing was changed"]))
-        self.assertEqual({file: text for file, text in contents(self.folder).items() if file != ".lock"}, before)
+        self.assertEqual(contents(self.folder), before)
 
     def test_a_program_that_is_killed(self):
         self.judge("kill -9 $$", 70, "was killed by signal 9 (SIGKILL)")

@@ -14,6 +14,7 @@ from whtools.warehouse.report_page import page
 from whtools.warehouse.report_parts import by_pairs, by_tree
 
 from .folders import Kept
+from .shop import ANSWER
 
 PLAN = """scope all
 work 96
@@ -64,8 +65,8 @@ class Page(HTMLParser):
         return " ".join(" ".join(self.words).split())
 
 
-class Reports(Kept):
-    """`report`, of the shop's nights."""
+class Paged(Kept):
+    """A shop with its nights and their pages."""
 
     def answers_each(self, plan=PLAN, verdict="certified all work 96\n"):
         """Has the program answer a plan and a verdict, and the shop's night."""
@@ -79,6 +80,10 @@ class Reports(Kept):
         self.assertEqual(self.ran("report", *words), (0, []))
         text = (self.folder / "reports" / name).read_text()
         return Page(text), text
+
+
+class Reports(Paged):
+    """`report`, of the shop's nights."""
 
     def test_a_night_is_one_page_that_needs_nothing_else(self):
         self.night()
@@ -153,10 +158,10 @@ class Reports(Kept):
         told_of = f"there is no night in {self.folder} yet; `tools/warehouse night {self.folder} --commit` carries one out"
         self.assertEqual(self.ran("report"), (3, [told_of]))
         self.night()
-        self.assertEqual(self.ran("report", "0"), (3, [f"version 0 of {self.folder} is of before its first night, and has no report"]))
-        self.assertEqual(self.ran("report", "7"), (3, [f"there is no version 7 in {self.folder}; there are 0, 1"]))
-        self.assertEqual(self.ran("report", "../1"), (2, [f"a version is a number from 0 to {2**63 - 1:,}, and not '../1'"]))
-        self.assertEqual(self.ran("report", "1", "2"), (2, ["report takes a folder, and perhaps a version"]))
+        self.assertEqual(self.ran("report", "0"), (2, [f"version 0 of {self.folder} is of before its first night, and has no report"]))
+        self.assertEqual(self.ran("report", "7"), (2, [f"there is no version 7 in {self.folder}; there are 0, 1"]))
+        self.assertEqual(self.ran("report", "../1"), (2, [f"a version, where it is not new, is a number from 0 to {2**63 - 1:,}, and not '../1'"]))
+        self.assertEqual(self.ran("report", "1", "2"), (2, ["report takes a folder, and perhaps a version or the word new"]))
         self.assertFalse((self.folder / "reports").exists())
 
     def test_without_a_program_there_is_a_report_without_a_certificate(self):
@@ -209,7 +214,6 @@ class Reports(Kept):
         lost = "No rows are shown of sales, daily_by_product, daily_by_region : the version before is no longer there, or has other columns."
         self.assertIn(lost, read.text)
 
-
     def test_a_catalogue_without_views_has_no_page(self):
         (self.folder / "catalogue.toml").write_text("view = []\n")
         for name in ("changes", "data"):
@@ -218,6 +222,84 @@ class Reports(Kept):
         self.answers(b"work 0\nversion 1\n", 0)
         self.night()
         self.assertEqual(self.ran("report"), (3, [f"version 1 of {self.folder} has no views, and no page"]))
+
+
+class Anew(Paged):
+    """Pages of nights by another catalogue than the one before, and of previews beside versions."""
+
+    def night_by_another_catalogue(self, *words):
+        """A night after which one view has another row, another view another column, and a third one is as it was."""
+        self.night()
+        self.edit("catalogue.toml", 'count = "lines"\nsum = [["pieces"', 'count = "n"\nsum = [["pieces"')
+        text = ANSWER.read_text().removesuffix("status 0\n").replace("product,lines,", "product,n,")
+        self.answers(text.replace("Monday,south,1,2400", "Monday,south,1,2500").encode(), 0)
+        self.put()
+        told = self.night(*words)
+        self.answers_each()
+        return told
+
+    def test_the_rows_of_views_that_were_computed_anew_are_compared_with_those_of_the_version_before(self):
+        self.night_by_another_catalogue()
+        report = (self.folder / "current/report.txt").read_text()
+        self.assertIn("\nsales,9,9,8\ndaily_by_product,,8,8\ndaily_by_region,6,6,8\n", report)
+        self.assertFalse((self.folder / "current/deltas").exists())
+        read, _ = self.reported(name="2.html")
+        self.assertIn("The catalogue is another one than that of version 1, so each derived view was computed anew", read.text)
+        self.assertIn("compares their tables with those of version 1.", read.text)
+        self.assertIn("sales derived 9 9 0 0 daily_by_product derived 8 8 0 16 daily_by_region derived 6 6 0 2", read.text)
+        self.assertIn("Derived rows changed 18 of 23 before Derived views changed 2 of 3", read.text)
+        self.assertIn("daily_by_region 2 rows differ", read.text)
+        lost = "No rows are shown of daily_by_product : the version before is no longer there, or has other columns. Not changed: lines, products, sales ."
+        self.assertIn(lost, read.text)
+        self.assertIn("Views were computed anew in 2, where changed rows count by the definitions of then.", read.text)
+
+    def test_where_the_version_before_is_gone_what_differs_is_left_open(self):
+        self.night_by_another_catalogue("--keep", "1")
+        read, _ = self.reported(name="2.html")
+        self.assertIn("is left open, since version 1 is no longer there.", read.text)
+        self.assertIn("sales derived — 9 — — daily_by_product derived — 8 — — daily_by_region derived — 6 — —", read.text)
+        self.assertIn("Derived rows changed — now 23 Derived views changed — of 3", read.text)
+        self.assertIn("No rows are shown of sales, daily_by_product, daily_by_region :", read.text)
+
+    def test_a_view_that_is_new_had_no_rows_before(self):
+        self.night()
+        (self.folder / "strategy.txt").unlink()
+        with (self.folder / "catalogue.toml").open("a") as file:
+            file.write('\n[[view]]\nname = "colours"\ncolumns = ["name:text"]\n\n[[view]]\nname = "days"\nover = ["orders"]\ngroup = []\ncount = "n"\n')
+        (self.folder / "data").mkdir()
+        (self.folder / "data/colours.csv").write_text("name\nred\nblue\n")
+        self.put(b"#,name\n-1,red\n", "colours.csv")
+        text = ANSWER.read_text().removesuffix("status 0\n")
+        steps = "comp days from orders: 0\ninst colours: 1\ninst days: 0\nwork 99\n"
+        self.answers((text.replace("work 98\n", steps) + "view days\n#,n\n1,7\n").encode(), 0)
+        self.night()
+        self.answers_each()
+        read, _ = self.reported(name="2.html")
+        self.assertIn("colours base 2 1 -1 1 days derived 0 1 +1 1", read.text)
+        self.assertIn("colours 1 row differs before after name name red —", read.text)
+        self.assertIn("days 1 row differs before after n n — 7", read.text)
+
+    def test_a_preview_beside_versions_has_its_page_too(self):
+        self.night()
+        self.answers_each()
+        none = f"there is no preview in {self.folder}; `tools/warehouse night {self.folder}` makes one"
+        self.assertEqual(self.ran("report", "new"), (3, [none]))
+        self.put()
+        self.assertEqual(self.ran("night"), (0, []))
+        self.edit("catalogue.toml", 'name = "daily_by_region"', 'name = "by_region"')
+        read, _ = self.reported("new", name="preview.html")
+        self.assertIn("shop, preview", read.text)
+        self.assertIn("orders base 7 8 +1 1", read.text)
+        self.assertIn("orders 1 row differs", read.text)
+        self.assertIn("daily_by_region derived 6 6 0", read.text)
+        self.assertIn("2 nights that are kept, 1 to preview.", read.text)
+        self.assertEqual([path.name for path in (self.folder / "reports").iterdir()], ["preview.html"])
+
+    def test_the_time_of_the_whole_night_is_told(self):
+        self.night()
+        self.answers_each()
+        took = r"It took [0-9]+\.[0-9]{2} s in all but for the end of writing, [0-9]+\.[0-9]{2} s of it in the program\."
+        self.assertRegex(self.reported()[0].text, took)
 
 
 class Rows(Kept):
@@ -327,10 +409,10 @@ class Certificates(Kept):
                 trees += 1
 
     def test_the_report_of_a_night_is_read_whatever_stands_in_it(self):
-        text = "strategy from x\ncomp a from b c: 12\ninst a: 3, 0.2 s\nwork 15\nreader 0 version 1 rows 3\nview,pre,post,change\na,1,2,3\n"
+        text = "strategy from x\ntime: 1.20 s\ncomp a from b c: 12\ninst a: 3, 0.2 s\nwork 15\nreader 0 version 1 rows 3\nview,pre,post,change\na,1,2,3\n"
         found = told(text)
         self.assertEqual((found.how, found.strategy, found.rows), ("strategy from x", "comp a from b c\ninst a\n", [12, 3]))
-        self.assertEqual(found.seconds, [None, 0.2])
+        self.assertEqual((found.seconds, found.time, found.is_anew), ([None, 0.2], "1.20 s", False))
         self.assertEqual((found.sizes, found.readers), ({"a": (1, 2, 3)}, ["reader 0 version 1 rows 3"]))
 
     def test_what_a_report_leaves_open_is_left_open(self):

@@ -118,7 +118,7 @@ class Weights(Shop):
         (self.folder / "sizes.csv").write_text(SIZES)
         self.assertEqual(self.ran("night", "--weights", "cells")[0], 0)
         report = (self.folder / "new/report.txt").read_text()
-        self.assertIn("; weights by cells: certified by these sizes of before the night, whose own work stands below\n", report)
+        self.assertIn("; weights by cells)", report.partition("\n")[0])
         self.assertIn("\nview,pre,post,change\norders,5,7,2\n", report)
         self.assertIn(b"@sizes\nview,pre,post,change,weight\norders,5,7,2,3\n", (self.program.parent / "program.bundle").read_bytes())
 
@@ -129,7 +129,15 @@ class Kinds(Shop):
         more = '[[view]]\nname = "more"\nover = ["orders", "sales"]\njoin = [["orders.id", "sales.pieces"]]\ngroup = []\ncount = "n"\n'
         ran = subprocess.run(command, capture_output=True, text=True, check=True)
         told = f"{UNIFORM}\n    no tree: sales is under daily_by_product, daily_by_region\n    {LEVELS}\n"
-        self.assertEqual((ran.stdout, ran.stderr), (told, ""))
+        well = "6 views, 3 of them tables of 15 rows in all; 11 rows change in the next night\n"
+        self.assertEqual((ran.stdout, ran.stderr), (f"{told}nothing is wrong: {well}", ""))
+        (self.folder / "notes.txt").write_text("")
+        ran = subprocess.run(command, capture_output=True, text=True, check=True)
+        self.assertEqual((ran.stdout, ran.stderr.count("\n")), (f"{told}nothing is wrong but for 1 warning above: {well}", 1))
+        (self.folder / "changes/more.csv").write_text("")
+        ran = subprocess.run(command, capture_output=True, text=True)
+        self.assertEqual((ran.returncode, ran.stdout), (3, told))
+        (self.folder / "changes/more.csv").unlink()
         with (self.folder / "catalogue.toml").open("a") as catalogue:
             catalogue.write(more)
         ran = subprocess.run(command, capture_output=True, text=True)

@@ -301,7 +301,8 @@ class Answers:
                 raise FileNotFoundError
             handle = os.open(file, os.O_RDONLY | os.O_NOFOLLOW)
         except OSError:
-            made = f"`tools/warehouse report {self.folder} {version.name}` makes it"
+            asked = "new" if version.name == "preview" else version.name
+            made = f"`tools/warehouse report {self.folder} {asked}` makes it"
             raise Refused(HTTPStatus.NOT_FOUND, f"there is no report {name}; {made}") from None
         with io.FileIO(handle) as file:
             return Answer(HTTPStatus.OK, HTML, file.readall())

@@ -3,7 +3,7 @@
 import time
 from typing import NamedTuple
 
-from . import refusals
+from . import headlines, refusals
 from .by_lines import counted, sum_of
 from .catalogue import FILE as CATALOGUE
 from .check import strategy_of as given_strategy
@@ -12,7 +12,7 @@ from .folder import judged
 from .limits import after, sizes_after
 from .made import Made, made, of_base, of_change
 from .planning import certified, planned, strategy_of
-from .sizes import base_sizes, given_text, rows_of, sized, told_before, told_rows
+from .sizes import base_sizes, given_text, last_report, rows_of, sized, told_before, told_rows
 from .status import BAD_INPUT, SPENT
 from .strategy import FILE, at_once, written
 
@@ -33,7 +33,9 @@ class Kept:
 
     def __init__(self, folder):
         self.folder, self.rows, last = folder, told_rows(folder), folder.state.root
-        self.is_as_before = is_same(last / CATALOGUE, folder.catalogue.content) and not folder.inputs.later
+        is_by_the_same = is_same(last / CATALOGUE, folder.catalogue.content)
+        self.is_as_before = is_by_the_same and not folder.inputs.later
+        self.is_of_another = bool(folder.state.number) and (last / CATALOGUE).is_file() and not is_by_the_same
         self.files = {view.name: last / "views" / f"{view.name}.csv" for view in folder.views if not view.is_base}
 
     def file(self, name):
@@ -83,18 +85,10 @@ class Night:
 
     def report(self):
         """What the night did: how its strategy was come by, the rows of each expression, what readers saw, and the views' sizes."""
-        sizes, seen = self.sizes(), "".join(f"{line}\n" for line in self.answer.readers)
-        return f"{self.chosen.how}\n{self.took()}\n{self.idle(sizes)}\n{self.answer.head}\n{seen}{sized(sizes)}"
-
-    def took(self):
-        """How many seconds went by, up to here."""
-        return f"seconds: {self.answer.seconds:.2f} in the program, {time.monotonic() - self.began:.2f} in all but for the end of writing"
-
-    def idle(self, sizes):
-        """How much of the work is that of Comps through which no changed row goes."""
-        comps = [line[5:].split(": ") for line in self.answer.head.split("\n") if line.startswith("comp ")]
-        rows = [int(rows) for named, rows in comps if not any(sizes[name][2] for name in named.partition(" from ")[2].split())]
-        return f"no changed row goes through {len(rows)} of {len(comps)} Comps, which are {sum(rows)} of the work"
+        sizes, answer = self.sizes(), self.answer
+        lines = [self.chosen.how, headlines.work(answer.head, sizes), headlines.time(answer.seconds, time.monotonic() - self.began)]
+        lines += [headlines.anew(self.folder.state.number)] * self.kept.is_of_another
+        return "\n".join([*lines, answer.head, *answer.readers, sized(sizes)])
 
 
 def is_same(file, content):
@@ -105,17 +99,17 @@ def is_same(file, content):
 def chosen(folder, words):
     """The strategy that is carried out. Where nothing tells of sizes nothing is planned: the night itself counts them for the next one."""
     if (folder.path / FILE).is_file():
-        return Chosen(given_strategy(folder), f"strategy from {FILE}")
+        return Chosen(given_strategy(folder), headlines.given(folder.path))
     if given_text(folder) is None and told_before(folder) is None:
-        return Chosen(written(at_once(folder.views)), "strategy view by view: the sizes below are the first, and the next night is planned")
+        return Chosen(written(at_once(folder.views)), headlines.without_sizes(bool(last_report(folder))))
     try:
         plan, sizes, source = planned(folder, words)
     except Failure as failure:
         if failure.status != SPENT:
             raise
-        return Chosen(written(at_once(folder.views)), "strategy view by view: the search for a plan was given up")
-    verdict = f"{certified(folder, words, plan, sizes)} by these sizes of before the night, whose own work stands below"
-    return Chosen(strategy_of(plan), f"strategy planned, sizes {source}: {verdict}", plan)
+        return Chosen(written(at_once(folder.views)), headlines.given_up())
+    verdict = certified(folder, words, plan, sizes)
+    return Chosen(strategy_of(plan), headlines.planned(verdict, sizes, source), plan)
 
 
 def judge_after(folder, is_kept):

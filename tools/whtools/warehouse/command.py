@@ -34,7 +34,7 @@ OPTIONS = {
 # How many words a command takes besides its options, and what they are; where it is not one folder.
 OPERANDS = {
     "diff": (2, 2, "two files"),
-    "report": (1, 2, "a folder, and perhaps a version"),
+    "report": (1, 2, "a folder, and perhaps a version or the word new"),
     "read": (2, 2, "a folder and a view"),
     "init": (2, sys.maxsize, "a folder and CSV files"),
 }

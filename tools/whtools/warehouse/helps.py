@@ -2,7 +2,7 @@
 
 from importlib import import_module
 
-WORDS = {"diff": "OLD NEW", "unpack": "FOLDER < ANSWER", "init": "FOLDER FILES..", "read": "FOLDER VIEW", "report": "FOLDER [VERSION]"}
+WORDS = {"diff": "OLD NEW", "unpack": "FOLDER < ANSWER", "init": "FOLDER FILES..", "read": "FOLDER VIEW", "report": "FOLDER [VERSION | new]"}
 WITHOUT_PROGRAM = ("lint", "pack", "unpack", "diff", "init", "read", "serve")
 OPTIONS = [
     ("--commit", ("night",), "keeps the night: takes the changes and makes a version"),
@@ -28,6 +28,10 @@ PROGRAM = [
     ("--unproved", "by the program that is built without its proof, within minutes"),
     ("--program FILE", "by another program than the repository's proved one"),
 ]
+STATUSES = (
+    "Status 2: what these words name is not there or not taken, as an option, folder, file, version, view or column; 3: what the folder holds\n"
+    "is wrong. All statuses are in docs/OPERATING.md, recipes in docs/WAREHOUSE.md."
+)
 WITHOUT = [("--unproved, --program FILE", "are taken as everywhere, and change nothing: this command asks no program")]
 
 
@@ -38,4 +42,4 @@ def help_of(command):
     lines = [f"tools/warehouse {command} {WORDS.get(command, 'FOLDER')} [OPTIONS]", ""]
     lines += [(import_module(f"whtools.warehouse.{command}").__doc__ or "").strip()]
     lines += ["", *(f"    {option:20} {text}" for option, text in options)]
-    return "\n".join([*lines, "", "Statuses are in docs/OPERATING.md, recipes in docs/WAREHOUSE.md."])
+    return "\n".join([*lines, "", STATUSES])

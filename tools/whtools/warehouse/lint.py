@@ -1,4 +1,4 @@
-"""`lint`: all that is wrong in a folder, a line each, warnings too; and of what kind its shape is."""
+"""`lint`: all that is wrong in a folder, a line each, warnings too; of what kind its shape is; and last, where nothing is wrong, that."""
 
 from ..kinds import shape_of, told, why
 from .finding import warn
@@ -19,6 +19,14 @@ def strategy_findings(folder):
     return strategy.findings or list(filter(None, [strategy.broken()]))
 
 
+def all_is_well(folder, warnings):
+    """That nothing is wrong, and what was looked at."""
+    but, changes = f" but for {warnings} warning{'s' * (warnings > 1)} above" * bool(warnings), folder.changes.values()
+    rows = sum(abs(count) for records in changes for count in records.rows.values())
+    tables = f"{len(folder.bases)} of them tables of {sum(records.total for records in folder.data.values())} rows in all"
+    return f"nothing is wrong{but}: {len(folder.views)} views, {tables}; {rows} rows change in the next night"
+
+
 def run(words):
     folder = Folder(words.folder, lenient=words.lenient)
     if not any(not finding.warns for finding in folder.catalogue.findings):
@@ -29,4 +37,7 @@ def run(words):
     if not any(not finding.warns for finding in folder.catalogue.findings):
         shape = shape_of(folder.views)
         print("\n    ".join([told(shape), *why(shape, [view.name for view in folder.views])]))
-    return DONE if all(finding.warns for finding in findings) else BAD_INPUT
+    if not all(finding.warns for finding in findings):
+        return BAD_INPUT
+    print(all_is_well(folder, len(findings)))
+    return DONE

@@ -1,12 +1,14 @@
-"""`night`: carries a folder's night out. Without `--commit` it writes new/ with every view and a report; with it, a new version.
+"""`night`: carries a folder's night out. Without `--commit` it writes new/ with every view, its catalogue and a report; with it, a new
+version.
 
-A strategy.txt is taken where there is one; else a plan is made, of given or measured sizes, and certified. A refused night changes no
-file.
+A strategy.txt is taken where there is one; else a plan is made, of sizes that are given or told by the last report, and certified. Where
+nothing tells of sizes, since there was no night or a view is defined otherwise, it goes view by view. A refused night changes no file.
 """
 
 import os
 
 from .carried import carried
+from .catalogue import FILE as CATALOGUE
 from .commit import commit
 from .disk import remove, write
 from .finding import Failure, warn
@@ -26,6 +28,7 @@ def preview(words):
         os.makedirs(part)
         for view, table in night.tables():
             table.put(part / f"{view.name}.csv", False)
+        write(part / CATALOGUE, [night.folder.catalogue.content])
         report = night.report()
         write(part / "report.txt", [report.encode()])
         remove(new)

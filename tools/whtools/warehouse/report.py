@@ -1,4 +1,10 @@
-"""`report`: a night as one HTML file that needs nothing else, reports/N.html of a version and reports/preview.html of new/."""
+"""`report`: a night as one HTML file that needs nothing else: reports/N.html of a version, the current one where none is named; and
+reports/preview.html of the preview in new/, where the word is `new` or there is no version yet.
+
+Work is what the metric counts, all rows of what each step reads; beside it stands how many changed rows really go through a step, and how
+many seconds the whole night took. Where the night went by another catalogue than the one before, its views were computed anew, and what
+is told of their rows compares the tables of both versions.
+"""
 
 import os
 from html import escape
@@ -13,7 +19,7 @@ from .report_plans import beside, least
 from .report_rows import changed, opening
 from .status import BAD_INPUT, DONE
 
-FOLDER = "reports"
+FOLDER, PREVIEW = "reports", "new"
 PARTS = ("graph", "The graph"), ("steps", "Steps"), ("views", "Views"), ("rows", "Changed rows"), ("plans", "Plans")
 LATER = ("certificate", "The certificate"), ("history", "History")
 
@@ -23,8 +29,9 @@ def head(night, strategies):
     name = os.path.basename(os.path.abspath(night.folder))
     how = f"{night.made}. {night.told.how[:1].upper()}{night.told.how[1:]}." if night.told.how else f"{night.made}."
     readers = "".join(element("p", escape(line), class_="soft mono") for line in night.told.readers)
-    title = element("h1", f"{escape(name)}, {night.title}")
-    return element("header", title + element("p", escape(how), class_="soft") + readers + parts.figures(night, strategies))
+    title, took = element("h1", f"{escape(name)}, {night.title}"), f" It took {night.told.time}." if night.told.time else ""
+    told = element("p", escape(how + took), class_="soft") + readers + parts.anew(night)
+    return element("header", title + told + parts.figures(night, strategies))
 
 
 def text_of(night, words):
@@ -34,6 +41,7 @@ def text_of(night, words):
     plan = least(night, words)
     strategies = beside(night, plan)
     rows = {view.name: changed(night, view, before) for view in night.views}
+    night.compare(rows)
     made = [parts.graph(night), parts.steps(night), parts.views(night, rows), parts.first_rows(night, rows)]
     made += [parts.plans(night, strategies, plan), parts.certificate(night, plan), parts.history(night)]
     links = (element("li", element("a", text, href=f"#{name}")) for name, text in PARTS + LATER if name != "certificate" or plan.text)
@@ -57,8 +65,9 @@ def put(file, text):
 
 
 def run(words):
-    number = whole_number(words.operands[1], "a version", 0, 2**63 - 1) if len(words.operands) > 1 else None
-    night = Night(words.folder, number)
+    asked = words.operands[1] if len(words.operands) > 1 else None
+    number = None if asked in (None, PREVIEW) else whole_number(asked, f"a version, where it is not {PREVIEW},", 0, 2**63 - 1)
+    night = Night(words.folder, number, asked == PREVIEW)
     with night.kept:
         faults = [finding for finding in night.catalogue.findings if not finding.warns]
         if faults:

@@ -5,14 +5,16 @@ import time
 from contextlib import ExitStack
 from typing import NamedTuple
 
+from .catalogue import FILE as CATALOGUE
 from .catalogue import Catalogue
 from .explain import Step
 from .finding import Failure
+from .headlines import ANEW, TIME
 from .held import Held
 from .inputs import CHANGES, by_view
 from .reading import catalogue_of, records
 from .sizes import HEADER
-from .status import BAD_INPUT
+from .status import BAD_INPUT, BAD_WORDS
 from .strategy import Strategy
 from .versions import named, place, whole
 
@@ -21,7 +23,7 @@ STEP = re.compile(r"(comp \w+ from [\w ]+|inst \w+): ([0-9]+)(?:, ([0-9.]+) s\b)
 
 class Told(NamedTuple):
     """What a report.txt says: how the strategy was come by, its lines, the rows of each step and its seconds where they are told, the
-    sizes, and what readers saw.
+    sizes, what readers saw, the time of the whole night, and whether the derived views were computed anew.
     """
 
     how: str
@@ -30,6 +32,8 @@ class Told(NamedTuple):
     seconds: list
     sizes: dict
     readers: list
+    time: str = ""
+    is_anew: bool = False
 
     @property
     def work(self):
@@ -49,12 +53,14 @@ def sizes_in(text):
 
 def told(text):
     """What the text of a report says."""
-    found = [match for match in map(STEP.match, text.splitlines()) if match]
+    lines = text.splitlines()
+    found = [match for match in map(STEP.match, lines) if match]
     strategy = "".join(f"{match[1]}\n" for match in found)
-    readers = [line for line in text.splitlines() if line.startswith("reader ")]
-    how = text.partition("\n")[0]
+    readers = [line for line in lines if line.startswith("reader ")]
+    how, time_of_all = text.partition("\n")[0], next((line for line in lines if line.startswith(TIME)), "")
     rows, seconds = [int(match[2]) for match in found], [match[3] and float(match[3]) for match in found]
-    return Told("" if STEP.match(how) else how, strategy, rows, seconds, sizes_in(text), readers)
+    is_anew = any(line.startswith(ANEW) for line in lines)
+    return Told("" if STEP.match(how) else how, strategy, rows, seconds, sizes_in(text), readers, time_of_all.removeprefix(TIME), is_anew)
 
 
 def counted(table):
@@ -63,25 +69,33 @@ def counted(table):
 
 
 class Night:
-    """A night: a version with the one before it, or the preview in new/. Both are held until they are let go."""
+    """A night: a version with the one before it, or the preview in new/. Both are held until they are let go. What the program worked out
+    is told by `told`; `shown` has how many rows of each view one who reads versions saw before, sees now, and how many of them differ.
+    """
 
-    def __init__(self, folder, number=None):
+    def __init__(self, folder, number=None, is_preview=False):
         self.folder, self.number, self.kept = folder, number, ExitStack()
-        if number is None:
+        if number is None and not is_preview:
             self.number = named(folder)
         if self.number is None and not (folder / "new/report.txt").is_file():
-            raise Failure(BAD_INPUT, f"there is no night in {folder} yet; `tools/warehouse night {folder} --commit` carries one out")
+            raise Failure(BAD_INPUT, without_night(folder, is_preview))
         if self.number is not None:
             self.kept.enter_context(Held(folder, self.number))
-        before = number_before(folder, self.number)
-        self.before = None if before is None else self.held(before)
+        self.number_before = number_before(folder, self.number)
+        self.before = None if self.number_before is None else self.held(self.number_before)
         self.report = self.root / "report.txt"
         if not self.report.is_file():
-            raise Failure(BAD_INPUT, f"version {self.number} of {folder} is of before its first night, and has no report")
+            raise Failure(BAD_WORDS, f"version {self.number} of {folder} is of before its first night, and has no report")
         self.told = told(self.report.read_text())
-        self.catalogue = Catalogue(folder, lenient=True) if self.number is None else catalogue_of(folder, self.number)
+        self.shown, self.catalogue = self.told.sizes, self.own_catalogue()
         self.views = [view for view in self.catalogue.views if view.name in self.told.sizes]
         self.strategy = Strategy(self.told.strategy, self.views)
+
+    def own_catalogue(self):
+        """The catalogue that the night went by."""
+        if self.number is not None:
+            return catalogue_of(self.folder, self.number)
+        return Catalogue(self.root if (self.root / CATALOGUE).is_file() else self.folder, lenient=True)
 
     def count(self, tables):
         """Counts how many rows the views had before the night, where its report leaves that open and their tables of then are known."""
@@ -89,7 +103,14 @@ class Night:
         for view in self.views:
             if sizes[view.name][0] is None and view.name in tables:
                 sizes[view.name] = (counted(tables[view.name]), *sizes[view.name][1:])
-        self.told = self.told._replace(sizes=sizes)
+        self.told, self.shown = self.told._replace(sizes=sizes), sizes
+
+    def compare(self, rows):
+        """Has what is shown of views that were computed anew be what their rows say, compared with those of the version before."""
+        for view in self.views if self.told.is_anew else ():
+            if not view.is_base:
+                found, after = rows[view.name], self.told.sizes[view.name][1]
+                self.shown = self.shown | {view.name: (found and found.before, after, found and found.moved)}
 
     @property
     def knows_sizes(self):
@@ -132,10 +153,12 @@ class Night:
 
     def table_before(self, view):
         """The table of before the night, or None where it is no longer there or never was."""
-        kind = "data" if view.is_base else "views"
         root = self.before or (self.folder if self.number is None and named(self.folder) is None else None)
-        file = root / kind / f"{view.name}.csv" if root else None
-        return file if file and file.is_file() else None
+        files = [root / ("data" if view.is_base else "views") / f"{view.name}.csv"] if root else []
+        # A base view that is new has the table that was given for it.
+        given = self.folder / "data" if self.number is None else self.root / "given"
+        files += [given / f"{view.name}.csv"] if view.is_base else []
+        return next((file for file in files if file.is_file()), None)
 
     def changes(self, view):
         """The files of changes of a view that the version keeps."""
@@ -155,6 +178,13 @@ class Night:
             except OSError:
                 continue
         return found if self.number is not None else found | {"preview": self.told}
+
+
+def without_night(folder, is_preview):
+    """That there is nothing to report, and what makes it."""
+    if is_preview:
+        return f"there is no preview in {folder}; `tools/warehouse night {folder}` makes one"
+    return f"there is no night in {folder} yet; `tools/warehouse night {folder} --commit` carries one out"
 
 
 def number_before(folder, number):

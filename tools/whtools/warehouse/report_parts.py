@@ -7,6 +7,7 @@ from typing import NamedTuple
 from ..kinds import shape_of
 from ..kinds import told as kind_told
 from .graph import Picture, notes
+from .headlines import PLANNED
 from .report_curves import curves
 from .report_page import element, row, scrolling, section, table
 from .report_plans import MOST_LINES, fixed_rows, pairs, tree_lines
@@ -15,7 +16,7 @@ from .report_plans import MOST_LINES, fixed_rows, pairs, tree_lines
 OPEN = 3
 # How small a wide graph becomes before it scrolls.
 SMALLEST = 0.75
-PREDICTED = re.compile(r"certified [a-z-]+ work ([0-9]+)")
+PREDICTED = re.compile(re.escape(PLANNED) + "([0-9]+)")
 
 
 def number(value):
@@ -52,8 +53,21 @@ def than_bound(night, strategies):
 
 def of_rows(night, names):
     """Of how many rows before, or after where these are not known."""
-    before = [night.told.sizes[name][0] for name in names]
-    return f"now {sum(night.told.sizes[name][1] for name in names):,}" if None in before else f"of {sum(before):,} before"
+    before = [night.shown[name][0] for name in names]
+    return f"now {sum(night.shown[name][1] for name in names):,}" if None in before else f"of {sum(before):,} before"
+
+
+def anew(night):
+    """What a night by another catalogue than the one before did, and what is told of it."""
+    if not night.told.is_anew:
+        return ""
+    before = f"version {night.number_before}"
+    seen = f"compares their tables with those of {before}" if night.before else f"is left open, since {before} is no longer there"
+    about = (
+        f"The catalogue is another one than that of {before}, so each derived view was computed anew, by its definition of now. Steps, work "
+        f"and plans are about the changes of this night, by these definitions; what is told of the rows of derived views {seen}."
+    )
+    return element("p", element("strong", about))
 
 
 def touched(night):
@@ -64,12 +78,13 @@ def touched(night):
 def figures(night, strategies):
     """The night in a few numbers."""
     derived = [view.name for view in night.views if not view.is_base]
-    moved = sum(1 for name in derived if night.told.sizes[name][2])
+    changed = [night.shown[name][2] for name in derived]
+    total, moved = ("&mdash;", "&mdash;") if None in changed else (f"{sum(changed):,}", len(list(filter(None, changed))))
     work = f"rows, as the metric counts{than_bound(night, strategies)}"
     listed = [
         ("Work", f"{night.told.work:,}", f"{work}; {touched(night):,} changed ones are gone through"),
         ("Base rows changed", f"{night.told.changed(night.bases):,}", of_rows(night, night.bases)),
-        ("Derived rows changed", f"{night.told.changed(derived):,}", of_rows(night, derived)),
+        ("Derived rows changed", total, of_rows(night, derived)),
         ("Derived views changed", f"{moved} of {len(derived)}", "each is its definition over the new tables"),
     ]
     items = (element("div", f"<dt>{what}</dt><dd>{value}<small>{about}</small></dd>") for what, value, about in listed)
@@ -146,7 +161,7 @@ def steps(night):
 
 def view_row(night, view, found, most):
     """A view: its rows before and after, and how many changed."""
-    before, after, change = night.told.sizes[view.name]
+    before, after, change = night.shown[view.name]
     name = element("a", escape(view.name), href=f"#rows-{view.name}") if found and found.pairs else escape(view.name)
     then = after if before is None else before
     told = "&mdash;" if before is None else f"{after - before:+,}" if after != before else "0"
@@ -158,7 +173,7 @@ def view_row(night, view, found, most):
 
 def views(night, rows):
     """All views, with their rows before and after."""
-    most = max((rows for size in night.told.sizes.values() for rows in size[:2] if rows), default=1)
+    most = max((rows for size in night.shown.values() for rows in size[:2] if rows), default=1)
     heads = ["view", "", ("before", "number"), ("after", "number"), ("grew by", "number"), ("changed", "number"), "rows"]
     made = [view_row(night, view, rows[view.name], most) for view in night.views]
     said = key(("other", "rows that it had and has"), ("plan", "rows more than before"), ("gone-bar", "rows fewer than before"))
@@ -210,8 +225,8 @@ def rows_of(view, found, is_open):
 def first_rows(night, rows):
     """The first changed rows of each view."""
     there = [view for view in night.views if rows[view.name] and rows[view.name].pairs]
-    lost = [view.name for view in night.views if rows[view.name] is None and night.told.sizes[view.name][2]]
-    still = [view.name for view in night.views if not night.told.sizes[view.name][2]]
+    still = [view.name for view in night.views if night.shown[view.name][2] == 0]
+    lost = [view.name for view in night.views if view not in there and view.name not in still]
     about = (
         "A row that left stands beside the one that came in its place: of a summary that of the same group, otherwise the one most like it."
     )
@@ -310,4 +325,7 @@ def history(night):
     first, last = list(found)[0], list(found)[-1]
     about = f"{len(found)} nights that are kept, {first} to {last}." if len(found) > 1 else "There is one night as yet."
     rest = element("p", f"{left} more views have no curve here.") if left else ""
+    others = ", ".join(str(version) for version, each in found.items() if each.is_anew)
+    if others:
+        rest += element("p", f"Views were computed anew in {others}, where changed rows count by the definitions of then.", class_="soft")
     return section("history", "The nights so far", element("p", about, class_="soft") + drawn + rest)

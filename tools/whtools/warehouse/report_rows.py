@@ -11,6 +11,7 @@ from . import program
 from .finding import Failure
 from .packing import MARK
 from .reading import records, value_of
+from .report_facts import counted
 from .strategy import at_once, written
 
 FIRST, CANDIDATES = 8, 400
@@ -19,11 +20,14 @@ HEADER = re.compile(rb"[\r\n]*([^\r\n]*)[\r\n]*")
 
 
 class Changed(NamedTuple):
-    """The first changed rows as pairs of an old and a new row, of which one may be missing, each row with its count; and how many
-    rows differ in all."""
+    """The first changed rows as pairs of an old and a new row, of which one may be missing, each row with its count; how many rows differ
+    in all; and where the tables were compared how many rows there were, and how many left and came, each as often as it counts.
+    """
 
     pairs: list
     differ: int
+    before: int = 0
+    moved: int = 0
 
 
 def rows_of(lines, columns, is_counted=True):
@@ -125,20 +129,40 @@ def found_in(night, view, opening):
     return of_changes(files, view.columns) if files else None
 
 
+def compared(night, view):
+    """What differs of a view that was computed anew, from the version before, which may have had no such view; None where that version is
+    gone. Where the columns are others all rows differ.
+    """
+    if not night.before:
+        return None
+    before, new = night.table_before(view), night.table_after(view).read_bytes()
+    old = before.read_bytes() if before else new.partition(b"\n")[0] + b"\n"
+    rows = counted(old)
+    if names_in(old) != names_in(new):
+        return Changed([], rows + counted(new), rows, rows + counted(new))
+    found = differences(old, new, view.columns)
+    return Changed(paired(found, groups_of(view))[:FIRST], len(found), rows, sum(abs(now - then) for then, now in found.values()))
+
+
+def groups_of(view):
+    """How many columns of a summary name the group of a row; None of other views."""
+    return None if view.is_base or "keep" in view.table else len(view.table["group"])
+
+
 def changed(night, view, opening):
     """The first rows of a view that a night changed, or None. `opening` has tables of before the night that no version has."""
+    if night.told.is_anew and not view.is_base:
+        return compared(night, view)
     found = found_in(night, view, opening)
-    if found is None:
-        return None
-    groups = None if view.is_base or "keep" in view.table else len(view.table["group"])
-    return Changed(paired(found, groups)[:FIRST], len(found))
+    return None if found is None else Changed(paired(found, groups_of(view))[:FIRST], len(found))
 
 
 def opening(night, words):
-    """The derived views' tables before a night, where the version before it has none: a night without changes makes them. None of them
-    where the program gives none.
+    """The derived views' tables before a night, where the version before it has none, or those of other definitions: a night without
+    changes makes them. None of them where the program gives none.
     """
-    without = [view for view in night.views if not view.is_base and not night.table_before(view) and not night.changes(view)]
+    derived = [view for view in night.views if not view.is_base]
+    without = [view for view in derived if night.told.is_anew or not night.table_before(view) and not night.changes(view)]
     tables = {view.name: night.table_before(view) for view in night.views if view.is_base}
     if not without or not all(tables.values()):
         return {}

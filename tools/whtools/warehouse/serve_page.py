@@ -46,7 +46,8 @@ def version_row(folder, version, current, shown):
         made = time.strftime("%Y-%m-%d %H:%M", time.localtime(place(folder, version).stat().st_mtime))
     except OSError:
         return ""
-    marks = [word for word, is_it in (("current", version == current), ("shown here", version == shown)) if is_it]
+    known = ("current", version == current), ("shown here", version == shown), ("computed anew", found and found.is_anew)
+    marks = [word for word, is_it in known if is_it]
     tags = " ".join(element("span", mark, class_="tag") for mark in marks)
     name = element("a", f"version {version}", href=f"/?version={version}")
     has_page = is_page_of(folder / f"reports/{version}.html", place(folder, version))

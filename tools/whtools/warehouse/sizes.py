@@ -1,5 +1,9 @@
-"""Sizes of a folder's views for a night: given, from the last report, or measured by a night that changes nothing; and their weights,
-given or proposed."""
+"""`sizes`: how many rows each view has before the next night and after it, and how many change; and weights, given or proposed.
+
+They are those of sizes.csv where there is one; from the change files and the last report, where the views are defined as they were then;
+and else measured, by nights that are not kept. The report of a night leaves open how many rows a derived view had, an empty cell, where
+nobody counted them: before a first night, and where the view, or one that it is over, was defined otherwise.
+"""
 
 import csv
 import io
@@ -54,10 +58,30 @@ def last_report(folder):
     return of_report(file.read_text()) if file.is_file() else {}
 
 
+def as_before(folder):
+    """The names of the views that are as the version before has them: the same columns, or the same definition over such views."""
+    if folder.state.number is None:
+        return set()
+    if folder.inputs.is_catalogue_as_before() or not (folder.state.root / CATALOGUE).is_file():
+        return {view.name for view in folder.views}
+    before, found = {view.name: view for view in Catalogue(folder.state.root, lenient=True).views}, set()
+    for view in folder.views:
+        if view.name in before and is_alike(view, before[view.name]) and found.issuperset(view.over):
+            found.add(view.name)
+    return found
+
+
+def is_alike(view, other):
+    """Whether two views have the same columns, or the same definition."""
+    return view.columns == other.columns if view.is_base and other.is_base else view.table == other.table
+
+
 def told_before(folder):
-    """Sizes from the last report: derived views change as they did then, by as much more as the base views do. None without one."""
-    last = last_report(folder)
-    if set(last) != {view.name for view in folder.views}:
+    """Sizes from the last report: derived views change as they did then, by as much more as the base views do. None without one, and where
+    a view is another one than then.
+    """
+    last, names = last_report(folder), {view.name for view in folder.views}
+    if set(last) != names or as_before(folder) != names:
         return None
     found = base_sizes(folder)
     now, then = (sum(sizes[name][2] for name in found) for sizes in (found, last))
@@ -73,17 +97,6 @@ def rows_of(table):
     return counted(table) if has_whole_lines(table) else counted_through(table)
 
 
-def defined_as_before(folder):
-    """The names of the views that are defined as they were in the version, with all that they are over."""
-    if folder.inputs.is_catalogue_as_before() or not (folder.state.root / CATALOGUE).is_file():
-        return {view.name for view in folder.views}
-    before, found = {view.name: view.table for view in Catalogue(folder.state.root, lenient=True).views}, set()
-    for view in folder.views:
-        if view.table == before.get(view.name) and found.issuperset(view.over):
-            found.add(view.name)
-    return found
-
-
 def told_rows(folder):
     """How many rows each derived view has, as far as it is known: from the last report, of views that are defined as they were; and none
     where all base tables are empty.
@@ -91,8 +104,8 @@ def told_rows(folder):
     last, derived = last_report(folder), [view.name for view in folder.views if not view.is_base]
     if not any(before for before, _, _ in base_sizes(folder).values()):
         return dict.fromkeys(derived, 0)
-    known = defined_as_before(folder) & last.keys()
-    return {name: last[name][1] for name in derived if name in known}
+    known = as_before(folder)
+    return {name: last[name][1] for name in derived if name in last and name in known}
 
 
 def rows_before(folder, words):

@@ -1,0 +1,61 @@
+"""What a night's report says first, a line each: by which strategy it went and what is known of that, its work and how much of that was
+idle, its time, and whether the derived views were computed anew.
+"""
+
+import re
+
+from ..sizes import WITH_WEIGHTS
+from .strategy import FILE
+
+VERDICT = re.compile(r"certified (all|one-way) work ([0-9]+)")
+LEAST = {"all": "no correct strategy has less", "one-way": "no strategy whose Comps take one view each has less"}
+PLANNED, TIME, ANEW = "strategy: a plan of work ", "time: ", "views: computed anew"
+ONE_BY_ONE = "strategy: view by view, as the catalogue has them, without a plan: "
+NEXT = "the next night is planned by those that stand below"
+
+
+def given(folder):
+    """Of a strategy that lies in the folder."""
+    return f"strategy: that of {FILE}, whatever its work; without this file a night plans, as `tools/warehouse plan {folder}` shows"
+
+
+def planned(verdict, sizes, source):
+    """Of a plan, with what the program says of it, and the text of the sizes and from where they are."""
+    found, by = VERDICT.fullmatch(verdict), f"by the sizes that were expected ({source})"
+    if not found:
+        return f"strategy: a plan, {by}; of it the program says {verdict}"
+    unit = " by weight" * sizes.startswith(",".join(WITH_WEIGHTS))
+    return f"{PLANNED}{found[2]}{unit}; certified: {LEAST[found[1]]}, {by}"
+
+
+def without_sizes(has_views_before):
+    """Of a night that nothing tells sizes of, for the want of a night before it, or since its views are others."""
+    why = "the catalogue has other views than the night before, whose sizes nobody knows" if has_views_before else "no sizes are known yet"
+    return f"{ONE_BY_ONE}{why}; {NEXT}"
+
+
+def given_up():
+    """Of a night whose plan would have had to be searched for too long."""
+    return f"{ONE_BY_ONE}the search for one was given up"
+
+
+def work(head, sizes):
+    """The work of the steps that the program tells, and how much of it is that of Comps through which no changed row goes."""
+    steps = [line.split(": ") for line in head.split("\n") if line.startswith(("comp ", "inst "))]
+    comps = [(named.partition(" from ")[2].split(), int(rows)) for named, rows in steps if named.startswith("comp ")]
+    idle = [rows for sources, rows in comps if not any(sizes[name][2] for name in sources)]
+    told = f"work: {sum(int(rows) for _, rows in steps)} rows as it was carried out"
+    if not idle:
+        return f"{told}; changed rows went through each Comp"
+    return f"{told}; {sum(idle)} of them are those of {len(idle)} of {len(comps)} Comps without a changed row, where nothing was looked up"
+
+
+def time(in_program, in_all):
+    """How many seconds went by."""
+    return f"{TIME}{in_all:.2f} s in all but for the end of writing, {in_program:.2f} s of it in the program"
+
+
+def anew(version):
+    """That the catalogue is another one than that of the version before."""
+    why = f"since catalogue.toml is another one than that of version {version}"
+    return f"{ANEW}, {why}; what changed is counted by their definitions of now, over the tables before and after"
