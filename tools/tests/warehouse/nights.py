@@ -90,6 +90,13 @@ class Nights(Shop):
         self.assertEqual(told[-1], "work 92, 56 changed")
         self.assertTrue(told[place + 1].endswith("; no changed row goes through it, so nothing is looked up"), told[place + 1])
         self.assertEqual(sum(line.endswith("nothing is looked up") for line in told), 1)
+        self.assertEqual(self.ran("night", "--commit"), (0, []))
+        told = subprocess.run(command, capture_output=True, text=True, check=True).stdout.splitlines()
+        took = r"took [0-9.]+ s in all but for the end of writing, [0-9.]+ s of it in the program"
+        self.assertRegex(told[-1], f"^the night of version 1 had work 98, and {took}$")
+        self.assertEqual(self.ran("graph"), (0, []))
+        for name in ("graph.svg", "graph.dot"):
+            self.assertRegex((self.folder / name).read_text(), f"(?i)the night of version 1 had work 98, and {took}")
 
     def test_what_is_known_of_a_plan_is_told_with_among_which_strategies_and_by_which_sizes(self):
         rows, weights = SIZES, SIZES.replace("change\n", "change,weight\n").replace("\n", ",2\n")

@@ -1,10 +1,11 @@
 """`explain`: a strategy line by line: its work, which is all rows of what it reads, how many changed rows really go through it, what is
-read, old or new, what it counts by weight, and why it stands there."""
+read, old or new, what it counts by weight, and why it stands there; last the work of all, and how many seconds the night before took."""
 
 from itertools import combinations
 
 from .check import strategy_of as given_strategy
 from .folder import sound
+from .headlines import of_last_night
 from .planning import planned, strategy_of
 from .sizes import of_text, sizes_text
 from .status import DONE
@@ -90,11 +91,12 @@ def steps(words):
 
 
 def run(words):
-    listed = steps(words)[1]
+    folder, listed = steps(words)
     has_weights = any(step.weight(step.view) > 1 for _, step in listed)
     for line, step in listed:
         by_weight = f", by weight {step.work()}" if has_weights else ""
         print(f"{line}: {step.rows()}, {step.changed()} changed{by_weight}\n    {step.text()}")
     rows, changed, work = (sum(map(each, (step for _, step in listed))) for each in (Step.rows, Step.changed, Step.work))
-    print(f"work {rows}, {changed} changed{f', by weight {work}' if has_weights else ''}")
+    last = of_last_night(folder.state)
+    print(f"work {rows}, {changed} changed{f', by weight {work}' if has_weights else ''}", *filter(None, [last]), sep="\n")
     return DONE

@@ -1,10 +1,11 @@
-"""`graph`: the views of a folder, who is over whom, of what kind that shape is, and the order and work of a strategy: graph.dot and
-graph.svg in the folder."""
+"""`graph`: the views of a folder, who is over whom, of what kind that shape is, the order and work of a strategy, how many changed rows
+go through each step, and the seconds of the night before: graph.dot and graph.svg in the folder."""
 
 from ..kinds import shape_of, told
 from .explain import steps
 from .folder import sound
 from .finding import Failure
+from .headlines import of_last_night
 from .layers import Layers
 from .status import DONE, SPENT
 
@@ -33,8 +34,9 @@ def notes(listed):
     return views, edges
 
 
-def dot(views, named, edges, kind):
+def dot(views, named, edges, kind, last=""):
     """The graph as DOT."""
+    kind = "\\n".join(filter(None, (kind, last)))
     lines = [f'  "{view.name}" [shape=box, label="{view.name}\\n{named.get(view.name, "")}"];' for view in views]
     lines += [f'  "{child}" -> "{view.name}" [label="{edges.get((child, view.name), "")}"];' for view in views for child in view.over]
     return f'digraph warehouse {{\n  rankdir=BT;\n  label="{kind}";\n' + "\n".join(lines) + "\n}\n"
@@ -48,9 +50,9 @@ def wide(words, size):
 class Picture:
     """The graph as a picture: base views stand at the bottom, and each other view in the row above the highest one that it is over."""
 
-    def __init__(self, views, named, edges, kind=""):
+    def __init__(self, views, named, edges, kind="", last=""):
         self.views, self.named, self.edges = views, named, edges
-        self.legend = [kind.capitalize() + "."] * bool(kind) + (LEGEND if named else [])
+        self.legend = [kind.capitalize() + "."] * bool(kind) + (LEGEND if named else []) + [last.capitalize() + "."] * bool(last)
         self.layers = Layers(views, {view.name: self.width(view) for view in views})
         self.highest = len(self.layers.rows) - 1
 
@@ -138,8 +140,8 @@ class Picture:
         return "\n".join([head, *drawn, "</svg>\n"])
 
 
-def svg(views, named, edges, kind):
-    return Picture(views, named, edges, kind).svg()
+def svg(views, named, edges, kind, last=""):
+    return Picture(views, named, edges, kind, last).svg()
 
 
 def drawn(words):
@@ -158,6 +160,6 @@ def run(words):
     kind = told(shape_of(folder.views))
     if folder.views:
         for name, made in (("graph.dot", dot), ("graph.svg", svg)):
-            (folder.path / name).write_text(made(folder.views, named, edges, kind))
+            (folder.path / name).write_text(made(folder.views, named, edges, kind, of_last_night(folder.state)))
     print(kind)
     return DONE

@@ -7,6 +7,7 @@ import re
 from ..sizes import WITH_WEIGHTS
 from .strategy import FILE
 
+TOLD = re.compile(r"^time: ([^\n]+)$.*^work ([0-9]+)$", re.MULTILINE | re.DOTALL)
 VERDICT = re.compile(r"certified (all|one-way) work ([0-9]+)")
 LEAST = {"all": "no correct strategy has less", "one-way": "no strategy whose Comps take one view each has less"}
 PLANNED, TIME, ANEW = "strategy: a plan of work ", "time: ", "views: computed anew"
@@ -53,6 +54,12 @@ def work(head, sizes):
 def time(in_program, in_all):
     """How many seconds went by."""
     return f"{TIME}{in_all:.2f} s in all but for the end of writing, {in_program:.2f} s of it in the program"
+
+
+def of_last_night(state):
+    """The work and the seconds of the night that made the tables, where its report tells them, or an empty text."""
+    found = TOLD.search(state.report.read_text()) if state.number is not None and state.report.is_file() else None
+    return f"the night of version {state.number} had work {found[2]}, and took {found[1]}" if found else ""
 
 
 def anew(version):

@@ -226,7 +226,9 @@ def first_rows(night, rows):
     """The first changed rows of each view."""
     there = [view for view in night.views if rows[view.name] and rows[view.name].pairs]
     still = [view.name for view in night.views if night.shown[view.name][2] == 0]
-    lost = [view.name for view in night.views if view not in there and view.name not in still]
+    # Of a view that was computed anew with other columns all rows differ, and none stands beside another.
+    none = [view.name for view in night.views if rows[view.name] is None or night.told.is_anew and not rows[view.name].pairs]
+    lost = [name for name in none if name not in still]
     about = (
         "A row that left stands beside the one that came in its place: of a summary that of the same group, otherwise the one most like it."
     )
