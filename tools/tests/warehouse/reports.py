@@ -11,7 +11,8 @@ from whtools.plans import drawn, drawn_cyclic
 from whtools.warehouse import report_plans, report_rows
 from whtools.warehouse.report_facts import told
 from whtools.warehouse.report_page import page
-from whtools.warehouse.report_parts import by_pairs, by_tree
+from whtools.warehouse.report_parts import by_pairs, by_tree, plans
+from whtools.warehouse.serve_page import version_row
 
 from .folders import Kept
 from .shop import ANSWER
@@ -252,6 +253,8 @@ class Anew(Paged):
         lost = "No rows are shown of daily_by_product : the version before is no longer there, or has other columns. Not changed: lines, products, sales ."
         self.assertIn(lost, read.text)
         self.assertIn("Views were computed anew in 2, where changed rows count by the definitions of then.", read.text)
+        rows = [version_row(self.folder, number, 2, 2) for number in (1, 2)]
+        self.assertEqual(["computed anew" in row for row in rows], [False, True])
 
     def test_where_the_version_before_is_gone_what_differs_is_left_open(self):
         self.night_by_another_catalogue("--keep", "1")
@@ -414,6 +417,13 @@ class Certificates(Kept):
         self.assertEqual((found.how, found.strategy, found.rows), ("strategy from x", "comp a from b c\ninst a\n", [12, 3]))
         self.assertEqual((found.seconds, found.time, found.is_anew), ([None, 0.2], "1.20 s", False))
         self.assertEqual((found.sizes, found.readers), ({"a": (1, 2, 3)}, ["reader 0 version 1 rows 3"]))
+
+    def test_what_a_plan_was_expected_to_cost_is_told_in_its_unit(self):
+        for unit in ("", " by weight"):
+            found = told(f"strategy: a plan of work 1200{unit}; certified\ninst a: 3\nwork 3\nview,pre,post,change\na,1,2,3\n")
+            one = report_plans.Beside("this night", "", 3, "own")
+            text = Page(page("plans", plans(SimpleNamespace(told=found), [one], report_plans.Plan()))).text
+            self.assertIn(f"were expected, and for these its work is 1,200{unit}.", text)
 
     def test_what_a_report_leaves_open_is_left_open(self):
         found = told("strategy view by view\ninst a: 3\nwork 3\nview,pre,post,change\na,1,2,3\nb,,7,4\n")

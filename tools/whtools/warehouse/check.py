@@ -1,4 +1,5 @@
-"""`check`: judges the folder's strategy.txt. Without sizes.csv and a report its work is not known, and it is judged all the same."""
+"""`check`: judges the folder's strategy.txt. Without sizes.csv and a report of these views its work is not known, and it is judged all the
+same."""
 
 from . import program
 from .finding import Failure

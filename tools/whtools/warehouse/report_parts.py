@@ -16,7 +16,7 @@ from .report_plans import MOST_LINES, fixed_rows, pairs, tree_lines
 OPEN = 3
 # How small a wide graph becomes before it scrolls.
 SMALLEST = 0.75
-PREDICTED = re.compile(re.escape(PLANNED) + "([0-9]+)")
+PREDICTED = re.compile(re.escape(PLANNED) + "([0-9]+)( by weight)?")
 
 
 def number(value):
@@ -260,7 +260,7 @@ def plans(night, strategies, plan):
     about = "What each would have cost this night, by the sizes that the views turned out to have, in rows."
     predicted = PREDICTED.search(night.told.how)
     if predicted:
-        about += f" The night's plan was made by the sizes that were expected, and for these its work is {int(predicted[1]):,}."
+        about += f" The night's plan was made by the sizes that were expected, and for these its work is {int(predicted[1]):,}{predicted[2] or ''}."
     about = element("p", about, class_="soft")
     missing = element("p", f"No plan was made: {escape(plan.missing)}.") if plan.missing else ""
     return section("plans", "The plan beside others", about + scrolling(table(heads, made), "strategies") + missing)
