@@ -1,10 +1,11 @@
-"""Times nights over live tables beside what a good hand would write for the same night, and beside REFRESH, on a PostgreSQL server of its
-own.
+"""Times nights over live tables, and over tables of one's own, beside what a good hand would write for the same night, and beside REFRESH,
+on a PostgreSQL server of its own.
 
 A million facts (or `--facts N`) with three dimensions and four views: the facts joined with their dimensions, and three summaries of that.
-Facts change, 100 to 100,000 of them: a half get other pieces, a quarter leave, a quarter come. The night is that of `tools/sql --live`; the
-hand's statements are in HAND below, over tables of the same rows; REFRESH is of materialized views with keys. All are rolled back but for
-REFRESH, and printed are medians, the hand's and REFRESH's share, and of `--open` beside the first filling of the materialized views.
+Facts change, 100 to 100,000 of them: a half get other pieces, a quarter leave, a quarter come. The nights are that of `tools/sql --live`, and
+that of `tools/sql --plain '*'` over tables with keys and without counts; the hand's statements are in HAND below, over tables of the same
+rows; REFRESH is of materialized views with keys. All are rolled back but for REFRESH, and printed are medians, the hand's and REFRESH's
+share, and of `--open` beside the first filling of the materialized views.
 """
 
 import statistics
@@ -146,6 +147,9 @@ DELETE FROM hand.by_both WHERE n = 0;
 DELETE FROM wh."sales~changes";
 DELETE FROM wh."products~changes";
 """
+# The tables of one's own: those that `--create` makes, with the keys that a hand gives them, the rows of the application and what was captured.
+KEYS = {"sales": "id", "shops": "shop", "products": "product", "days": "day"}
+OF_ONES_OWN = ("--schema", "own", "--plain", "*")
 MATERIALIZED = {
     "sold": ("SELECT s.id, h.region, p.kind, d.month, s.pieces * p.price AS cost FROM sales s JOIN shops h USING (shop) JOIN products p USING (product)"
              " JOIN days d USING (day)", "id"),
@@ -167,8 +171,11 @@ class Beside:
         self.process = self.database.asked("SELECT pg_backend_pid();")[0]
         self.database.asked(MEMORY + APPLICATION.format(facts=facts))
 
+    def live(self, *words):
+        return self.script("--database", self.database.name, *words)
+
     def script(self, *words):
-        found = written("--database", self.database.name, *words, self.folder)
+        found = written(*words, self.folder)
         if found.status:
             sys.exit(f"tools/bench: {found.told}")
         return found.text
@@ -185,39 +192,53 @@ class Beside:
 
     def prepare(self):
         """Captures and opens, makes the hand's tables, and the materialized views; the seconds of opening and of these."""
-        captured = self.timed(self.script("--capture"))
-        opened = self.timed(self.script("--live", "--open"))
+        captured = self.timed(self.live("--capture"))
+        opened = self.timed(self.live("--live", "--open"))
         made = sum(self.timed(f"CREATE MATERIALIZED VIEW m_{name} AS {query}; CREATE UNIQUE INDEX ON m_{name} ({key});")
                    for name, (query, key) in MATERIALIZED.items())  # fmt: skip
         self.database.asked(BY_HAND + "RESET search_path;" + MEMORY)
+        self.prepare_own()
         return captured, opened, made
+
+    def prepare_own(self):
+        """The tables of one's own, opened."""
+        self.database.asked("CREATE SCHEMA own;")
+        self.timed(self.script("--create", *OF_ONES_OWN))
+        self.database.asked("".join(f"ALTER TABLE own.{name} ADD PRIMARY KEY ({key}); INSERT INTO own.{name} SELECT * FROM {name};"
+                                    for name, key in KEYS.items()) + "ANALYZE;")  # fmt: skip
+        self.timed(self.script("--open", *OF_ONES_OWN))
 
     def refreshed(self, rounds):
         refresh = "".join(f"REFRESH MATERIALIZED VIEW m_{name};" for name in MATERIALIZED)
         return statistics.median(self.timed(refresh) for _ in range(rounds))
 
     def nights(self, many, rounds):
-        """The seconds of the night, and the hand's, by turns, each rolled back."""
-        self.database.asked("BEGIN;" + CHANGED.format(many=many, facts=self.facts) + 'COMMIT; ANALYZE wh."sales~changes";')
-        night = self.script("--live").replace("COMMIT;", "")
-        found = ([], [])
+        """The seconds of the night over live tables, of that over one's own, and the hand's, by turns, each rolled back."""
+        changed = CHANGED.format(many=many, facts=self.facts)
+        own = "".join(f'INSERT INTO own."{name}~changes" SELECT * FROM wh."{name}~changes"; ANALYZE own."{name}~changes";' for name in KEYS)
+        self.database.asked("BEGIN;" + changed + 'COMMIT; ANALYZE wh."sales~changes";' + own)
+        live, of_own = self.live("--live"), self.script(*OF_ONES_OWN)
+        texts = (live.replace("COMMIT;", ""), of_own.replace("COMMIT;", ""), HAND)
+        found = [[] for _ in texts]
         for _ in range(rounds):
-            for text, seconds in zip((night, HAND), found):
+            for text, seconds in zip(texts, found):
                 seconds.append(self.timed(text))
                 self.database.asked("ROLLBACK;")
         self.timed(HAND.replace('DELETE FROM wh."sales~changes";', "").replace('DELETE FROM wh."products~changes";', "") + "COMMIT;")
-        self.timed(self.script("--live"))
-        self.same()
+        self.timed(live)
+        self.timed(of_own)
+        self.same("wh")
+        self.same("own")
         return [statistics.median(seconds) for seconds in found]
 
-    def same(self):
-        """Ends where the night and the hand came to other rows."""
+    def same(self, schema):
+        """Ends where a night and the hand came to other rows."""
         for name in ("sold", "by_region", "by_kind", "by_both"):
             columns = ", ".join(column for column, _ in next(view for view in views_of(CATALOGUE) if view.name == name).columns)
-            there, by_hand = (f"SELECT {columns} FROM {schema}.{name}" for schema in ("wh", "hand"))
+            there, by_hand = (f"SELECT {columns} FROM {schema}.{name}" for schema in (schema, "hand"))
             other = self.database.asked(f"SELECT count(*) FROM (({there} EXCEPT {by_hand}) UNION ALL ({by_hand} EXCEPT {there})) AS g;")
             if other != ["0"]:
-                sys.exit(f"tools/bench: {name} has {other[0]} other rows than the hand's")
+                sys.exit(f"tools/bench: {schema}.{name} has {other[0]} other rows than the hand's")
 
 
 def measure(asked):
@@ -230,6 +251,6 @@ def measure(asked):
         print(f"hand: --capture {captured:.1f} s, --open {opened:.1f} s, materialized views with keys {made:.1f} s: {opened / made:.2f}", flush=True)
         refreshed = beside.refreshed(asked.rounds)
         for many in CHANGES:
-            night, hand = beside.nights(many, asked.rounds)
-            print(f"hand: {many} changes: night {night:.3f} s, by hand {hand:.3f} s, REFRESH {refreshed:.3f} s:"
-                  f" {night / hand:.2f} of the hand's, {night / refreshed:.3f} of REFRESH", flush=True)  # fmt: skip
+            night, own, hand = beside.nights(many, asked.rounds)
+            print(f"hand: {many} changes: night {night:.3f} s, over one's own tables {own:.3f} s, by hand {hand:.3f} s, REFRESH {refreshed:.3f} s:"
+                  f" {night / hand:.2f} and {own / hand:.2f} of the hand's, {night / refreshed:.3f} and {own / refreshed:.3f} of REFRESH", flush=True)  # fmt: skip

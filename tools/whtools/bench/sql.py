@@ -23,6 +23,7 @@ from whtools.program import ROOT
 from whtools.shop import Shop
 from whtools.sql.catalogue import Catalogue
 from whtools.sql.comments import Comments
+from whtools.sql.placed import script_kind
 from whtools.sql.script import Script
 from whtools.sql.server import PostgreSQLEngine, postgresql, texts
 from whtools.sql.sqlite import SQLite
@@ -88,7 +89,7 @@ class Timed:
 
     def __init__(self, text, dialect):
         self.catalogue, self.dialect = Catalogue(text), dialect
-        self.script = Script(self.catalogue, dialect)
+        self.script = script_kind(dialect)(self.catalogue, dialect)
         self.steps = []
 
     def comment(self, step):
@@ -160,8 +161,8 @@ class OnPostgreSQL(Timed):
         return ended - began
 
     def works(self):
-        """How many rows the Comps read, and how many the Insts of base views and of derived ones put."""
-        views, script = range(len(self.catalogue.views)), self.script
+        """How many rows the Comps read, and how many the Insts of base views and of derived ones put, by scripts that keep each change."""
+        views, script = range(len(self.catalogue.views)), Script(self.catalogue, self.dialect)
         count = lambda v: 'sum("#")' if script.shape.is_counted(v) else "count(*)"  # noqa: E731
         rows = [f"SELECT coalesce({count(v)}, 0)::bigint FROM {self.written(v)[0]};" for v in views]
         changes = [f'SELECT coalesce(sum(abs(n)), 0)::bigint FROM pg_temp."{script.working_name(v, "net")}";' for v in views]

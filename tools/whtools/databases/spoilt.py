@@ -17,13 +17,13 @@ class Spoilt(NamedTuple):
 
 
 SPOILT = [
-    Spoilt("what was installed is not looked at", "postgresql", r"RAISE EXCEPTION USING MESSAGE = 'refused torn [^']*'", "NULL",
+    Spoilt("what was installed is not looked at", "postgresql", r"RAISE EXCEPTION USING MESSAGE = ('refused torn [^']*'|finding)", "NULL",
         "a trigger keeps a row out"),
     Spoilt("what was installed is not looked at", "sqlite", r"RAISE\(ROLLBACK, 'refused torn [^']*'\)", "NULL",
         "a trigger keeps a row out"),
     Spoilt("rows are told by their places alone", "postgresql", r"t\.tableoid = g\.part AND ", "",
         "tea leaves a table in parts by list, and jam stays"),
-    Spoilt("a row that changes leaves and comes", "postgresql", r"SET pair = g\.new", "SET pair = NULL",
+    Spoilt("a row that changes leaves and comes", "postgresql", r"IF key\d+ IS NULL", "IF TRUE",
         "a price changes beside a description"),
     Spoilt("a row that changes leaves and comes", "sqlite", r"SET pair = g\.new", "SET pair = NULL",
         "a price changes beside a description"),

@@ -103,25 +103,6 @@ class LivePostgreSQL(PostgreSQL):
         return [*begun, self.block([*tables, *made]), sql("COMMIT{end}", end=END_OF_STATEMENT)]
 
 
-class InSixtyFourBits(LivePostgreSQL):
-    """Formulas in numbers of 64 bits, which raise where one leaves them."""
-
-    def number(self, number):
-        return self.whole(number)
-
-    def cell(self, column):
-        return column
-
-    def value_tests(self, *_):
-        return []
-
-    def kept(self, computed, _):
-        return computed
-
-    def summand(self, value):
-        return value
-
-
 class Captures:
     """The statements that capture the tables of base views, that look whether they are still captured, and that let them go."""
 

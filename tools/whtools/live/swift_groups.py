@@ -1,6 +1,5 @@
 """Summaries in nights as fast as a good hand writes them: each group that changes is found once, with its sums before and after."""
 
-from whtools.sql.dialect import summed
 from whtools.sql.tokens import joined, number, sql, text, word
 
 PLACED, COMING = sql("d.place IS NOT NULL"), sql("d.place IS NULL")
@@ -13,30 +12,7 @@ class SwiftGroups:
         """Whether a view is a summary that none is over: nothing reads it in a night, so that the statement that makes its change puts it too."""
         return self.shape.is_summary(v) and not any(v in view.over for view in self.views)
 
-    def lost_column(self, v):
-        """Where a sum is over an output that may have no value, how many have none."""
-        return [word("lost")] if self.shape.checked(v) else []
-
     # ---- what is added to groups
-
-    def grouped(self, v, numbers, rows):
-        """Groups with what is added to their sums, where that is anything."""
-        cells = self.cells(v, "r")[: self.shape.groups(v)]
-        lost = [sql("sum(r.{lost})", lost=each) for each in self.lost_column(v)]
-        changed = [sql("{each} <> 0", each=each) for each in summed(numbers)] + [sql("{each} > 0", each=each) for each in lost]
-        return sql(
-            "SELECT {shown} FROM {rows} {grouped} HAVING {changed}", shown=joined([*cells, *summed(numbers), *lost]), rows=rows,
-            grouped=sql("GROUP BY {cells}", cells=joined(cells)) if cells else sql(""), changed=joined(changed, "OR"),
-        )  # fmt: skip
-
-    def summed_rows(self, v, term):
-        """What a term adds to each group."""
-        numbers = [sql("r.n"), *(sql("r.n * r.{sum}", sum=word("s", at)) for at in range(2, self.shape.sums(v) + 1))]
-        return self.grouped(v, numbers, sql("({term}) AS r", term=self.term(v, term)))
-
-    def summed_pending(self, v):
-        """What all terms together add to each group."""
-        return self.grouped(v, self.summed_columns(v, "s", "r"), sql("{pending} AS r", pending=self.working(v, "pending")))
 
     def groups_placed(self, v, added):
         """Each group that changes, with its sums before and after, and its place."""

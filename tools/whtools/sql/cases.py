@@ -6,6 +6,7 @@ from typing import NamedTuple
 
 from whtools.sql.catalogue import Catalogue
 from whtools.sql.comments import Comments
+from whtools.sql.placed import of_engine
 from whtools.sql.script import Script
 from whtools.sql.tokens import sql
 
@@ -24,10 +25,10 @@ inst v
 """
 
 
-def small(engine, *more, plain=(), kind=Script):
+def small(engine, *more, plain=(), kind=Script, keyed=()):
     """The night of a small catalogue whose tables were made with more statements, and what was told there."""
     catalogue = Catalogue(SMALL)
-    script = kind(catalogue, engine.dialect, plain)
+    script = of_engine(engine, kind)(catalogue, engine.dialect, plain, keyed)
     engine.fresh()
     told = engine.run([*script.create(), *more])
     return told, script.night(catalogue.correct(), Comments(SimpleNamespace(**vars(catalogue))).short)
@@ -39,6 +40,9 @@ def small(engine, *more, plain=(), kind=Script):
 class RowsAreNotPaired(Script):
     def paired(self, v):
         return []
+
+    def has_pairs(self, v):
+        return False
 
     def spared(self, v):
         return []
@@ -71,10 +75,10 @@ class OtherRowsAreNotCounted(Script):
 
 
 class PlacesAreTakenForRows(Script):
-    def __init__(self, catalogue, dialect, plain=()):
+    def __init__(self, catalogue, dialect, plain=(), keyed=()):
         alone = copy(dialect)
         alone.at = lambda: sql("t.ctid = g.place")
-        super().__init__(catalogue, alone, plain)
+        super().__init__(catalogue, alone, plain, keyed)
 
     def put(self, v, statement, rows):
         return [statement]
@@ -173,10 +177,10 @@ OF_SQLITE = {
 OF = {"postgresql": OF_POSTGRESQL, "sqlite": OF_SQLITE}
 
 
-def mistake(engine, case, kind=Script):
+def mistake(engine, case, kind=Script, keyed=()):
     """What comes of a case that has not to come of it, or None."""
     foreign_keys = ["PRAGMA foreign_keys = ON;"] if engine.dialect.engine == "sqlite" else []
-    made, night = small(engine, *foreign_keys, *case.made, plain=case.plain, kind=kind)
+    made, night = small(engine, *foreign_keys, *case.made, plain=case.plain, kind=kind, keyed=keyed)
     told = made or engine.run(night)
     rows = engine.contents([case.asked])[0]
     right = (case.told in told if told and case.told else told is None and case.told is None) and rows == case.rows
@@ -198,7 +202,7 @@ def said_mistakes(engine):
     """The same with keys that are said."""
     found = []
     for title, (places, case) in SAID.items():
-        told = mistake(engine, case, lambda *given, places=places: Script(*given, keyed={0: places}))
+        told = mistake(engine, case, keyed={0: places})
         found += [f"{engine.dialect.engine}, {title}: {told}"] if told else []
     return found
 

@@ -63,6 +63,12 @@ class Catalogued:
     def told_range(self, v):
         return f"refused range {self.views[v].name}"
 
+    def told_twice(self, v):
+        return f"table {self.views[v].name} does not fit: a row stands in it twice, where each stands once with its count"
+
+    def told_group_twice(self, v):
+        return f"table {self.views[v].name} does not fit: a group stands in it twice"
+
     # ---- what a combined row shows
 
     def outputs(self, v, formulas):

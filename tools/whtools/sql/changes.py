@@ -42,15 +42,18 @@ class Changes:
 
     def added_up(self, v, rows, cells, halves):
         """The change of a view whose rows are told by their cells: of those these counts, added up."""
-        net, count = self.working(v, "net"), self.dialect.whole_of(summed(halves))
-        insert = sql(
-            "INSERT INTO {net} (id, {columns}, n) SELECT row_number() OVER (), {cells}, {count} FROM {rows} GROUP BY {cells}"
-            " HAVING {count} <> 0",
-            net=self.dialect.filling(net), columns=joined(self.cells(v)), cells=joined(cells), count=count, rows=rows,
-        )  # fmt: skip
+        net = self.working(v, "net")
         too_large = sql("SELECT 1 FROM {net} AS d WHERE {lost}", net=net, lost=self.dialect.is_lost(sql("d.n")))
         lost = self.dialect.exact(self.told_large(v), too_large)
-        return [*self.dialect.counted(self.told_large(v), [insert]), *lost, *self.dialect.filled(net)]
+        return [*self.dialect.counted(self.told_large(v), [self.netted(v, rows, cells, halves)]), *lost, *self.dialect.filled(net)]
+
+    def netted(self, v, rows, cells, halves):
+        count = self.dialect.whole_of(summed(halves))
+        return sql(
+            "INSERT INTO {net} (id, {columns}, n) SELECT row_number() OVER (), {cells}, {count} FROM {rows} GROUP BY {cells}"
+            " HAVING {count} <> 0",
+            net=self.dialect.filling(self.working(v, "net")), columns=joined(self.cells(v)), cells=joined(cells), count=count, rows=rows,
+        )  # fmt: skip
 
     def judge(self, step):
         """A change that takes away what is not there, or that would take more with it than it says."""
@@ -86,8 +89,7 @@ class Changes:
         """A table of counts in which a row stands twice."""
         if not self.shape.is_counted(v):
             return []
-        told = f"table {self.views[v].name} does not fit: a row stands in it twice, where each stands once with its count"
-        return self.dialect.refuse(told, sql("SELECT 1 FROM {found} AS f WHERE f.nth > 1", found=self.working(v, "found")))
+        return self.dialect.refuse(self.told_twice(v), sql("SELECT 1 FROM {found} AS f WHERE f.nth > 1", found=self.working(v, "found")))
 
     def counted_before(self, v):
         net = name(self.working_name(v, "net"))
@@ -211,12 +213,11 @@ class Changes:
             table=sql("JOIN {table} AS t ON {same}", table=self.table(v), same=self.same(v, groups)),
         )  # fmt: skip
         lost = joined([self.dialect.is_lost(each) for each in self.summed_columns(v, "a", "b")], "OR")
-        told = f"table {self.views[v].name} does not fit: a group stands in it twice"
         query = sql("SELECT 1 WHERE (SELECT count(*) FROM {beside}) <> (SELECT count(*) FROM {folded})", beside=beside, folded=folded)
         return [
             insert,
             *self.dialect.filled(beside),
-            *self.dialect.refuse(told, query),
+            *self.dialect.refuse(self.told_group_twice(v), query),
             *self.range(v, sql("SELECT 1 FROM {beside} AS b WHERE {lost}", beside=beside, lost=lost)),
         ]
 

@@ -7,8 +7,8 @@ from whtools.live import command as live
 from whtools.sql.catalogue import read
 from whtools.sql.clickhouse import ClickHouse
 from whtools.sql.comments import Comments
+from whtools.sql.placed import script_kind
 from whtools.sql.postgresql import PostgreSQL
-from whtools.sql.script import Script
 from whtools.sql.slots import Slots, split_of
 from whtools.sql.sqlite import SQLite
 from whtools.sql.tokens import Unfit
@@ -82,7 +82,8 @@ def script_of(catalogue, words):
         return Slots(catalogue, ClickHouse(words.schema, words.cluster or words.schema or ClickHouse.own_schema), split, servers=2 if split else 1)
     if words.shard or words.cluster:
         raise Unfit("--shard and --cluster go with --engine clickhouse")
-    return Script(catalogue, ENGINES[words.engine](words.schema), plain_views(catalogue, words), keyed_views(catalogue, words.keyed))
+    dialect = ENGINES[words.engine](words.schema)
+    return script_kind(dialect)(catalogue, dialect, plain_views(catalogue, words), keyed_views(catalogue, words.keyed))
 
 
 def written(words):

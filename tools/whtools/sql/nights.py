@@ -10,6 +10,7 @@ from whtools.nights import carried, draw_views
 from whtools.sql import lexed
 from whtools.sql.comments import Comments
 from whtools.sql.dialect import COUNT
+from whtools.sql.placed import script_kind
 from whtools.sql.tokens import END_OF_STATEMENT, joined, number, sql
 from whtools.warehouses import Warehouse
 
@@ -160,3 +161,8 @@ class Carried:
         found = [added((tuple(row[:-1]), row[-1]) for row in rows) for rows in self.engine.contents(asked)]
         changes = iter(found[len(numbers) :])
         return found[: len(numbers)], [Counter() if view.over else next(changes) for view in self.night.views]
+
+
+def carried_by(night, engine):
+    """The same through the engine's own scripts."""
+    return Carried(night, engine, script_kind(engine.dialect))

@@ -225,16 +225,25 @@ class Checks:
         """The server counts by itself."""
         return {}
 
-    def untouched(self, v, told, written, removed):
-        """A refusal where other rows were written or removed than these numbers of them."""
-        return self.dialect.refuse(
-            told,
-            self.query(
-                "SELECT 1 FROM {touched} AS b JOIN (" + TOUCHED + ") AS a (view, written, removed) ON a.view = b.view WHERE b.view = {v}"
-                " AND (a.written - b.written <> {written} OR a.removed - b.removed <> {removed}) AND current_setting({key}) = {on}",
-                v=number(v), written=written, removed=removed, key=text("track_counts"), on=text("on"),
-            ),
+    def watched(self):
+        """Whether a trigger of somebody else's may change what is installed, or the server does not count what is touched."""
+        return self.query(
+            "EXISTS (SELECT 1 FROM {parts} AS p JOIN pg_trigger AS t ON t.tgrelid = p.relation WHERE NOT t.tgisinternal)"
+            " OR current_setting({key}) <> {on}", key=text("track_counts"), on=text("on"),
         )  # fmt: skip
+
+    def all_untouched(self, expected):
+        """A refusal where other rows were written or removed than are expected: of each table what is told, and how many of both."""
+        rows = joined([sql("({v}, {told}, {written}, {removed})", v=number(v), told=text(told), written=written, removed=removed)
+                       for v, told, written, removed in expected])  # fmt: skip
+        return self.dialect.refuse_with(
+            self.query(
+                "SELECT w.told FROM (VALUES {rows}) AS w (view, told, written, removed) JOIN {touched} AS b ON b.view = w.view"
+                " JOIN (" + TOUCHED + ") AS a (view, written, removed) ON a.view = w.view WHERE (a.written - b.written <> w.written"
+                " OR a.removed - b.removed <> w.removed) AND current_setting({key}) = {on} ORDER BY w.view LIMIT 1",
+                rows=rows, key=text("track_counts"), on=text("on"),
+            )
+        ) if expected else []  # fmt: skip
 
     def cascades(self, v, gone, moved):
         """A foreign key that would change other rows by what the night does."""

@@ -1,6 +1,8 @@
 """Scripts that go against one rule each: what compares engines with whview has to notice all of them."""
 
 
+from whtools.sql.dialect import COUNT
+from whtools.sql.placed import PlacedScript
 from whtools.sql.script import Script
 from whtools.sql.tokens import number, sql
 
@@ -103,4 +105,55 @@ SPOILT = [
     APlainRowLeavesEveryTime,
     NoRowLeaves,
     AllRowsComeOnce,
+]
+
+
+# ---- scripts in which an Inst is made in one pass
+
+
+class AbsentRowsAreNotRefused(PlacedScript):
+    def refused(self, v):
+        return [(sql("1 = 2") if told == self.told_absent(v) else test, told) for test, told in super().refused(v)]
+
+
+class AllEqualRowsLeave(PlacedScript):
+    def act(self, v):
+        return super().act(v) if self.shape.is_counted(v) else sql("CASE WHEN f.n > 0 THEN 3 WHEN f.was > 0 THEN 1 ELSE 0 END")
+
+
+class RowsThatStayKeepTheirCounts(PlacedScript):
+    def recounted(self, v):
+        return super().recounted(v) if self.shape.is_summary(v) else []
+
+
+class GroupsKeepTheirSums(PlacedScript):
+    def recounted(self, v):
+        return [] if self.shape.is_summary(v) else super().recounted(v)
+
+
+class OneSourceIsEnough(PlacedScript):
+    def worth(self, step):
+        return super().worth(step._replace(sources=step.sources[:1]) if step.kind == "comp" else step)
+
+
+class ACountIsPutAsItChanges(PlacedScript):
+    def updated(self, v, columns, cells, act, kind):
+        return super().updated(v, columns, [sql("d.n") if columns == [COUNT] else cell for cell in cells], act, kind)
+
+
+SPOILT_PLACED = [
+    EveryCompReadsTheOldTables,
+    ATermIsLeftOut,
+    AFilterIsLeftOut,
+    AJoinIsLeftOut,
+    CountsAreNotMultiplied,
+    ChangesAreNotUsedUp,
+    NoRowLeaves,
+    AllRowsComeOnce,
+    AbsentRowsAreNotRefused,
+    AllEqualRowsLeave,
+    RowsThatStayKeepTheirCounts,
+    GroupsKeepTheirSums,
+    OneSourceIsEnough,
+    ACountIsPutAsItChanges,
 ]

@@ -1,0 +1,353 @@
+"""Nights over tables of one's own in PostgreSQL, where an Inst is made in one pass.
+
+One statement goes over a view's change and finds of each row how often it stands in the table, where, and what becomes of it; it counts what
+leaves, stays and comes. The DELETE, the UPDATE and the INSERT of the Inst are made of these rows, and have to touch as many as were counted.
+A step without changes runs no statement. Tables may be partitioned, and have triggers, keys and columns of others: what was installed is
+looked at where somebody else's trigger could have changed it, and whether other rows were touched in any case."""
+
+from whtools.sql.dialect import COUNT, MOST
+from whtools.sql.lean import LARGE, LOOK_UPS, LeanComps, joins
+from whtools.sql.placed_groups import PlacedGroups
+from whtools.sql.postgresql import PostgreSQL
+from whtools.sql.script import Script
+from whtools.sql.tokens import END_OF_STATEMENT, body, joined, number, sql, text, word
+
+# What becomes of a row of a change: nothing by itself, as where it is the old half of a pair or absent; it leaves, its count changes, it comes,
+# or it changes from the row that it is paired with.
+NOTHING, LEAVES, RECOUNTED, COMES, CHANGED = range(5)
+COUNTERS = ("rows", "gone", "stay", "come", "other")
+BY_PLACE = joins(hashjoin="off", mergejoin="off")
+HASHED = sql("hashed := current_setting({key})", key=text("enable_hashjoin"))
+AS_EVER = sql("PERFORM set_config({hash}, hashed, TRUE), set_config({merge}, merged, TRUE)", hash=text("enable_hashjoin"), merge=text("enable_mergejoin"))
+
+
+def becomes(act):
+    return sql("d.act = {act}", act=number(act))
+
+
+class PlacedScript(PlacedGroups, LeanComps, Script):
+    """The statements of such a night."""
+
+    def __init__(self, catalogue, dialect, plain=(), keyed=()):
+        super().__init__(catalogue, dialect, plain, keyed)
+        self.opening = Script(catalogue, dialect, plain, keyed)
+
+    def variables(self):
+        """What a night counts. At first each is NULL."""
+        numbers = [word(kind, v) for v in range(len(self.views)) for kind in COUNTERS]
+        numbers += [word("made", v) for v in self.steps.derived()]
+        found = [sql("{said} pg_catalog.int8", said=said) for said in [*numbers, word("lost")]]
+        found += [sql("{said} pg_catalog.text", said=word(kind, v)) for v in range(len(self.views)) for kind in ("told", "key")]
+        found += [sql("{said} pg_catalog.bool", said=said) for said in [*(word("there", v) for v in self.steps.base()), word("watched")]]
+        return [*PostgreSQL.variables, *found, sql("hashed pg_catalog.text")]
+
+    # ---- scripts
+
+    def open(self, comment):
+        return self.opening.open(comment)
+
+    def working_tables(self):
+        """Each is made where it is filled."""
+        return []
+
+    def whole(self, before, steps, after, comment):
+        self.dialect.variables = self.variables()
+        try:
+            return super().whole([LOOK_UPS, HASHED, *self.looked_at(), *before], steps, after, comment)
+        finally:
+            del self.dialect.variables
+
+    def looked_at(self):
+        """Which base views have changes, and whether what is installed has to be looked at again."""
+        base = self.steps.base()
+        tests = [sql("EXISTS (SELECT 1 FROM {changes} AS d)", changes=self.table(v, "~changes")) for v in base]
+        there = joined([self.counter("there", v) for v in base])
+        return [sql("SELECT {tests} INTO {there}", tests=joined([*tests, self.checked.watched()]), there=sql("{there}, watched", there=there))]
+
+    def night(self, strategy, comment):
+        numbers = range(len(self.views))
+        looked = [each for v in numbers for each in self.verified(v)]
+        touched = self.checked.all_untouched([each for v in numbers for each in self.untouched(v)])
+        return self.whole([], self.steps.night(strategy), [*self.emptied(), *self.dialect.settled(), *looked, *touched], comment)
+
+    def carried(self, steps, comment):
+        """The statements of steps, each with a comment above it, which are carried out where they have something to do."""
+        found = []
+        for step in steps:
+            found += [comment(step), *self.then(self.worth(step), getattr(self, step.kind)(step))]
+        return found
+
+    def worth(self, step):
+        """A test of whether a step has anything to do."""
+        if step.kind == "net":
+            return self.counter("there", step.view)
+        if step.kind == "comp":
+            return joined([sql("{rows} > 0", rows=self.counter("rows", u)) for u in step.sources], "OR")
+        is_computed = step.kind == "finish" and not self.is_direct(step.view)
+        return sql("{many} > 0", many=self.counter("made" if is_computed else "rows", step.view))
+
+    def emptied(self):
+        """The changes are used up; where there were none, nothing is done."""
+        found = []
+        for v, made in zip(self.steps.base(), zip(*[iter(super().emptied())] * 2)):
+            found += self.then(self.counter("there", v), list(made))
+        return found
+
+    # ---- changes
+
+    def is_read(self, v):
+        """Whether another view's Comp reads the change of a view."""
+        return any(v in view.over for view in self.views)
+
+    def net_made(self, v, rows, cells, counted):
+        """The change of a view whose rows are told by their cells."""
+        columns = [sql("id bigint"), *self.typed_cells(v), sql("n bigint")]
+        put = [self.netted(v, rows, cells, [counted]), sql("GET DIAGNOSTICS {rows} = ROW_COUNT", rows=self.counter("rows", v))]
+        looked_up = sql("ANALYZE {net} (n)", net=self.working(v, "net"))
+        return [self.made(v, "net", columns), *self.dialect.counted(self.told_large(v), put),
+                *self.then(sql("{rows} > 0", rows=self.counter("rows", v)), [looked_up])]  # fmt: skip
+
+    def net(self, step):
+        v = step.view
+        counted = self.dialect.read_count(sql("t.{count}", count=COUNT))
+        return self.net_made(v, sql("{table} AS t", table=self.changes(v)), self.read(v), counted)
+
+    def judge(self, step):
+        v = step.view
+        return [*self.put_made(v), *self.judged(v), *self.spared(v), *self.cascades(v)]
+
+    def judged(self, v):
+        """A refusal by what was told where the rows were counted."""
+        told = self.counter("told", v)
+        return [self.dialect.where(sql("{told} IS NOT NULL", told=told), self.dialect.raised(told))]
+
+    def comp(self, step):
+        """What the changes of a view's sources make of it: of a view over one other its change at once."""
+        v = step.view
+        if not self.is_direct(v):
+            return self.computed(step)
+        (term,) = step.terms
+        if self.shape.is_summary(v):
+            return self.groups_at_once(v, term)
+        return self.net_made(v, sql("({term}) AS r", term=self.term(v, term)), self.cells(v, "r"), sql("r.n"))
+
+    def finish(self, step):
+        """What was computed becomes the change, is looked up and judged."""
+        v = step.view
+        if self.shape.is_summary(v):
+            made = [] if self.is_direct(v) else self.groups_made(v, self.groups_counted(v, self.summed_pending(v)))
+            return [*made, *self.judged(v), *self.group_rows(v)]
+        if self.is_direct(v):
+            return [*self.put_made(v), *self.judged(v)]
+        made = self.net_made(v, sql("{pending} AS r", pending=self.working(v, "pending")), self.cells(v, "r"), sql("r.s1"))
+        return [*made, *self.then(sql("{rows} > 0", rows=self.counter("rows", v)), [*self.put_made(v), *self.judged(v)])]
+
+    # ---- the pass over a change
+
+    def put_columns(self, v):
+        return [sql("id bigint"), *self.typed_cells(v), *map(sql, ("n bigint", "was bigint", "part oid", "place tid", "act int"))]
+
+    def put_made(self, v):
+        """The rows of a change with what becomes of each, and what is counted of them; a key is known where the table has been looked at."""
+        made, key = [self.made(v, "put", self.put_columns(v))], self.counter("key", v)
+        alone = sql("EXECUTE {query} INTO {into}", query=body(self.counting(v, self.by_itself(v))), into=self.into(v))
+        if not self.has_pairs(v):
+            return [*made, alone]
+        paired = sql("EXECUTE {first} || {key} || {last} INTO {into}", key=key, into=self.into(v),
+                     **{end: body(query) for end, query in zip(("first", "last"), self.paired_queries(v))})  # fmt: skip
+        listed = sql("{key} := (SELECT string_agg(concat({cell}, k.place), {comma}) FROM {keys} AS k WHERE k.view = {v})", key=key, cell=text("p.c"),
+                     comma=text(", "), keys=self.checked.parts["keys"], v=number(v))  # fmt: skip
+        either = sql("IF {key} IS NULL THEN {alone}{end} ELSE {paired}{end} END IF", key=key, alone=alone, paired=paired, end=END_OF_STATEMENT)
+        return [*made, listed, either]
+
+    def has_pairs(self, v):
+        """Whether a view may have a key of some of its columns."""
+        return not self.views[v].over and self.shape.width(v) > 1
+
+    def looked_up(self, v):
+        """Each row of a change beside the row of the table, or beside each of them: how often it was there, and the place."""
+        cells, net, counted = joined(self.cells(v, "d")), self.working(v, "net"), self.shape.is_counted(v)
+        each = sql("OVER (PARTITION BY d.id)")
+        was = sql("coalesce({held}, 0)", held=self.dialect.read_count(sql("t.{count}", count=COUNT))) if counted else sql("count(t.ctid) {each}", each=each)
+        nth = number(1) if counted else sql("row_number() {each}", each=each)
+        return sql("SELECT d.id, {cells}, d.n, {was} AS was, t.tableoid AS part, t.ctid AS place, {nth} AS nth FROM {net} AS d LEFT JOIN {table} AS t ON {same}",
+                   cells=cells, was=was, nth=nth, net=net, table=self.table(v), same=self.same(v))  # fmt: skip
+
+    def act(self, v):
+        """What becomes of a row f that was looked up; of equal rows without counts as many leave as the change says."""
+        if self.shape.is_counted(v):
+            return sql("CASE WHEN f.n > {most} - f.was OR f.n < - f.was THEN 0 WHEN f.was + f.n = 0 THEN 1 WHEN f.was = 0 THEN 3 ELSE 2 END",
+                       most=self.dialect.whole(MOST))  # fmt: skip
+        return sql("CASE WHEN f.n > 0 THEN 3 WHEN f.nth + f.n <= 0 THEN 1 ELSE 0 END")
+
+    def acting(self, v):
+        """The rows p of a change with what becomes of each by itself."""
+        return sql("SELECT f.*, {act} AS act FROM ({found}) AS f", act=self.act(v), found=self.looked_up(v))
+
+    def by_itself(self, v):
+        cells = joined(self.cells(v, "p"))
+        return sql("SELECT p.id, {cells}, p.n, p.was, p.part, p.place, p.act FROM ({rows}) AS p WHERE p.nth = 1 OR p.act = 1", cells=cells, rows=self.acting(v))
+
+    def paired_queries(self, v):
+        """The same where a row that leaves and one that comes with its key are one that changes: before the key's columns, and behind them."""
+        comes = sql("p.act = 3") if self.shape.is_counted(v) else sql("p.act = 3 AND p.n = 1 AND p.was = 0")
+        leaves = sql("p.act = 1") if self.shape.is_counted(v) else sql("p.act = 1 AND p.n = -1")
+        first = sql(
+            "SELECT q.id, {cells}, q.n, q.was, CASE WHEN {pair} AND q.act = 3 THEN q.old_part ELSE q.part END,"
+            " CASE WHEN {pair} AND q.act = 3 THEN q.old_place ELSE q.place END,"
+            " CASE WHEN NOT {pair} THEN q.act WHEN q.act = 3 THEN 4 ELSE 0 END FROM (SELECT p.*, count(*) FILTER (WHERE p.nth = 1) OVER k AS many,"
+            " count(*) FILTER (WHERE {leaves}) OVER k AS leaving, count(*) FILTER (WHERE {comes}) OVER k AS coming,"
+            " max(p.part) FILTER (WHERE {leaves}) OVER k AS old_part, max(p.place) FILTER (WHERE {leaves}) OVER k AS old_place"
+            " FROM ({rows}) AS p WINDOW k AS (PARTITION BY",
+            cells=joined(self.cells(v, "q")), pair=sql("(q.many = 2 AND q.leaving = 1 AND q.coming = 1)"), leaves=leaves, comes=comes, rows=self.acting(v),
+        )  # fmt: skip
+        begun, ended = self.counting_parts(v)
+        return sql("{begun} {first}", begun=begun, first=first), sql(")) AS q WHERE q.nth = 1 OR q.act = 1 {ended}", ended=ended)
+
+    def counting_parts(self, v):
+        """What keeps rows and counts them, before the query for them and behind it."""
+        columns = joined([word("id"), *self.cells(v), *map(word, ("n", "was", "part", "place", "act"))])
+        begun = sql("WITH put AS (INSERT INTO {put} ({columns})", put=self.working(v, "put"), columns=columns)
+        return begun, sql("RETURNING id, n, was, act) SELECT {numbers} FROM put AS d", numbers=joined(self.judging(v).values()))
+
+    def counting(self, v, rows):
+        begun, ended = self.counting_parts(v)
+        return sql("{begun} {rows} {ended}", begun=begun, rows=rows, ended=ended)
+
+    def judging(self, v):
+        """What is counted of the rows d of a change, and what is told where it is refused."""
+        counted, most = self.shape.is_counted(v), self.dialect.whole(MOST)
+        many = {kind: self.many(becomes(act)) for kind, act in (("gone", LEAVES), ("stay", RECOUNTED), ("come", COMES), ("other", CHANGED))}
+        if not counted:
+            many["come"] = sql("least(coalesce(sum(d.n) FILTER (WHERE d.act = 3), 0), {most})::bigint", most=most)
+        return {**many, "told": self.first_told(self.refused(v))}
+
+    def refused(self, v):
+        """What is refused of the rows of a change, and with which words."""
+        absent = (sql("{wrong} > 0", wrong=self.many(sql("d.n < 0 AND d.n < - d.was"))), self.told_absent(v))
+        if not self.shape.is_counted(v):
+            return [absent]
+        large = sql("{large} > 0", large=self.many(sql("d.n > 0 AND d.n > {most} - d.was", most=self.dialect.whole(MOST))))
+        return [(sql("count(*) <> max(d.id)"), self.told_twice(v)), absent, (large, self.told_large(v))]
+
+    def into(self, v):
+        return joined([self.counter(kind, v) for kind in ("gone", "stay", "come", "other", "told")])
+
+    # ---- what a change would take with it
+
+    def spared(self, v):
+        return self.then(sql("{come} > 0", come=self.counter("come", v)), self.checked.spared(v, sql("SELECT 1")))
+
+    def cascades(self, v):
+        gone, other = self.counter("gone", v), self.counter("stay" if self.shape.is_summary(v) else "other", v)
+        queries = self.moved_groups(v) if self.shape.is_summary(v) else self.moved_rows(v)
+        return self.then(sql("{gone} > 0 OR {other} > 0", gone=gone, other=other), self.checked.cascades(v, *queries))
+
+    def moved_rows(self, v):
+        """Queries for rows that leave, and for pairs of which one column p of a reference r is another one after the night."""
+        put = self.working(v, "put")
+        changed = joined([sql("WHEN {place} THEN o.{cell} <> w.{cell}", place=number(at), cell=cell) for at, cell in enumerate(self.cells(v), 1)], "")
+        moved = sql("SELECT 1 FROM {put} AS o JOIN {put} AS w ON w.part = o.part AND w.place = o.place WHERE o.act = 0 AND w.act = 4"
+                    " AND CASE r.place {changed} END", put=put, changed=changed)  # fmt: skip
+        return sql("SELECT 1 FROM {put} AS d WHERE d.act = 1", put=put), moved
+
+    # ---- Insts
+
+    def inst(self, step):
+        """What was found is put into the table. Of many rows of a table without parts each is gone to."""
+        v = step.view
+        judged = [*self.spared(v), *self.cascades(v)] if self.views[v].over else []
+        one = sql("(SELECT count(*) FROM {parts} AS p WHERE p.number = {v}) = 1", parts=self.checked.parts["parts"], v=number(v))
+        is_large = sql("{rows} > {large} AND {one}", rows=self.counter("rows", v), large=number(LARGE), one=one)
+        put = [*self.left(v), *self.stayed(v), *self.recounted(v), *self.came(v)]
+        return [*judged, *self.then(is_large, [BY_PLACE]), *put, *self.then(is_large, [AS_EVER])]
+
+    def put(self, v, statement, many):
+        """A statement that has to touch as many rows as were counted, where there are any."""
+        told = f"{self.told_large(v)}: a number does not fit its column"
+        torn = self.refused_where(sql("touched <> {many}", many=many), self.told_torn(v))
+        return self.then(sql("{many} > 0", many=many), self.dialect.counted(told, [statement, sql("GET DIAGNOSTICS touched = ROW_COUNT"), torn]))
+
+    def change(self, v):
+        return self.working(v, "beside" if self.shape.is_summary(v) else "put")
+
+    def placed(self, v, more, act):
+        """The places of rows of a change of which one thing becomes, with more about them."""
+        shown = joined([sql("d.part, d.place"), *more])
+        return sql("SELECT {shown} FROM {change} AS d WHERE {act}", shown=shown, change=self.change(v), act=becomes(act))
+
+    def left(self, v):
+        return self.put(v, self.dialect.delete(self.said(v), self.placed(v, [], LEAVES)), self.counter("gone", v))
+
+    def updated(self, v, columns, cells, act, kind):
+        """An update of these columns of rows of which one thing becomes."""
+        names = [word("x", at) for at in range(len(cells))]
+        rows = self.placed(v, [sql("{cell} AS {name}", cell=cell, name=each) for cell, each in zip(cells, names)], act)
+        sets = joined([sql("{column} = g.{name}", column=column, name=each) for column, each in zip(columns, names)])
+        return self.put(v, self.dialect.update(self.said(v), sets, rows), self.counter(kind, v))
+
+    def stayed(self, v):
+        """Rows that change and stay the same rows: their columns that the catalogue does not have stay as they are."""
+        if not self.has_pairs(v):
+            return []
+        count = [(COUNT, sql("d.n"))] if self.shape.is_counted(v) else []
+        columns, cells = zip(*zip(self.users(v), self.cells(v, "d")), *count)
+        return self.updated(v, columns, cells, CHANGED, "other")
+
+    def recounted(self, v):
+        """Rows that stand more or less often than before, or groups with other sums."""
+        if self.shape.is_summary(v):
+            groups = self.shape.groups(v)
+            return self.updated(v, self.users(v)[groups:], self.summed_columns(v, "a", "d"), RECOUNTED, "stay")
+        return self.updated(v, [COUNT], [sql("d.was + d.n")], RECOUNTED, "stay") if self.shape.is_counted(v) else []
+
+    def came(self, v):
+        """Rows come: in a table without counts each is a row of its own."""
+        columns, cells, rows = self.users(v), list(self.cells(v, "d")), sql("{change} AS d", change=self.change(v))
+        if self.shape.is_summary(v):
+            cells = [*cells[: self.shape.groups(v)], *self.summed_columns(v, "a", "d")]
+        elif self.shape.is_counted(v):
+            columns, cells = [*columns, COUNT], [*cells, sql("d.n")]
+        else:
+            rows = self.dialect.copies(self.change(v))
+        insert = sql("INSERT INTO {table} ({columns}) SELECT {cells} FROM {rows} WHERE {comes}", table=self.table(v), columns=joined(columns),
+                     cells=joined(cells), rows=rows, comes=becomes(COMES))  # fmt: skip
+        return self.put(v, insert, self.counter("come", v))
+
+    # ---- a look afterwards
+
+    def verified(self, v):
+        """Each row of a change has to stand in the table as often as before and by its change more or less: looked at where somebody else's
+        trigger could have changed it, or the server does not count what is touched."""
+        if self.shape.is_summary(v):
+            query = self.wrong_groups(v)
+        else:
+            once = sql("CASE WHEN t.ctid IS NULL THEN 0 ELSE 1 END")
+            held = self.dialect.read_count(sql("t.{count}", count=COUNT)) if self.shape.is_counted(v) else once
+            query = sql(
+                "SELECT 1 FROM (SELECT DISTINCT d.id, {cells}, d.was, d.n FROM {put} AS d) AS d LEFT JOIN {table} AS t ON {same}"
+                " GROUP BY d.id, d.was, d.n HAVING coalesce(sum({held}), 0) <> d.was + d.n",
+                cells=joined(self.cells(v, "d")), put=self.working(v, "put"), table=self.table(v), same=self.same(v), held=held,
+            )  # fmt: skip
+        return self.then(sql("watched AND {rows} > 0", rows=self.counter("rows", v)), self.dialect.refuse(self.told_torn(v), query))
+
+    def untouched(self, v):
+        """How many rows of a table are written and removed, and what is told where others are."""
+        told = f"refused torn {self.views[v].name}: a trigger or a foreign key changed rows of it that are in no change"
+        return [(v, told, *(self.sum_of(v, kinds) for kinds in (("come", "stay", "other"), ("gone", "stay", "other"))))]
+
+    def sum_of(self, v, kinds):
+        return joined([sql("coalesce({kind}, 0)", kind=self.counter(kind, v)) for kind in kinds], "+")
+
+
+def script_kind(dialect):
+    """The scripts of nights over tables of one's own."""
+    return PlacedScript if dialect.engine == PostgreSQL.engine else Script
+
+
+def of_engine(engine, kind):
+    """A kind of scripts in the way of an engine."""
+    own = script_kind(engine.dialect)
+    if issubclass(own, kind):
+        return own
+    return kind if issubclass(kind, own) else type(kind.__name__, (kind, own), {})

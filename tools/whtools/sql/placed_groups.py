@@ -1,0 +1,85 @@
+"""Summaries in nights over tables of one's own: each group that changes is found once, with its sums before and after and its place."""
+
+from whtools.sql.tokens import body, joined, number, sql, word
+
+
+class PlacedGroups:
+    """The statements of a summary's change."""
+
+    def beside_columns(self, v):
+        sums = [sql("{sum} numeric", sum=each) for letter in "oa" for each in self.summed_columns(v, letter)]
+        lost = [sql("{lost} numeric", lost=each) for each in self.lost_column(v)]
+        return [sql("id bigint"), *self.typed_cells(v, self.shape.groups(v)), *sums, *lost, *map(sql, ("part oid", "place tid", "act int"))]
+
+    def groups_found(self, v, added):
+        """Each group that changes, with its number, its sums before and after, and its place."""
+        groups = self.shape.groups(v)
+        given, read = [*self.cells(v)[:groups], *self.summed_columns(v, "s"), *self.lost_column(v)], self.read(v)[groups:]
+        numbered = sql("SELECT row_number() OVER () AS id, k.* FROM ({added}) AS k ({given})", added=added, given=joined(given))
+        before = [sql("coalesce({column}, 0) AS {old}", column=column, old=old) for column, old in zip(read, self.summed_columns(v, "o"))]
+        after = [sql("coalesce({column}, 0)::numeric + d.{sum} AS {new}", column=column, sum=each, new=new)
+                 for column, each, new in zip(read, self.summed_columns(v, "s"), self.summed_columns(v, "a"))]  # fmt: skip
+        shown = [sql("d.id"), *self.cells(v, "d")[:groups], *before, *after, *(sql("d.{lost}", lost=each) for each in self.lost_column(v))]
+        return sql("SELECT {shown}, t.tableoid AS part, t.ctid AS place FROM ({numbered}) AS d LEFT JOIN {table} AS t ON {same}", shown=joined(shown),
+                   numbered=numbered, table=self.table(v), same=self.same(v, groups))  # fmt: skip
+
+    def groups_counted(self, v, added):
+        """The statement that keeps these groups with what becomes of each, and counts them."""
+        act = sql("CASE WHEN f.place IS NULL THEN CASE WHEN f.a1 > 0 THEN 3 ELSE 0 END WHEN f.a1 = 0 THEN 1 ELSE 2 END")
+        told = joined([word("id"), *self.summed_columns(v, "a"), *self.lost_column(v), word("act")])
+        query = sql("WITH put AS (INSERT INTO {beside} SELECT f.*, {act} FROM ({found}) AS f RETURNING {told}) SELECT {numbers} FROM put AS d",
+                    beside=self.working(v, "beside"), act=act, found=self.groups_found(v, added), told=told,
+                    numbers=joined(self.judging_groups(v).values()))  # fmt: skip
+        into = joined([word(kind) if kind == "lost" else self.counter(kind, v) for kind in self.judging_groups(v)])
+        return sql("EXECUTE {query} INTO {into}", query=body(query), into=into)
+
+    def judging_groups(self, v):
+        """What is counted of the groups d that change, and what is told where they are refused."""
+        many = {kind: self.many(sql("d.act = {act}", act=number(act))) for kind, act in (("gone", 1), ("stay", 2), ("come", 3))}
+        lost = joined([self.dialect.is_lost(each) for each in self.summed_columns(v, "a", "d")], "OR")
+        refused = [(sql("count(*) <> max(d.id)"), self.told_group_twice(v)), (sql("{many} > 0", many=self.many(lost)), self.told_range(v)),
+                   (sql("{many} > 0", many=self.many(sql("d.a1 < 0"))), self.told_absent(v))]  # fmt: skip
+        counted = {"rows": sql("count(*)"), **many, "told": self.first_told(refused)}
+        return {**counted, **{"lost": sql("coalesce(sum(d.lost), 0)::bigint") for _ in self.lost_column(v)}}
+
+    def groups_made(self, v, counted):
+        """The groups that change; where an output has no value, it is told."""
+        lost = [self.refused_where(sql("lost > 0"), self.told_range(v))] if self.shape.checked(v) else []
+        return [self.made(v, "beside", self.beside_columns(v)), counted, *lost]
+
+    def groups_at_once(self, v, term):
+        """The groups of a view that is over one other, whose change they are made of."""
+        counted = lambda: self.groups_counted(v, self.summed_rows(v, term))  # noqa: E731
+        return self.groups_made(v, self.in_64_bits(counted, [counted()]))
+
+    def group_rows(self, v):
+        """The rows before leave, and those after come, for the views over this one."""
+        if not self.is_read(v):
+            return []
+        cells, beside = self.cells(v)[: self.shape.groups(v)], self.working(v, "beside")
+        gone, come = (
+            sql("SELECT {cells}, {sign} FROM {beside} AS d WHERE {test}", cells=joined([*cells, *self.summed_columns(v, letter)]), sign=number(sign),
+                beside=beside, test=sql(test))
+            for letter, sign, test in (("o", -1, "d.place IS NOT NULL"), ("a", 1, "d.a1 <> 0"))
+        )  # fmt: skip
+        put = sql("INSERT INTO {net} ({cells}, n) {gone} UNION ALL {come}", net=self.working(v, "net"), cells=joined(self.cells(v)), gone=gone, come=come)
+        return [self.made(v, "net", [*self.typed_cells(v), sql("n bigint")]), put, sql("ANALYZE {net} (n)", net=self.working(v, "net"))]
+
+    def moved_groups(self, v):
+        """Queries for groups that leave, and for those of which one column of a reference r is another one after the night."""
+        beside, groups = self.working(v, "beside"), self.shape.groups(v)
+        sums = enumerate(zip(self.summed_columns(v, "o", "d"), self.summed_columns(v, "a", "d")), groups + 1)
+        changed = joined([sql("WHEN {place} THEN {old} <> {new}", place=number(at), old=old, new=new) for at, (old, new) in sums], "")
+        moved = sql("SELECT 1 FROM {beside} AS d WHERE d.act = 2 AND CASE r.place {changed} END", beside=beside, changed=changed)
+        return sql("SELECT 1 FROM {beside} AS d WHERE d.act = 1", beside=beside), moved
+
+    def wrong_groups(self, v):
+        """A query for groups that do not stand in the table as they have to."""
+        groups = self.shape.groups(v)
+        sums = zip(self.read(v)[groups:], self.summed_columns(v, "a", "d"))
+        return sql(
+            "SELECT 1 FROM {beside} AS d LEFT JOIN {table} AS t ON {same} GROUP BY d.id, d.a1 HAVING count(t.ctid) <> CASE WHEN d.a1 > 0 THEN 1 ELSE 0 END"
+            " OR count(CASE WHEN {equal} THEN 1 END) <> count(t.ctid)",
+            beside=self.working(v, "beside"), table=self.table(v), same=self.same(v, groups),
+            equal=joined([sql("{held} = {sum}", held=held, sum=each) for held, each in sums], "AND"),
+        )  # fmt: skip
