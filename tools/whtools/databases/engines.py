@@ -164,11 +164,11 @@ class PostgreSQLDatabase:
 
     engine, refers = "postgresql", True
 
-    def __init__(self, server, name="tried", encoding="UTF8"):
+    def __init__(self, server, name="tried", encoding="UTF8", locale="C"):
         self.server, self.name, self.encoding = server, name, encoding
         self.schemas, self.schema, self.role = ["public"], "public", "postgres"
         self.session = Session(server, "postgres")
-        self.asked(f"CREATE DATABASE {name} ENCODING '{encoding}' LOCALE 'C' TEMPLATE template0;")
+        self.asked(f"CREATE DATABASE {name} ENCODING '{encoding}' LOCALE '{locale}' TEMPLATE template0;")
         self.session.close()
         self.session = Session(server, name)
         self.asked(WATCH)

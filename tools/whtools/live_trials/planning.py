@@ -8,6 +8,7 @@ from whtools.live.command import DIALECTS
 from whtools.live.database import ASKED
 from whtools.live.proposed import DAY, MOMENT, TEXT, ZONED, Proposed
 from whtools.live.turned import NULL
+from whtools.live_trials.shop import TABLES
 from whtools.sql.tokens import Unfit
 from whtools.warehouses import Warehouse
 
@@ -310,6 +311,27 @@ def unfit_mistakes(live):
     return [f"a table that is not fit any more: {text}" for text in wrong]
 
 
+ELSEWHERE = "the house"
+
+
+def elsewhere_mistakes(live):
+    """Nights whose tables stand in another schema, or have another word before their names, and what is left when they go."""
+    live.database.fresh()
+    live.database.make([TABLES[live.engine].replace("{rows}", str(live.rows))])
+    bare, words = live.database.state(), ("--schema", ELSEWHERE)
+    said = [live.database.run(live.words(*words, *each)) for each in (["--capture"], ["--live", "--open"])]
+    live.database.asked("UPDATE lines SET pieces = pieces + 1 WHERE id < 9; DELETE FROM orders WHERE id = 3;")
+    said.append(live.database.run(live.words(*words, "--live")))
+    stored = live.stored("daily").replace('wh."', f'"{ELSEWHERE}"."').replace('"wh_', f'"{ELSEWHERE}_')
+    found, wanted = live.database.answers(stored, live.expected("daily"))
+    found = Counter(row[:-1] for row in found)
+    wrong = [each for each in said if each] + ([] if found == Counter(wanted) else [f"daily has {found}, and not {wanted}"])
+    live.database.asked("UPDATE lines SET pieces = pieces - 1 WHERE id < 9;")
+    gone = live.database.run(live.words(*words, "--uncapture"))
+    left = bare.definitions - live.database.state().definitions, live.database.state().definitions - bare.definitions
+    return [f"another schema: {text}"[:600] for text in [*wrong, *([gone] if gone else []), *(f"{each} is otherwise" for each in left if each)]]
+
+
 REFUSED = {
     "CREATE TABLE other (id int)": ("[[view]]\nname = \"nowhere\"\ncolumns = [\"id\"]\n", "there is no table nowhere in"),
     "ALTER TABLE lines ADD COLUMN weight double precision": ("[[view]]\nname = \"lines\"\ncolumns = [\"id\", \"weight\"]\n", "neither a whole number nor a text"),
@@ -355,8 +377,11 @@ def refusal_mistakes(live):
 def mistakes(live, program):
     """All of these."""
     found = []
-    for tried in (catalogue_mistakes, lambda each: plan_mistakes(each, program), uncapture_mistakes, taken_mistakes, definition_mistakes, unfit_mistakes,
-                  refusal_mistakes):
+    each_of = (
+        catalogue_mistakes, lambda each: plan_mistakes(each, program), uncapture_mistakes, taken_mistakes, definition_mistakes, unfit_mistakes,
+        elsewhere_mistakes, refusal_mistakes,
+    )  # fmt: skip
+    for tried in each_of:
         try:
             found += tried(live)
         except (ValueError, Unfit) as fault:

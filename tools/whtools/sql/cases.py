@@ -196,12 +196,26 @@ SAID = {
     ),
     "a key that is none": ((1,), Case([KEYED, HELD, CHANGED], "--keyed wants", ABOUT, [["six", "long"]], None)),
 }  # fmt: skip
+IN_PARTS = OWN.format("x BIGINT NOT NULL PRIMARY KEY, t TEXT NOT NULL").replace(");", ") PARTITION BY RANGE (x);") + "CREATE TABLE a1 PARTITION OF a DEFAULT;"
+IN_IT = "INSERT INTO a (x, t) VALUES (7, 'six'); INSERT INTO v (t) VALUES ('six');"
+SAID_OF = {
+    "postgresql": {
+        "a key of a table in parts": ((0,), Case([IN_PARTS, IN_IT, CHANGED], "--keyed wants", KEPT, [[7, "six"]], None)),
+        "a key of a table with an heir": (
+            (0,), Case([KEYED, "CREATE TABLE below () INHERITS (a);", HELD, CHANGED], "--keyed wants", ABOUT, [["six", "long"]], None)
+        ),
+        "a key that only some rows have": (
+            (1,), Case([KEYED, "CREATE UNIQUE INDEX partly ON a (t) WHERE x > 5;", HELD, CHANGED], "--keyed wants", ABOUT, [["six", "long"]], None)
+        ),
+    },
+    "sqlite": {},
+}  # fmt: skip
 
 
 def said_mistakes(engine):
     """The same with keys that are said."""
     found = []
-    for title, (places, case) in SAID.items():
+    for title, (places, case) in {**SAID, **SAID_OF[engine.dialect.engine]}.items():
         told = mistake(engine, case, keyed={0: places})
         found += [f"{engine.dialect.engine}, {title}: {told}"] if told else []
     return found
