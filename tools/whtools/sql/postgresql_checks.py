@@ -4,15 +4,16 @@
 from whtools.sql.tokens import joined, name, number, sql, text
 
 # The tables of what is known of a night's tables: their names and columns, the tables themselves, those below them, the columns of
-# the key by which a row stays the same row, foreign keys that change what refers to them, and columns that the catalogue has not.
+# the key by which a row stays the same row, foreign keys that change what refers to them, and columns that the catalogue has not. Where texts
+# are bounded, PostgreSQL makes no second table and its index for long ones.
 KNOWN = {
-    "night~names": "number int, role text, told text, said name",
-    "night~columns": "number int, place int, said name, kind text",
-    "night~tables": "number int, role text, told text, relation oid",
-    "night~parts": "number int, told text, relation oid",
+    "night~names": "number int, role varchar(9), told varchar(80), said name",
+    "night~columns": "number int, place int, said name, kind varchar(9)",
+    "night~tables": "number int, role varchar(9), told varchar(80), relation oid",
+    "night~parts": "number int, told varchar(80), relation oid",
     "night~keys": "view int, place int",
-    "night~referred": "view int, place int, told text, by_delete boolean, by_update boolean",
-    "night~spare": "view int, told text",
+    "night~referred": "view int, place int, told name, by_delete boolean, by_update boolean",
+    "night~spare": "view int, told name",
     "night~touched": "view int, written bigint, removed bigint",
 }
 # How many rows of each table this transaction wrote, and how many it removed, where the server counts.
