@@ -84,6 +84,13 @@ def shop(lines):
     return text, rows, {name: [[count, *row] for count, row in listed] for name, listed in changes.items()}
 
 
+class KeptChanges(Script):
+    """Scripts in which each view's change stands in a table at the end; nobody else touches rows."""
+
+    def untouched(self, v):
+        return []
+
+
 class Timed:
     """Scripts whose comments are statements that tell when each step begins."""
 
@@ -162,7 +169,7 @@ class OnPostgreSQL(Timed):
 
     def works(self):
         """How many rows the Comps read, and how many the Insts of base views and of derived ones put, by scripts that keep each change."""
-        views, script = range(len(self.catalogue.views)), Script(self.catalogue, self.dialect)
+        views, script = range(len(self.catalogue.views)), KeptChanges(self.catalogue, self.dialect)
         count = lambda v: 'sum("#")' if script.shape.is_counted(v) else "count(*)"  # noqa: E731
         rows = [f"SELECT coalesce({count(v)}, 0)::bigint FROM {self.written(v)[0]};" for v in views]
         changes = [f'SELECT coalesce(sum(abs(n)), 0)::bigint FROM pg_temp."{script.working_name(v, "net")}";' for v in views]
