@@ -43,6 +43,12 @@ SALES = in_parts(
 )  # fmt: skip
 COUNTED = {"products": [sql.replace("price bigint NOT NULL", 'price bigint NOT NULL, "#" bigint NOT NULL') for sql in BY_LIST["products"]]}
 
+BY_COUNT = in_parts(
+    'RANGE ("#")', "FOR VALUES FROM (MINVALUE) TO (2)", "FOR VALUES FROM (2) TO (MAXVALUE)",
+    columns='product text NOT NULL, price bigint NOT NULL, "#" bigint NOT NULL',
+)  # fmt: skip
+TEA_TWICE = {"products": [(("tea", 300), 1)]}
+
 
 def partitions():
     return [
@@ -52,6 +58,8 @@ def partitions():
         Case("tea leaves a table with an heir", PG, TEA_GOES, INHERITED, MOVED),
         Case("jam leaves the heir of a table", PG, {"products": [(("jam", 450), -1)]}, INHERITED, MOVED),
         Case("tea leaves a counted table in parts", PG, TEA_GOES, COUNTED, counted=("products",)),
+        Case("a count changes in a counted table in parts", PG, TEA_TWICE, COUNTED, counted=("products",)),
+        Case("a count moves a row to another part", PG, TEA_TWICE, BY_COUNT, counted=("products",)),
         Case("a group of a summary in parts changes", PG, JAM_IS_DEARER, GROUPS),
         Case("a sum moves a group to another part", PG, JAM_IS_CHEAPER, BY_COST),
         Case("a joined view in parts changes", PG, JAM_IS_DEARER, SALES),

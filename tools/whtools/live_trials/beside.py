@@ -161,9 +161,10 @@ def writer_mistakes(live, many=1000, nights=10):
     wrong += told + ([f"the last night: {last}"] if last else live.mistakes())
     if len(beside) != many:
         wrong.append(f"{len(beside)} of {many} transactions were timed")
+    longer = sum(took > bare[-1] + LONGEST_MS for took in beside)
     shown = (
         f"a writer's {many} transactions took {told_times(bare)} without triggers, {told_times(without)} with them, and {told_times(beside)}"
-        f" beside {nights} nights (median, 99.9 %, longest)"
+        f" beside {nights} nights (median, 99.9 %, longest), {longer} of them {LONGEST_MS} ms longer than the longest without"
     )
     return [f"a writer beside nights: {text}" for text in wrong], shown
 
