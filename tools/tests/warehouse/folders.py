@@ -111,9 +111,12 @@ class Laid(Kept):
 
     def test_a_fault_in_the_first_tables_leaves_them_to_be_mended(self):
         self.edit("data/products.csv", "bread,300", "bread,12.50")
+        self.answers(b"fault number 2\n", 3)
         before = contents(self.folder)
-        self.assertEqual(self.ran("night", "--commit")[0], 3)
+        told = 'data/products.csv:2:7: "12.50" is not a whole number (keep cents)'
+        self.assertEqual(self.ran("night", "--commit"), (3, [told]))
         self.assertEqual(self.without_lock(contents(self.folder)), before)
+        self.assertFalse((self.folder / "versions").exists())
 
     def test_findings_name_the_files_as_they_lay_before_the_night(self):
         self.night()
@@ -229,7 +232,9 @@ class Locked(Kept):
                 running.send_signal(number)
                 running.wait()
             self.assertEqual((running.returncode, running.told), (status, f"the night was stopped by {number.name}; nothing is changed\n"))
-            self.assertEqual((self.versions(), contents(self.folder / "changes")), (["0"], before))
+            self.assertEqual(contents(self.folder / "changes"), before)
+            self.assertEqual(contents(self.folder / "data"), contents(SHOP / "data"))
+            self.assertFalse((self.folder / "versions").exists())
 
     def test_a_file_that_is_being_written_is_not_taken(self):
         with (self.folder / "changes/orders.csv").open("ab"):

@@ -13,8 +13,13 @@ from itertools import pairwise
 BLOCK = 2**15
 # How many lines are looked for each by itself.
 FEW = 6
-# The counts of a table that are not 1.
-COUNTS = re.compile(rb"\n(?!1,)([0-9]+),")
+# The counts of a table that are not 1, and lines that do not count 1, of which the last one is what stands behind all lines.
+COUNTS, OTHER = re.compile(rb"\n(?!1,)([0-9]{1,19}),"), re.compile(rb"\n(?!1,)")
+# Lines that each begin with a count; a line without anything; a carriage return that ends no line.
+COUNTED = re.compile(rb"(?:[1-9][0-9]{0,17}+,[^\n]*+(?:\n|\Z))*+")
+BLANK, RETURN = re.compile(rb"\n\r?\n"), re.compile(rb"\r(?!\n)")
+# Texts in which each quote opens a cell or closes it, and no cell goes over lines.
+QUOTES = re.compile(rb'(?:[^"]*+(?<=[,\n])"[^"\n]*+(?:""[^"\n]*+)*+"(?:[,\r\n]|\Z))*+[^"]*+')
 # Counts so long that few of them together may leave 64 bits.
 LONG_COUNTS = re.compile(rb"\n-?[0-9]{16,},")
 OTHERS = bytes(set(range(256)) - set(b'"\n'))
@@ -46,6 +51,25 @@ def is_sound(content, start, columns, is_counted, are_changes):
     if is_counted and LONG_COUNTS.search(content, start - 1):
         return False
     return found.end() == len(content) and is_utf_8(content)
+
+
+def is_in_lines(content, start, is_counted):
+    """Whether all records of a table are seen to be lines, none of them empty, each behind its count where there are counts, and whether
+    all quotes open cells and close them. What the cells hold is not looked at.
+    """
+    if is_counted and not counts_one(content, start) and COUNTED.match(content, start).end() < len(content):
+        return False
+    if not is_counted and BLANK.search(content, start - 1):
+        return False
+    if b"\r" in content and RETURN.search(content, start):
+        return False
+    return b'"' not in content or QUOTES.match(content, start).end() == len(content)
+
+
+def counts_one(content, start):
+    """Whether each line of a table from here on counts 1."""
+    other = OTHER.search(content, start - 1)
+    return not other or other.end() == len(content)
 
 
 def is_formed(content, start, columns, is_counted):
@@ -88,21 +112,28 @@ def counted_through(table):
 
 
 def own_form(content, start, header, is_counted):
-    """The table in the tool's own form, of records that are lines and have no fault. The rows stay in their order."""
+    """The table in the tool's own form, of records that are lines and have no fault. The rows stay in their order; where it has that form
+    already it is the same one.
+    """
     if start == len(content):
         return header
-    body = (content[start:].replace(b"\r\n", b"\n") if b"\r" in content else content[start:]).removesuffix(b"\n")
-    has_counts = is_counted and not (body.startswith(b"1,") and body.count(b"\n1,") == body.count(b"\n"))
-    if has_counts or may_repeat(body):
-        lines = body.split(b"\n")
+    if b"\r" in content:
+        content = content.replace(b"\r", b"")
+        start = content.find(b"\n") + 1
+    if is_counted and not counts_one(content, start) or may_repeat(content, start):
+        lines = content[start:].removesuffix(b"\n").split(b"\n")
         return header + written(added(lines) if is_counted else Counter(lines))
-    return b"".join([header, body, b"\n"] if is_counted else [header, b"1,", body.replace(b"\n", b"\n1,"), b"\n"])
+    if not is_counted:
+        return b"".join([header, b"1,", content[start:].removesuffix(b"\n").replace(b"\n", b"\n1,"), b"\n"])
+    if content.startswith(header) and content.endswith(b"\n"):
+        return content
+    return b"".join([header, content[start:].removesuffix(b"\n"), b"\n"])
 
 
-def may_repeat(body):
+def may_repeat(content, start):
     """Whether a line may stand twice. Only a number is kept of each, which takes less memory than the line; two lines could share one."""
     seen, count = set(), 0
-    for _, block in blocks(body, 0):
+    for _, block in blocks(content, start):
         lines = block.removesuffix(b"\n").split(b"\n")
         seen.update(map(hash, lines))
         count += len(lines)

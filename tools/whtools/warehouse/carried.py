@@ -3,17 +3,17 @@
 import time
 from typing import NamedTuple
 
-from . import refusals
+from . import program
 from .by_lines import counted, sum_of
 from .catalogue import FILE as CATALOGUE
 from .check import strategy_of as given_strategy
 from .finding import Failure, warn
-from .folder import judged
+from .folder import fault_of, judged
 from .limits import after, sizes_after
 from .made import Made, made, of_base, of_change
 from .planning import certified, planned, strategy_of
 from .sizes import base_sizes, given_text, rows_of, sized, told_before, told_rows
-from .status import BAD_INPUT, SPENT
+from .status import BAD_INPUT, SIGNALLED, SPENT
 from .strategy import FILE, at_once, written
 
 # What has the program print the changes of derived views in the place of their tables.
@@ -127,13 +127,29 @@ def judge_after(folder, is_kept):
 
 
 def carried(folder, words):
-    """Judges the folder and carries its night out."""
+    """Judges the folder and carries its night out. Where that cannot be done, and tables waited for the program, they are judged wholly: a
+    fault of the folder is told before all others.
+    """
     began = time.monotonic()
-    warn(judged(folder).warnings)
+    folder = judged(folder)
+    warn(folder.warnings)
+    try:
+        night = done(folder, words, began)
+    except (Failure, OSError) as failure:
+        found = folder if getattr(failure, "status", 0) >= SIGNALLED else folder.wholly()
+        if found.faults:
+            raise fault_of(found) from failure
+        raise
+    folder.take_tables()
+    return night
+
+
+def done(folder, words, began):
+    """Carries the night of a folder out."""
     judge_after(folder, words.commit)
     taken, kept = chosen(folder, words), Kept(folder)
 
     def run(*options):
-        return refusals.night(folder, words, taken.strategy, [*words.through, *options])
+        return program.explained_night(folder, words, taken.strategy, [*words.through, *options])
 
     return Night(folder, taken, kept, run(*CHANGES) if kept.can_take_changes() else run(), run, began)

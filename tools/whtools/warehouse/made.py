@@ -2,11 +2,10 @@
 that is not there, what the program printed.
 """
 
-import shutil
 from typing import NamedTuple
 
 from . import by_lines
-from .disk import link, write
+from .disk import copy, has_pieces, link, write
 
 
 class Made(NamedTuple):
@@ -21,14 +20,12 @@ class Made(NamedTuple):
         if not self.like:
             write(file, self.pieces)
         elif not links or not link(self.like, file):
-            shutil.copyfile(self.like, file)
+            copy(self.like, file)
 
 
 def made(pieces, like):
     """A table, or the file that has the same bytes."""
-    if like.is_file() and like.stat().st_size == sum(map(len, pieces)) and like.read_bytes() == b"".join(pieces):
-        return Made([], like)
-    return Made(pieces)
+    return Made([], like) if has_pieces(like, pieces) else Made(pieces)
 
 
 def of_base(folder, view):

@@ -8,7 +8,7 @@ from functools import cached_property
 from itertools import chain
 
 from . import quotes
-from .by_lines import changed, counted, has_whole_lines, is_sound, own_form, places, row_of
+from .by_lines import changed, counted, has_whole_lines, is_in_lines, is_sound, own_form, places, row_of
 from .finding import MARK, Finding, Place
 from .numbers import NUMBER, number_of
 from .packing import merged
@@ -28,12 +28,14 @@ CURES = [
 
 class Records:
     """The rows of a table or of changes, how often each stands in it, the line of each one's first record, and the findings. Where all
-    is seen at once to be sound, no record is read before somebody asks for its row.
+    is seen at once to be sound, no record is read before somebody asks for its row. A table whose records are lines can wait for the
+    program, which judges it too; once that took it, it is sound.
     """
 
     def __init__(self, source, view, are_changes):
         self.file, self.view, self.are_changes, self.is_made = source.told, view, are_changes, source.is_made
         self.content, self.looked_for, self.found = source.path.read_bytes(), None, {}
+        self.waits, self.is_taken = False, False
 
     def copied(self, source):
         """These records as those of a copy, or None where that has other bytes."""
@@ -50,9 +52,21 @@ class Records:
         wanted = ",".join(name for name, _ in self.view.columns).encode()
         return line == b"#," + wanted, line == wanted and not self.are_changes, end
 
-    @cached_property
+    def wait(self):
+        """Leaves a table to the program, where its records are seen to be lines, and nothing that the program takes is a fault in it.
+        Answers whether it does.
+        """
+        is_counted, is_bare, start = self.header
+        self.waits = not self.is_made and (is_counted or is_bare) and is_in_lines(self.content, start, is_counted)
+        return self.waits
+
+    @property
     def is_sound(self):
-        """Whether all is seen at once to have no fault."""
+        """Whether all is seen at once to have no fault, or the program took it."""
+        return self.is_taken or self.is_seen_sound
+
+    @cached_property
+    def is_seen_sound(self):
         is_counted, is_bare, start = self.header
         if self.is_made and is_counted:
             return True
@@ -60,8 +74,8 @@ class Records:
 
     @cached_property
     def has_lines(self):
-        """Whether it is sound, and each record is a line."""
-        return self.is_sound and has_whole_lines(self.content)
+        """Whether it is sound, as far as that was judged, and each record is a line."""
+        return self.waits or self.is_sound and has_whole_lines(self.content)
 
     @cached_property
     def whole(self):
@@ -92,6 +106,11 @@ class Records:
         if not self.has_lines:
             return self.rows.total()
         return counted(self.content) if is_counted else self.content.count(b"\n", start) + (not self.content.endswith(b"\n"))
+
+    @property
+    def is_empty(self):
+        """Whether there are no rows."""
+        return self.header[2] == len(self.content) or (not self.has_lines and self.total == 0)
 
     @cached_property
     def own(self):
