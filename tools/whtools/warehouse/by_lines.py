@@ -53,11 +53,11 @@ def is_sound(content, start, columns, is_counted, are_changes):
     return found.end() == len(content) and is_utf_8(content)
 
 
-def is_in_lines(content, start, is_counted):
+def is_in_lines(content, start, is_counted, count_one):
     """Whether all records of a table are seen to be lines, none of them empty, each behind its count where there are counts, and whether
-    all quotes open cells and close them. What the cells hold is not looked at.
+    all quotes open cells and close them. What the cells hold is not looked at, nor are counts where it is known that all are 1.
     """
-    if is_counted and not counts_one(content, start) and COUNTED.match(content, start).end() < len(content):
+    if is_counted and not count_one and COUNTED.match(content, start).end() < len(content):
         return False
     if not is_counted and BLANK.search(content, start - 1):
         return False
@@ -92,10 +92,10 @@ def row_of(row):
 # ---- how many
 
 
-def counted(table):
+def counted(table, count_one=False):
     """How many rows a table with `#` has: the sum of its counts. All records are lines."""
     lines = table.count(b"\n") - table.endswith(b"\n")
-    return lines + sum(int(count) - 1 for count in COUNTS.findall(table))
+    return lines if count_one else lines + sum(int(count) - 1 for count in COUNTS.findall(table))
 
 
 def counted_through(table):
@@ -111,33 +111,44 @@ def counted_through(table):
 # ---- the tool's own form
 
 
-def own_form(content, start, header, is_counted):
-    """The table in the tool's own form, of records that are lines and have no fault. The rows stay in their order; where it has that form
-    already it is the same one.
-    """
-    if start == len(content):
-        return header
-    if b"\r" in content:
-        content = content.replace(b"\r", b"")
-        start = content.find(b"\n") + 1
-    if is_counted and not counts_one(content, start) or may_repeat(content, start):
-        lines = content[start:].removesuffix(b"\n").split(b"\n")
-        return header + written(added(lines) if is_counted else Counter(lines))
-    if not is_counted:
-        return b"".join([header, b"1,", content[start:].removesuffix(b"\n").replace(b"\n", b"\n1,"), b"\n"])
-    if content.startswith(header) and content.endswith(b"\n"):
+def without_returns(content, end_lines):
+    """Lines without the carriage returns before their ends. Where it is known that all returns stand there, that is soon done."""
+    if b"\r" not in content:
         return content
-    return b"".join([header, content[start:].removesuffix(b"\n"), b"\n"])
+    return content.replace(b"\r", b"") if end_lines else content.replace(b"\r\n", b"\n")
 
 
-def may_repeat(content, start):
-    """Whether a line may stand twice. Only a number is kept of each, which takes less memory than the line; two lines could share one."""
+def own_form(content, header, is_counted):
+    """The table in the tool's own form, of records that are lines and have no fault, which if they have counts count 1. The rows stay in
+    their order; where it has that form already it is the same one. With it what is kept of the lines, where no row stood twice.
+    """
+    start = content.find(b"\n") + 1
+    seen, count = kept_of(content, start)
+    if len(seen) < count:
+        return added_up(content, header, is_counted), None
+    if start == len(content):
+        return header, seen
+    if not is_counted:
+        return b"".join([header, b"1,", content[start:].removesuffix(b"\n").replace(b"\n", b"\n1,"), b"\n"]), seen
+    if content.startswith(header) and content.endswith(b"\n"):
+        return content, seen
+    return b"".join([header, content[start:].removesuffix(b"\n"), b"\n"]), seen
+
+
+def added_up(content, header, is_counted):
+    """The same, where rows stand more than once or count other than 1."""
+    lines = content[content.find(b"\n") + 1 :].removesuffix(b"\n").split(b"\n")
+    return header + written(added(lines) if is_counted else Counter(lines))
+
+
+def kept_of(content, start):
+    """What is kept of each line, and how many there are. It is a number, which takes less memory than the line; two lines could share one."""
     seen, count = set(), 0
     for _, block in blocks(content, start):
         lines = block.removesuffix(b"\n").split(b"\n")
         seen.update(map(hash, lines))
         count += len(lines)
-    return len(seen) < count
+    return seen, count
 
 
 def added(lines):
@@ -171,14 +182,16 @@ def standing(content, start, lines):
         yield from ((at, line) for line in lines.keys() & block.split(b"\n"))
 
 
-def places(content, start, rows):
-    """Where the lines of these rows, as lines have them, begin and end in a table of the tool's own, and how often each counts."""
+def places(content, start, rows, count_one=False):
+    """Where the lines of these rows, as lines have them, begin and end in a table of the tool's own, and how often each counts; where it
+    is known that all count 1, no others are looked for.
+    """
     once, found = {b"1," + row: row for row in rows}, {}
     for at, line in standing(content, start, once):
         place = content.find(b"\n" + line + b"\n", at - 1) + 1
         if place:
             found[once[line]] = place, place + len(line) + 1, 1
-    for other in COUNTS.finditer(content, start - 1):
+    for other in () if count_one else COUNTS.finditer(content, start - 1):
         end = content.find(b"\n", other.end())
         row = content[other.end() : end]
         if row in rows:

@@ -4,13 +4,12 @@ import time
 from typing import NamedTuple
 
 from . import program
-from .by_lines import counted, sum_of
 from .catalogue import FILE as CATALOGUE
 from .check import strategy_of as given_strategy
 from .finding import Failure, warn
 from .folder import fault_of, judged
 from .limits import after, sizes_after
-from .made import Made, made, of_base, of_change
+from .made import Made, Printed, made, of_base, of_change
 from .planning import certified, planned, strategy_of
 from .sizes import base_sizes, given_text, rows_of, sized, told_before, told_rows
 from .status import BAD_INPUT, SIGNALLED, SPENT
@@ -57,23 +56,25 @@ class Night:
     def tables(self):
         """Each view with its table after the night."""
         for view in self.folder.views:
-            yield view, of_base(self.folder, view) if view.is_base else self.derived(view.name)
+            table = of_base(self.folder, view) if view.is_base else self.derived(view.name)
+            yield view, table
+            if not view.is_base:
+                self.rows[view.name] = table.rows
 
     def derived(self, name):
-        """The table of a derived view, with how many rows it has."""
-        file, table = self.kept.file(name), None
+        """The table of a derived view. How many rows it has is known once it was put where it belongs."""
+        file = self.kept.file(name)
         if file and self.changed[name] == 0:
-            self.rows[name] = self.kept.rows[name]
-            return Made([], file)
+            return Made([], file, rows=self.kept.rows[name])
         if self.answer.has_changes:
             table = of_change(file, self.kept.rows[name], self.answer.table(name))
             if table:
-                self.rows[name] = self.kept.rows[name] + sum_of(table.change)
                 return table
             self.answer = self.again()
+        if self.folder.has_lines:
+            return Printed(self.answer, name, self.kept.files[name])
         printed = self.answer.table(name)
-        self.rows[name] = counted(printed) if self.folder.has_lines else rows_of(printed)
-        return made([printed], self.kept.files[name])
+        return made([printed], self.kept.files[name], rows_of(printed))
 
     def sizes(self):
         """How many rows each view had, where that is known, has, and changed."""

@@ -5,15 +5,16 @@ that is not there, what the program printed.
 from typing import NamedTuple
 
 from . import by_lines
-from .disk import copy, has_pieces, link, write
+from .disk import copy, has, has_pieces, link, write
 
 
 class Made(NamedTuple):
-    """A table: in pieces, or as the file that it is like; and its change, where that is known."""
+    """A table: in pieces, or as the file that it is like; its change, where that is known; and of a derived view how many rows it has."""
 
     pieces: list
     like: object = None
     change: bytes = b""
+    rows: object = None
 
     def put(self, file, links):
         """Writes it; where it is like a file, as a link to that, if it may be one."""
@@ -23,9 +24,31 @@ class Made(NamedTuple):
             copy(self.like, file)
 
 
-def made(pieces, like):
+class Printed:
+    """A table as the program printed it, whose records are lines: it is counted as it is put where it belongs, and little of it is held."""
+
+    change = b""
+
+    def __init__(self, answer, name, like):
+        self.answer, self.name, self.like, self.rows = answer, name, like, None
+
+    def lines(self):
+        """The table in blocks, which are counted."""
+        self.rows = -1 if self.answer.size(self.name) else 0
+        for block in self.answer.blocks(self.name):
+            self.rows += by_lines.counted(block)
+            yield block[1:]
+
+    def put(self, file, links):
+        """Writes it; as a link to the file that it is like, where that has the same bytes."""
+        is_like = links and has(self.like, self.answer.size(self.name), self.lines())
+        if not is_like or not link(self.like, file):
+            write(file, self.lines())
+
+
+def made(pieces, like, rows=None):
     """A table, or the file that has the same bytes."""
-    return Made([], like) if has_pieces(like, pieces) else Made(pieces)
+    return Made([], like, b"", rows) if has_pieces(like, pieces) else Made(pieces, None, b"", rows)
 
 
 def of_base(folder, view):
@@ -42,4 +65,4 @@ def of_change(file, rows, change):
     """
     before = file.read_bytes()
     pieces = by_lines.merged(before, change) if by_lines.counted(before) == rows else None
-    return pieces and Made(pieces, change=change)
+    return pieces and Made(pieces, None, change, rows + by_lines.sum_of(change))

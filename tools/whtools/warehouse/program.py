@@ -14,8 +14,8 @@ from .finding import Failure, warn
 from .limits import judge
 from .status import DONE, NO_ANSWER, NOT_WRITTEN
 
-# How much of an answer is looked at to tell whether there is one.
-BEGINNING = 64
+# How much of an answer is looked at to tell whether there is one, and how much of a table is held at a time.
+BEGINNING, BLOCK = 64, 2**18
 ROOT = Path(__file__).resolve().parents[3]
 NOT_THERE = (
     "the proved program is not there: `./whview --help` proves and builds it, which takes half an hour or more; with --unproved another is"
@@ -118,6 +118,22 @@ class Night:
     def table(self, name):
         start, end = self.places[name]
         return os.pread(self.file.fileno(), end - start, start)
+
+    def size(self, name):
+        start, end = self.places[name]
+        return end - start
+
+    def blocks(self, name):
+        """The table of a view in blocks of whole lines, each behind the line end that stands before it."""
+        start, end = self.places[name]
+        while start < end:
+            block = os.pread(self.file.fileno(), min(BLOCK, end - start) + 1, start - 1)
+            if start + len(block) - 1 < end:
+                block = block[: block.rfind(b"\n") + 1]
+            if len(block) == 1:
+                block = os.pread(self.file.fileno(), end - start + 1, start - 1)
+            yield block
+            start += len(block) - 1
 
     def changed(self):
         """How many rows each view's Inst changed, by its name."""

@@ -7,8 +7,8 @@ from collections import Counter
 from functools import cached_property
 from itertools import chain
 
-from . import quotes
-from .by_lines import changed, counted, has_whole_lines, is_in_lines, is_sound, own_form, places, row_of
+from . import by_lines, quotes
+from .by_lines import changed, counted, has_whole_lines, is_in_lines, is_sound, places, row_of
 from .finding import MARK, Finding, Place
 from .numbers import NUMBER, number_of
 from .packing import merged
@@ -35,7 +35,7 @@ class Records:
     def __init__(self, source, view, are_changes):
         self.file, self.view, self.are_changes, self.is_made = source.told, view, are_changes, source.is_made
         self.content, self.looked_for, self.found = source.path.read_bytes(), None, {}
-        self.waits, self.is_taken = False, False
+        self.waits, self.is_taken, self.seen = False, False, None
 
     def copied(self, source):
         """These records as those of a copy, or None where that has other bytes."""
@@ -57,8 +57,15 @@ class Records:
         Answers whether it does.
         """
         is_counted, is_bare, start = self.header
-        self.waits = not self.is_made and (is_counted or is_bare) and is_in_lines(self.content, start, is_counted)
+        if not self.is_made and (is_counted or is_bare):
+            self.waits = is_in_lines(self.content, start, is_counted, self.count_one)
         return self.waits
+
+    @cached_property
+    def count_one(self):
+        """Whether each row of a table in lines counts 1."""
+        is_counted, _, start = self.header
+        return not is_counted or by_lines.counts_one(self.content, start)
 
     @property
     def is_sound(self):
@@ -105,7 +112,9 @@ class Records:
         is_counted, _, start = self.header
         if not self.has_lines:
             return self.rows.total()
-        return counted(self.content) if is_counted else self.content.count(b"\n", start) + (not self.content.endswith(b"\n"))
+        if is_counted:
+            return counted(self.content, self.waits and self.count_one)
+        return self.content.count(b"\n", start) + (not self.content.endswith(b"\n"))
 
     @property
     def is_empty(self):
@@ -115,16 +124,24 @@ class Records:
     @cached_property
     def own(self):
         """The table in the tool's own form, or None where its records are not lines."""
-        is_counted, _, start = self.header
+        is_counted = self.header[0]
         if not self.has_lines:
             return None
+        if self.is_made and is_counted:
+            return self.content
         header = ",".join(["#", *(name for name, _ in self.view.columns)]).encode() + b"\n"
-        return self.content if self.is_made and is_counted else own_form(self.content, start, header, is_counted)
+        content = by_lines.without_returns(self.content, self.waits)
+        if not self.count_one:
+            return by_lines.added_up(content, header, True)
+        own, self.seen = by_lines.own_form(content, header, is_counted)
+        return own
 
     def places(self, rows):
         """Where these rows, as lines have them, stand in the tool's own form. The last ones that were looked for are kept."""
         if self.looked_for != rows:
-            self.looked_for, self.found = set(rows), places(self.own, self.own.find(b"\n") + 1, rows)
+            start, mark = self.own.find(b"\n") + 1, b"1," if self.header[0] else b""
+            there = rows if self.seen is None else {row for row in rows if hash(mark + row) in self.seen}
+            self.looked_for, self.found = set(rows), places(self.own, start, there, self.seen is not None)
         return self.found
 
     def standing(self, rows):
@@ -139,6 +156,7 @@ class Records:
         """The table with these changes of rows, in pieces. No row leaves that is not there."""
         by_line = {row_of(row): count for row, count in changes.items() if count}
         made = changed(self.own, self.places(set(by_line)) if by_line else {}, by_line) if self.own is not None else None
+        self.seen = None
         if made:
             return made
         rows = Counter(self.rows)
