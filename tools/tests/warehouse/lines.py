@@ -75,11 +75,40 @@ class Changed(Lying):
         self.assertEqual(b"".join(records.after(changes)), b"#,x,t,u\n2,1,a,b\n2,3,a,b\n1,0,c,d\n")
 
     def test_a_table_of_another_form_gets_the_tools_own_in_its_order(self):
-        forms = (b"x,t,u\r\n2,b,c\r\n1,a,b\r\n2,b,c", b"#,x,t,u\n1,2,b,c\n1,1,a,b\n1,2,b,c\n", b"\xef\xbb\xbf#,x,t,u\n2,2,b,c\n1,1,a,b\n")
+        forms = (b"x,t,u\r\n2,b,c\r\n1,a,b\r\n2,b,c", b"#,x,t,u\r\n2,2,b,c\r\n1,1,a,b", b"\xef\xbb\xbf#,x,t,u\n2,2,b,c\n1,1,a,b\n")
         for content in forms:
-            with self.subTest(content=content):
-                self.assertEqual(b"".join(self.records(content).after({})), b"#,x,t,u\n2,2,b,c\n1,1,a,b\n")
+            for waits in (False, True):
+                with self.subTest(content=content, waits=waits):
+                    records = self.records(content)
+                    self.assertEqual(waits, waits and records.wait())
+                    self.assertEqual(b"".join(records.after({})), b"#,x,t,u\n2,2,b,c\n1,1,a,b\n")
         self.assertEqual(b"".join(self.records(b"x,t,u\n").after({(1, "a", "b"): 1})), b"#,x,t,u\n1,1,a,b\n")
+        for header in (b"#,x,t,u\r\n", b"x,t,u\r\n", b"\xef\xbb\xbfx,t,u\n"):
+            self.assertEqual(b"".join(self.records(header).after({})), b"#,x,t,u\n")
+
+    def test_a_table_that_has_the_tools_own_form_stays_the_same_bytes(self):
+        for content in (b"#,x,t,u\n", b"#,x,t,u\n1,1,a,b\n", b'#,x,t,u\n2,1,"a,",b\n1,2,a,b\n'):
+            records = self.records(content)
+            self.assertTrue(records.wait())
+            self.assertIs(records.own, records.content)
+
+    def test_rows_that_are_given_on_several_lines_with_counts_are_all_taken_for_one_row(self):
+        source = random.Random(6)
+        for number in range(300):
+            lines = [line_of(source.choice([1, 1, 3]), (source.randint(0, 3), "a", source.choice("bc"))) for _ in range(source.randint(0, 9))]
+            before = Counter()
+            for line in lines:
+                count, x, t, u = line.decode().rstrip().split(",")
+                before[int(x), t, u] += int(count)
+            changes = changed(source, before, TEXTS)
+            records = self.records(b"#,x,t,u\n" + b"".join(lines), is_made=number % 2 == 1)
+            after, made = +Counter({row: before[row] + changes[row] for row in [*before, *changes]}), b"".join(records.after(changes))
+            self.assertEqual((self.records(made).rows, self.records(made).total), (after, after.total()))
+            file = self.folder / "c.csv"
+            leaving = Counter(dict.fromkeys(before, -source.randint(1, 4)))
+            file.write_bytes(table_text(COLUMNS, leaving))
+            told = absent(self.records(b"#,x,t,u\n" + b"".join(lines)), Changes([Source(file, "c.csv")], SimpleNamespace(name="v", columns=COLUMNS)))
+            self.assertEqual(len(told), sum(before[row] + count < 0 for row, count in leaving.items()))
 
     def test_a_row_that_stands_in_another_form_leaves(self):
         records = self.records(b'#,x,t,u\n1,007,"a",b\n1,8,a,b\n', True)

@@ -1,7 +1,8 @@
 """Tables by their lines: judged, counted, searched and changed without a look at each cell.
 
-A table of the tool's own has `#`, a line for each row, no row twice, and a line feed alone at a line's end. A line end within a cell,
-which quotes allow, takes a table out of this: that one is read row by row.
+A table of the tool's own has `#`, a line for each row, and a line feed alone at a line's end. Rows that were given on several lines, each
+with its count, stand on these until they change. A line end within a cell, which quotes allow, takes a table out of this: that one is
+read row by row.
 """
 
 import re
@@ -118,27 +119,28 @@ def without_returns(content, end_lines):
     return content.replace(b"\r", b"") if end_lines else content.replace(b"\r\n", b"\n")
 
 
-def own_form(content, header, is_counted):
-    """The table in the tool's own form, of records that are lines and have no fault, which if they have counts count 1. The rows stay in
-    their order; where it has that form already it is the same one. With it what is kept of the lines, where no row stood twice.
+def own_form(content, header):
+    """The table in the tool's own form, of lines that begin with counts and have no fault. They stay as they are; where it has that form
+    already it is the same one.
+    """
+    if content.startswith(header) and content.endswith(b"\n"):
+        return content
+    rows = content[content.find(b"\n") + 1 :].removesuffix(b"\n")
+    return b"".join([header, rows, b"\n" * bool(rows)])
+
+
+def with_counts(content, header):
+    """The same of lines without counts. Equal rows add up, and stay in the order of their first ones. With it what is kept of the lines,
+    where no row stood twice.
     """
     start = content.find(b"\n") + 1
     seen, count = kept_of(content, start)
-    if len(seen) < count:
-        return added_up(content, header, is_counted), None
-    if start == len(content):
+    if not count:
         return header, seen
-    if not is_counted:
-        return b"".join([header, b"1,", content[start:].removesuffix(b"\n").replace(b"\n", b"\n1,"), b"\n"]), seen
-    if content.startswith(header) and content.endswith(b"\n"):
-        return content, seen
-    return b"".join([header, content[start:].removesuffix(b"\n"), b"\n"]), seen
-
-
-def added_up(content, header, is_counted):
-    """The same, where rows stand more than once or count other than 1."""
-    lines = content[content.find(b"\n") + 1 :].removesuffix(b"\n").split(b"\n")
-    return header + written(added(lines) if is_counted else Counter(lines))
+    rows = content[start:].removesuffix(b"\n")
+    if len(seen) == count:
+        return b"".join([header, b"1,", rows.replace(b"\n", b"\n1,"), b"\n"]), seen
+    return header + b"".join([b"%d,%s\n" % (count, row) for row, count in Counter(rows.split(b"\n")).items()]), None
 
 
 def kept_of(content, start):
@@ -149,20 +151,6 @@ def kept_of(content, start):
         seen.update(map(hash, lines))
         count += len(lines)
     return seen, count
-
-
-def added(lines):
-    """The rows of lines with their counts, which add up where a row stands twice."""
-    found = Counter()
-    for line in lines:
-        count, _, row = line.partition(b",")
-        found[row] += int(count)
-    return found
-
-
-def written(rows):
-    """The lines of rows, each with its count."""
-    return b"".join([b"%d,%s\n" % (count, row) for row, count in rows.items()])
 
 
 def blocks(content, start):

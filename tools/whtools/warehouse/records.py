@@ -131,17 +131,17 @@ class Records:
             return self.content
         header = ",".join(["#", *(name for name, _ in self.view.columns)]).encode() + b"\n"
         content = by_lines.without_returns(self.content, self.waits)
-        if not self.count_one:
-            return by_lines.added_up(content, header, True)
-        own, self.seen = by_lines.own_form(content, header, is_counted)
+        if is_counted:
+            return by_lines.own_form(content, header)
+        own, self.seen = by_lines.with_counts(content, header)
         return own
 
     def places(self, rows):
         """Where these rows, as lines have them, stand in the tool's own form. The last ones that were looked for are kept."""
         if self.looked_for != rows:
-            start, mark = self.own.find(b"\n") + 1, b"1," if self.header[0] else b""
-            there = rows if self.seen is None else {row for row in rows if hash(mark + row) in self.seen}
-            self.looked_for, self.found = set(rows), places(self.own, start, there, self.seen is not None)
+            start, count_one = self.own.find(b"\n") + 1, self.seen is not None or (self.waits and self.header[0] and self.count_one)
+            there = rows if self.seen is None else {row for row in rows if hash(row) in self.seen}
+            self.looked_for, self.found = set(rows), places(self.own, start, there, count_one)
         return self.found
 
     def standing(self, rows):
