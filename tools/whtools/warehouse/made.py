@@ -54,7 +54,7 @@ def made(pieces, like, rows=None):
 def of_base(folder, view):
     """The table of a base view after the night. It differs from the one before where one of the tool's own changes."""
     last = folder.state.root / "data" / f"{view.name}.csv"
-    if folder.is_unchanged(view):
+    if folder.is_unchanged(view) and last.is_file():
         return Made([], last)
     return Made(folder.after(view)) if folder.data[view.name].is_made else made(folder.after(view), last)
 
