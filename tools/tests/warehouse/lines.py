@@ -254,7 +254,7 @@ class Judged(Lying):
 
     def test_a_table_that_waits_for_the_program_has_a_record_in_each_line(self):
         source, waiting, faulty = random.Random(11), 0, 0
-        for number in range(3000):
+        for _ in range(2000):
             content = bytearray(table_text(COLUMNS, rows(source, WITH_LINE_ENDS, 4)).replace(b"\n", source.choice([b"\n", b"\r\n"])))
             for _ in range(source.randint(0, 2)):
                 place = source.randrange(len(content) + 1)
@@ -262,10 +262,10 @@ class Judged(Lying):
             records = self.records(bytes(content))
             if records.wait():
                 waiting, faulty = waiting + 1, faulty + bool(records.whole.findings)
-                text = bytes(content).decode(errors="replace").removeprefix("\ufeff")
-                self.assertEqual([f"{line}\n" for line in text.replace("\r\n", "\n").removesuffix("\n").split("\n")], list(lines_in(text)))
+                text = bytes(content[records.header[2] :]).decode(errors="replace")
+                self.assertEqual([f"{line}\n" for line in text.replace("\r\n", "\n").removesuffix("\n").split("\n") if text], list(lines_in(text)))
                 self.assertTrue(records.whole.findings or records.total == records.rows.total(), content)
-        self.assertGreater(min(waiting, 4 * faulty), 400)
+        self.assertGreater(min(waiting, 4 * faulty), 200)
 
     def test_what_the_program_would_take_and_lint_would_not_never_waits(self):
         for line in (b'1,"a"b,c', b'1,"a,b', b'1,"a""b,c', b'1,a"b,c', b'1,"a\nb",c', b"1,a\rb,c", b"", b"\r", b'1, "a",c'):

@@ -96,7 +96,12 @@ def row_of(row):
 def counted(table, count_one=False):
     """How many rows a table with `#` has: the sum of its counts. All records are lines."""
     lines = table.count(b"\n") - table.endswith(b"\n")
-    return lines if count_one else lines + sum(int(count) - 1 for count in COUNTS.findall(table))
+    return lines if count_one else lines + beyond_one(table)
+
+
+def beyond_one(table):
+    """How many rows a table has beyond one in each line."""
+    return sum(int(count) - 1 for count in COUNTS.findall(table))
 
 
 def counted_through(table):
@@ -251,12 +256,12 @@ def replace(edits):
             old.place, new.place = None, old.place
 
 
-def merged(content, change):
-    """A table with a change as the program prints it, in pieces. A row that comes stands in the place of one beside it that leaves, or at
-    the end. None where more of a row leave than there are.
+def merged(content, change, count_one=False):
+    """A table with a change as the program prints it, in pieces; it may be known that all its rows count 1. A row that comes stands in the
+    place of one beside it that leaves, or at the end. None where more of a row leave than there are.
     """
     rows = coming(change)
-    found = places(content, content.find(b"\n") + 1, {row for row, _ in rows})
+    found = places(content, content.find(b"\n") + 1, {row for row, _ in rows}, count_one)
     edits = []
     for row, count in rows:
         start, end, there = found.get(row, (0, 0, 0))

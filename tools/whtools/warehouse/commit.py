@@ -17,10 +17,14 @@ from .versions import DELTAS, PART, TURNED, VERSIONS, place, point, prune, turn,
 
 
 def to_take(folder):
-    """The files that the night takes. What is no such file in changes/ or data/ ends the command before anything is moved."""
+    """The files that the night takes. What is no such file in changes/ or data/ ends the command before anything is moved; of a folder
+    without versions all faults are told then.
+    """
     inputs, catalogue = Inputs(folder), Catalogue(folder)
     faults = [finding for finding in catalogue.findings + inputs.findings(catalogue) if not finding.warns]
     inputs.state.release()
+    if faults and inputs.state.number is None:
+        judged(Folder(folder))
     if faults:
         raise Failure(BAD_INPUT, *faults)
     return inputs.to_take([view.name for view in catalogue.views if view.is_base])

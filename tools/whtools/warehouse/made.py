@@ -37,11 +37,11 @@ class Printed:
         self.rows = -1 if self.answer.size(self.name) else 0
         for block in self.answer.blocks(self.name):
             self.rows += by_lines.counted(block)
-            yield block[1:]
+            yield memoryview(block)[1:]
 
     def put(self, file, links):
         """Writes it; as a link to the file that it is like, where that has the same bytes."""
-        is_like = links and has(self.like, self.answer.size(self.name), self.lines())
+        is_like = links and has(self.like, self.answer.size(self.name), map(bytes, self.lines()))
         if not is_like or not link(self.like, file):
             write(file, self.lines())
 
@@ -64,5 +64,6 @@ def of_change(file, rows, change):
     lines. None where the file has not as many rows as were told, or not those that leave.
     """
     before = file.read_bytes()
-    pieces = by_lines.merged(before, change) if by_lines.counted(before) == rows else None
+    lines, more = by_lines.counted(before, True), by_lines.beyond_one(before)
+    pieces = by_lines.merged(before, change, not more) if lines + more == rows else None
     return pieces and Made(pieces, None, change, rows + by_lines.sum_of(change))

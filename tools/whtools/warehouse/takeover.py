@@ -14,7 +14,7 @@ from typing import NamedTuple
 
 from .catalogue import Catalogue
 from .claim import give_back, look
-from .disk import copy, is_same, keep, remove, sync, write
+from .disk import copy, has_pieces, is_same, keep, remove, sync, write
 from .finding import Failure, warn
 from .folder import Folder, judged
 from .inputs import Source, entries
@@ -182,7 +182,10 @@ def begin(new, interrupts):
         turn(folder)
     os.rmdir(part)
     new.state = State(folder)
-    clear_tables(folder)
+    for name, records in new.data.items():
+        if has_pieces(folder / f"data/{name}.csv", [records.content]):
+            remove_kept(folder / f"data/{name}.csv")
+    remove_empty(folder / "data")
 
 
 # ---- what is removed
