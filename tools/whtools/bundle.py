@@ -71,10 +71,8 @@ def has_changes(answer):
 def headings(answer):
     """Where lines begin that may be a view's or a reader's heading, in order. The readers' stand at the end, where there are any."""
     word = CHANGES if has_changes(answer) else TABLE
-    found, place = [0] if answer[: len(word)] == word else [], answer.find(b"\n" + word)
-    while place >= 0:
-        found.append(place + 1)
-        place = answer.find(b"\n" + word, place + 1)
+    found = [0] if answer[: len(word)] == word else []
+    found += [line.end() for line in re.finditer(b"\n(?=" + word + b")", answer)]
     last = sum(len(line) + 1 for line in readers(answer))
     return [*found, len(answer) - last] if last else found
 

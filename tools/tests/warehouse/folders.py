@@ -113,9 +113,50 @@ class Laid(Kept):
 
     def test_a_fault_in_the_first_tables_leaves_them_to_be_mended(self):
         self.edit("data/products.csv", "bread,300", "bread,12.50")
+        self.answers(b"fault number 2\n", 3)
         before = contents(self.folder)
-        self.assertEqual(self.ran("night", "--commit")[0], 3)
+        told = 'data/products.csv:2:7: "12.50" is not a whole number (keep cents)'
+        self.assertEqual(self.ran("night", "--commit"), (3, [told]))
         self.assertEqual(contents(self.folder), before)
+        self.assertFalse((self.folder / "versions").exists())
+
+    def test_a_first_night_that_is_refused_changes_no_file_and_names_those_that_there_are(self):
+        before = contents(self.folder)
+        self.answers(b"refused range sales\nleft given-up\n", 1)
+        for words in (["night"], ["night", "--commit"]):
+            self.assertEqual(self.ran(*words), (1, ["refused range sales", "left given-up"]))
+            self.assertEqual(contents(self.folder), before)
+            self.assertFalse((self.folder / "versions").exists())
+
+    def test_a_fault_of_the_first_tables_is_told_whatever_else_ends_the_night(self):
+        self.edit("data/products.csv", "bread,300", "bread,12.50")
+        self.edit("catalogue.toml", "join = ", "# join = ")
+        without = "catalogue.toml:16:1: warning: sales is over 3 views without a join: every row meets every row"
+        told = [without, 'data/products.csv:2:7: "12.50" is not a whole number (keep cents)']
+        for answer, status in ((b"fault number 2\n", 3), (b"memory\n", 4), (b"", 70), (b"refused large sales\n", 1)):
+            self.answers(answer, status)
+            self.assertEqual(self.ran("night", "--commit"), (3, told), answer)
+        (self.folder / "strategy.txt").write_text("inst orders\n")
+        self.assertEqual(self.ran("night", "--commit"), (3, told))
+        self.edit("changes/orders.csv", "#,id", "#,no")
+        status, lines = self.ran("night")
+        self.assertEqual((status, len(lines), lines[0], lines[-1]), (3, 3, *told))
+
+    def test_tables_as_nights_write_them_are_linked_and_those_of_a_new_view_are_written(self):
+        (self.folder / "data/products.csv").write_text("#,product,price\n2,bread,300\n1,jam,450\n")
+        (self.folder / "changes/products.csv").unlink()
+        self.night()
+        one, two = (self.folder / f"versions/{number}/data/products.csv" for number in "01")
+        self.assertTrue(one.samefile(two))
+        self.assertIn("\nproducts,3,3,0\n", (self.folder / "current/report.txt").read_text())
+        with (self.folder / "catalogue.toml").open("a") as file:
+            file.write('\n[[view]]\nname = "colours"\ncolumns = ["name:text"]\n')
+        self.edit("strategy.txt", "inst orders\n", "inst orders\ninst colours\n")
+        (self.folder / "data").mkdir(exist_ok=True)
+        (self.folder / "data/colours.csv").write_text("#,name\n1,red\n")
+        self.night()
+        self.assertEqual((self.folder / "current/data/colours.csv").read_text(), "#,name\n1,red\n")
+        self.assertTrue(one.samefile(self.folder / "current/data/products.csv"))
 
     def test_findings_name_the_files_as_they_lay_before_the_night(self):
         self.night()
@@ -277,7 +318,9 @@ class Locked(Kept):
                 running.send_signal(number)
                 running.wait()
             self.assertEqual((running.returncode, running.told), (status, f"the night was stopped by {number.name}; nothing is changed\n"))
-            self.assertEqual((self.versions(), contents(self.folder / "changes")), (["0"], before))
+            self.assertEqual(contents(self.folder / "changes"), before)
+            self.assertEqual(contents(self.folder / "data"), contents(SHOP / "data"))
+            self.assertFalse((self.folder / "versions").exists())
 
     def test_a_file_that_is_being_written_is_not_taken(self):
         with (self.folder / "changes/orders.csv").open("ab"):
@@ -317,6 +360,39 @@ class Locked(Kept):
                     (self.folder / ".lock").write_text(content)
             self.assertEqual((running.returncode, self.versions(), self.changes()), (6, ["0", "1"], {"orders.csv": NEXT}))
             self.assertIn(f"{self.folder}/.lock was removed while this night was at work", running.told)
+
+
+class Begun(Kept):
+    """What a first night left that was stopped before its version, or before that of the tables that it began with."""
+
+    def setUp(self):
+        super().setUp()
+        (self.folder / "versions/1.part/changes").mkdir(parents=True)
+        os.rename(self.folder / "changes/orders.csv", self.folder / "versions/1.part/changes/orders.csv")
+
+    def judge(self, *told):
+        """A preview undoes it, and the next night is a first one, or the one after the tables."""
+        self.assertEqual(self.ran("night"), (0, [*told]))
+        self.assertEqual(contents(self.folder / "changes"), contents(SHOP / "changes"))
+        self.assertFalse((self.folder / "versions.part").exists())
+        self.night()
+        self.assertEqual((self.versions(), os.readlink(self.folder / "current")), (["0", "1"], "versions/1"))
+        self.assertEqual(contents(self.folder / "versions/0/data"), contents(SHOP / "data"))
+        self.assertEqual((self.changes(), (self.folder / "data").exists()), ({}, False))
+
+    def test_before_there_was_a_version(self):
+        (self.folder / "versions.part/0/data").mkdir(parents=True)
+        (self.folder / "versions.part/0/data/orders.csv").write_bytes(b"id\n")
+        self.assertEqual(self.ran("lint")[0], 3)
+        self.judge(Settled.UNDONE)
+
+    def test_once_the_tables_were_a_version(self):
+        for name in ("data", "views", "changes"):
+            (self.folder / "versions/0" / name).mkdir(parents=True)
+        for file in (self.folder / "data").iterdir():
+            (self.folder / "versions/0/data" / file.name).write_bytes(file.read_bytes())
+        (self.folder / "versions.part").mkdir()
+        self.judge(Settled.FINISHED, Settled.UNDONE)
 
 
 class Settled(Kept):

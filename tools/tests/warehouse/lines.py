@@ -1,5 +1,7 @@
 """Tables by their lines: what is seen at once, merged and compared is what a look at each record gives."""
 
+import csv
+import io
 import random
 import tempfile
 import unittest
@@ -8,10 +10,11 @@ from pathlib import Path
 from types import SimpleNamespace
 from unittest import mock
 
-from whtools.warehouse import by_lines
+from whtools.warehouse import by_lines, disk, program
 from whtools.warehouse import records as read
 from whtools.warehouse.by_lines import counted, has_whole_lines, row_of
 from whtools.warehouse.inputs import Source
+from whtools.warehouse.made import Printed
 from whtools.warehouse.records import Changes, Records, absent, table_text
 
 COLUMNS = [("x", "int"), ("t", "text"), ("u", "text")]
@@ -38,6 +41,20 @@ def changed(source, before, texts):
     for _ in range(source.randint(0, 3)):
         found[source.randint(-5, 30), source.choice(texts), source.choice(texts)] += 1
     return found
+
+
+def lines_in(text):
+    """The records of a text, each as the text that it was read from, its end apart."""
+    taken = []
+
+    def followed():
+        for line in io.StringIO(text, newline=""):
+            taken.append(line.rstrip("\r\n"))
+            yield line
+
+    for record in csv.reader(followed(), strict=True):
+        yield "\n".join(taken) + "\n"
+        taken.clear()
 
 
 class Lying(unittest.TestCase):
@@ -75,11 +92,40 @@ class Changed(Lying):
         self.assertEqual(b"".join(records.after(changes)), b"#,x,t,u\n2,1,a,b\n2,3,a,b\n1,0,c,d\n")
 
     def test_a_table_of_another_form_gets_the_tools_own_in_its_order(self):
-        forms = (b"x,t,u\r\n2,b,c\r\n1,a,b\r\n2,b,c", b"#,x,t,u\n1,2,b,c\n1,1,a,b\n1,2,b,c\n", b"\xef\xbb\xbf#,x,t,u\n2,2,b,c\n1,1,a,b\n")
+        forms = (b"x,t,u\r\n2,b,c\r\n1,a,b\r\n2,b,c", b"#,x,t,u\r\n2,2,b,c\r\n1,1,a,b", b"\xef\xbb\xbf#,x,t,u\n2,2,b,c\n1,1,a,b\n")
         for content in forms:
-            with self.subTest(content=content):
-                self.assertEqual(b"".join(self.records(content).after({})), b"#,x,t,u\n2,2,b,c\n1,1,a,b\n")
+            for waits in (False, True):
+                with self.subTest(content=content, waits=waits):
+                    records = self.records(content)
+                    self.assertEqual(waits, waits and records.wait())
+                    self.assertEqual(b"".join(records.after({})), b"#,x,t,u\n2,2,b,c\n1,1,a,b\n")
         self.assertEqual(b"".join(self.records(b"x,t,u\n").after({(1, "a", "b"): 1})), b"#,x,t,u\n1,1,a,b\n")
+        for header in (b"#,x,t,u\r\n", b"x,t,u\r\n", b"\xef\xbb\xbfx,t,u\n"):
+            self.assertEqual(b"".join(self.records(header).after({})), b"#,x,t,u\n")
+
+    def test_a_table_that_has_the_tools_own_form_stays_the_same_bytes(self):
+        for content in (b"#,x,t,u\n", b"#,x,t,u\n1,1,a,b\n", b'#,x,t,u\n2,1,"a,",b\n1,2,a,b\n'):
+            records = self.records(content)
+            self.assertTrue(records.wait())
+            self.assertIs(records.own, records.content)
+
+    def test_rows_that_are_given_on_several_lines_with_counts_are_all_taken_for_one_row(self):
+        source = random.Random(6)
+        for number in range(300):
+            lines = [line_of(source.choice([1, 1, 3]), (source.randint(0, 3), "a", source.choice("bc"))) for _ in range(source.randint(0, 9))]
+            before = Counter()
+            for line in lines:
+                count, x, t, u = line.decode().rstrip().split(",")
+                before[int(x), t, u] += int(count)
+            changes = changed(source, before, TEXTS)
+            records = self.records(b"#,x,t,u\n" + b"".join(lines), is_made=number % 2 == 1)
+            after, made = +Counter({row: before[row] + changes[row] for row in [*before, *changes]}), b"".join(records.after(changes))
+            self.assertEqual((self.records(made).rows, self.records(made).total), (after, after.total()))
+            file = self.folder / "c.csv"
+            leaving = Counter(dict.fromkeys(before, -source.randint(1, 4)))
+            file.write_bytes(table_text(COLUMNS, leaving))
+            told = absent(self.records(b"#,x,t,u\n" + b"".join(lines)), Changes([Source(file, "c.csv")], SimpleNamespace(name="v", columns=COLUMNS)))
+            self.assertEqual(len(told), sum(before[row] + count < 0 for row, count in leaving.items()))
 
     def test_a_row_that_stands_in_another_form_leaves(self):
         records = self.records(b'#,x,t,u\n1,007,"a",b\n1,8,a,b\n', True)
@@ -119,6 +165,45 @@ class Changed(Lying):
                 self.assertEqual(told, ["c.csv:3:1: 2 of 2,a,b leave, and v.csv has 1"])
         told = [str(finding) for finding in absent(self.records(b"#,x,t,u\n1,1,a,b\n1,2,a,b\n", True), changes)]
         self.assertEqual(told, ["c.csv:3:1: 2 of 2,a,b leave, and v.csv has 1"])
+
+
+class AsPrinted(Lying):
+    def night(self, tables):
+        """The answer of a night with these tables."""
+        file = (self.folder / "answer").open("w+b")
+        self.addCleanup(file.close)
+        file.write(b"inst v: 1\nwork 1\nversion 1\n" + b"".join(b"view %s\n%s" % (name.encode(), table) for name, table in tables.items()))
+        file.flush()
+        return program.Night(file, 1.0, list(tables))
+
+    def test_a_printed_table_is_put_and_counted_in_blocks_of_any_size(self):
+        source, put = random.Random(3), self.folder / "put.csv"
+        for size in (1, 7, 64, 2**18):
+            tables = {name: table_text(COLUMNS, rows(source, TEXTS, 30)) for name in ("v", "w", "empty")} | {"none": b"#,x,t,u\n"}
+            with mock.patch.object(program, "BLOCK", size):
+                night = self.night(tables)
+                for name, table in tables.items():
+                    printed = Printed(night, name, self.folder / "like.csv")
+                    printed.put(put, True)
+                    self.assertEqual((put.read_bytes(), printed.rows), (table, counted(table)))
+                    put.rename(self.folder / "like.csv")
+                    printed = Printed(night, name, self.folder / "like.csv")
+                    printed.put(put, True)
+                    self.assertEqual((put.samefile(self.folder / "like.csv"), printed.rows), (True, counted(table)))
+                    put.unlink()
+                    Printed(night, name, self.folder / "like.csv").put(put, False)
+                    self.assertFalse(put.samefile(self.folder / "like.csv"))
+                    put.unlink()
+
+    def test_files_are_compared_in_blocks(self):
+        one, other = self.folder / "one", self.folder / "other"
+        with mock.patch.object(disk, "BLOCK", 3):
+            for content, second, is_same in ((b"", b"", True), (b"abcdefg", b"abcdefg", True), (b"abcdefg", b"abcdefx", False), (b"abc", b"abcd", False)):
+                one.write_bytes(content)
+                other.write_bytes(second)
+                self.assertEqual(disk.is_same(one, other), is_same)
+                self.assertEqual(disk.has_pieces(one, [second[:2], memoryview(second)[2:]]), is_same)
+        self.assertFalse(disk.is_same(self.folder / "missing", one))
 
 
 class Merged(unittest.TestCase):
@@ -166,6 +251,27 @@ class Judged(Lying):
                 self.assertEqual(records.whole.findings, [], content)
                 self.assertEqual(records.are_changes or records.total, records.are_changes or records.rows.total(), content)
         self.assertGreater(sound, 600)
+
+    def test_a_table_that_waits_for_the_program_has_a_record_in_each_line(self):
+        source, waiting, faulty = random.Random(11), 0, 0
+        for _ in range(2000):
+            content = bytearray(table_text(COLUMNS, rows(source, WITH_LINE_ENDS, 4)).replace(b"\n", source.choice([b"\n", b"\r\n"])))
+            for _ in range(source.randint(0, 2)):
+                place = source.randrange(len(content) + 1)
+                content[place : place + source.randint(0, 2)] = source.choice(self.MISTAKES)
+            records = self.records(bytes(content))
+            if records.wait():
+                waiting, faulty = waiting + 1, faulty + bool(records.whole.findings)
+                text = bytes(content[records.header[2] :]).decode(errors="replace")
+                self.assertEqual([f"{line}\n" for line in text.replace("\r\n", "\n").removesuffix("\n").split("\n") if text], list(lines_in(text)))
+                self.assertTrue(records.whole.findings or records.total == records.rows.total(), content)
+        self.assertGreater(min(waiting, 4 * faulty), 200)
+
+    def test_what_the_program_would_take_and_lint_would_not_never_waits(self):
+        for line in (b'1,"a"b,c', b'1,"a,b', b'1,"a""b,c', b'1,a"b,c', b'1,"a\nb",c', b"1,a\rb,c", b"", b"\r", b'1, "a",c'):
+            for start in (b"x,t,u\n", b"#,x,t,u\n"):
+                content = start + (b"1," if start.startswith(b"#") and line.strip() else b"") + line + b"\n1,1,a,b\n" * 2
+                self.assertFalse(self.records(content).wait(), content)
 
     def test_records_are_lines_where_no_cell_has_a_line_end(self):
         source = random.Random(5)

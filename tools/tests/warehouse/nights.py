@@ -282,6 +282,7 @@ class Nights(Shop):
         (self.folder / "changes/products.1.csv").write_text("#,product,price\n1,jam,475\n-1,plum,120\n")
         (self.folder / "changes/products.2.csv").write_text("#,product,price\n-2,jam,475\n-1,plum,120\n")
         told = "changes/products.1.csv:3:1: 2 of plum,120 leave, and data/products.csv has 0"
+        self.answers(b"refused absent products\nleft untouched\n", 1)
         self.assertEqual(self.ran("night", "--commit"), (1, [told]))
 
     def keep_bundle(self):

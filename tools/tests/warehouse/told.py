@@ -18,6 +18,7 @@ class Told(Shop):
     def test_a_number_that_is_none(self):
         self.edit("data/products.csv", "bread,300", "bread,12.50")
         told = 'data/products.csv:2:7: "12.50" is not a whole number (keep cents)'
+        self.answers(b"fault number 2\n", 3)
         self.assertEqual(self.ran("night"), (3, [told]))
 
     def test_what_is_meant_by_a_cell_that_is_no_number(self):
@@ -202,6 +203,7 @@ class Told(Shop):
     def test_rows_that_are_not_there(self):
         self.edit("changes/lines.csv", "-1,4,jam,2", "-2,4,jam,2")
         told = "changes/lines.csv:5:1: 2 of 4,jam,2 leave, and data/lines.csv has 1"
+        self.answers(b"refused absent lines\nleft untouched\n", 1)
         self.assertEqual(self.ran("night"), (1, [told]))
         self.assertEqual(self.ran("lint"), (3, [told]))
 

@@ -1,7 +1,8 @@
 """Tables by their lines: judged, counted, searched and changed without a look at each cell.
 
-A table of the tool's own has `#`, a line for each row, no row twice, and a line feed alone at a line's end. A line end within a cell,
-which quotes allow, takes a table out of this: that one is read row by row.
+A table of the tool's own has `#`, a line for each row, and a line feed alone at a line's end. Rows that were given on several lines, each
+with its count, stand on these until they change. A line end within a cell, which quotes allow, takes a table out of this: that one is
+read row by row.
 """
 
 import re
@@ -13,8 +14,13 @@ from itertools import pairwise
 BLOCK = 2**15
 # How many lines are looked for each by itself.
 FEW = 6
-# The counts of a table that are not 1.
-COUNTS = re.compile(rb"\n(?!1,)([0-9]+),")
+# The counts of a table that are not 1, and lines that do not count 1, of which the last one is what stands behind all lines.
+COUNTS, OTHER = re.compile(rb"\n(?!1,)([0-9]{1,19}),"), re.compile(rb"\n(?!1,)")
+# Lines that each begin with a count; a line without anything; a carriage return that ends no line.
+COUNTED = re.compile(rb"(?:[1-9][0-9]{0,17}+,[^\n]*+(?:\n|\Z))*+")
+BLANK, RETURN = re.compile(rb"\n\r?\n"), re.compile(rb"\r(?!\n)")
+# Texts in which each quote opens a cell or closes it, and no cell goes over lines.
+QUOTES = re.compile(rb'(?:[^"]*+(?<=[,\n])"[^"\n]*+(?:""[^"\n]*+)*+"(?:[,\r\n]|\Z))*+[^"]*+')
 # Counts so long that as many of them as an input can have may leave 64 bits together.
 LONG_COUNTS = re.compile(rb"\n-?[0-9]{13,},")
 OTHERS = bytes(set(range(256)) - set(b'"\n'))
@@ -48,6 +54,25 @@ def is_sound(content, start, columns, is_counted, are_changes):
     return found.end() == len(content) and is_utf_8(content)
 
 
+def is_in_lines(content, start, is_counted, count_one):
+    """Whether all records of a table are seen to be lines, none of them empty, each behind its count where there are counts, and whether
+    all quotes open cells and close them. What the cells hold is not looked at, nor are counts where it is known that all are 1.
+    """
+    if is_counted and not count_one and COUNTED.match(content, start).end() < len(content):
+        return False
+    if not is_counted and BLANK.search(content, start - 1):
+        return False
+    if b"\r" in content and RETURN.search(content, start):
+        return False
+    return b'"' not in content or QUOTES.match(content, start).end() == len(content)
+
+
+def counts_one(content, start):
+    """Whether each line of a table from here on counts 1."""
+    other = OTHER.search(content, start - 1)
+    return not other or other.end() == len(content)
+
+
 def is_formed(content, start, columns, is_counted):
     """Whether it is seen at once that all records have so many columns, whatever these hold."""
     return form(("text",) * columns, POSITIVE if is_counted else None).match(content, start).end() == len(content)
@@ -68,10 +93,15 @@ def row_of(row):
 # ---- how many
 
 
-def counted(table):
+def counted(table, count_one=False):
     """How many rows a table with `#` has: the sum of its counts. All records are lines."""
     lines = table.count(b"\n") - table.endswith(b"\n")
-    return lines + sum(int(count) - 1 for count in COUNTS.findall(table))
+    return lines if count_one else lines + beyond_one(table)
+
+
+def beyond_one(table):
+    """How many rows a table has beyond one in each line."""
+    return sum(int(count) - 1 for count in COUNTS.findall(table))
 
 
 def counted_through(table):
@@ -87,40 +117,45 @@ def counted_through(table):
 # ---- the tool's own form
 
 
-def own_form(content, start, header, is_counted):
-    """The table in the tool's own form, of records that are lines and have no fault. The rows stay in their order."""
-    if start == len(content):
-        return header
-    body = (content[start:].replace(b"\r\n", b"\n") if b"\r" in content else content[start:]).removesuffix(b"\n")
-    has_counts = is_counted and not (body.startswith(b"1,") and body.count(b"\n1,") == body.count(b"\n"))
-    if has_counts or may_repeat(body):
-        lines = body.split(b"\n")
-        return header + written(added(lines) if is_counted else Counter(lines))
-    return b"".join([header, body, b"\n"] if is_counted else [header, b"1,", body.replace(b"\n", b"\n1,"), b"\n"])
+def without_returns(content, end_lines):
+    """Lines without the carriage returns before their ends. Where it is known that all returns stand there, that is soon done."""
+    if b"\r" not in content:
+        return content
+    return content.replace(b"\r", b"") if end_lines else content.replace(b"\r\n", b"\n")
 
 
-def may_repeat(body):
-    """Whether a line may stand twice. Only a number is kept of each, which takes less memory than the line; two lines could share one."""
+def own_form(content, header):
+    """The table in the tool's own form, of lines that begin with counts and have no fault. They stay as they are; where it has that form
+    already it is the same one.
+    """
+    if content.startswith(header) and content.endswith(b"\n"):
+        return content
+    rows = content[content.find(b"\n") + 1 :].removesuffix(b"\n")
+    return b"".join([header, rows, b"\n" * bool(rows)])
+
+
+def with_counts(content, header):
+    """The same of lines without counts. Equal rows add up, and stay in the order of their first ones. With it what is kept of the lines,
+    where no row stood twice.
+    """
+    start = content.find(b"\n") + 1
+    seen, count = kept_of(content, start)
+    if not count:
+        return header, seen
+    rows = content[start:].removesuffix(b"\n")
+    if len(seen) == count:
+        return b"".join([header, b"1,", rows.replace(b"\n", b"\n1,"), b"\n"]), seen
+    return header + b"".join([b"%d,%s\n" % (count, row) for row, count in Counter(rows.split(b"\n")).items()]), None
+
+
+def kept_of(content, start):
+    """What is kept of each line, and how many there are. It is a number, which takes less memory than the line; two lines could share one."""
     seen, count = set(), 0
-    for _, block in blocks(body, 0):
+    for _, block in blocks(content, start):
         lines = block.removesuffix(b"\n").split(b"\n")
         seen.update(map(hash, lines))
         count += len(lines)
-    return len(seen) < count
-
-
-def added(lines):
-    """The rows of lines with their counts, which add up where a row stands twice."""
-    found = Counter()
-    for line in lines:
-        count, _, row = line.partition(b",")
-        found[row] += int(count)
-    return found
-
-
-def written(rows):
-    """The lines of rows, each with its count."""
-    return b"".join([b"%d,%s\n" % (count, row) for row, count in rows.items()])
+    return seen, count
 
 
 def blocks(content, start):
@@ -140,14 +175,16 @@ def standing(content, start, lines):
         yield from ((at, line) for line in lines.keys() & block.split(b"\n"))
 
 
-def places(content, start, rows):
-    """Where the lines of these rows, as lines have them, begin and end in a table of the tool's own, and how often each counts."""
+def places(content, start, rows, count_one=False):
+    """Where the lines of these rows, as lines have them, begin and end in a table of the tool's own, and how often each counts; where it
+    is known that all count 1, no others are looked for.
+    """
     once, found = {b"1," + row: row for row in rows}, {}
     for at, line in standing(content, start, once):
         place = content.find(b"\n" + line + b"\n", at - 1) + 1
         if place:
             found[once[line]] = place, place + len(line) + 1, 1
-    for other in COUNTS.finditer(content, start - 1):
+    for other in () if count_one else COUNTS.finditer(content, start - 1):
         end = content.find(b"\n", other.end())
         row = content[other.end() : end]
         if row in rows:
@@ -219,12 +256,12 @@ def replace(edits):
             old.place, new.place = None, old.place
 
 
-def merged(content, change):
-    """A table with a change as the program prints it, in pieces. A row that comes stands in the place of one beside it that leaves, or at
-    the end. None where more of a row leave than there are.
+def merged(content, change, count_one=False):
+    """A table with a change as the program prints it, in pieces; it may be known that all its rows count 1. A row that comes stands in the
+    place of one beside it that leaves, or at the end. None where more of a row leave than there are.
     """
     rows = coming(change)
-    found = places(content, content.find(b"\n") + 1, {row for row, _ in rows})
+    found = places(content, content.find(b"\n") + 1, {row for row, _ in rows}, count_one)
     edits = []
     for row, count in rows:
         start, end, there = found.get(row, (0, 0, 0))

@@ -3,17 +3,16 @@
 import time
 from typing import NamedTuple
 
-from . import headlines, refusals
-from .by_lines import counted, sum_of
+from . import headlines, program
 from .catalogue import FILE as CATALOGUE
 from .check import strategy_of as given_strategy
 from .finding import Failure, warn
-from .folder import judged
+from .folder import fault_of, judged
 from .limits import after, sizes_after
-from .made import Made, made, of_base, of_change
+from .made import Made, Printed, made, of_base, of_change
 from .planning import certified, planned, strategy_of
 from .sizes import base_sizes, given_text, last_report, rows_of, sized, told_before, told_rows
-from .status import BAD_INPUT, SPENT
+from .status import BAD_INPUT, SIGNALLED, SPENT
 from .strategy import FILE, at_once, written
 
 # What has the program print the changes of derived views in the place of their tables.
@@ -59,23 +58,25 @@ class Night:
     def tables(self):
         """Each view with its table after the night."""
         for view in self.folder.views:
-            yield view, of_base(self.folder, view) if view.is_base else self.derived(view.name)
+            table = of_base(self.folder, view) if view.is_base else self.derived(view.name)
+            yield view, table
+            if not view.is_base:
+                self.rows[view.name] = table.rows
 
     def derived(self, name):
-        """The table of a derived view, with how many rows it has."""
-        file, table = self.kept.file(name), None
+        """The table of a derived view. How many rows it has is known once it was put where it belongs."""
+        file = self.kept.file(name)
         if file and self.changed[name] == 0:
-            self.rows[name] = self.kept.rows[name]
-            return Made([], file)
+            return Made([], file, rows=self.kept.rows[name])
         if self.answer.has_changes:
             table = of_change(file, self.kept.rows[name], self.answer.table(name))
             if table:
-                self.rows[name] = self.kept.rows[name] + sum_of(table.change)
                 return table
             self.answer = self.again()
+        if self.folder.has_lines:
+            return Printed(self.answer, name, self.kept.files[name])
         printed = self.answer.table(name)
-        self.rows[name] = counted(printed) if self.folder.has_lines else rows_of(printed)
-        return made([printed], self.kept.files[name])
+        return made([printed], self.kept.files[name], rows_of(printed))
 
     def sizes(self):
         """How many rows each view had, where that is known, has, and changed."""
@@ -121,13 +122,29 @@ def judge_after(folder, is_kept):
 
 
 def carried(folder, words):
-    """Judges the folder and carries its night out."""
+    """Judges the folder and carries its night out. Where that cannot be done, and tables waited for the program, they are judged wholly: a
+    fault of the folder is told before all others.
+    """
     began = time.monotonic()
-    warn(judged(folder).warnings)
+    folder = judged(folder)
+    warn(folder.warnings)
+    try:
+        night = done(folder, words, began)
+    except (Failure, OSError) as failure:
+        found = folder if getattr(failure, "status", 0) >= SIGNALLED else folder.wholly()
+        if found.faults:
+            raise fault_of(found) from failure
+        raise
+    folder.take_tables()
+    return night
+
+
+def done(folder, words, began):
+    """Carries the night of a folder out."""
     judge_after(folder, words.commit)
     taken, kept = chosen(folder, words), Kept(folder)
 
     def run(*options):
-        return refusals.night(folder, words, taken.strategy, [*words.through, *options])
+        return program.explained_night(folder, words, taken.strategy, [*words.through, *options])
 
     return Night(folder, taken, kept, run(*CHANGES) if kept.can_take_changes() else run(), run, began)

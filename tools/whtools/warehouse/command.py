@@ -2,7 +2,6 @@
 
 import gc
 import sys
-import traceback
 from functools import cached_property
 from importlib import import_module
 from pathlib import Path
@@ -13,14 +12,12 @@ from .lock import at_work
 from .numbers import MOST, is_between
 from .program import own
 from .status import BAD_INPUT, BAD_WORDS, DONE, NO_ANSWER, NOT_WRITTEN
-from .stopped import is_stopped
 from .streams import drop, opened
-from .takeover import is_pending
-from .weights import KINDS
 
 HELPS = ("-h", "--help", "help")
 COMMANDS = ("pack", "unpack", "night", "lint", "check", "plan", "certify", "sizes", "diff", "explain", "graph")
 COMMANDS += ("report", "read", "serve", "init")
+KINDS = ("cells", "bytes")
 WITH_A_VALUE = ("--program", "--keep", "--weights", "--comp-cost", "--inst-cost", "--budget", "--workers", "--readers", "--page-keys")
 WEIGHED = ("night", "check", "plan", "certify", "sizes", "explain", "graph")
 # The numbers that the program takes behind an option, from the least to the greatest.
@@ -146,13 +143,19 @@ def judge_folder(words):
         raise Failure(BAD_WORDS, f"{words.folder} is no folder")
     if words.command in READ_VERSIONS:
         return
-    stopped = is_stopped(words.folder) or is_pending(words.folder)
-    who = at_work(words.folder)
+    stopped, who = is_stopped(words.folder), at_work(words.folder)
     if who:
         warn([f"{who}; what is told here is without the changes that it has taken"])
-    elif stopped and (is_stopped(words.folder) or is_pending(words.folder)):
+    elif stopped and is_stopped(words.folder):
         told = f"a night was stopped in {words.folder}; `tools/warehouse night {words.folder} --commit` finishes or undoes it"
         raise Failure(BAD_INPUT, told)
+
+
+def is_stopped(folder):
+    """Whether a night was stopped in a folder, by the rules of today or of before there were versions."""
+    # What a night does not need is imported where it is needed: that takes longer than much that a night does.
+    stopped, takeover = (import_module(f"whtools.warehouse.{name}") for name in ("stopped", "takeover"))
+    return stopped.is_stopped(folder) or takeover.is_pending(folder)
 
 
 def main(given, about):
@@ -180,7 +183,7 @@ def main(given, about):
         warn([f"tools/warehouse: {of_system(error)}"])
         status = NOT_WRITTEN
     except Exception:
-        warn([traceback.format_exc().rstrip("\n")])
+        warn([import_module("traceback").format_exc().rstrip("\n")])
         warn(["tools/warehouse: this is a fault of the tool itself; a night that was under way is undone"])
         status = NO_ANSWER
     drop_output()

@@ -14,15 +14,19 @@ from .folder import Folder, judged
 from .inputs import Inputs
 from .status import BAD_INPUT, NOT_WRITTEN
 from .strategy import FILE as STRATEGY
-from .takeover import take_over
+from .takeover import begin, is_new, take_over
 from .versions import DELTAS, PART, TURNED, VERSIONS, place, point, prune, turn, whole
 
 
 def to_take(folder):
-    """The files that the night takes. What is no such file in changes/ or data/ ends the command before anything is moved."""
+    """The files that the night takes. What is no such file in changes/ or data/ ends the command before anything is moved; of a folder
+    without versions all faults are told then.
+    """
     inputs, catalogue = Inputs(folder), Catalogue(folder)
     faults = [finding for finding in catalogue.findings + inputs.findings(catalogue) if not finding.warns]
     inputs.state.release()
+    if faults and inputs.state.number is None:
+        judged(Folder(folder))
     if faults:
         raise Failure(BAD_INPUT, *faults)
     return inputs.to_take([view.name for view in catalogue.views if view.is_base])
@@ -67,13 +71,17 @@ def undo(claim):
 
 
 def decided(words, interrupts, number, judged):
-    """Carries the night out up to the rename that decides. Whatever ends it before has the changes put back. Answers the report."""
+    """Carries the night out up to the rename that decides. Whatever ends it before has the changes put back. Answers the report. The tables
+    that a first night began with become a version before, once the night is carried out.
+    """
     part = words.folder / VERSIONS / f"{number}{PART}"
     claim = Claim(words.folder, part)
     try:
         try:
             claim.take(to_take(words.folder))
-            night = carried(Folder(words.folder, part, judged=judged), words)
+            night = carried(Folder(words.folder, part, judged=judged, for_night=True), words)
+            if night.folder.state.number is None:
+                begin(night.folder, interrupts)
             report = write_version(part, night)
             claim.own()
             keep(part)
@@ -137,14 +145,14 @@ def has_rows(source):
 
 def commit(words, interrupts):
     """A night that is kept. Answers its report, or that there was nothing to keep."""
-    sound = take_over(words.folder, interrupts)
+    sound = {} if is_new(words.folder) else take_over(words.folder, interrupts)
     told = quiet(words)
     if told:
         remove(words.folder / "new")
         if words.keep:
             prune(words.folder, words.keep)
         return told
-    number = whole(words.folder)[-1] + 1
+    number = max(whole(words.folder), default=0) + 1
     report = decided(words, interrupts, number, sound)
     finish(words, number)
     return report

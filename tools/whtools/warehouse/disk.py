@@ -2,12 +2,14 @@
 
 import errno
 import os
-import shutil
 from contextlib import contextmanager, suppress
+from importlib import import_module
 
 # What a file system says that has no hard links, or not this one.
 NO_LINKS = (errno.EPERM, errno.EOPNOTSUPP, errno.ENOSYS, errno.EMLINK, errno.EXDEV)
 READ_BITS, OWNER_WRITES = 0o444, 0o200
+# How many bytes are compared at a time.
+BLOCK = 2**18
 
 
 @contextmanager
@@ -62,16 +64,51 @@ def link(like, file):
     return True
 
 
+def blocks(pieces):
+    """These pieces in blocks, so that little is held of them."""
+    for piece in pieces:
+        yield from (bytes(piece[start : start + BLOCK]) for start in range(0, len(piece), BLOCK))
+
+
+def blocks_of(file):
+    """The bytes of a file in blocks."""
+    with open(file, "rb") as opened:
+        yield from iter(lambda: opened.read(BLOCK), b"")
+
+
+def has(file, size, parts):
+    """Whether a file is there and has these bytes, which come in blocks and are of this size together."""
+    if not file.is_file() or file.stat().st_size != size:
+        return False
+    with open(file, "rb") as opened:
+        return all(opened.read(len(block)) == block for block in parts)
+
+
+def is_same(file, other):
+    """Whether a file is there and has the same bytes as another one."""
+    return has(file, other.stat().st_size, blocks_of(other))
+
+
+def has_pieces(file, pieces):
+    """Whether a file is there and has the bytes of these pieces."""
+    return has(file, sum(map(len, pieces)), blocks(pieces))
+
+
+def copy(file, to):
+    """Copies the bytes of a file."""
+    with telling(to), open(to, "wb") as opened:
+        opened.writelines(blocks_of(file))
+
+
 def put(file, content, like):
     """Writes a file: as a hard link to the one that it is like, where that has the same bytes and can be linked."""
-    is_like = like.is_file() and like.stat().st_size == len(content) and like.read_bytes() == content
-    if not is_like or not link(like, file):
+    if not has_pieces(like, [content]) or not link(like, file):
         write(file, [content])
 
 
 def remove(path):
     """Removes a file, a link or a folder, where it is there."""
     if path.is_dir() and not path.is_symlink():
-        shutil.rmtree(path)
+        import_module("shutil").rmtree(path)
     else:
         path.unlink(missing_ok=True)

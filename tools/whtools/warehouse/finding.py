@@ -1,7 +1,7 @@
 """What is found in a folder: where, and what is wrong there."""
 
 import sys
-from difflib import get_close_matches
+from importlib import import_module
 from typing import NamedTuple
 
 from .streams import drop
@@ -13,7 +13,7 @@ MARKED = "a byte order mark stands before the first line; save the file as UTF-8
 
 def nearest(word, words):
     """A half-sentence with the nearest of these words, where one is near."""
-    near = get_close_matches(word, words, 1)
+    near = import_module("difflib").get_close_matches(word, words, 1)
     return f"; did you mean {near[0]}?" if near else ""
 
 

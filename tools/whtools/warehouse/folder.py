@@ -18,11 +18,12 @@ LONG_TEXTS = (b"\\", b'"""', b"'''")
 
 class Folder:
     """What a folder holds. Where it has faults, what is read may be cut short. A night under way has taken its changes to a folder
-    of its own, `taken`. The tables that were `judged` already, by the names of their views, are not judged again.
+    of its own, `taken`. The tables that were `judged` already, by the names of their views, are not judged again. Of a folder that is
+    `for_night` tables wait for the program, where they can, which judges them as it reads them.
     """
 
-    def __init__(self, path, taken=None, lenient=False, judged=()):
-        self.judged = dict(judged)
+    def __init__(self, path, taken=None, lenient=False, judged=(), for_night=False):
+        self.judged, self.taken, self.for_night = dict(judged), taken, for_night
         self.path, self.catalogue, self.inputs = path, Catalogue(path, lenient), Inputs(path, taken)
         self.views, self.state = self.catalogue.views, self.inputs.state
         self.findings = self.catalogue.findings + self.inputs.findings(self.catalogue)
@@ -37,6 +38,20 @@ class Folder:
     def sound_tables(self):
         """The tables that are seen to have no fault, by the names of their views."""
         return {name: records for name, records in self.data.items() if records.is_sound}
+
+    @property
+    def waits(self):
+        """Whether tables wait to be judged."""
+        return any(records.waits and not records.is_taken for records in self.data.values())
+
+    def take_tables(self):
+        """Has the tables that waited be without a fault, since the program took them."""
+        for records in self.data.values():
+            records.is_taken = records.waits
+
+    def wholly(self):
+        """The folder with all tables judged."""
+        return Folder(self.path, self.taken) if self.waits else self
 
     @property
     def faults(self):
@@ -58,14 +73,15 @@ class Folder:
             text = f"there is no data/{view.name}.csv; an empty table is a file with its header: {header}"
             self.findings.append(Finding(view.place("name", 0), text))
         if table and is_small:
-            judged = self.judged.get(view.name)
-            self.data[view.name] = judged and judged.copied(table) or Records(table, view, False)
-            self.findings += self.data[view.name].findings
+            judged = view.name in self.judged and self.judged[view.name].copied(table)
+            records = self.data[view.name] = judged or Records(table, view, False)
+            if judged or not (self.for_night and records.wait()):
+                self.findings += records.findings
         if changes and is_small:
             self.changes[view.name] = Changes(changes, view)
             self.findings += self.changes[view.name].findings
         read = [kept[view.name] for kept in (self.data, self.changes) if view.name in kept]
-        if len(read) == 2 and not any(records.findings for records in read):
+        if len(read) == 2 and not read[0].waits and not any(records.findings for records in read):
             self.absent += absent(*read)
 
     def judge_other_files(self):
@@ -90,7 +106,9 @@ class Folder:
     def is_unchanged(self, view):
         """Whether a base view's table is one that a night has made, and stays."""
         records = self.data[view.name]
-        return records.is_made and records.header[0] and not any(self.changes[view.name].rows.values() if view.name in self.changes else ())
+        if any(self.changes[view.name].rows.values() if view.name in self.changes else ()):
+            return False
+        return records.is_made and records.header[0] or records.own is records.content
 
     @property
     def has_lines(self):
@@ -109,9 +127,15 @@ class Folder:
 
 def judged(folder):
     """The folder. Where it has faults, they end the command; rows that are not there alone are a refused night."""
-    if folder.faults:
-        raise Failure(REFUSED if folder.faults == folder.absent else BAD_INPUT, *folder.warnings, *folder.faults)
-    return folder
+    found = folder.wholly() if folder.faults else folder
+    if found.faults:
+        raise fault_of(found, found.warnings)
+    return found
+
+
+def fault_of(folder, warnings=()):
+    """How a command ends by the faults of a folder."""
+    return Failure(REFUSED if folder.faults == folder.absent else BAD_INPUT, *warnings, *folder.faults)
 
 
 def sound(path):

@@ -1,7 +1,7 @@
 """The formulas of a derived view: their form, the columns that they name, and their kinds."""
 
-import json
 import re
+from importlib import import_module
 
 from .finding import nearest
 
@@ -46,7 +46,8 @@ class Formulas:
         child, dot, _ = reference.partition(".")
         there = [known for known in self.kinds if known.startswith(child + ".")] if dot else []
         told = f"{child} has {', '.join(known.partition('.')[2] for known in there)}" if there else f"there are {', '.join(self.kinds)}"
-        text = "" if dot else f"; a text is {{ text = {json.dumps(reference, ensure_ascii=False)} }}"
+        quoted = import_module("json").dumps(reference, ensure_ascii=False)
+        text = "" if dot else f"; a text is {{ text = {quoted} }}"
         return self.wrong(path, f'there is no column "{reference}"; {told}{nearest(reference, self.kinds)}{text}')
 
     def counted(self, formula, path, depth):

@@ -61,7 +61,10 @@ def most_after(folder):
 def most_anew(records):
     """How much a table or changes take at most when they are written anew; a table that a night has made stays as it is."""
     content = records.content
-    return len(content) + (0 if records.is_made else QUOTE * content.count(b'"') + ROW * (content.count(b"\n") + 1))
+    if records.is_made:
+        return len(content)
+    quotes = 0 if records.waits else QUOTE * content.count(b'"')
+    return len(content) + quotes + (0 if records.waits and records.header[0] else ROW * (content.count(b"\n") + 1))
 
 
 def sizes_after(folder):

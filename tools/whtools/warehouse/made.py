@@ -2,39 +2,59 @@
 that is not there, what the program printed.
 """
 
-import shutil
 from typing import NamedTuple
 
 from . import by_lines
-from .disk import link, write
+from .disk import copy, has, has_pieces, link, write
 
 
 class Made(NamedTuple):
-    """A table: in pieces, or as the file that it is like; and its change, where that is known."""
+    """A table: in pieces, or as the file that it is like; its change, where that is known; and of a derived view how many rows it has."""
 
     pieces: list
     like: object = None
     change: bytes = b""
+    rows: object = None
 
     def put(self, file, links):
         """Writes it; where it is like a file, as a link to that, if it may be one."""
         if not self.like:
             write(file, self.pieces)
         elif not links or not link(self.like, file):
-            shutil.copyfile(self.like, file)
+            copy(self.like, file)
 
 
-def made(pieces, like):
+class Printed:
+    """A table as the program printed it, whose records are lines: it is counted as it is put where it belongs, and little of it is held."""
+
+    change = b""
+
+    def __init__(self, answer, name, like):
+        self.answer, self.name, self.like, self.rows = answer, name, like, None
+
+    def lines(self):
+        """The table in blocks, which are counted."""
+        self.rows = -1 if self.answer.size(self.name) else 0
+        for block in self.answer.blocks(self.name):
+            self.rows += by_lines.counted(block)
+            yield memoryview(block)[1:]
+
+    def put(self, file, links):
+        """Writes it; as a link to the file that it is like, where that has the same bytes."""
+        is_like = links and has(self.like, self.answer.size(self.name), map(bytes, self.lines()))
+        if not is_like or not link(self.like, file):
+            write(file, self.lines())
+
+
+def made(pieces, like, rows=None):
     """A table, or the file that has the same bytes."""
-    if like.is_file() and like.stat().st_size == sum(map(len, pieces)) and like.read_bytes() == b"".join(pieces):
-        return Made([], like)
-    return Made(pieces)
+    return Made([], like, b"", rows) if has_pieces(like, pieces) else Made(pieces, None, b"", rows)
 
 
 def of_base(folder, view):
     """The table of a base view after the night. It differs from the one before where one of the tool's own changes."""
     last = folder.state.root / "data" / f"{view.name}.csv"
-    if folder.is_unchanged(view):
+    if folder.is_unchanged(view) and last.is_file():
         return Made([], last)
     return Made(folder.after(view)) if folder.data[view.name].is_made else made(folder.after(view), last)
 
@@ -44,5 +64,6 @@ def of_change(file, rows, change):
     lines. None where the file has not as many rows as were told, or not those that leave.
     """
     before = file.read_bytes()
-    pieces = by_lines.merged(before, change) if by_lines.counted(before) == rows else None
-    return pieces and Made(pieces, change=change)
+    lines, more = by_lines.counted(before, True), by_lines.beyond_one(before)
+    pieces = by_lines.merged(before, change, not more) if lines + more == rows else None
+    return pieces and Made(pieces, None, change, rows + by_lines.sum_of(change))

@@ -2,21 +2,20 @@
 
 import os
 import signal
-import subprocess
 import time
+from importlib import import_module
 from mmap import ACCESS_READ, mmap
 from pathlib import Path
 from tempfile import TemporaryFile, gettempdir
 
 from ..bundle import has_changes, readers, spans_of
-from ..unproved import NotBuilt, unproved
 from .disk import telling
 from .finding import Failure, warn
 from .limits import judge
 from .status import DONE, NO_ANSWER, NOT_WRITTEN
 
-# How much of an answer is looked at to tell whether there is one.
-BEGINNING = 64
+# How much of an answer is looked at to tell whether there is one, and how much of a table is held at a time.
+BEGINNING, BLOCK = 64, 2**18
 ROOT = Path(__file__).resolve().parents[3]
 NOT_THERE = (
     "the proved program is not there: `./whview --help` proves and builds it, which takes half an hour or more; with --unproved another is"
@@ -27,12 +26,14 @@ NOT_THERE = (
 def own(is_unproved):
     """The repository's program: the one that is not proved where it is asked for, and else the one that is, which is not built unasked."""
     if is_unproved:
+        builder = import_module("whtools.unproved")
         try:
-            found = unproved(ROOT)
-        except NotBuilt as cause:
+            found = builder.unproved(ROOT)
+        except builder.NotBuilt as cause:
             raise Failure(NO_ANSWER, f"tools/unproved: {cause}") from cause
         warn(["this is done by a program that is not proved"])
         return found
+    subprocess = import_module("subprocess")
     found = subprocess.run([ROOT / "tools/built"], stdout=subprocess.PIPE, stderr=subprocess.DEVNULL, text=True)
     if found.returncode:
         raise Failure(NO_ANSWER, NOT_THERE)
@@ -58,13 +59,27 @@ def temporary(pieces=()):
     return file
 
 
+def status_of(words, given, printed):
+    """The status of a command over these files as it ends; of one that a signal ends it is below 0. It takes less to begin than by
+    `subprocess`.
+    """
+    files = [(os.POSIX_SPAWN_DUP2, file.fileno(), number) for number, file in enumerate((given, printed))]
+    process = os.posix_spawn(words[0], words, os.environ, file_actions=files, setsigdef=[signal.SIGPIPE, signal.SIGXFSZ])
+    try:
+        return os.waitstatus_to_exitcode(os.waitpid(process, 0)[1])
+    except BaseException:
+        os.kill(process, signal.SIGKILL)
+        os.waitpid(process, 0)
+        raise
+
+
 def run(program, command, bundle, options=()):
     """The status, which is one of the program's, and the file with what was printed."""
     pieces = [bundle] if isinstance(bundle, bytes) else bundle
     judge(pieces)
     given, printed = temporary(pieces), temporary()
     try:
-        status = subprocess.run([program, command, *options], stdin=given, stdout=printed, check=False).returncode
+        status = status_of([program, command, *options], given, printed)
     except OSError as error:
         raise Failure(NO_ANSWER, f"{program} cannot be run for {command}: {error.strerror}; nothing was changed") from error
     finally:
@@ -104,6 +119,22 @@ class Night:
         start, end = self.places[name]
         return os.pread(self.file.fileno(), end - start, start)
 
+    def size(self, name):
+        start, end = self.places[name]
+        return end - start
+
+    def blocks(self, name):
+        """The table of a view in blocks of whole lines, each behind the line end that stands before it."""
+        start, end = self.places[name]
+        while start < end:
+            block = os.pread(self.file.fileno(), min(BLOCK, end - start) + 1, start - 1)
+            if start + len(block) - 1 < end:
+                block = block[: block.rfind(b"\n") + 1]
+            if len(block) == 1:
+                block = os.pread(self.file.fileno(), end - start + 1, start - 1)
+            yield block
+            start += len(block) - 1
+
     def changed(self):
         """How many rows each view's Inst changed, by its name."""
         steps = self.head.partition("\nwork ")[0].split("\n")
@@ -119,3 +150,12 @@ def night(folder, words, strategy, options=(), with_changes=True):
     if missing:
         raise Failure(NO_ANSWER, f"{words.program} night gave no table of {missing[0]}; nothing was changed")
     return found
+
+
+def explained_night(folder, words, strategy, options=()):
+    """A night. Where the program refuses it, what leads there is told too; where it finds a fault in a table, that is looked for."""
+    try:
+        return night(folder, words, strategy, options)
+    except Failure as failure:
+        found = import_module("whtools.warehouse.refusals").why(folder, failure)
+        raise Failure(failure.status, *failure.lines, *found) from failure

@@ -7,8 +7,8 @@ from collections import Counter
 from functools import cached_property
 from itertools import chain
 
-from . import quotes
-from .by_lines import changed, counted, has_whole_lines, is_sound, own_form, places, row_of
+from . import by_lines, quotes
+from .by_lines import changed, counted, has_whole_lines, is_in_lines, is_sound, places, row_of
 from .finding import MARK, Finding, Place
 from .numbers import NUMBER, number_of
 from .packing import merged
@@ -28,12 +28,14 @@ CURES = [
 
 class Records:
     """The rows of a table or of changes, how often each stands in it, the line of each one's first record, and the findings. Where all
-    is seen at once to be sound, no record is read before somebody asks for its row.
+    is seen at once to be sound, no record is read before somebody asks for its row. A table whose records are lines can wait for the
+    program, which judges it too; once that took it, it is sound.
     """
 
     def __init__(self, source, view, are_changes):
         self.file, self.view, self.are_changes, self.is_made = source.told, view, are_changes, source.is_made
         self.content, self.looked_for, self.found = source.path.read_bytes(), None, {}
+        self.waits, self.is_taken, self.seen = False, False, None
 
     def copied(self, source):
         """These records as those of a copy, or None where that has other bytes."""
@@ -50,9 +52,28 @@ class Records:
         wanted = ",".join(name for name, _ in self.view.columns).encode()
         return line == b"#," + wanted, line == wanted and not self.are_changes, end
 
+    def wait(self):
+        """Leaves a table to the program, where its records are seen to be lines, and nothing that the program takes is a fault in it.
+        Answers whether it does.
+        """
+        is_counted, is_bare, start = self.header
+        if not self.is_made and (is_counted or is_bare):
+            self.waits = is_in_lines(self.content, start, is_counted, self.count_one)
+        return self.waits
+
     @cached_property
+    def count_one(self):
+        """Whether each row of a table in lines counts 1."""
+        is_counted, _, start = self.header
+        return not is_counted or by_lines.counts_one(self.content, start)
+
+    @property
     def is_sound(self):
-        """Whether all is seen at once to have no fault."""
+        """Whether all is seen at once to have no fault, or the program took it."""
+        return self.is_taken or self.is_seen_sound
+
+    @cached_property
+    def is_seen_sound(self):
         is_counted, is_bare, start = self.header
         if self.is_made and is_counted:
             return True
@@ -60,8 +81,8 @@ class Records:
 
     @cached_property
     def has_lines(self):
-        """Whether it is sound, and each record is a line."""
-        return self.is_sound and has_whole_lines(self.content)
+        """Whether it is sound, as far as that was judged, and each record is a line."""
+        return self.waits or self.is_sound and has_whole_lines(self.content)
 
     @cached_property
     def whole(self):
@@ -91,21 +112,36 @@ class Records:
         is_counted, _, start = self.header
         if not self.has_lines:
             return self.rows.total()
-        return counted(self.content) if is_counted else self.content.count(b"\n", start) + (not self.content.endswith(b"\n"))
+        if is_counted:
+            return counted(self.content, self.waits and self.count_one)
+        return self.content.count(b"\n", start) + (not self.content.endswith(b"\n"))
+
+    @property
+    def is_empty(self):
+        """Whether there are no rows."""
+        return self.header[2] == len(self.content) or (not self.has_lines and self.total == 0)
 
     @cached_property
     def own(self):
         """The table in the tool's own form, or None where its records are not lines."""
-        is_counted, _, start = self.header
+        is_counted = self.header[0]
         if not self.has_lines:
             return None
+        if self.is_made and is_counted:
+            return self.content
         header = ",".join(["#", *(name for name, _ in self.view.columns)]).encode() + b"\n"
-        return self.content if self.is_made and is_counted else own_form(self.content, start, header, is_counted)
+        content = by_lines.without_returns(self.content, self.waits)
+        if is_counted:
+            return by_lines.own_form(content, header)
+        own, self.seen = by_lines.with_counts(content, header)
+        return own
 
     def places(self, rows):
         """Where these rows, as lines have them, stand in the tool's own form. The last ones that were looked for are kept."""
         if self.looked_for != rows:
-            self.looked_for, self.found = set(rows), places(self.own, self.own.find(b"\n") + 1, rows)
+            start, count_one = self.own.find(b"\n") + 1, self.seen is not None or (self.waits and self.header[0] and self.count_one)
+            there = rows if self.seen is None else {row for row in rows if hash(row) in self.seen}
+            self.looked_for, self.found = set(rows), places(self.own, start, there, count_one)
         return self.found
 
     def standing(self, rows):
@@ -120,6 +156,7 @@ class Records:
         """The table with these changes of rows, in pieces. No row leaves that is not there."""
         by_line = {row_of(row): count for row, count in changes.items() if count}
         made = changed(self.own, self.places(set(by_line)) if by_line else {}, by_line) if self.own is not None else None
+        self.seen = None
         if made:
             return made
         rows = Counter(self.rows)

@@ -7,9 +7,10 @@ nobody counted them: before a first night, and where the view, or one that it is
 
 import csv
 import io
+from importlib import import_module
 
 from ..sizes import MOST_ROWS, ROWS, WITH_WEIGHTS
-from . import program, refusals
+from . import program
 from .by_lines import counted, counted_through, has_whole_lines
 from .catalogue import FILE as CATALOGUE
 from .catalogue import Catalogue
@@ -18,7 +19,6 @@ from .folder import sound
 from .given_sizes import FILE, GivenSizes
 from .status import BAD_INPUT, DONE
 from .strategy import at_once, written
-from .weights import proposed
 
 HEADER = ",".join(ROWS)
 
@@ -102,7 +102,7 @@ def told_rows(folder):
     where all base tables are empty.
     """
     last, derived = last_report(folder), [view.name for view in folder.views if not view.is_base]
-    if not any(before for before, _, _ in base_sizes(folder).values()):
+    if all(records.is_empty for records in folder.data.values()):
         return dict.fromkeys(derived, 0)
     known = as_before(folder)
     return {name: last[name][1] for name in derived if name in last and name in known}
@@ -119,7 +119,7 @@ def rows_before(folder, words):
 
 def measured(folder, words):
     """Sizes by a night that is carried out and not kept."""
-    answer, before = refusals.night(folder, words, written(at_once(folder.views))), rows_before(folder, words)
+    answer, before = program.explained_night(folder, words, written(at_once(folder.views))), rows_before(folder, words)
     changed, base = answer.changed(), base_sizes(folder)
     derived = {name: (rows, rows_of(answer.table(name)), changed[name]) for name, rows in before.items()}
     return {view.name: base[view.name] if view.is_base else derived[view.name] for view in folder.views}
@@ -154,7 +154,7 @@ def weighed(text, folder, words):
     """The text with the weights that are asked for, in the place of any that it has."""
     if words.weights is None:
         return text
-    weights = proposed(folder, words)
+    weights = import_module("whtools.warehouse.weights").proposed(folder, words)
     return sized({name: (*numbers[:3], weights[name]) for name, numbers in of_text(text).items()})
 
 

@@ -33,7 +33,7 @@ def settle(folder):
     """Finishes a night that was decided, undoes one that was not, and says so."""
     said = []
     remove(folder / TURNED)
-    for scrap in [*ending(folder, GONE), folder / "new.part", folder / "new.old"]:
+    for scrap in [*ending(folder, GONE), folder / "new.part", folder / "new.old", folder / "versions.part"]:
         said += unremoved(scrap)
     if is_behind(folder):
         sync(folder / VERSIONS)

@@ -1,12 +1,12 @@
-"""A folder as it was before there were versions, taken over by its first night that is kept.
+"""A folder without versions, taken over by its first night that is kept.
 
-Its tables, and those of the nights before that it still has, become versions; one rename of versions.part/ decides. What there was is
-removed where a version has the same bytes. A commit that was stopped then stands in commit/, and counts: `data`, `changes` and `views`
-were moved in this order, each from the folder to commit/old/ and from commit/ to the folder.
+The tables of a new folder become the first version, once its night is carried out. Of one as it was before there were versions the
+tables, and those of the nights before that it still has, become versions; one rename of versions.part/ decides. What there was is removed
+where a version has the same bytes. A commit that was stopped then stands in commit/, and counts: `data`, `changes` and `views` were moved
+in this order, each from the folder to commit/old/ and from commit/ to the folder.
 """
 
 import os
-import shutil
 from collections import Counter
 from contextlib import suppress
 from pathlib import Path
@@ -14,13 +14,13 @@ from typing import NamedTuple
 
 from .catalogue import Catalogue
 from .claim import give_back, look
-from .disk import keep, remove, sync
+from .disk import copy, has_pieces, is_same, keep, remove, sync, write
 from .finding import Failure, warn
 from .folder import Folder, judged
 from .inputs import Source, entries
 from .records import Records
 from .status import BAD_INPUT
-from .versions import VERSIONS, named, point, turn, whole
+from .versions import VERSIONS, State, named, place, point, turn, whole
 
 PENDING, SCRAP, BEFORE, MADE = "commit", "commit.part", "before", "versions.part"
 OLD = (BEFORE, PENDING, "views", "report.txt")
@@ -32,6 +32,11 @@ class Stage(NamedTuple):
     data: Path
     views: Path
     changes: object = None
+
+
+def is_new(folder):
+    """Whether a folder has neither versions nor anything of before there were any."""
+    return not whole(folder) and not any((folder / name).exists() for name in (*OLD, SCRAP))
 
 
 def is_pending(folder):
@@ -123,22 +128,22 @@ def move_changes(folder):
 # ---- versions
 
 
-def copy(stage, version):
+def lay(stage, version):
     """Makes a version of a stage, whose report lies among its views."""
     for name, old in (("data", stage.data), ("views", stage.views), ("changes", stage.changes)):
         os.makedirs(version / name)
         for file in entries(old) if old else ():
             if file.suffix == ".csv" and file.is_file():
-                shutil.copyfile(file, version / name / file.name)
+                copy(file, version / name / file.name)
     if (stage.views / "report.txt").is_file():
-        shutil.copyfile(stage.views / "report.txt", version / "report.txt")
+        copy(stage.views / "report.txt", version / "report.txt")
 
 
 def make(folder, part):
     """Makes the versions, and the link to the newest."""
     found = stages(folder)
     for number, stage in enumerate(found):
-        copy(stage, part / str(number))
+        lay(stage, part / str(number))
     keep(part)
     point(folder, len(found) - 1)
 
@@ -157,13 +162,38 @@ def decide(folder, interrupts):
         turn(folder)
 
 
+def begin(new, interrupts):
+    """Makes a version of the tables of a new folder, as they were read. It counts by a rename, and then they are the folder's."""
+    folder, part = new.path, new.path / MADE
+    remove(part)
+    try:
+        for name in ("data", "views", "changes"):
+            os.makedirs(part / "0" / name)
+        for name, records in new.data.items():
+            write(part / f"0/data/{name}.csv", [records.content])
+        keep(part)
+        point(folder, 0)
+    except BaseException:
+        remove(part)
+        raise
+    with interrupts.put_off():
+        os.rename(part / "0", place(folder, 0))
+        sync(folder / VERSIONS)
+        turn(folder)
+    os.rmdir(part)
+    new.state = State(folder)
+    for name, records in new.data.items():
+        if has_pieces(folder / f"data/{name}.csv", [records.content]):
+            remove_kept(folder / f"data/{name}.csv")
+    remove_empty(folder / "data")
+
+
 # ---- what is removed
 
 
 def is_kept(file, versions):
     """Whether a version has a file of this name with the same bytes."""
-    content = file.read_bytes()
-    return any(other.read_bytes() == content for other in versions.get(file.name, ()) if other.stat().st_size == len(content))
+    return any(is_same(other, file) for other in versions.get(file.name, ()))
 
 
 def clear(folder):

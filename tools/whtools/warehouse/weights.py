@@ -10,8 +10,6 @@ from . import program
 from .records import shown
 from .strategy import at_once, written
 
-KINDS = ("cells", "bytes")
-
 
 def by_cells(folder):
     """How many columns each view has, so that a row weighs as many as it has cells."""
