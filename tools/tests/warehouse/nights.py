@@ -141,7 +141,7 @@ class Nights(Shop):
         lines = (self.folder / "new/report.txt").read_text().splitlines()
         why = "the catalogue has other views than the night before, whose sizes nobody knows; the next night is planned by those that stand below"
         self.assertEqual(lines[0], ONE_BY_ONE + why)
-        anew = "views: computed anew, since catalogue.toml is another one than that of version 1; "
+        anew = "views: computed anew, since the catalogue is another one than that of version 1; "
         self.assertEqual(lines[3], f"{anew}what changed is counted by their definitions of now, over the tables before and after")
         self.assertEqual(lines[-3:], ["sales,,9,8", "daily_by_product,,8,8", "daily_by_region,,6,8"])
 
@@ -179,6 +179,8 @@ class Nights(Shop):
             self.assertEqual((status, [line.partition(", and ")[0] for line in told]), (0, [warned]))
             self.assertEqual(os.readlink(self.folder / "current"), f"versions/{number + 1}")
             self.assertEqual((self.folder / "current/views/daily_by_region.csv").read_bytes(), view)
+            why = f"\nviews: computed anew, since tables of version {number} were written after its night; "
+            self.assertIn(why, (self.folder / "current/report.txt").read_text())
         self.assertEqual(self.ran("night", "--commit"), (0, []))
         self.assertEqual(os.readlink(self.folder / "current"), "versions/3")
 

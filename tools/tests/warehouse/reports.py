@@ -415,7 +415,7 @@ class Certificates(Kept):
         text = "strategy from x\ntime: 1.20 s\ncomp a from b c: 12\ninst a: 3, 0.2 s\nwork 15\nreader 0 version 1 rows 3\nview,pre,post,change\na,1,2,3\n"
         found = told(text)
         self.assertEqual((found.how, found.strategy, found.rows), ("strategy from x", "comp a from b c\ninst a\n", [12, 3]))
-        self.assertEqual((found.seconds, found.time, found.is_anew), ([None, 0.2], "1.20 s", False))
+        self.assertEqual((found.seconds, found.time, found.anew), ([None, 0.2], "1.20 s", ""))
         self.assertEqual((found.sizes, found.readers), ({"a": (1, 2, 3)}, ["reader 0 version 1 rows 3"]))
 
     def test_what_a_plan_was_expected_to_cost_is_told_in_its_unit(self):

@@ -34,7 +34,8 @@ class Kept:
         self.folder, self.rows, last = folder, told_rows(folder), folder.state.root
         is_by_the_same = is_same(last / CATALOGUE, folder.catalogue.content)
         self.is_as_before = is_by_the_same and not folder.inputs.later
-        self.is_of_another = bool(folder.state.number) and (last / CATALOGUE).is_file() and not is_by_the_same
+        is_by_another = bool(folder.state.number) and (last / CATALOGUE).is_file() and not is_by_the_same
+        self.anew = [headlines.anew(folder.state.number, is_by_another)] * (is_by_another or bool(folder.inputs.later))
         self.files = {view.name: last / "views" / f"{view.name}.csv" for view in folder.views if not view.is_base}
 
     def file(self, name):
@@ -88,7 +89,7 @@ class Night:
         """What the night did: how its strategy was come by, the rows of each expression, what readers saw, and the views' sizes."""
         sizes, answer = self.sizes(), self.answer
         lines = [self.chosen.how, headlines.work(answer.head, sizes), headlines.time(answer.seconds, time.monotonic() - self.began)]
-        lines += [headlines.anew(self.folder.state.number)] * self.kept.is_of_another
+        lines += self.kept.anew
         return "\n".join([*lines, answer.head, *answer.readers, sized(sizes)])
 
 

@@ -10,7 +10,8 @@ from .strategy import FILE
 TOLD = re.compile(r"^time: ([^\n]+)$.*^work ([0-9]+)$", re.MULTILINE | re.DOTALL)
 VERDICT = re.compile(r"certified (all|one-way) work ([0-9]+)")
 LEAST = {"all": "no correct strategy has less", "one-way": "no strategy whose Comps take one view each has less"}
-PLANNED, TIME, ANEW = "strategy: a plan of work ", "time: ", "views: computed anew"
+PLANNED, TIME, ANEW = "strategy: a plan of work ", "time: ", "views: computed anew, since "
+COUNTED = "; what changed is counted by their definitions of now, over the tables before and after"
 ONE_BY_ONE = "strategy: view by view, as the catalogue has them, without a plan: "
 NEXT = "the next night is planned by those that stand below"
 
@@ -62,7 +63,7 @@ def of_last_night(state):
     return f"the night of version {state.number} had work {found[2]}, and took {found[1]}" if found else ""
 
 
-def anew(version):
-    """That the catalogue is another one than that of the version before."""
-    why = f"since catalogue.toml is another one than that of version {version}"
-    return f"{ANEW}, {why}; what changed is counted by their definitions of now, over the tables before and after"
+def anew(version, is_by_another):
+    """Why the derived views were computed anew after a version: by another catalogue, or over tables that are not those of its night."""
+    another, later = f"the catalogue is another one than that of version {version}", f"tables of version {version} were written after its night"
+    return f"{ANEW}{another if is_by_another else later}{COUNTED}"

@@ -9,7 +9,7 @@ from .catalogue import FILE as CATALOGUE
 from .catalogue import Catalogue
 from .explain import Step
 from .finding import Failure
-from .headlines import ANEW, TIME
+from .headlines import ANEW, COUNTED, TIME
 from .held import Held
 from .inputs import CHANGES, by_view
 from .reading import catalogue_of, records
@@ -23,7 +23,7 @@ STEP = re.compile(r"(comp \w+ from [\w ]+|inst \w+): ([0-9]+)(?:, ([0-9.]+) s\b)
 
 class Told(NamedTuple):
     """What a report.txt says: how the strategy was come by, its lines, the rows of each step and its seconds where they are told, the
-    sizes, what readers saw, the time of the whole night, and whether the derived views were computed anew.
+    sizes, what readers saw, the time of the whole night, and why the derived views were computed anew, where they were.
     """
 
     how: str
@@ -33,7 +33,7 @@ class Told(NamedTuple):
     sizes: dict
     readers: list
     time: str = ""
-    is_anew: bool = False
+    anew: str = ""
 
     @property
     def work(self):
@@ -59,8 +59,8 @@ def told(text):
     readers = [line for line in lines if line.startswith("reader ")]
     how, time_of_all = text.partition("\n")[0], next((line for line in lines if line.startswith(TIME)), "")
     rows, seconds = [int(match[2]) for match in found], [match[3] and float(match[3]) for match in found]
-    is_anew = any(line.startswith(ANEW) for line in lines)
-    return Told("" if STEP.match(how) else how, strategy, rows, seconds, sizes_in(text), readers, time_of_all.removeprefix(TIME), is_anew)
+    anew = next((line.removeprefix(ANEW).removesuffix(COUNTED) for line in lines if line.startswith(ANEW)), "")
+    return Told("" if STEP.match(how) else how, strategy, rows, seconds, sizes_in(text), readers, time_of_all.removeprefix(TIME), anew)
 
 
 def counted(table):
@@ -107,7 +107,7 @@ class Night:
 
     def compare(self, rows):
         """Has what is shown of views that were computed anew be what their rows say, compared with those of the version before."""
-        for view in self.views if self.told.is_anew else ():
+        for view in self.views if self.told.anew else ():
             if not view.is_base:
                 found, after = rows[view.name], self.told.sizes[view.name][1]
                 self.shown = self.shown | {view.name: (found and found.before, after, found and found.moved)}

@@ -58,13 +58,14 @@ def of_rows(night, names):
 
 
 def anew(night):
-    """What a night by another catalogue than the one before did, and what is told of it."""
-    if not night.told.is_anew:
+    """What a night did that computed its views anew, and what is told of it."""
+    why = night.told.anew
+    if not why:
         return ""
     before = f"version {night.number_before}"
     seen = f"compares their tables with those of {before}" if night.before else f"is left open, since {before} is no longer there"
     about = (
-        f"The catalogue is another one than that of {before}, so each derived view was computed anew, by its definition of now. Steps, work "
+        f"{why[:1].upper()}{why[1:]}, so each derived view was computed anew, by its definition of now. Steps, work "
         f"and plans are about the changes of this night, by these definitions; what is told of the rows of derived views {seen}."
     )
     return element("p", element("strong", about))
@@ -227,7 +228,7 @@ def first_rows(night, rows):
     there = [view for view in night.views if rows[view.name] and rows[view.name].pairs]
     still = [view.name for view in night.views if night.shown[view.name][2] == 0]
     # Of a view that was computed anew with other columns all rows differ, and none stands beside another.
-    none = [view.name for view in night.views if rows[view.name] is None or night.told.is_anew and not rows[view.name].pairs]
+    none = [view.name for view in night.views if rows[view.name] is None or night.told.anew and not rows[view.name].pairs]
     lost = [name for name in none if name not in still]
     about = (
         "A row that left stands beside the one that came in its place: of a summary that of the same group, otherwise the one most like it."
@@ -327,7 +328,7 @@ def history(night):
     first, last = list(found)[0], list(found)[-1]
     about = f"{len(found)} nights that are kept, {first} to {last}." if len(found) > 1 else "There is one night as yet."
     rest = element("p", f"{left} more views have no curve here.") if left else ""
-    others = ", ".join(str(version) for version, each in found.items() if each.is_anew)
+    others = ", ".join(str(version) for version, each in found.items() if each.anew)
     if others:
         rest += element("p", f"Views were computed anew in {others}, where changed rows count by the definitions of then.", class_="soft")
     return section("history", "The nights so far", element("p", about, class_="soft") + drawn + rest)

@@ -151,7 +151,7 @@ def groups_of(view):
 
 def changed(night, view, opening):
     """The first rows of a view that a night changed, or None. `opening` has tables of before the night that no version has."""
-    if night.told.is_anew and not view.is_base:
+    if night.told.anew and not view.is_base:
         return compared(night, view)
     found = found_in(night, view, opening)
     return None if found is None else Changed(paired(found, groups_of(view))[:FIRST], len(found))
@@ -162,7 +162,7 @@ def opening(night, words):
     changes makes them. None of them where the program gives none.
     """
     derived = [view for view in night.views if not view.is_base]
-    without = [view for view in derived if night.told.is_anew or not night.table_before(view) and not night.changes(view)]
+    without = [view for view in derived if night.told.anew or not night.table_before(view) and not night.changes(view)]
     tables = {view.name: night.table_before(view) for view in night.views if view.is_base}
     if not without or not all(tables.values()):
         return {}

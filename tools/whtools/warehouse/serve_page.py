@@ -46,7 +46,7 @@ def version_row(folder, version, current, shown):
         made = time.strftime("%Y-%m-%d %H:%M", time.localtime(place(folder, version).stat().st_mtime))
     except OSError:
         return ""
-    known = ("current", version == current), ("shown here", version == shown), ("computed anew", found and found.is_anew)
+    known = ("current", version == current), ("shown here", version == shown), ("computed anew", found and found.anew)
     marks = [word for word, is_it in known if is_it]
     tags = " ".join(element("span", mark, class_="tag") for mark in marks)
     name = element("a", f"version {version}", href=f"/?version={version}")

@@ -12,7 +12,6 @@ from importlib import import_module
 from ..sizes import MOST_ROWS, ROWS, WITH_WEIGHTS
 from . import program
 from .by_lines import counted, counted_through, has_whole_lines
-from .catalogue import FILE as CATALOGUE
 from .catalogue import Catalogue
 from .finding import Failure, warn
 from .folder import sound
@@ -62,7 +61,7 @@ def as_before(folder):
     """The names of the views that are as the version before has them: the same columns, or the same definition over such views."""
     if folder.state.number is None:
         return set()
-    if folder.inputs.is_catalogue_as_before() or not (folder.state.root / CATALOGUE).is_file():
+    if folder.inputs.is_catalogue_as_before():
         return {view.name for view in folder.views}
     before, found = {view.name: view for view in Catalogue(folder.state.root, lenient=True).views}, set()
     for view in folder.views:
