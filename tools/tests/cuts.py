@@ -2,7 +2,8 @@
 
 import unittest
 
-from whtools.cuts import CarriedBesideReaders, Certified, Checked, Replayed
+from whtools.cuts import Carried, CarriedBesideReaders, Certified, Checked, Replayed
+from whtools.program import ROOT
 
 CHECKED = """@catalogue
 [[view]]
@@ -62,6 +63,13 @@ class Beginnings(unittest.TestCase):
         }.items():  # fmt: skip
             with self.subTest(words=words):
                 self.assertEqual(given.expected(words), ("fault part catalogue\n", 3) if taken else ("", 2))
+
+    def test_a_night_whose_strategy_stands_last(self):
+        given = Carried("a night", (ROOT / "examples/night_two_tables.bundle").read_text())
+        self.told(given, {
+            "\n1,10,6": ("fault part strategy\n", 3), "@strategy": ("broken S1 at 1\n", 1), "comp v from": ("fault strategy 1\n", 3),
+            "comp v from a": ("broken S1 at 2\n", 1), "comp v from b": ("broken S2 at 4\n", 1), "inst b": ("broken S2 at 5\n", 1),
+        })  # fmt: skip
 
     def test_a_replay(self):
         given = Replayed("a replay", REPLAYED, ["a"])
