@@ -19,7 +19,7 @@ from whtools.shop import table
 NIGHTS, PAUSE = 3, 0.02
 # How many times the seconds and the memory of the program a night may take. It takes less than that; but on a machine that other work
 # keeps busy seconds differ.
-MOST = 1.75, 1.5
+MOST = 2, 1.5
 # The tool as its first line begins it, without what chooses among several Pythons; its modules are compiled once.
 TOOL = [sys.executable, "-S", ROOT / "tools/warehouse"]
 KEEPS_COMPILED = {name: value for name, value in os.environ.items() if name != "PYTHONDONTWRITEBYTECODE"}
