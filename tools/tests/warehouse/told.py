@@ -120,6 +120,16 @@ class Told(Shop):
         self.assertEqual(self.ran("lint"), (3, told))
         self.assertEqual(sorted(self.ran("night", "--commit")[1]), told)
 
+    def test_a_strategy_and_sizes_that_are_no_files(self):
+        strategy = self.folder / "strategy.txt"
+        strategy.unlink()
+        strategy.symlink_to("lost.txt")
+        os.mkfifo(self.folder / "sizes.csv")
+        told = [f"{name}:1:1: this is no file that can be read; put one here, or take it away" for name in ("sizes.csv", "strategy.txt")]
+        for words in (["lint"], ["night"], ["night", "--commit"], ["plan"]):
+            status, lines = self.ran(*words)
+            self.assertEqual((status, sorted(lines)), (3, told), words)
+
     def test_a_file_that_differs_from_a_view_in_case(self):
         os.rename(self.folder / "changes/orders.csv", self.folder / "changes/Orders.csv")
         told = "changes/Orders.csv:1:1: there is no view Orders; orders differs in case alone"

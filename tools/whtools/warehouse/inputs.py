@@ -1,5 +1,6 @@
 """The files that a night reads: the tables that it starts from, and its changes; and files beside them that nothing reads."""
 
+import os
 import re
 from typing import NamedTuple
 
@@ -85,10 +86,10 @@ class Inputs:
     # ---- what is not read
 
     def findings(self, catalogue):
-        """Files of data/ and changes/ that nothing reads, and tables that no night carries on."""
+        """Files that nothing reads, and tables that no night carries on."""
         bases = [view.name for view in catalogue.views if view.is_base]
         text = "this was written after its night, and a version never changes; it is judged again, and all derived views are made anew"
-        found = [Finding(Place(str(path)), text, True) for path in self.later]
+        found = [Finding(Place(str(path)), text, True) for path in self.later] + self.unread()
         for kind, form in (("data", TABLE), ("changes", CHANGES)):
             for path in entries(self.places[kind]):
                 found += filter(None, [self.judge(kind, form, path, bases, catalogue.names)])
@@ -97,6 +98,12 @@ class Inputs:
                 text = f"{name} is no base view; its table stays in {self.state.told.removesuffix('/data')} and is not carried on"
                 found.append(Finding(Place(self.carried[name].told), text, True))
         return found
+
+    def unread(self):
+        """A strategy or sizes that stand there, and are no file, such as a link that leads nowhere: a night must not go on without them."""
+        text = "this is no file that can be read; put one here, or take it away"
+        named = (self.folder / name for name in ("strategy.txt", "sizes.csv"))
+        return [Finding(Place(path.name), text) for path in named if os.path.lexists(path) and not path.is_file()]
 
     def judge(self, kind, form, path, bases, names):
         """What is wrong with a file of `data` or `changes`, or None."""
