@@ -6,7 +6,7 @@ from whtools.databases.engines import Broken
 
 NEW_ORDER = "INSERT INTO orders (id, day, paid, region) VALUES (900, '2026-02-02', TRUE, 'region 9');"
 # What is written where tables have been captured anew.
-AGAIN = "INSERT INTO lines SELECT id, 'product 2', 5 FROM orders WHERE id = 5; UPDATE lines SET pieces = 6 WHERE id = 6;"
+AGAIN = "INSERT INTO lines SELECT id, 'product 2', 5 FROM orders WHERE id = 35; UPDATE lines SET pieces = 6 WHERE id = 36;"
 NEW_LINES = "INSERT INTO lines VALUES (900, 'product 2', 3), (900, 'product 3', 4);"
 
 
