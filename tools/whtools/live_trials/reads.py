@@ -25,6 +25,8 @@ CHANGED = {
     "public": """INSERT INTO "products~changes" VALUES ('product 5', 5, -1), ('product 5', 6, 1);""",
     "wh": "UPDATE products SET price = 6 WHERE product = 'product 5';",
 }
+# A session hands over what it counted at most once a second, at the end of a statement: what it counted before is then no longer seen.
+HANDED_OVER = "SELECT pg_sleep(1.1);"
 READ = "SELECT coalesce(sum(seq_tup_read), 0), coalesce(sum(idx_tup_fetch), 0) FROM pg_stat_xact_user_tables WHERE schemaname = '{}' AND relname !~ '~'"
 # A text of a table, which a script that is spoilt compares by its bytes.
 BY_BYTES = re.compile(r't\d*\."product"(::text)?')
@@ -51,6 +53,7 @@ class Reads:
 
     def read(self, night):
         """How many rows a night reads one after the other, and how many by an index; it is rolled back."""
+        self.database.asked(HANDED_OVER)
         *_, found = self.database.asked(night.replace("COMMIT;", "") + READ.format(self.schema) + ";")
         self.database.asked("ROLLBACK;")
         return tuple(map(int, found.split("|")))
