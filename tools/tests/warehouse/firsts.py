@@ -199,7 +199,7 @@ class Faults(Room):
         (self.room / "there/x").write_text("")
         self.assertEqual(self.ran("init", "new"), (2, [], ["init takes a folder and CSV files"]))
         self.assertEqual(self.ran("init", "new", "u.csv"), (2, [], ["there is no file u.csv"]))
-        self.assertEqual(self.ran("init", "there", "t.csv"), (2, [], ["there is there already; a new folder is made"]))
+        self.assertEqual(self.ran("init", "there", "t.csv"), (2, [], ["there is there already, and stays as it is; name a folder that is not there"]))
         self.assertEqual(self.ran("init", "new", "t.csv", "T.csv"), (3, [], ["T.csv and t.csv would both be the view t; rename one"]))
         many = (2, [], ["65 files are given, and a catalogue has 64 views at most"])
         self.assertEqual(self.ran("init", "new", *["t.csv"] * 65), many)

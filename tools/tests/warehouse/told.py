@@ -238,6 +238,8 @@ class Told(Shop):
         there = "pack, unpack, night, lint, check, plan, certify, sizes, diff, explain, graph, report, read, serve, init"
         self.assertEqual(self.ran("nigth"), (2, [f"there is no command 'nigth'; there are {there}; did you mean night?"]))
         self.assertEqual(self.ran("lint", "--commit"), (2, ["lint has no option --commit"]))
+        self.assertEqual(self.ran("night", "--comit"), (2, ["night has no option --comit; did you mean --commit?"]))
+        self.assertEqual(self.ran("--unproved", "lint"), (2, [f"there is no command '--unproved'; there are {there}; an option stands behind its command"]))
         self.assertEqual(self.ran("night", "--keep", "2"), (2, ["--keep goes with --commit, which makes the versions"]))
         self.assertEqual(self.ran("lint", "--unproved"), (2, ["--unproved and --program FILE name two programs; give one"]))
         self.assertEqual(self.ran("night", "--keep", "0"), (2, ["--keep is how many versions stay, 1 or more, and not '0'"]))

@@ -7,7 +7,7 @@ from importlib import import_module
 from pathlib import Path
 
 from .finding import Failure, nearest, of_system, warn
-from .helps import help_of
+from .helps import help_of, options_of
 from .lock import at_work
 from .numbers import MOST, is_between
 from .program import own
@@ -55,7 +55,7 @@ class Words:
         self.weights, self.options = None, {}
         self.command = given.pop(0) if given else ""
         if self.command not in COMMANDS:
-            near = nearest(self.command, COMMANDS)
+            near = "; an option stands behind its command" if self.command.startswith("-") else nearest(self.command, COMMANDS)
             raise Failure(BAD_WORDS, f"there is no command {self.command!r}; there are {', '.join(COMMANDS)}{near}")
         self.operands = []
         while given:
@@ -108,7 +108,7 @@ class Words:
         elif word in OPTIONS.get(self.command, ()):
             self.options.setdefault(word, []).append(given.pop(0))
         elif word.startswith("-"):
-            raise Failure(BAD_WORDS, f"{self.command} has no option {word}")
+            raise Failure(BAD_WORDS, f"{self.command} has no option {word}{nearest(word, options_of(self.command))}")
         else:
             folders.append(word)
 

@@ -35,10 +35,20 @@ STATUSES = (
 WITHOUT = [("--unproved, --program FILE", "are taken as everywhere, and change nothing: this command asks no program")]
 
 
+def told_options(command):
+    """The options of a command as they are told, each with what it is for."""
+    options = [(option, text) for option, commands, text in OPTIONS if command in commands]
+    return options + (WITHOUT if command in WITHOUT_PROGRAM else PROGRAM)
+
+
+def options_of(command):
+    """The options of a command."""
+    return [word.rstrip(",") for option, _ in told_options(command) for word in option.split() if word.startswith("--")]
+
+
 def help_of(command):
     """What a command does, and its options."""
-    options = [(option, text) for option, commands, text in OPTIONS if command in commands]
-    options += WITHOUT if command in WITHOUT_PROGRAM else PROGRAM
+    options = told_options(command)
     lines = [f"tools/warehouse {command} {WORDS.get(command, 'FOLDER')} [OPTIONS]", ""]
     lines += [(import_module(f"whtools.warehouse.{command}").__doc__ or "").strip()]
     lines += ["", *(f"    {option:20} {text}" for option, text in options)]

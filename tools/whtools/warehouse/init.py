@@ -15,7 +15,7 @@ from .status import BAD_INPUT, BAD_WORDS, DONE
 def judge_words(words):
     """Refuses what cannot be made, before anything is read."""
     if words.folder.exists() and (not words.folder.is_dir() or os.listdir(words.folder)):
-        raise Failure(BAD_WORDS, f"{words.folder} is there already; a new folder is made")
+        raise Failure(BAD_WORDS, f"{words.folder} is there already, and stays as it is; name a folder that is not there")
     if len(words.folders) - 1 > MOST_VIEWS:
         raise Failure(BAD_WORDS, f"{len(words.folders) - 1} files are given, and a catalogue has {MOST_VIEWS} views at most")
     for path in words.folders[1:]:
