@@ -11,6 +11,7 @@ mod installed;
 mod limits;
 mod opened;
 mod product;
+mod refused;
 mod steps;
 mod waves;
 mod wide;

@@ -4,7 +4,12 @@ use crate::given::{
     ANSWER, BUNDLE, CARRIED, CHANGED, ENDLESS, EVENTS, Endless, GivenReader, GivenWriter, Halting,
     MEASURED, NIGHT, NIGHTS, OF_THREE, OF_TWO, PLANNED, REPLIES, SCHEDULE, TWO, TWO_CHANGED,
 };
+use std::alloc::Global;
+use std::fs::Files;
+use std::process::Abort;
+use std::sync::Wait;
 use std::test::Fail;
+use std::thread::Threads;
 use whview::{Counted, run, want_of_memory, words_without_text};
 
 #[test]
@@ -171,4 +176,113 @@ fn what_has_no_words_or_no_memory_is_told(rt: HostRuntime) {
     assert_eq!(&rt; words_without_text(&mut out), 2);
     assert_eq!(&rt; want_of_memory(&mut out), 4);
     assert!(&rt; out.inner.text.as_slice() == b"fault words\nmemory\n".as_slice());
+}
+
+/// Asserts what these words answer to a bundle that comes a byte at a time, where each write of a byte is interrupted first; that each
+/// read that fails is told; and that each byte that cannot be written ends with 5, behind a beginning of the answer.
+fn assert_run<'a, R: Abort + Files + Threads + Wait + Sync>(
+    rt: &R,
+    alloc: Global,
+    words: &'a [&'a str],
+    bundle: &str,
+    answer: &str,
+) {
+    let mut input = Counted::new(GivenReader::new(bundle.as_bytes(), 1));
+    let mut out = Counted::new(Halting::new(alloc));
+    assert_eq!(rt; run(rt, alloc, words, &mut input, &mut out), 0);
+    assert!(rt; out.inner.text.as_slice() == answer.as_bytes());
+    let step = (bundle.len() / 4).saturating_add(1);
+    for at in 1..=5 {
+        let mut input = Counted::new(GivenReader::failing(bundle.as_bytes(), step, at));
+        let mut out = Counted::new(GivenWriter::new(alloc, ENDLESS, true));
+        assert_eq!(rt; run(rt, alloc, words, &mut input, &mut out), 3, "at {at}");
+        assert!(rt;
+            out.inner.text.as_slice() == b"fault read\n".as_slice(),
+            "at {at}"
+        );
+    }
+    for room in 0..answer.len() {
+        let mut input = Counted::new(GivenReader::new(bundle.as_bytes(), 4096));
+        let mut out = Counted::new(GivenWriter::new(alloc, room, true));
+        assert_eq!(rt;
+            run(rt, alloc, words, &mut input, &mut out),
+            5,
+            "with room for {room}"
+        );
+        assert!(rt;
+            answer.as_bytes().starts_with(&out.inner.text),
+            "with room for {room}"
+        );
+    }
+}
+
+#[test]
+fn reads_and_writes_of_each_command_fail_and_are_made_short(rt: HostRuntime) -> Result<(), Fail> {
+    let alloc = rt.alloc();
+    let certified = format!(in alloc; "{MEASURED}@plan\n{PLANNED}")?;
+    let replayed = format!(in alloc; "{NIGHT}{SCHEDULE}")?;
+    let beside = format!(in alloc;
+        "{CARRIED}reader 0 version 0 rows 2\nreader 1 version 0 rows 2\n"
+    )?;
+    let seats = ["night", "--workers", "2", "--readers", "2"];
+    assert_run(&rt, alloc, &["check"], BUNDLE, ANSWER);
+    assert_run(&rt, alloc, &["plan"], MEASURED, PLANNED);
+    assert_run(
+        &rt,
+        alloc,
+        &["certify"],
+        certified.as_str(),
+        "certified all work 154\n",
+    );
+    assert_run(&rt, alloc, &["night"], NIGHT, CARRIED);
+    assert_run(&rt, alloc, &seats, NIGHT, beside.as_str());
+    assert_run(&rt, alloc, &["replay"], replayed.as_str(), REPLIES);
+    Ok(())
+}
+
+/// Asserts that these words are answered so, or by want of memory; the output itself has the room that it needs.
+fn assert_run_or_memory<'a, R: Abort + Files + Threads + Wait + Sync>(
+    rt: &R,
+    alloc: Global,
+    words: &'a [&'a str],
+    bundle: &str,
+    answer: &str,
+) -> Result<(), Fail> {
+    let mut writer = GivenWriter::new(alloc, ENDLESS, true);
+    writer.text.try_reserve(answer.len().saturating_add(16))?;
+    let mut input = Counted::new(GivenReader::new(bundle.as_bytes(), 64));
+    let mut out = Counted::new(writer);
+    let status = run(rt, alloc, words, &mut input, &mut out);
+    let (ended, text) = if status == 0 {
+        (0, answer)
+    } else {
+        (4, "memory\n")
+    };
+    assert_eq!(rt; status, ended);
+    assert!(rt; out.inner.text.as_slice() == text.as_bytes());
+    Ok(())
+}
+
+// `tools/try_refusals` refuses each call for memory in turn, and each start of a thread.
+#[test]
+fn each_command_where_memory_may_be_refused(rt: HostRuntime) -> Result<(), Fail> {
+    let alloc = rt.alloc();
+    let certified = format!(in alloc; "{MEASURED}@plan\n{PLANNED}")?;
+    let replayed = format!(in alloc; "{NIGHT}{SCHEDULE}")?;
+    let beside = format!(in alloc;
+        "{CARRIED}reader 0 version 0 rows 2\nreader 1 version 0 rows 2\n"
+    )?;
+    let seats = ["night", "--workers", "2", "--readers", "2"];
+    assert_run_or_memory(&rt, alloc, &["check"], BUNDLE, ANSWER)?;
+    assert_run_or_memory(&rt, alloc, &["plan"], MEASURED, PLANNED)?;
+    assert_run_or_memory(
+        &rt,
+        alloc,
+        &["certify"],
+        certified.as_str(),
+        "certified all work 154\n",
+    )?;
+    assert_run_or_memory(&rt, alloc, &["night"], NIGHT, CARRIED)?;
+    assert_run_or_memory(&rt, alloc, &seats, NIGHT, beside.as_str())?;
+    assert_run_or_memory(&rt, alloc, &["replay"], replayed.as_str(), REPLIES)
 }

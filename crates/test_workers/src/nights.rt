@@ -1,4 +1,5 @@
 //! Nights by several workers.
 
 mod meeting;
+mod refused;
 mod workers;

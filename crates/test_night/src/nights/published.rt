@@ -36,6 +36,12 @@ const NIGHT: [Step; 5] = [
     Step::Commit,
 ];
 
+/// The number of the cause that is want of memory.
+const MEMORY: u8 = 1;
+
+/// The number of the cause that an operation is held.
+const HELD: u8 = 8;
+
 fn steps(alloc: Global, published: &[Op]) -> Result<Vec<Step>, AllocError> {
     let mut steps = Vec::new(alloc);
     for op in published {
@@ -144,7 +150,7 @@ fn assert_published<R: Abort>(
     Ok(())
 }
 
-/// Asserts what the night tells where this is refused, and what it has then published.
+/// Asserts what the night tells where this is refused, what it has then published, and that nothing is left to give up.
 fn assert_night<R: Threads + Wait + Sync + Abort>(
     rt: &R,
     alloc: Global,
@@ -155,14 +161,23 @@ fn assert_night<R: Threads + Wait + Sync + Abort>(
     let (setting, mut writer) = set(alloc, refusals)?;
     let answer = carry_out(rt, alloc, &setting, &mut writer)?;
     assert_eq!(rt; told(&answer), wanted);
+    assert_published(rt, alloc, &writer, published)?;
+    assert_eq!(rt; writer.give_up(rt), Ok(Ended::NoneOpen));
     assert_published(rt, alloc, &writer, published)
 }
 
-/// The number of the cause that is want of memory.
-const MEMORY: u8 = 1;
-
-/// The number of the cause that an operation is held.
-const HELD: u8 = 8;
+/// Asserts that a night is refused while an operation is held, and publishes nothing.
+fn assert_held<R: Threads + Wait + Sync + Abort>(
+    rt: &R,
+    alloc: Global,
+    setting: &Setting,
+    writer: &mut Refusing,
+    published: &[Step],
+) -> Result<(), Fail> {
+    let answer = carry_out(rt, alloc, setting, writer)?;
+    assert_eq!(rt; told(&answer), Err((HELD, Left::Untouched)));
+    assert_published(rt, alloc, writer, published)
+}
 
 #[test]
 fn a_night_whose_begin_is_refused(rt: HostRuntime) -> Result<(), Fail> {
@@ -182,6 +197,7 @@ fn a_night_whose_begin_is_refused(rt: HostRuntime) -> Result<(), Fail> {
     let answer = carry_out(&rt, alloc, &setting, &mut writer)?;
     assert_eq!(rt; told(&answer), still_open);
     assert_published(&rt, alloc, &writer, &[])?;
+    assert_held(&rt, alloc, &setting, &mut writer, &[])?;
     assert_eq!(rt; writer.give_up(&rt), Ok(Ended::GivenUp));
     assert_published(&rt, alloc, &writer, &[Step::Begin, Step::GiveUp])
 }
@@ -214,9 +230,7 @@ fn a_night_whose_commit_is_held(rt: HostRuntime) -> Result<(), Fail> {
     assert_eq!(rt; told(&answer), Err((MEMORY, Left::StillOpen)));
     let [begin, a, b, v, _commit] = NIGHT;
     assert_published(&rt, alloc, &writer, &[begin, a, b, v])?;
-    let second = carry_out(&rt, alloc, &setting, &mut writer)?;
-    assert_eq!(rt; told(&second), Err((HELD, Left::Untouched)));
-    assert_published(&rt, alloc, &writer, &[begin, a, b, v])?;
+    assert_held(&rt, alloc, &setting, &mut writer, &[begin, a, b, v])?;
     assert_eq!(rt; writer.give_up(&rt), Ok(Ended::Committed));
     assert_published(&rt, alloc, &writer, &NIGHT)?;
     assert_eq!(rt; writer.current(), 1);

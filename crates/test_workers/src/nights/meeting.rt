@@ -72,7 +72,7 @@ fn keeps(rt: &impl Abort, alloc: Global, place: usize) -> Result<Definition<Ever
 }
 
 /// B and C of one column x, V1 over both, which keeps B.x, and V2 over B and V1, which keeps V1.x.
-fn catalog(rt: &impl Abort, alloc: Global) -> Result<Catalog<Every, Cell>, Fail> {
+pub(crate) fn catalog(rt: &impl Abort, alloc: Global) -> Result<Catalog<Every, Cell>, Fail> {
     let shape = shaped(
         alloc,
         &[("B", "-"), ("C", "-"), ("V1", "B C"), ("V2", "B V1")],
@@ -99,7 +99,7 @@ fn comp(alloc: Global, view: usize, from: usize) -> Result<Expression, Fail> {
 }
 
 /// comp V1 from B; comp V2 from B; inst B; comp V1 from C; comp V2 from V1; inst C; inst V1; inst V2
-fn one_way(alloc: Global) -> Result<Strategy, Fail> {
+pub(crate) fn one_way(alloc: Global) -> Result<Strategy, Fail> {
     let mut list = Vec::new(alloc);
     list.push(comp(alloc, 2, 0)?)?;
     list.push(comp(alloc, 3, 0)?)?;
