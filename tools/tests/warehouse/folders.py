@@ -431,6 +431,20 @@ class Settled(Kept):
         self.assertEqual(self.ran("night")[0], 0)
         self.assertEqual(self.changes(), newer | {"orders.2.csv": NEXT, "orders.3.csv": NEXT})
 
+    def test_a_file_with_a_hidden_name_beside_it_comes_back(self):
+        self.stopped("changes/orders.csv")
+        os.link(self.folder / "versions/2.part/changes/orders.csv", self.folder / "changes/.orders.csv")
+        self.assertEqual(self.ran("night"), (0, [self.UNDONE]))
+        self.assertEqual((self.folder / "changes/orders.csv").read_bytes(), NEXT)
+
+    def test_of_two_names_of_a_file_one_of_which_came_back_the_other_comes_back_too(self):
+        self.stopped("changes/orders.csv")
+        taken = self.folder / "versions/2.part/changes"
+        os.link(taken / "orders.csv", taken / "orders.1.csv")
+        os.link(taken / "orders.csv", self.folder / "changes/orders.csv")
+        self.assertEqual(self.ran("night"), (0, [self.UNDONE]))
+        self.assertEqual(sorted(self.changes().values()), [NEXT, NEXT])
+
     def test_a_file_that_was_on_its_way_back_comes_back_once(self):
         self.stopped("changes/orders.csv")
         os.link(self.folder / "versions/2.part/changes/orders.csv", self.folder / "changes/orders.csv")

@@ -6,6 +6,7 @@ import errno
 import fcntl
 import os
 import re
+from collections import Counter
 from contextlib import suppress
 from importlib import import_module
 
@@ -130,9 +131,11 @@ def files_back(taken, home):
     files = sorted(taken.iterdir())
     if files:
         os.makedirs(home, exist_ok=True)
-    there = identities(home) if files else ()
+    there = identities(home) if files else Counter()
     for file in files:
-        if identity(file.stat()) in there:
+        known = identity(file.stat())
+        if there[known]:
+            there[known] -= 1
             writable(file)
         else:
             give_back(file, home)
@@ -166,9 +169,9 @@ def identity(found):
 
 
 def identities(folder):
-    """Those of all that stands in a folder; a file that a night gives back may be there already."""
+    """How many names each file has in a folder, but for hidden ones, which no night reads: what is given back may be there already."""
     with os.scandir(folder) as entries:
-        return {identity(entry.stat(follow_symlinks=False)) for entry in entries}
+        return Counter(identity(entry.stat(follow_symlinks=False)) for entry in entries if not entry.name.startswith("."))
 
 
 def names(name):
