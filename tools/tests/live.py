@@ -6,7 +6,6 @@ import unittest
 from types import SimpleNamespace
 
 from whtools.live.database import Table
-from whtools.live.keys import Keys
 from whtools.live.measured import Step, fitted, measured, steps_of
 from whtools.live.parsed import NotTaken, parsed
 from whtools.live.postgresql import LivePostgreSQL
@@ -17,6 +16,7 @@ from whtools.live.swift import SwiftScript
 from whtools.live.turned import Told, Unturned, literal_apart, of_postgresql, of_sqlite
 from whtools.program import ROOT
 from whtools.sql.catalogue import Catalogue
+from whtools.sql.keys import Keys
 from whtools.sql.shape import Shape
 from whtools.sql.steps import Steps
 from whtools.sql.tokens import Unfit

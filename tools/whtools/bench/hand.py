@@ -1,11 +1,12 @@
 """Times nights over live tables, and over tables of one's own, beside what a good hand would write for the same night, and beside REFRESH,
 on a PostgreSQL server of its own.
 
-A million facts (or `--facts N`) with three dimensions and four views: the facts joined with their dimensions, and three summaries of that.
-Facts change, 100 to 100,000 of them: a half get other pieces, a quarter leave, a quarter come. The nights are that of `tools/sql --live`, and
-that of `tools/sql --plain '*'` over tables with keys and without counts; the hand's statements are in HAND below, over tables of the same
-rows; REFRESH is of materialized views with keys. All are rolled back but for REFRESH, and printed are medians, the hand's and REFRESH's
-share, and of `--open` beside the first filling of the materialized views.
+A million facts (or `--facts N`) with three dimensions, of which that of products has 200,000 rows, and four views: the facts joined with their
+dimensions, and three summaries of that. There are 100 to 100,000 changes: half of them facts that get other pieces, a quarter that leave, a
+quarter that come, and for each hundred a product whose price changes. The nights are that of `tools/sql --live`, and that of `tools/sql --plain
+'*'` over the tables that `--create` makes; the hand's statements are in HAND below, over tables of the same rows; REFRESH is of materialized
+views with keys. All are rolled back but for REFRESH, and printed are medians, the hand's and REFRESH's share, and of `--open` beside the first
+filling of the materialized views. The server's memory is what PostgreSQL gives it by itself, a session's that of MEMORY.
 """
 
 import statistics
@@ -69,17 +70,17 @@ CREATE TABLE products (product text PRIMARY KEY, kind text NOT NULL, price int N
 CREATE TABLE days (day int PRIMARY KEY, month int NOT NULL);
 CREATE TABLE sales (id int PRIMARY KEY, shop int NOT NULL, product text NOT NULL, day int NOT NULL, pieces int NOT NULL);
 INSERT INTO shops SELECT i, 'region ' || i % 20 FROM generate_series(0, 199) AS i;
-INSERT INTO products SELECT 'product ' || i, 'kind ' || i % 50, 100 + i FROM generate_series(0, 4999) AS i;
+INSERT INTO products SELECT 'product ' || i, 'kind ' || i % 50, 100 + i FROM generate_series(0, 199999) AS i;
 INSERT INTO days SELECT i, i / 30 FROM generate_series(0, 364) AS i;
-INSERT INTO sales SELECT i, i * 7 % 200, 'product ' || i::bigint * 31 % 5000, i * 11 % 365, i % 9 FROM generate_series(1, {facts}) AS i;
+INSERT INTO sales SELECT i, i * 7 % 200, 'product ' || i::bigint * 31 % 200000, i * 11 % 365, i % 9 FROM generate_series(1, {facts}) AS i;
 ANALYZE;
 """
 # A half of the changes are rows that change, of which each is two of the night's; a hundredth of all is products whose price changes.
 CHANGED = """
 UPDATE sales SET pieces = pieces + 1 WHERE id IN (SELECT i::bigint * 97 % {facts} FROM generate_series(1, {many} / 4) AS i);
 DELETE FROM sales WHERE id IN (SELECT i::bigint * 89 % {facts} + 1 FROM generate_series(1, {many} / 4) AS i);
-INSERT INTO sales SELECT (SELECT max(id) FROM sales) + i, i * 7 % 200, 'product ' || i * 31 % 5000, i * 11 % 365, i % 9 FROM generate_series(1, {many} / 4) AS i;
-UPDATE products SET price = price + 1 WHERE product IN (SELECT 'product ' || i * 37 % 5000 FROM generate_series(1, {many} / 100) AS i);
+INSERT INTO sales SELECT (SELECT max(id) FROM sales) + i, i * 7 % 200, 'product ' || i * 31 % 200000, i * 11 % 365, i % 9 FROM generate_series(1, {many} / 4) AS i;
+UPDATE products SET price = price + 1 WHERE product IN (SELECT 'product ' || i * 37 % 200000 FROM generate_series(1, {many} / 100) AS i);
 """
 # The hand's tables: those of the application copied, the same view with its key, and the summaries.
 BY_HAND = """
@@ -147,8 +148,8 @@ DELETE FROM hand.by_both WHERE n = 0;
 DELETE FROM wh."sales~changes";
 DELETE FROM wh."products~changes";
 """
-# The tables of one's own: those that `--create` makes, with the keys that a hand gives them, the rows of the application and what was captured.
-KEYS = {"sales": "id", "shops": "shop", "products": "product", "days": "day"}
+# The tables of one's own: those that `--create` makes, with the rows of the application and what was captured.
+BASE = ("sales", "shops", "products", "days")
 OF_ONES_OWN = ("--schema", "own", "--plain", "*")
 MATERIALIZED = {
     "sold": ("SELECT s.id, h.region, p.kind, d.month, s.pieces * p.price AS cost FROM sales s JOIN shops h USING (shop) JOIN products p USING (product)"
@@ -158,6 +159,12 @@ MATERIALIZED = {
     "by_both": ("SELECT region, kind, count(*) AS n, sum(cost) AS cost FROM m_sold GROUP BY region, kind", "region, kind"),
 }  # fmt: skip
 MEMORY = "SET work_mem = '64MB'; SET temp_buffers = '64MB'; SET maintenance_work_mem = '64MB'; SET max_parallel_workers_per_gather = 0;"
+
+
+class OfItsOwn(Server):
+    """A server whose buffers are as many as PostgreSQL has by itself."""
+
+    settings = Server.settings.replace("shared_buffers=32MB", "shared_buffers=128MB")
 
 
 class Beside:
@@ -204,8 +211,7 @@ class Beside:
         """The tables of one's own, opened."""
         self.database.asked("CREATE SCHEMA own;")
         self.timed(self.script("--create", *OF_ONES_OWN))
-        self.database.asked("".join(f"ALTER TABLE own.{name} ADD PRIMARY KEY ({key}); INSERT INTO own.{name} SELECT * FROM {name};"
-                                    for name, key in KEYS.items()) + "ANALYZE;")  # fmt: skip
+        self.database.asked("".join(f"INSERT INTO own.{name} SELECT * FROM {name};" for name in BASE) + "ANALYZE;")
         self.timed(self.script("--open", *OF_ONES_OWN))
 
     def refreshed(self, rounds):
@@ -215,7 +221,7 @@ class Beside:
     def nights(self, many, rounds):
         """The seconds of the night over live tables, of that over one's own, and the hand's, by turns, each rolled back."""
         changed = CHANGED.format(many=many, facts=self.facts)
-        own = "".join(f'INSERT INTO own."{name}~changes" SELECT * FROM wh."{name}~changes"; ANALYZE own."{name}~changes";' for name in KEYS)
+        own = "".join(f'INSERT INTO own."{name}~changes" SELECT * FROM wh."{name}~changes"; ANALYZE own."{name}~changes";' for name in BASE)
         self.database.asked("BEGIN;" + changed + 'COMMIT; ANALYZE wh."sales~changes";' + own)
         live, of_own = self.live("--live"), self.script(*OF_ONES_OWN)
         texts = (live.replace("COMMIT;", ""), of_own.replace("COMMIT;", ""), HAND)
@@ -242,7 +248,7 @@ class Beside:
 
 
 def measure(asked):
-    with Server(postgresql()) as server, tempfile.TemporaryDirectory() as folder:
+    with OfItsOwn(postgresql()) as server, tempfile.TemporaryDirectory() as folder:
         import os
 
         os.environ.update(PGHOST=str(server.folder), PGUSER="postgres")

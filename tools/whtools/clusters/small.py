@@ -52,7 +52,7 @@ class Small:
 
     def __init__(self, servers, shards=(), before=None):
         views = views_of(TEXT)
-        self.catalogue = SimpleNamespace(views=views, names={view.name: v for v, view in enumerate(views)}, words=Bundled(views), sizes=None)
+        self.catalogue = SimpleNamespace(views=views, names={view.name: v for v, view in enumerate(views)}, words=Bundled(views), content="", sizes=None)
         self.servers, self.database, self.shards = servers, f"small{next(NUMBERS)}", shards if len(servers) > 1 else ()
         self.warehouse = self.client()
         self.tables = {v: added(rows.items()) for v, rows in (before or BEFORE).items()}

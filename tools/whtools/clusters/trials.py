@@ -19,7 +19,7 @@ AT_A_TIME = 4
 
 def catalogue_of(drawn):
     """A drawn warehouse's catalogue."""
-    return SimpleNamespace(views=drawn.views, names=drawn.names, words=drawn.bundled, sizes=None)
+    return SimpleNamespace(views=drawn.views, names=drawn.names, words=drawn.bundled, content="", sizes=None)
 
 
 def shared(drawn, source, servers):

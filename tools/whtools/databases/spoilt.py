@@ -23,7 +23,7 @@ SPOILT = [
         "a trigger keeps a row out"),
     Spoilt("rows are told by their places alone", "postgresql", r"t\.tableoid = g\.part AND ", "",
         "tea leaves a table in parts by list, and jam stays"),
-    Spoilt("a row that changes leaves and comes", "postgresql", r"IF key\d+ IS NULL", "IF TRUE",
+    Spoilt("a row that changes leaves and comes", "postgresql", r"IF key_columns\[\d+\] IS NULL", "IF TRUE",
         "a price changes beside a description"),
     Spoilt("a row that changes leaves and comes", "sqlite", r"SET pair = g\.new", "SET pair = NULL",
         "a price changes beside a description"),

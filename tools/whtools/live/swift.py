@@ -7,12 +7,12 @@ one that comes with it are one UPDATE. A step without changes runs no statement,
 from functools import cached_property
 
 from whtools.live.history import SwiftHistory
-from whtools.live.keys import Keys
 from whtools.live.opening import Opening
 from whtools.live.script import LiveScript
 from whtools.live.swift_groups import SwiftGroups
 from whtools.sql.catalogued import WIDEST_INDEX
 from whtools.sql.dialect import COUNT, MOST
+from whtools.sql.keys import Keys
 from whtools.sql.lean import LARGE, LOOK_UPS, LeanComps, joins
 from whtools.sql.postgresql import KEPT, LIMITS, PostgreSQL
 from whtools.sql.tokens import joined, number, sql, text, word

@@ -38,6 +38,10 @@ class Dialect:
         """A table that passes with the night."""
         return sql("{schema}.{table}", schema=self.temporary, table=name(said))
 
+    def room(self, is_summary):
+        """How much room a table has for rows that change."""
+        return sql("")
+
     # ---- what an engine does not take, of which it says so; PostgreSQL takes all that the formats do
 
     def judge_table(self, said):

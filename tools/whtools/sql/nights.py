@@ -102,7 +102,7 @@ class Carried:
 
     def __init__(self, night, engine, kind):
         self.night, self.engine = night, engine
-        self.script = kind(SimpleNamespace(views=night.views, words=night.words), engine.dialect, night.plain)
+        self.script = kind(SimpleNamespace(views=night.views, words=night.words, content=""), engine.dialect, night.plain)
         self.comment = Comments(SimpleNamespace(views=night.views, words=night.words, sizes=None)).short
 
     def mistake(self):

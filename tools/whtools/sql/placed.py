@@ -1,28 +1,24 @@
 """Nights over tables of one's own in PostgreSQL, where an Inst is made in one pass.
 
-One statement goes over a view's change and finds of each row how often it stands in the table, where, and what becomes of it; it counts what
+One statement adds up a view's change and finds of each row how often it stands in the table, where, and what becomes of it; it counts what
 leaves, stays and comes. The DELETE, the UPDATE and the INSERT of the Inst are made of these rows, and have to touch as many as were counted.
 A step without changes runs no statement. Tables may be partitioned, and have triggers, keys and columns of others: what was installed is
 looked at where somebody else's trigger could have changed it, and whether other rows were touched in any case."""
 
+from whtools.sql.acts import CHANGED, COMES, LEAVES, RECOUNTED, becomes
 from whtools.sql.dialect import COUNT, MOST
 from whtools.sql.lean import LARGE, LOOK_UPS, LeanComps, joins
+from whtools.sql.placed_checks import PlacedChecks
 from whtools.sql.placed_groups import PlacedGroups
 from whtools.sql.postgresql import PostgreSQL
 from whtools.sql.script import Script
 from whtools.sql.tokens import END_OF_STATEMENT, body, joined, number, sql, text, word
 
-# What becomes of a row of a change: nothing by itself, as where it is the old half of a pair or absent; it leaves, its count changes, it comes,
-# or it changes from the row that it is paired with.
-NOTHING, LEAVES, RECOUNTED, COMES, CHANGED = range(5)
 COUNTERS = ("rows", "gone", "stay", "come", "other")
-BY_PLACE = joins(hashjoin="off", mergejoin="off")
+BY_PLACE, ALL_AT_ONCE = joins(hashjoin="off", mergejoin="off"), joins(nestloop="off")
 HASHED = sql("hashed := current_setting({key})", key=text("enable_hashjoin"))
+ALONE = sql("PERFORM set_config({key}, nested, TRUE)", key=text("enable_nestloop"))
 AS_EVER = sql("PERFORM set_config({hash}, hashed, TRUE), set_config({merge}, merged, TRUE)", hash=text("enable_hashjoin"), merge=text("enable_mergejoin"))
-
-
-def becomes(act):
-    return sql("d.act = {act}", act=number(act))
 
 
 class PlacedScript(PlacedGroups, LeanComps, Script):
@@ -30,6 +26,7 @@ class PlacedScript(PlacedGroups, LeanComps, Script):
 
     def __init__(self, catalogue, dialect, plain=(), keyed=()):
         super().__init__(catalogue, dialect, plain, keyed)
+        self.checked = PlacedChecks(self)
         self.opening = Script(catalogue, dialect, plain, keyed)
 
     def variables(self):
@@ -37,9 +34,10 @@ class PlacedScript(PlacedGroups, LeanComps, Script):
         numbers = [word(kind, v) for v in range(len(self.views)) for kind in COUNTERS]
         numbers += [word("made", v) for v in self.steps.derived()]
         found = [sql("{said} pg_catalog.int8", said=said) for said in [*numbers, word("lost")]]
-        found += [sql("{said} pg_catalog.text", said=word(kind, v)) for v in range(len(self.views)) for kind in ("told", "key")]
-        found += [sql("{said} pg_catalog.bool", said=said) for said in [*(word("there", v) for v in self.steps.base()), word("watched")]]
-        return [*PostgreSQL.variables, *found, sql("hashed pg_catalog.text")]
+        found += [sql("{said} pg_catalog.text", said=self.counter("told", v)) for v in range(len(self.views))]
+        found += [sql("{said} pg_catalog.bool", said=self.counter("there", v)) for v in self.steps.base()]
+        kept = ["hashed pg_catalog.text", "is_apart pg_catalog.bool", "parts pg_catalog.oid[]", "places pg_catalog.tid[]"]
+        return [*PostgreSQL.variables, *found, *map(sql, kept), *self.checked.variables()]
 
     # ---- scripts
 
@@ -53,16 +51,9 @@ class PlacedScript(PlacedGroups, LeanComps, Script):
     def whole(self, before, steps, after, comment):
         self.dialect.variables = self.variables()
         try:
-            return super().whole([LOOK_UPS, HASHED, *self.looked_at(), *before], steps, after, comment)
+            return super().whole([LOOK_UPS, HASHED, *before], steps, after, comment)
         finally:
             del self.dialect.variables
-
-    def looked_at(self):
-        """Which base views have changes, and whether what is installed has to be looked at again."""
-        base = self.steps.base()
-        tests = [sql("EXISTS (SELECT 1 FROM {changes} AS d)", changes=self.table(v, "~changes")) for v in base]
-        there = joined([self.counter("there", v) for v in base])
-        return [sql("SELECT {tests} INTO {there}", tests=joined([*tests, self.checked.watched()]), there=sql("{there}, watched", there=there))]
 
     def night(self, strategy, comment):
         numbers = range(len(self.views))
@@ -83,8 +74,11 @@ class PlacedScript(PlacedGroups, LeanComps, Script):
             return self.counter("there", step.view)
         if step.kind == "comp":
             return joined([sql("{rows} > 0", rows=self.counter("rows", u)) for u in step.sources], "OR")
-        is_computed = step.kind == "finish" and not self.is_direct(step.view)
-        return sql("{many} > 0", many=self.counter("made" if is_computed else "rows", step.view))
+        is_computed = step.kind == "finish" or (step.kind == "inst" and self.is_last(step.view))
+        if is_computed and not self.is_direct(step.view):
+            return sql("{made} > 0", made=self.counter("made", step.view))
+        is_last = step.kind == "inst" and self.is_last(step.view)
+        return sql("{many} > 0", many=self.counter("rows", self.views[step.view].over[0] if is_last else step.view))
 
     def emptied(self):
         """The changes are used up; where there were none, nothing is done."""
@@ -95,17 +89,27 @@ class PlacedScript(PlacedGroups, LeanComps, Script):
 
     # ---- changes
 
-    def is_read(self, v):
-        """Whether another view's Comp reads the change of a view."""
-        return any(v in view.over for view in self.views)
+    def is_last(self, v):
+        """Whether a view is a summary that none is over: nothing reads its change, so that it is made when it is put."""
+        return self.shape.is_summary(v) and not any(v in view.over for view in self.views)
+
+    def net_columns(self, v):
+        return [sql("id bigint"), *self.typed_cells(v), *map(sql, ("n bigint", "was bigint", "part oid", "place tid", "act int"))]
 
     def net_made(self, v, rows, cells, counted):
-        """The change of a view whose rows are told by their cells."""
-        columns = [sql("id bigint"), *self.typed_cells(v), sql("n bigint")]
-        put = [self.netted(v, rows, cells, [counted]), sql("GET DIAGNOSTICS {rows} = ROW_COUNT", rows=self.counter("rows", v))]
-        looked_up = sql("ANALYZE {net} (n)", net=self.working(v, "net"))
-        return [self.made(v, "net", columns), *self.dialect.counted(self.told_large(v), put),
-                *self.then(sql("{rows} > 0", rows=self.counter("rows", v)), [looked_up])]  # fmt: skip
+        """The change of a view whose rows are told by their cells, with what becomes of each. Where no unique index finds a row of the table,
+        none is looked up alone."""
+        at_once = [self.where_unfound(v, ALL_AT_ONCE), self.put_together(v, self.changed(rows, cells, counted)), self.where_unfound(v, ALONE)]
+        return [self.made(v, "net", self.net_columns(v)), *self.dialect.counted(self.told_large(v), at_once), *self.analyzed(v)]
+
+    def where_unfound(self, v, statement):
+        return self.dialect.where(sql("NOT {found}", found=self.checked.known("is_found", v)), statement)
+
+    def changed(self, rows, cells, counted):
+        """Equal rows added up, each with a number of its own."""
+        named = [sql("{cell} AS {own}", cell=cell, own=word("c", at)) for at, cell in enumerate(cells, 1)]
+        return sql("SELECT row_number() OVER () AS id, {named}, sum({counted})::bigint AS n FROM {rows} GROUP BY {cells} HAVING sum({counted}) <> 0",
+                   named=joined(named), counted=counted, rows=rows, cells=joined(cells))  # fmt: skip
 
     def net(self, step):
         v = step.view
@@ -114,7 +118,7 @@ class PlacedScript(PlacedGroups, LeanComps, Script):
 
     def judge(self, step):
         v = step.view
-        return [*self.put_made(v), *self.judged(v), *self.spared(v), *self.cascades(v)]
+        return [*self.judged(v), *self.spared(v), *self.cascades(v)]
 
     def judged(self, v):
         """A refusal by what was told where the rows were counted."""
@@ -127,51 +131,52 @@ class PlacedScript(PlacedGroups, LeanComps, Script):
         if not self.is_direct(v):
             return self.computed(step)
         (term,) = step.terms
+        if self.is_last(v):
+            return []
         if self.shape.is_summary(v):
-            return self.groups_at_once(v, term)
+            return self.groups_directly(v)
         return self.net_made(v, sql("({term}) AS r", term=self.term(v, term)), self.cells(v, "r"), sql("r.n"))
 
     def finish(self, step):
-        """What was computed becomes the change, is looked up and judged."""
+        """What was computed becomes the change, is looked up and judged; that of a view which no other reads when it is put."""
         v = step.view
+        if self.is_last(v):
+            return []
         if self.shape.is_summary(v):
             made = [] if self.is_direct(v) else self.groups_made(v, self.groups_counted(v, self.summed_pending(v)))
             return [*made, *self.judged(v), *self.group_rows(v)]
-        if self.is_direct(v):
-            return [*self.put_made(v), *self.judged(v)]
-        made = self.net_made(v, sql("{pending} AS r", pending=self.working(v, "pending")), self.cells(v, "r"), sql("r.s1"))
-        return [*made, *self.then(sql("{rows} > 0", rows=self.counter("rows", v)), [*self.put_made(v), *self.judged(v)])]
+        made = [] if self.is_direct(v) else self.net_made(v, sql("{pending} AS r", pending=self.working(v, "pending")), self.cells(v, "r"), sql("r.s1"))
+        return [*made, *self.judged(v)]
 
     # ---- the pass over a change
 
-    def put_columns(self, v):
-        return [sql("id bigint"), *self.typed_cells(v), *map(sql, ("n bigint", "was bigint", "part oid", "place tid", "act int"))]
-
-    def put_made(self, v):
+    def put_together(self, v, changed):
         """The rows of a change with what becomes of each, and what is counted of them; a key is known where the table has been looked at."""
-        made, key = [self.made(v, "put", self.put_columns(v))], self.counter("key", v)
-        alone = sql("EXECUTE {query} INTO {into}", query=body(self.counting(v, self.by_itself(v))), into=self.into(v))
+        alone = sql("EXECUTE {query} INTO {into}", query=body(self.counting(v, self.by_itself(v, changed))), into=self.into(v))
         if not self.has_pairs(v):
-            return [*made, alone]
-        paired = sql("EXECUTE {first} || {key} || {last} INTO {into}", key=key, into=self.into(v),
-                     **{end: body(query) for end, query in zip(("first", "last"), self.paired_queries(v))})  # fmt: skip
-        listed = sql("{key} := (SELECT string_agg(concat({cell}, k.place), {comma}) FROM {keys} AS k WHERE k.view = {v})", key=key, cell=text("p.c"),
-                     comma=text(", "), keys=self.checked.parts["keys"], v=number(v))  # fmt: skip
-        either = sql("IF {key} IS NULL THEN {alone}{end} ELSE {paired}{end} END IF", key=key, alone=alone, paired=paired, end=END_OF_STATEMENT)
-        return [*made, listed, either]
+            return alone
+        key = self.checked.known("key_columns", v)
+        one, some = (sql("EXECUTE {first} || {key} || {last} INTO {into}", first=body(first), key=key, last=body(last), into=self.into(v))
+                     for first, last in (self.paired_queries(v, changed, is_unique) for is_unique in (True, False)))  # fmt: skip
+        return sql("IF {key} IS NULL THEN {alone}{end} ELSIF {found} THEN {one}{end} ELSE {some}{end} END IF", key=key, alone=alone, one=one, some=some,
+                   found=self.checked.known("is_found", v), end=END_OF_STATEMENT)  # fmt: skip
 
     def has_pairs(self, v):
         """Whether a view may have a key of some of its columns."""
-        return not self.views[v].over and self.shape.width(v) > 1
+        return not self.shape.is_summary(v) and self.shape.width(v) > 1
 
-    def looked_up(self, v):
+    def looked_up(self, v, changed, is_unique=False):
         """Each row of a change beside the row of the table, or beside each of them: how often it was there, and the place."""
-        cells, net, counted = joined(self.cells(v, "d")), self.working(v, "net"), self.shape.is_counted(v)
-        each = sql("OVER (PARTITION BY d.id)")
-        was = sql("coalesce({held}, 0)", held=self.dialect.read_count(sql("t.{count}", count=COUNT))) if counted else sql("count(t.ctid) {each}", each=each)
-        nth = number(1) if counted else sql("row_number() {each}", each=each)
-        return sql("SELECT d.id, {cells}, d.n, {was} AS was, t.tableoid AS part, t.ctid AS place, {nth} AS nth FROM {net} AS d LEFT JOIN {table} AS t ON {same}",
-                   cells=cells, was=was, nth=nth, net=net, table=self.table(v), same=self.same(v))  # fmt: skip
+        cells, each = joined(self.cells(v, "d")), sql("OVER (PARTITION BY d.id)")
+        was, nth = sql("count(t.ctid) {each}", each=each), sql("row_number() {each}", each=each)
+        if is_unique or self.shape.is_counted(v):
+            was, nth = sql("CASE WHEN t.ctid IS NULL THEN 0 ELSE {held} END", held=self.held(v)), number(1)
+        return sql("SELECT d.id, {cells}, d.n, {was} AS was, t.tableoid AS part, t.ctid AS place, {nth} AS nth FROM ({changed}) AS d LEFT JOIN {table} AS t"
+                   " ON {same}", cells=cells, was=was, nth=nth, changed=changed, table=self.table(v), same=self.same(v))  # fmt: skip
+
+    def held(self, v):
+        """How often a row of the table counts."""
+        return self.dialect.read_count(sql("t.{count}", count=COUNT)) if self.shape.is_counted(v) else number(1)
 
     def act(self, v):
         """What becomes of a row f that was looked up; of equal rows without counts as many leave as the change says."""
@@ -180,26 +185,28 @@ class PlacedScript(PlacedGroups, LeanComps, Script):
                        most=self.dialect.whole(MOST))  # fmt: skip
         return sql("CASE WHEN f.n > 0 THEN 3 WHEN f.nth + f.n <= 0 THEN 1 ELSE 0 END")
 
-    def acting(self, v):
+    def acting(self, v, looked_up):
         """The rows p of a change with what becomes of each by itself."""
-        return sql("SELECT f.*, {act} AS act FROM ({found}) AS f", act=self.act(v), found=self.looked_up(v))
+        return sql("SELECT f.*, {act} AS act FROM ({found}) AS f", act=self.act(v), found=looked_up)
 
-    def by_itself(self, v):
-        cells = joined(self.cells(v, "p"))
-        return sql("SELECT p.id, {cells}, p.n, p.was, p.part, p.place, p.act FROM ({rows}) AS p WHERE p.nth = 1 OR p.act = 1", cells=cells, rows=self.acting(v))
+    def by_itself(self, v, changed):
+        """Of equal rows the first counts for all."""
+        return sql("SELECT p.id, {cells}, CASE WHEN p.nth = 1 THEN p.n ELSE 0 END, p.was, p.part, p.place, p.act FROM ({rows}) AS p"
+                   " WHERE p.nth = 1 OR p.act = 1", cells=joined(self.cells(v, "p")), rows=self.acting(v, self.looked_up(v, changed)))  # fmt: skip
 
-    def paired_queries(self, v):
+    def paired_queries(self, v, changed, is_unique):
         """The same where a row that leaves and one that comes with its key are one that changes: before the key's columns, and behind them."""
         comes = sql("p.act = 3") if self.shape.is_counted(v) else sql("p.act = 3 AND p.n = 1 AND p.was = 0")
         leaves = sql("p.act = 1") if self.shape.is_counted(v) else sql("p.act = 1 AND p.n = -1")
         first = sql(
-            "SELECT q.id, {cells}, q.n, q.was, CASE WHEN {pair} AND q.act = 3 THEN q.old_part ELSE q.part END,"
+            "SELECT q.id, {cells}, CASE WHEN q.nth = 1 THEN q.n ELSE 0 END, q.was, CASE WHEN {pair} AND q.act = 3 THEN q.old_part ELSE q.part END,"
             " CASE WHEN {pair} AND q.act = 3 THEN q.old_place ELSE q.place END,"
             " CASE WHEN NOT {pair} THEN q.act WHEN q.act = 3 THEN 4 ELSE 0 END FROM (SELECT p.*, count(*) FILTER (WHERE p.nth = 1) OVER k AS many,"
             " count(*) FILTER (WHERE {leaves}) OVER k AS leaving, count(*) FILTER (WHERE {comes}) OVER k AS coming,"
             " max(p.part) FILTER (WHERE {leaves}) OVER k AS old_part, max(p.place) FILTER (WHERE {leaves}) OVER k AS old_place"
             " FROM ({rows}) AS p WINDOW k AS (PARTITION BY",
-            cells=joined(self.cells(v, "q")), pair=sql("(q.many = 2 AND q.leaving = 1 AND q.coming = 1)"), leaves=leaves, comes=comes, rows=self.acting(v),
+            cells=joined(self.cells(v, "q")), pair=sql("(q.many = 2 AND q.leaving = 1 AND q.coming = 1)"), leaves=leaves, comes=comes,
+            rows=self.acting(v, self.looked_up(v, changed, is_unique)),
         )  # fmt: skip
         begun, ended = self.counting_parts(v)
         return sql("{begun} {first}", begun=begun, first=first), sql(")) AS q WHERE q.nth = 1 OR q.act = 1 {ended}", ended=ended)
@@ -207,7 +214,7 @@ class PlacedScript(PlacedGroups, LeanComps, Script):
     def counting_parts(self, v):
         """What keeps rows and counts them, before the query for them and behind it."""
         columns = joined([word("id"), *self.cells(v), *map(word, ("n", "was", "part", "place", "act"))])
-        begun = sql("WITH put AS (INSERT INTO {put} ({columns})", put=self.working(v, "put"), columns=columns)
+        begun = sql("WITH put AS (INSERT INTO {net} ({columns})", net=self.working(v, "net"), columns=columns)
         return begun, sql("RETURNING id, n, was, act) SELECT {numbers} FROM put AS d", numbers=joined(self.judging(v).values()))
 
     def counting(self, v, rows):
@@ -218,6 +225,7 @@ class PlacedScript(PlacedGroups, LeanComps, Script):
         """What is counted of the rows d of a change, and what is told where it is refused."""
         counted, most = self.shape.is_counted(v), self.dialect.whole(MOST)
         many = {kind: self.many(becomes(act)) for kind, act in (("gone", LEAVES), ("stay", RECOUNTED), ("come", COMES), ("other", CHANGED))}
+        many["rows"] = sql("count(*)")
         if not counted:
             many["come"] = sql("least(coalesce(sum(d.n) FILTER (WHERE d.act = 3), 0), {most})::bigint", most=most)
         return {**many, "told": self.first_told(self.refused(v))}
@@ -231,7 +239,7 @@ class PlacedScript(PlacedGroups, LeanComps, Script):
         return [(sql("count(*) <> max(d.id)"), self.told_twice(v)), absent, (large, self.told_large(v))]
 
     def into(self, v):
-        return joined([self.counter(kind, v) for kind in ("gone", "stay", "come", "other", "told")])
+        return joined([self.counter(kind, v) for kind in self.judging(v)])
 
     # ---- what a change would take with it
 
@@ -245,22 +253,28 @@ class PlacedScript(PlacedGroups, LeanComps, Script):
 
     def moved_rows(self, v):
         """Queries for rows that leave, and for pairs of which one column p of a reference r is another one after the night."""
-        put = self.working(v, "put")
+        net = self.working(v, "net")
         changed = joined([sql("WHEN {place} THEN o.{cell} <> w.{cell}", place=number(at), cell=cell) for at, cell in enumerate(self.cells(v), 1)], "")
-        moved = sql("SELECT 1 FROM {put} AS o JOIN {put} AS w ON w.part = o.part AND w.place = o.place WHERE o.act = 0 AND w.act = 4"
-                    " AND CASE r.place {changed} END", put=put, changed=changed)  # fmt: skip
-        return sql("SELECT 1 FROM {put} AS d WHERE d.act = 1", put=put), moved
+        moved = sql("SELECT 1 FROM {net} AS o JOIN {net} AS w ON w.part = o.part AND w.place = o.place WHERE o.act = 0 AND w.act = 4"
+                    " AND CASE r.place {changed} END", net=net, changed=changed)  # fmt: skip
+        return sql("SELECT 1 FROM {net} AS d WHERE d.act = 1", net=net), moved
 
     # ---- Insts
 
     def inst(self, step):
-        """What was found is put into the table. Of many rows of a table without parts each is gone to."""
+        """What was found is put into the table."""
         v = step.view
+        if self.is_last(v):
+            return self.last_put(v)
         judged = [*self.spared(v), *self.cascades(v)] if self.views[v].over else []
+        return [*judged, *self.gone_to(v)]
+
+    def gone_to(self, v):
+        """The statements that go to the rows found. Of many rows of a table without parts each is gone to."""
         one = sql("(SELECT count(*) FROM {parts} AS p WHERE p.number = {v}) = 1", parts=self.checked.parts["parts"], v=number(v))
         is_large = sql("{rows} > {large} AND {one}", rows=self.counter("rows", v), large=number(LARGE), one=one)
         put = [*self.left(v), *self.stayed(v), *self.recounted(v), *self.came(v)]
-        return [*judged, *self.then(is_large, [BY_PLACE]), *put, *self.then(is_large, [AS_EVER])]
+        return [*self.then(is_large, [BY_PLACE]), *put, *self.then(is_large, [AS_EVER])]
 
     def put(self, v, statement, many):
         """A statement that has to touch as many rows as were counted, where there are any."""
@@ -269,22 +283,22 @@ class PlacedScript(PlacedGroups, LeanComps, Script):
         return self.then(sql("{many} > 0", many=many), self.dialect.counted(told, [statement, sql("GET DIAGNOSTICS touched = ROW_COUNT"), torn]))
 
     def change(self, v):
-        return self.working(v, "beside" if self.shape.is_summary(v) else "put")
+        return self.working(v, "beside" if self.shape.is_summary(v) else "net")
 
-    def placed(self, v, more, act):
+    def placed(self, v, more, act, change=None):
         """The places of rows of a change of which one thing becomes, with more about them."""
         shown = joined([sql("d.part, d.place"), *more])
-        return sql("SELECT {shown} FROM {change} AS d WHERE {act}", shown=shown, change=self.change(v), act=becomes(act))
+        return sql("SELECT {shown} FROM {change} AS d WHERE {act}", shown=shown, change=change or self.change(v), act=becomes(act))
 
     def left(self, v):
         return self.put(v, self.dialect.delete(self.said(v), self.placed(v, [], LEAVES)), self.counter("gone", v))
 
-    def updated(self, v, columns, cells, act, kind):
+    def update_of(self, v, columns, cells, act, change=None):
         """An update of these columns of rows of which one thing becomes."""
         names = [word("x", at) for at in range(len(cells))]
-        rows = self.placed(v, [sql("{cell} AS {name}", cell=cell, name=each) for cell, each in zip(cells, names)], act)
+        rows = self.placed(v, [sql("{cell} AS {name}", cell=cell, name=each) for cell, each in zip(cells, names)], act, change)
         sets = joined([sql("{column} = g.{name}", column=column, name=each) for column, each in zip(columns, names)])
-        return self.put(v, self.dialect.update(self.said(v), sets, rows), self.counter(kind, v))
+        return self.dialect.update(self.said(v), sets, rows)
 
     def stayed(self, v):
         """Rows that change and stay the same rows: their columns that the catalogue does not have stay as they are."""
@@ -292,27 +306,35 @@ class PlacedScript(PlacedGroups, LeanComps, Script):
             return []
         count = [(COUNT, sql("d.n"))] if self.shape.is_counted(v) else []
         columns, cells = zip(*zip(self.users(v), self.cells(v, "d")), *count)
-        return self.updated(v, columns, cells, CHANGED, "other")
+        return self.put(v, self.update_of(v, columns, cells, CHANGED), self.counter("other", v))
 
     def recounted(self, v):
         """Rows that stand more or less often than before, or groups with other sums."""
         if self.shape.is_summary(v):
-            groups = self.shape.groups(v)
-            return self.updated(v, self.users(v)[groups:], self.summed_columns(v, "a", "d"), RECOUNTED, "stay")
-        return self.updated(v, [COUNT], [sql("d.was + d.n")], RECOUNTED, "stay") if self.shape.is_counted(v) else []
+            columns, cells = self.users(v)[self.shape.groups(v) :], self.sums_after(v)
+        elif self.shape.is_counted(v):
+            columns, cells = [COUNT], [self.count_after()]
+        else:
+            return []
+        return self.put(v, self.update_of(v, columns, cells, RECOUNTED), self.counter("stay", v))
 
-    def came(self, v):
+    def count_after(self):
+        return sql("d.was + d.n")
+
+    def insert_of(self, v, change):
         """Rows come: in a table without counts each is a row of its own."""
-        columns, cells, rows = self.users(v), list(self.cells(v, "d")), sql("{change} AS d", change=self.change(v))
+        columns, cells, rows = self.users(v), list(self.cells(v, "d")), sql("{change} AS d", change=change)
         if self.shape.is_summary(v):
             cells = [*cells[: self.shape.groups(v)], *self.summed_columns(v, "a", "d")]
         elif self.shape.is_counted(v):
             columns, cells = [*columns, COUNT], [*cells, sql("d.n")]
         else:
-            rows = self.dialect.copies(self.change(v))
-        insert = sql("INSERT INTO {table} ({columns}) SELECT {cells} FROM {rows} WHERE {comes}", table=self.table(v), columns=joined(columns),
-                     cells=joined(cells), rows=rows, comes=becomes(COMES))  # fmt: skip
-        return self.put(v, insert, self.counter("come", v))
+            rows = self.dialect.copies(change)
+        return sql("INSERT INTO {table} ({columns}) SELECT {cells} FROM {rows} WHERE {comes}", table=self.table(v), columns=joined(columns),
+                   cells=joined(cells), rows=rows, comes=becomes(COMES))  # fmt: skip
+
+    def came(self, v):
+        return self.put(v, self.insert_of(v, self.change(v)), self.counter("come", v))
 
     # ---- a look afterwards
 
@@ -322,12 +344,10 @@ class PlacedScript(PlacedGroups, LeanComps, Script):
         if self.shape.is_summary(v):
             query = self.wrong_groups(v)
         else:
-            once = sql("CASE WHEN t.ctid IS NULL THEN 0 ELSE 1 END")
-            held = self.dialect.read_count(sql("t.{count}", count=COUNT)) if self.shape.is_counted(v) else once
             query = sql(
-                "SELECT 1 FROM (SELECT DISTINCT d.id, {cells}, d.was, d.n FROM {put} AS d) AS d LEFT JOIN {table} AS t ON {same}"
-                " GROUP BY d.id, d.was, d.n HAVING coalesce(sum({held}), 0) <> d.was + d.n",
-                cells=joined(self.cells(v, "d")), put=self.working(v, "put"), table=self.table(v), same=self.same(v), held=held,
+                "SELECT 1 FROM {net} AS d LEFT JOIN {table} AS t ON {same} WHERE d.n <> 0 GROUP BY d.id, d.was, d.n"
+                " HAVING coalesce(sum({held}) FILTER (WHERE t.ctid IS NOT NULL), 0) <> d.was + d.n",
+                net=self.working(v, "net"), table=self.table(v), same=self.same(v), held=self.held(v),
             )  # fmt: skip
         return self.then(sql("watched AND {rows} > 0", rows=self.counter("rows", v)), self.dialect.refuse(self.told_torn(v), query))
 

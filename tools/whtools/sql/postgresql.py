@@ -4,7 +4,7 @@
 from whtools.sql.dialect import LEAST, MOST, Dialect
 from whtools.sql.formulas import both, nodes
 from whtools.sql.postgresql_checks import Checks
-from whtools.sql.tokens import END_OF_STATEMENT, body, joined, name, sql, statements, text, word
+from whtools.sql.tokens import END_OF_STATEMENT, body, joined, name, number, sql, statements, text, word
 from whtools.sql.written import EscapingWriter
 
 LIMITS = sql("{least} AND {most}", least=sql("{n}::numeric", n=text(str(LEAST))), most=sql("{n}::numeric", n=text(str(MOST))))
@@ -30,6 +30,11 @@ SEARCHES = (
 KEPT = [sql("{before} := current_setting({key})", key=text(key), before=before) for key, _, before in SEARCHES]
 LIMITED = [sql("PERFORM set_config({key}, {value}, TRUE)", key=text(key), value=text(value)) for key, value, _ in SEARCHES]
 UNLIMITED = [sql("PERFORM set_config({key}, {before}, TRUE)", key=text(key), before=before) for key, _, before in SEARCHES]
+# How full, in hundredths, pages of rows are filled at first, and those of groups, most of which change: a row that changes finds room beside
+# itself then, and its indexes stay as they are.
+FILLED = {False: 90, True: 75}
+# Each statement of a block is read where it is carried out; to read all of them beforehand takes a tenth of a small night. Trials do without.
+UNREAD = sql("SET LOCAL check_function_bodies = off{end}", end=END_OF_STATEMENT)
 ISOLATION = "the isolation is not READ COMMITTED: run the script outside of other transactions"
 
 
@@ -51,6 +56,9 @@ class PostgreSQL(Dialect):
 
     def checks(self, script):
         return Checks(script)
+
+    def room(self, is_summary):
+        return sql("WITH (fillfactor = {filled})", filled=number(FILLED[is_summary]))
 
     # ---- literals and expressions
 
@@ -208,7 +216,7 @@ class PostgreSQL(Dialect):
         tables = [self.created(name(said), columns) for said, columns in working]
         block = self.block([self.where(isolated, self.raised(text(ISOLATION))), *checked, *tables, *made])
         begin = sql("BEGIN ISOLATION LEVEL READ COMMITTED READ WRITE{end}", end=END_OF_STATEMENT)
-        return [begin, block, sql("COMMIT{end}", end=END_OF_STATEMENT)]
+        return [begin, UNREAD, block, sql("COMMIT{end}", end=END_OF_STATEMENT)]
 
     def creation(self, made):
         """A transaction that makes tables and indexes."""

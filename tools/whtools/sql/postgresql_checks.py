@@ -24,6 +24,14 @@ TOUCHED = (
 KINDS = {"int": "bigint", "text": "text", "count": "bigint"}
 
 
+def cast(said, kind):
+    return sql(f"{{said}}::{kind}", said=text(said))
+
+
+def rows_of(rows):
+    return joined([sql("({row})", row=joined(row)) for row in rows])
+
+
 def known(said):
     return sql("pg_temp.{table}", table=name(said))
 
@@ -36,11 +44,7 @@ class Checks:
         self.parts = {said.partition("~")[2]: known(said) for said in KNOWN}
 
     def query(self, template, **parts):
-        return sql(template, schema=text(self.dialect.schema), **self.parts, **parts)
-
-    def refused(self, sentence, query):
-        """A refusal by the first sentence that a query gives, with a name in it."""
-        return self.dialect.refuse_with(self.query(query, sentence=text(sentence)))
+        return sql(template, schema=text(self.dialect.schema), **{**self.parts, **parts})
 
     def working_tables(self):
         """Those of the checks are made by themselves, before the others."""
@@ -55,35 +59,32 @@ class Checks:
 
     def named(self):
         """The names and columns that are expected."""
-        rows, columns = [], []
-        for at, each in enumerate(self.expected):
-            words = [number(at), text(each.role), text(each.told), text(each.said)]
-            rows.append(sql("({words})", words=joined(words)))
-            for place, (said, kind) in enumerate(each.columns, 1):
-                words = [number(at), number(place), text(said), text(KINDS[kind])]
-                columns.append(sql("({words})", words=joined(words)))
         return [
-            self.query("INSERT INTO {names} VALUES {rows}", rows=joined(rows)),
-            self.query("INSERT INTO {columns} VALUES {rows}", rows=joined(columns)),
+            self.query("INSERT INTO {names} VALUES {rows}", rows=rows_of(self.names())),
+            self.query("INSERT INTO {columns} VALUES {rows}", rows=rows_of(self.columns())),
         ]
 
+    def names(self):
+        """Of each table that is expected its number, role, what it is called, and its name."""
+        return [[number(at), text(each.role), text(each.told), cast(each.said, "name")] for at, each in enumerate(self.expected)]
+
+    def columns(self):
+        """Of each of its columns the table's number, its place, name and kind."""
+        return [[number(at), number(place), cast(said, "name"), text(KINDS[kind])]
+                for at, each in enumerate(self.expected) for place, (said, kind) in enumerate(each.columns, 1)]  # fmt: skip
+
     def missing(self):
-        """Names under which no table stands."""
-        there = (
-            "FROM {names} AS w LEFT JOIN (pg_class AS c JOIN pg_namespace AS s ON s.oid = c.relnamespace AND s.nspname = {schema})"
-            " ON c.relname = w.said WHERE "
-        )
+        """A refusal of names under which no table stands, or something else than a table."""
         none = "there is no table %s in the schema %s: make it, or name another schema by --schema"
-        found = self.query(
-            "SELECT format({sentence}, w.said, {schema}) " + there + "c.oid IS NULL ORDER BY w.number LIMIT 1", sentence=text(none)
-        )
         other = "table %s does not fit: it is no ordinary or partitioned table"
-        kinds = sql("({r}, {p})", r=text("r"), p=text("p"))
-        wrong = self.query(
-            "SELECT format({sentence}, w.told) " + there + "c.relkind NOT IN {kinds} ORDER BY w.number LIMIT 1",
-            sentence=text(other), kinds=kinds,
-        )
-        return [*self.dialect.refuse_with(found), *self.dialect.refuse_with(wrong)]
+        return self.dialect.refuse_with(
+            self.query(
+                "SELECT CASE WHEN c.oid IS NULL THEN format({none}, w.said, {schema}) ELSE format({other}, w.told) END FROM {names} AS w"
+                " LEFT JOIN pg_class AS c ON c.relname = w.said AND c.relnamespace = (SELECT s.oid FROM pg_namespace AS s WHERE s.nspname = {schema})"
+                " WHERE c.oid IS NULL OR c.relkind NOT IN {kinds} ORDER BY c.oid IS NOT NULL, w.number LIMIT 1",
+                none=text(none), other=text(other), kinds=sql("({r}, {p})", r=text("r"), p=text("p")),
+            )
+        )  # fmt: skip
 
     def lock(self, locked):
         """Writers wait from here on; readers go on with the contents before."""
@@ -105,18 +106,19 @@ class Checks:
             *self.dialect.filled(self.parts["tables"]),
             *self.dialect.filled(self.parts["columns"]),
             *self.dialect.filled(self.parts["parts"]),
-            *(each for v, places in self.script.keyed.items() for each in self.keyed(v, places)),
-            self.keys(),
-            self.spare(),
-            self.referred(),
+            *(each for v, places in self.script.keyed.items() for each in self.dialect.refuse_with(self.without_key(v, places))),
+            self.query("INSERT INTO {keys} {query}", query=self.keys()),
+            self.query("INSERT INTO {spare} {query}", query=self.spare()),
+            self.query("INSERT INTO {referred} {query}", query=self.referred()),
             self.query("INSERT INTO {touched} " + TOUCHED),
         ]
 
-    def keyed(self, v, places):
-        """The key that is said of a view: its table has to be an ordinary one with a unique key of these columns."""
+    def without_key(self, v, places):
+        """A query for what is told where a table has not the key that is said of its view: it has to be an ordinary one with a unique key of
+        these columns."""
         said = [self.expected[v].columns[place][0] for place in places]
         told = f"table %s does not fit: --keyed wants an ordinary table with a unique key of {', '.join(said)}"
-        unfit = self.query(
+        return self.query(
             "SELECT format({told}, t.told) FROM {tables} AS t JOIN pg_class AS c ON c.oid = t.relation WHERE t.number = {v} AND (c.relkind <> {r}"
             " OR EXISTS (SELECT 1 FROM pg_inherits AS i WHERE i.inhparent = c.oid OR i.inhrelid = c.oid) OR NOT EXISTS (SELECT 1"
             " FROM pg_index AS i WHERE i.indrelid = c.oid AND i.indisunique AND i.indisvalid AND i.indpred IS NULL AND i.indexprs IS NULL"
@@ -124,21 +126,21 @@ class Checks:
             " ON a.attrelid = i.indrelid AND a.attnum = i.indkey[k] WHERE a.attname NOT IN ({listed}))))",
             told=text(told), v=number(v), r=text("r"), many=number(len(said)), listed=joined(list(map(text, said))),
         )  # fmt: skip
-        rows = joined([sql("({v}, {place})", v=number(v), place=number(place + 1)) for place in places])
-        return [*self.dialect.refuse_with(unfit), self.query("INSERT INTO {keys} VALUES {rows}", rows=rows)]
 
     def keys(self):
-        """Of each base table the primary key, or else the least unique index, if all its columns are in the catalogue, not all of it."""
+        """A query for the keys of base tables, column by column: the one that is said, or that of the primary key, or else of the least unique
+        index, if all its columns are in the catalogue, and not all of it."""
+        said = [sql("UNION ALL SELECT {v}, {place}", v=number(v), place=number(place + 1)) for v, places in self.script.keyed.items() for place in places]
         return self.query(
-            "INSERT INTO {keys} SELECT b.number, w.place FROM (SELECT DISTINCT ON (t.number) t.number, i.indrelid, i.indkey, i.indnkeyatts"
+            "SELECT b.number, w.place FROM (SELECT DISTINCT ON (t.number) t.number, i.indrelid, i.indkey, i.indnkeyatts"
             " FROM {tables} AS t JOIN pg_index AS i ON i.indrelid = t.relation WHERE t.role = {base} {unsaid} AND i.indisunique AND i.indisvalid"
             " AND i.indpred IS NULL AND i.indexprs IS NULL AND (SELECT count(*) FROM generate_series(0, i.indnkeyatts - 1) AS k"
             " JOIN pg_attribute AS a ON a.attrelid = i.indrelid AND a.attnum = i.indkey[k] JOIN {columns} AS w ON w.number = t.number"
             " AND w.said = a.attname AND w.said <> {count}) = i.indnkeyatts AND i.indnkeyatts < (SELECT count(*) FROM {columns} AS w"
             " WHERE w.number = t.number AND w.said <> {count}) ORDER BY t.number, i.indisprimary DESC, i.indnkeyatts, i.indexrelid) AS b"
             " CROSS JOIN generate_series(0, b.indnkeyatts - 1) AS k JOIN pg_attribute AS a ON a.attrelid = b.indrelid"
-            " AND a.attnum = b.indkey[k] JOIN {columns} AS w ON w.number = b.number AND w.said = a.attname",
-            base=text("base"), count=text("#"), unsaid=self.unsaid(),
+            " AND a.attnum = b.indkey[k] JOIN {columns} AS w ON w.number = b.number AND w.said = a.attname {said}",
+            base=text("base"), count=text("#"), unsaid=self.unsaid(), said=joined(said, ""),
         )  # fmt: skip
 
     def unsaid(self):
@@ -147,9 +149,9 @@ class Checks:
         return sql("AND t.number NOT IN ({said})", said=said) if said else sql("")
 
     def spare(self):
-        """Columns that the catalogue has not and that a new row has no value for."""
+        """A query for columns that the catalogue has not and that a new row has no value for."""
         return self.query(
-            "INSERT INTO {spare} SELECT t.number, a.attname FROM {tables} AS t JOIN pg_attribute AS a ON a.attrelid = t.relation"
+            "SELECT t.number AS view, a.attname AS told FROM {tables} AS t JOIN pg_attribute AS a ON a.attrelid = t.relation"
             " JOIN pg_type AS y ON y.oid = a.atttypid WHERE t.role <> {changes} AND a.attnum > 0 AND NOT a.attisdropped AND NOT a.atthasdef"
             " AND a.attidentity = {none} AND y.typdefault IS NULL"
             " AND NOT EXISTS (SELECT 1 FROM {columns} AS w WHERE w.number = t.number AND w.said = a.attname)",
@@ -157,11 +159,11 @@ class Checks:
         )  # fmt: skip
 
     def referred(self):
-        """Foreign keys to the tables that change other rows where a row goes or its key changes, column by column."""
+        """A query for foreign keys to the tables that change other rows where a row goes or its key changes, column by column."""
         acts = sql("({c}, {n}, {d})", c=text("c"), n=text("n"), d=text("d"))
         return self.query(
-            "INSERT INTO {referred} SELECT p.number, w.place, f.conname, f.confdeltype IN {acts}, f.confupdtype IN {acts} FROM {parts} AS p"
-            " JOIN pg_constraint AS f ON f.confrelid = p.relation AND f.contype = {foreign}"
+            "SELECT p.number AS view, w.place, f.conname AS told, f.confdeltype IN {acts} AS by_delete, f.confupdtype IN {acts} AS by_update"
+            " FROM {parts} AS p JOIN pg_constraint AS f ON f.confrelid = p.relation AND f.contype = {foreign}"
             " AND (f.confdeltype IN {acts} OR f.confupdtype IN {acts}) CROSS JOIN LATERAL unnest(f.confkey) AS k"
             " JOIN pg_attribute AS a ON a.attrelid = f.confrelid AND a.attnum = k"
             " LEFT JOIN {columns} AS w ON w.number = p.number AND w.said = a.attname",
@@ -170,22 +172,17 @@ class Checks:
 
     def misfits(self):
         """Refusals of tables on which a night would not do what it says."""
-        below = "SELECT format({sentence}, p.told) FROM {parts} AS p JOIN pg_class AS c ON c.oid = p.relation WHERE "
-        last = " ORDER BY p.number LIMIT 1"
-        kinds = sql("({r}, {p})", r=text("r"), p=text("p"))
-        foreign = self.query(
-            below + "c.relkind NOT IN {kinds}" + last, kinds=kinds,
-            sentence=text("table %s does not fit: a table below it is no ordinary or partitioned table"),
-        )  # fmt: skip
-        return [
-            *self.dialect.refuse_with(self.misfit()),
-            *self.dialect.refuse_with(foreign),
-            *self.refused("table %s does not fit: row-level security hides rows of it from this role", below + "row_security_active(c.oid)" + last),
-            *self.refused(
-                "table %s does not fit: it has a rule, which would change what a night does; drop the rule",
-                below + "EXISTS (SELECT 1 FROM pg_rewrite AS r WHERE r.ev_class = c.oid)" + last,
-            ),
-        ]
+        return [each for query in self.unfit() for each in self.dialect.refuse_with(query)]
+
+    def unfit(self):
+        """Queries for what is told of such tables."""
+        below = "SELECT format({sentence}, p.told) FROM {parts} AS p JOIN pg_class AS c ON c.oid = p.relation WHERE {test} ORDER BY p.number LIMIT 1"
+        tests = {
+            "a table below it is no ordinary or partitioned table": sql("c.relkind NOT IN ({r}, {p})", r=text("r"), p=text("p")),
+            "row-level security hides rows of it from this role": sql("row_security_active(c.oid)"),
+            "it has a rule, which would change what a night does; drop the rule": sql("EXISTS (SELECT 1 FROM pg_rewrite AS r WHERE r.ev_class = c.oid)"),
+        }
+        return [self.misfit(), *(self.query(below, sentence=text(f"table %s does not fit: {told}"), test=test) for told, test in tests.items())]
 
     def misfit(self):
         """Columns that are not as they have to be, with what they are."""
@@ -247,13 +244,15 @@ class Checks:
         ) if expected else []  # fmt: skip
 
     def cascades(self, v, gone, moved):
-        """A foreign key that would change other rows by what the night does."""
+        """A refusal of a foreign key that would change other rows by what the night does."""
+        return self.dialect.refuse_with(self.cascading(v, gone, moved))
+
+    def cascading(self, v, gone, moved):
+        """A query for what is told of such a foreign key."""
         told = "refused cascade %s: the foreign key %s to it would delete or change other rows; make it NO ACTION"
-        return self.dialect.refuse_with(
-            self.query(
-                "SELECT format({told}, {view}::text, min(r.told)) FROM {referred} AS r WHERE r.view = {v}"
-                " AND ((r.by_delete AND EXISTS ({gone}))"
-                " OR (r.by_update AND EXISTS ({moved}))) HAVING count(*) > 0",
-                told=text(told), view=text(self.script.views[v].name), v=number(v), gone=gone, moved=moved,
-            )
+        return self.query(
+            "SELECT format({told}, {view}::text, min(r.told)) FROM {referred} AS r WHERE r.view = {v}"
+            " AND ((r.by_delete AND EXISTS ({gone}))"
+            " OR (r.by_update AND EXISTS ({moved}))) HAVING count(*) > 0",
+            told=text(told), view=text(self.script.views[v].name), v=number(v), gone=gone, moved=moved,
         )  # fmt: skip

@@ -1,12 +1,13 @@
 """Scripts: what is made of a catalogue and a strategy, put together from checks, working tables and the statements of the steps."""
 
-from functools import cache
+from functools import cache, cached_property
 from typing import NamedTuple
 
 from whtools.sql.catalogued import WIDEST_INDEX, Catalogued
 from whtools.sql.changes import Changes
 from whtools.sql.comps import Comps
 from whtools.sql.insts import Insts
+from whtools.sql.keys import Keys
 from whtools.sql.tokens import joined, name, sql, word
 
 
@@ -25,7 +26,7 @@ class Script(Comps, Changes, Insts, Catalogued):
 
     def __init__(self, catalogue, dialect, plain=(), keyed=()):
         super().__init__(catalogue, dialect, plain)
-        self.keyed = dict(keyed)
+        self.catalogue, self.keyed = catalogue, dict(keyed)
         self.checked = dialect.checks(self)
 
     # ---- names
@@ -71,7 +72,8 @@ class Script(Comps, Changes, Insts, Catalogued):
         """The transaction that makes the tables and indexes that do not pass with a night."""
         found = []
         for v, view in enumerate(self.views):
-            found.append(sql("CREATE TABLE {table} ({columns})", table=self.table(v), columns=joined(self.declared(v))))
+            room = self.dialect.room(self.shape.is_summary(v))
+            found.append(sql("CREATE TABLE {table} ({columns}) {room}", table=self.table(v), columns=joined(self.declared(v)), room=room))
             if not view.over:
                 columns = [*self.typed(v), sql("{count} {kind} NOT NULL CHECK ({count} <> 0)", count=name("#"), kind=self.dialect.kinds["int"])]
                 found.append(sql("CREATE TABLE {table} ({columns})", table=self.table(v, "~changes"), columns=joined(columns)))
@@ -83,14 +85,21 @@ class Script(Comps, Changes, Insts, Catalogued):
             sql("{column} {kind} NOT NULL", column=column, kind=self.dialect.declared[kind]) for column, kind in zip(self.users(v), self.kinds(v))
         ]
 
+    @cached_property
+    def said_keys(self):
+        """The places of the key of each view that has one by the catalogue."""
+        return Keys(self.catalogue, self.shape).found
+
     def declared(self, v):
-        found, columns = self.typed(v), self.users(v)[: self.shape.groups(v)]
+        """The columns of a view's table, and that each key, group or row stands once; a table without counts may have a row twice."""
+        places = () if self.shape.is_summary(v) else self.said_keys.get(v, ())
+        found, columns = self.typed(v), [self.users(v)[place] for place in places] or self.users(v)[: self.shape.groups(v)]
         if self.shape.is_counted(v):
             kind, check = self.dialect.kinds["int"], self.dialect.holds_count
             found.append(sql("{count} {kind} NOT NULL DEFAULT 1 CHECK ({check})", count=name("#"), kind=kind, check=check))
         elif self.shape.is_summary(v):
             found.append(sql("CHECK ({count} > 0)", count=self.users(v)[self.shape.groups(v)]))
-        if v not in self.shape.plain and 0 < len(columns) <= WIDEST_INDEX:
+        if (places or v not in self.shape.plain) and 0 < len(columns) <= WIDEST_INDEX:
             found.append(sql("CONSTRAINT {key} UNIQUE ({columns})", key=name(self.said(v, "~key")), columns=joined(columns)))
         return found
 

@@ -10,7 +10,7 @@ import tempfile
 from pathlib import Path
 
 from whtools.installed import install
-from whtools.sql.postgresql import PostgreSQL
+from whtools.sql.postgresql import UNREAD, PostgreSQL
 from whtools.sql.sqlite import SQLite
 
 SCHEMA = 'the "house"'
@@ -51,7 +51,7 @@ class SQLiteEngine:
 class PostgreSQLEngine:
     """A server over a socket, and in it a schema for each warehouse."""
 
-    dialect = PostgreSQL(SCHEMA)
+    dialect, settings = PostgreSQL(SCHEMA), SETTINGS
 
     def __init__(self, programs):
         self.programs = programs
@@ -74,7 +74,7 @@ class PostgreSQLEngine:
         return found
 
     def start(self):
-        self.called("pg_ctl", "-D", self.folder / "data", "-w", "-l", self.folder / "log", "-o", f"{SETTINGS} -k {self.folder}", "start")
+        self.called("pg_ctl", "-D", self.folder / "data", "-w", "-l", self.folder / "log", "-o", f"{self.settings} -k {self.folder}", "start")
 
     def stop(self):
         self.called("pg_ctl", "-D", self.folder / "data", "-m", "immediate", "-w", "stop")
@@ -111,8 +111,8 @@ class PostgreSQLEngine:
         self.psql([f"DROP SCHEMA IF EXISTS {QUOTED} CASCADE;", f"CREATE SCHEMA {QUOTED};"])
 
     def run(self, lines):
-        """What is told where a statement fails, and then nothing is changed."""
-        ran = self.psql(lines)
+        """What is told where a statement fails, and then nothing is changed. All statements of a block are read, also those that are not run."""
+        ran = self.psql([line for line in lines if line != UNREAD])
         return ran.stderr.decode() if ran.returncode else None
 
     def questions(self, asked):

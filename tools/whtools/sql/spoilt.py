@@ -1,7 +1,6 @@
 """Scripts that go against one rule each: what compares engines with whview has to notice all of them."""
 
 
-from whtools.sql.dialect import COUNT
 from whtools.sql.placed import PlacedScript
 from whtools.sql.script import Script
 from whtools.sql.tokens import number, sql
@@ -126,9 +125,9 @@ class RowsThatStayKeepTheirCounts(PlacedScript):
         return super().recounted(v) if self.shape.is_summary(v) else []
 
 
-class GroupsKeepTheirSums(PlacedScript):
-    def recounted(self, v):
-        return [] if self.shape.is_summary(v) else super().recounted(v)
+class SumsBecomeTheCount(PlacedScript):
+    def sums_after(self, v):
+        return [sql("d.a1") for _ in super().sums_after(v)]
 
 
 class OneSourceIsEnough(PlacedScript):
@@ -137,8 +136,8 @@ class OneSourceIsEnough(PlacedScript):
 
 
 class ACountIsPutAsItChanges(PlacedScript):
-    def updated(self, v, columns, cells, act, kind):
-        return super().updated(v, columns, [sql("d.n") if columns == [COUNT] else cell for cell in cells], act, kind)
+    def count_after(self):
+        return sql("d.n")
 
 
 SPOILT_PLACED = [
@@ -153,7 +152,7 @@ SPOILT_PLACED = [
     AbsentRowsAreNotRefused,
     AllEqualRowsLeave,
     RowsThatStayKeepTheirCounts,
-    GroupsKeepTheirSums,
+    SumsBecomeTheCount,
     OneSourceIsEnough,
     ACountIsPutAsItChanges,
 ]

@@ -11,7 +11,7 @@ class Keys:
 
     def __init__(self, catalogue, shape):
         self.views, self.shape, self.found = catalogue.views, shape, {}
-        said = tomllib.loads(catalogue.content)["view"]
+        said = tomllib.loads(catalogue.content).get("view") or [{} for _ in self.views]
         for v, view in enumerate(self.views):
             key = self.joined(v) if view.over else self.said(view, said[v].get("key"))
             if key and len(key) < len(view.columns):

@@ -1,0 +1,118 @@
+"""What is known of the tables of one's own that a night in PostgreSQL works on, asked in one statement and kept in variables: a table for each
+thing that is known would take longer than a night of few changes."""
+
+from whtools.sql.postgresql_checks import TOUCHED, Checks, cast, rows_of
+from whtools.sql.tokens import body, joined, number, sql, text, word
+
+# The tables and those below them; and of each view, in an array, its key's columns, a column that has to have a value and has none, whether a
+# foreign key to it acts, whether a unique index finds each row of it, and how many rows this transaction had written and removed before.
+VARIABLES = (
+    "below_numbers int[]", "below_relations oid[]", "key_columns text[]", "spare_columns text[]", "is_referred bool[]", "is_found bool[]",
+    "had_written int8[]", "had_removed int8[]", "watched bool",
+)  # fmt: skip
+# Tables that are made while it is asked: those that are expected and their columns, those below them, which columns of the server's are which
+# of the catalogue's, unique indexes with the columns that are in the catalogue, and tables to which a foreign key acts.
+MADE = {
+    "tables (number, role, told, relation)": "VALUES {tables}",
+    "wanted (number, place, said, kind)": "VALUES {columns}",
+    "below (number, told, relation)": "SELECT t.number, t.told, t.relation FROM tables AS t UNION SELECT b.number, b.told, i.inhrelid FROM below AS b"
+    " JOIN pg_inherits AS i ON i.inhparent = b.relation",
+    "fields (number, place, attnum)": "SELECT t.number, w.place, a.attnum FROM tables AS t JOIN pg_attribute AS a ON a.attrelid = t.relation"
+    " JOIN wanted AS w ON w.number = t.number AND w.said = a.attname AND w.said <> {count}",
+    "uniques": "SELECT t.number, i.indexrelid, i.indisprimary, i.indnkeyatts, ARRAY(SELECT f.place FROM fields AS f WHERE f.number = t.number"
+    " AND f.attnum IN (SELECT i.indkey[k] FROM generate_series(0, i.indnkeyatts - 1) AS k)) AS places FROM tables AS t JOIN pg_index AS i"
+    " ON i.indrelid = t.relation WHERE i.indisunique AND i.indisvalid AND i.indpred IS NULL AND i.indexprs IS NULL",
+    "spare (view, told)": "{spare}",
+    "referred (view)": "SELECT DISTINCT b.number FROM below AS b JOIN pg_constraint AS f ON f.confrelid = b.relation WHERE f.contype = {foreign}"
+    " AND (f.confdeltype IN {acts} OR f.confupdtype IN {acts})",
+    "counted (view, written, removed)": TOUCHED.replace("{parts}", "below"),
+}
+FOUND = {
+    "below_numbers": "(SELECT array_agg(b.number ORDER BY b.relation) FROM below AS b)",
+    "below_relations": "(SELECT array_agg(b.relation ORDER BY b.relation) FROM below AS b)",
+    "key_columns": "array_agg(CASE {keyed} WHEN n IN ({paired}) THEN (SELECT string_agg(concat({cell}, l), {comma}) FROM unnest((SELECT u.places"
+    " FROM uniques AS u WHERE u.number = n AND cardinality(u.places) = u.indnkeyatts AND u.indnkeyatts < (SELECT count(*) FROM fields AS f"
+    " WHERE f.number = n) ORDER BY u.indisprimary DESC, u.indnkeyatts, u.indexrelid LIMIT 1)) AS l) END ORDER BY n)",
+    "spare_columns": "array_agg((SELECT min(s.told) FROM spare AS s WHERE s.view = n) ORDER BY n)",
+    "is_referred": "array_agg(EXISTS (SELECT 1 FROM referred AS r WHERE r.view = n) ORDER BY n)",
+    "is_found": "array_agg(EXISTS (SELECT 1 FROM uniques AS u WHERE u.number = n AND cardinality(u.places) = u.indnkeyatts) AND NOT EXISTS (SELECT 1"
+    " FROM below AS b JOIN pg_inherits AS i ON i.inhparent = b.relation JOIN pg_class AS k ON k.oid = b.relation WHERE b.number = n AND k.relkind = {ordinary})"
+    " ORDER BY n)",
+    "had_written": "array_agg(c.written ORDER BY n)",
+    "had_removed": "array_agg(c.removed ORDER BY n)",
+}
+
+
+class PlacedChecks(Checks):
+    """The same refusals as ever, and what steps ask."""
+
+    def __init__(self, script):
+        super().__init__(script)
+        self.asking = Checks(script)
+        self.asking.parts = {said: word(made) for said, made in (("tables", "tables"), ("columns", "wanted"), ("parts", "below"))}
+        self.asking.parts["referred"] = sql("({query})", query=self.asking.referred())
+        self.parts = {
+            "names": sql("(SELECT * FROM (VALUES {rows}) AS l (number, role, told, said))", rows=rows_of(self.names())),
+            "parts": sql("(SELECT * FROM unnest(below_numbers, below_relations) AS l (number, relation))"),
+            "touched": sql("(SELECT l.at - 1 AS view, l.w AS written, l.r AS removed FROM unnest(had_written, had_removed) WITH ORDINALITY AS l (w, r, at))"),
+        }  # fmt: skip
+
+    def variables(self):
+        return [sql(each) for each in VARIABLES]
+
+    def known(self, said, v):
+        """What is known of a view."""
+        return sql("{said}[{at}]", said=word(said), at=number(v + 1))
+
+    def statements(self, locked):
+        return [*self.missing(), self.lock(locked), *self.dialect.deferred(), self.learned(),
+                self.dialect.where(sql("finding IS NOT NULL"), self.dialect.raised(word("finding")))]  # fmt: skip
+
+    def tables(self):
+        """Of each table that is expected its number, role, what it is called, and itself."""
+        found = []
+        for at, each in enumerate(self.expected):
+            (said,) = self.dialect.written([self.dialect.table(each.said)])
+            found.append([number(at), text(each.role), text(each.told), cast(said, "regclass::oid")])
+        return found
+
+    def learned(self):
+        """What is refused of the tables, and all that steps ask of them, of each view in the order of the views."""
+        views, base = range(len(self.script.views)), self.script.steps.base()
+        acts = sql("({c}, {n}, {d})", c=text("c"), n=text("n"), d=text("d"))
+        holes = {"tables": rows_of(self.tables()), "columns": rows_of(self.columns()), "spare": self.asking.spare(), "count": text("#"), "foreign": text("f"),
+                 "acts": acts, "ordinary": text("r"), "cell": text("p.c"), "comma": text(", "), "keyed": joined(self.keyed(), ""),
+                 "paired": joined([number(v) for v in views if self.script.has_pairs(v)] or [number(-1)])}  # fmt: skip
+        refused = [*(self.asking.without_key(v, places) for v, places in self.script.keyed.items()), *self.asking.unfit()]
+        found = {"finding": sql("coalesce({queries})", queries=joined([sql("({query})", query=each) for each in refused])),
+                 **{said: sql(query, **holes) for said, query in FOUND.items()}, "watched": self.asking.watched(),
+                 **{f"there{v}": sql("EXISTS (SELECT 1 FROM {changes} AS d)", changes=self.script.table(v, "~changes")) for v in base}}  # fmt: skip
+        return sql(
+            "WITH RECURSIVE {made} SELECT {listed} FROM generate_series(0, {last}) AS n LEFT JOIN counted AS c ON c.view = n INTO {into}",
+            made=self.made(MADE, **holes), listed=joined(found.values()),
+            last=number(len(views) - 1), into=joined(list(map(word, found))),
+        )  # fmt: skip
+
+    def made(self, names, **holes):
+        return joined([sql(f"{said} AS MATERIALIZED ({MADE[said]})", **holes) for said in names])
+
+    def keyed(self):
+        """The keys that are said."""
+        return [sql("WHEN n = {v} THEN {key}", v=number(v), key=text(", ".join(f"p.c{place + 1}" for place in places))) for v, places in self.script.keyed.items()]
+
+    # ---- what steps ask
+
+    def spared(self, v, _):
+        told = text("table %s does not fit: a row comes, and the column %s, which the catalogue has not, has no default")
+        column = self.known("spare_columns", v)
+        raised = self.dialect.raised(sql("format({told}, {view}::text, {column})", told=told, view=text(self.script.views[v].name), column=column))
+        return [self.dialect.where(sql("{column} IS NOT NULL", column=column), raised)]
+
+    def cascades(self, v, gone, moved):
+        """Where a foreign key acts it is asked what it would change; that is read then, and not before."""
+        tables, columns = ([row for row in rows if row[0] == number(v)] for rows in (self.tables(), self.columns()))
+        first, second, third, *_ = MADE
+        made = self.made((first, second, third), tables=rows_of(tables), columns=rows_of(columns))
+        asked = sql("WITH RECURSIVE {made} {query}", made=made, query=self.asking.cascading(v, gone, moved))
+        refused = self.dialect.where(sql("finding IS NOT NULL"), self.dialect.raised(word("finding")))
+        return self.dialect.only_where(self.known("is_referred", v), [sql("EXECUTE {asked} INTO finding", asked=body(asked)), refused])
