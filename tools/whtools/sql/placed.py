@@ -12,13 +12,32 @@ from whtools.sql.placed_checks import PlacedChecks
 from whtools.sql.placed_groups import PlacedGroups
 from whtools.sql.postgresql import PostgreSQL
 from whtools.sql.script import Script
-from whtools.sql.tokens import END_OF_STATEMENT, body, joined, number, sql, text, word
+from whtools.sql.tokens import END_OF_STATEMENT, Sql, body, joined, name, number, sql, text, word
 
 COUNTERS = ("rows", "gone", "stay", "come", "other")
 BY_PLACE, ALL_AT_ONCE = joins(hashjoin="off", mergejoin="off"), joins(nestloop="off")
+# How many rows a change has is all that is asked of its statistics, for which few of them are enough.
+FEW = sql("SET LOCAL default_statistics_target = 1")
 HASHED = sql("hashed := current_setting({key})", key=text("enable_hashjoin"))
 ALONE = sql("PERFORM set_config({key}, nested, TRUE)", key=text("enable_nestloop"))
 AS_EVER = sql("PERFORM set_config({hash}, hashed, TRUE), set_config({merge}, merged, TRUE)", hash=text("enable_hashjoin"), merge=text("enable_mergejoin"))
+
+
+# The columns of a key, which are known when a night is carried out: where they stand in a text is filled then.
+KEY = word("the_key")
+
+
+def filled(query, key):
+    """A query as a text in which a key stands."""
+    parts, found = [[]], []
+    for token in query.tokens:
+        if token == KEY.tokens[0]:
+            parts.append([])
+        else:
+            parts[-1].append(token)
+    for part in parts:
+        found += [key, body(Sql(part))] if found else [body(Sql(part))]
+    return joined(found, "||")
 
 
 class PlacedScript(PlacedGroups, LeanComps, Script):
@@ -51,7 +70,7 @@ class PlacedScript(PlacedGroups, LeanComps, Script):
     def whole(self, before, steps, after, comment):
         self.dialect.variables = self.variables()
         try:
-            return super().whole([LOOK_UPS, HASHED, *before], steps, after, comment)
+            return super().whole([LOOK_UPS, FEW, HASHED, *before], steps, after, comment)
         finally:
             del self.dialect.variables
 
@@ -93,23 +112,26 @@ class PlacedScript(PlacedGroups, LeanComps, Script):
         """Whether a view is a summary that none is over: nothing reads its change, so that it is made when it is put."""
         return self.shape.is_summary(v) and not any(v in view.over for view in self.views)
 
-    def net_columns(self, v):
-        return [sql("id bigint"), *self.typed_cells(v), *map(sql, ("n bigint", "was bigint", "part oid", "place tid", "act int"))]
-
     def net_made(self, v, rows, cells, counted):
-        """The change of a view whose rows are told by their cells, with what becomes of each. Where no unique index finds a row of the table,
-        none is looked up alone."""
-        at_once = [self.where_unfound(v, ALL_AT_ONCE), self.put_together(v, self.changed(rows, cells, counted)), self.where_unfound(v, ALONE)]
-        return [self.made(v, "net", self.net_columns(v)), *self.dialect.counted(self.told_large(v), at_once), *self.analyzed(v)]
+        """The change of a view whose rows are told by their cells, with what becomes of each, is kept and counted. Where no unique index finds a row
+        of the table, none is looked up alone."""
+        put = self.put_together(v, lambda key: self.changed(v, rows, cells, counted, key))
+        at_once = [self.where_unfound(v, ALL_AT_ONCE), put, self.where_unfound(v, ALONE)]
+        query = sql("SELECT {numbers} FROM {net} AS d", numbers=joined(self.judging(v).values()), net=self.working(v, "net"))
+        judged = sql("EXECUTE {query} INTO {into}", query=body(query), into=joined([self.counter(kind, v) for kind in self.judging(v)]))
+        return [*self.dialect.counted(self.told_large(v), at_once), judged, *self.analyzed(v)]
 
     def where_unfound(self, v, statement):
         return self.dialect.where(sql("NOT {found}", found=self.checked.known("is_found", v)), statement)
 
-    def changed(self, rows, cells, counted):
-        """Equal rows added up, each with a number of its own."""
-        named = [sql("{cell} AS {own}", cell=cell, own=word("c", at)) for at, cell in enumerate(cells, 1)]
-        return sql("SELECT row_number() OVER () AS id, {named}, sum({counted})::bigint AS n FROM {rows} GROUP BY {cells} HAVING sum({counted}) <> 0",
-                   named=joined(named), counted=counted, rows=rows, cells=joined(cells))  # fmt: skip
+    def changed(self, v, rows, cells, counted, key=None):
+        """Equal rows added up, each with a number of its own; by a key in its order, so that they are looked up in it."""
+        kinds = [self.dialect.kinds[kind] for kind in self.kinds(v)]
+        named = [sql("{cell}::{kind} AS {own}", cell=cell, kind=kind, own=word("c", at)) for at, (cell, kind) in enumerate(zip(cells, kinds), 1)]
+        own = [sql("p.{own}", own=word("c", at)) for at in range(1, len(cells) + 1)]
+        return sql("SELECT row_number() OVER () AS id, {own}, sum(p.n)::bigint AS n FROM (SELECT {named}, {counted} AS n FROM {rows}) AS p GROUP BY {grouped}"
+                   " HAVING sum(p.n) <> 0", own=joined(own), named=joined(named), counted=counted, rows=rows,
+                   grouped=joined([key, *own] if key else own))  # fmt: skip
 
     def net(self, step):
         v = step.view
@@ -151,28 +173,35 @@ class PlacedScript(PlacedGroups, LeanComps, Script):
     # ---- the pass over a change
 
     def put_together(self, v, changed):
-        """The rows of a change with what becomes of each, and what is counted of them; a key is known where the table has been looked at."""
-        alone = sql("EXECUTE {query} INTO {into}", query=body(self.counting(v, self.by_itself(v, changed))), into=self.into(v))
+        """The rows of a change with what becomes of each; a key is known where the table has been looked at."""
+        alone = self.once(self.kept(v, self.by_itself(v, changed(None))))
         if not self.has_pairs(v):
             return alone
         key = self.checked.known("key_columns", v)
-        one, some = (sql("EXECUTE {first} || {key} || {last} INTO {into}", first=body(first), key=key, last=body(last), into=self.into(v))
-                     for first, last in (self.paired_queries(v, changed, is_unique) for is_unique in (True, False)))  # fmt: skip
-        return sql("IF {key} IS NULL THEN {alone}{end} ELSIF {found} THEN {one}{end} ELSE {some}{end} END IF", key=key, alone=alone, one=one, some=some,
-                   found=self.checked.known("is_found", v), end=END_OF_STATEMENT)  # fmt: skip
+        one, some = (sql("EXECUTE {query}", query=filled(self.kept(v, self.paired(v, changed(KEY), is_unique)), key)) for is_unique in (True, False))
+        return sql("IF {key} IS NULL THEN {alone}{end} ELSE SET LOCAL enable_hashagg = off{end} IF {found} THEN {one}{end} ELSE {some}{end} END IF{end}"
+                   " SET LOCAL enable_hashagg = on{end} END IF", key=key, alone=alone, one=one, some=some, end=END_OF_STATEMENT,
+                   found=self.checked.known("is_found", v))  # fmt: skip
+
+    def kept(self, v, rows):
+        return sql("CREATE TEMPORARY TABLE {net} ON COMMIT DROP AS {rows}", net=name(self.working_name(v, "net")), rows=rows)
 
     def has_pairs(self, v):
         """Whether a view may have a key of some of its columns."""
         return not self.shape.is_summary(v) and self.shape.width(v) > 1
 
     def looked_up(self, v, changed, is_unique=False):
-        """Each row of a change beside the row of the table, or beside each of them: how often it was there, and the place."""
-        cells, each = joined(self.cells(v, "d")), sql("OVER (PARTITION BY d.id)")
+        """Each row of a change beside the row of the table, or beside each of them: how often it was there, and the place. In a table without
+        counts a row that comes is not there where each stands once, as the unique index sees to."""
+        cells, each, same = joined(self.cells(v, "d")), sql("OVER (PARTITION BY d.id)"), self.same(v)
         was, nth = sql("count(t.ctid) {each}", each=each), sql("row_number() {each}", each=each)
         if is_unique or self.shape.is_counted(v):
             was, nth = sql("CASE WHEN t.ctid IS NULL THEN 0 ELSE {held} END", held=self.held(v)), number(1)
+        if is_unique and not self.shape.is_counted(v):
+            leaves = [sql("{read} = CASE WHEN d.n < 0 THEN {cell} END", read=read, cell=cell) for read, cell in zip(self.read(v), self.cells(v, "d"))]
+            same = joined(leaves, "AND")
         return sql("SELECT d.id, {cells}, d.n, {was} AS was, t.tableoid AS part, t.ctid AS place, {nth} AS nth FROM ({changed}) AS d LEFT JOIN {table} AS t"
-                   " ON {same}", cells=cells, was=was, nth=nth, changed=changed, table=self.table(v), same=self.same(v))  # fmt: skip
+                   " ON {same}", cells=cells, was=was, nth=nth, changed=changed, table=self.table(v), same=same)  # fmt: skip
 
     def held(self, v):
         """How often a row of the table counts."""
@@ -191,35 +220,23 @@ class PlacedScript(PlacedGroups, LeanComps, Script):
 
     def by_itself(self, v, changed):
         """Of equal rows the first counts for all."""
-        return sql("SELECT p.id, {cells}, CASE WHEN p.nth = 1 THEN p.n ELSE 0 END, p.was, p.part, p.place, p.act FROM ({rows}) AS p"
+        return sql("SELECT p.id, {cells}, CASE WHEN p.nth = 1 THEN p.n ELSE 0 END AS n, p.was, p.part, p.place, p.act FROM ({rows}) AS p"
                    " WHERE p.nth = 1 OR p.act = 1", cells=joined(self.cells(v, "p")), rows=self.acting(v, self.looked_up(v, changed)))  # fmt: skip
 
-    def paired_queries(self, v, changed, is_unique):
-        """The same where a row that leaves and one that comes with its key are one that changes: before the key's columns, and behind them."""
+    def paired(self, v, changed, is_unique):
+        """The same where a row that leaves and one that comes with its key are one that changes."""
         comes = sql("p.act = 3") if self.shape.is_counted(v) else sql("p.act = 3 AND p.n = 1 AND p.was = 0")
         leaves = sql("p.act = 1") if self.shape.is_counted(v) else sql("p.act = 1 AND p.n = -1")
-        first = sql(
-            "SELECT q.id, {cells}, CASE WHEN q.nth = 1 THEN q.n ELSE 0 END, q.was, CASE WHEN {pair} AND q.act = 3 THEN q.old_part ELSE q.part END,"
-            " CASE WHEN {pair} AND q.act = 3 THEN q.old_place ELSE q.place END,"
-            " CASE WHEN NOT {pair} THEN q.act WHEN q.act = 3 THEN 4 ELSE 0 END FROM (SELECT p.*, count(*) FILTER (WHERE p.nth = 1) OVER k AS many,"
+        return sql(
+            "SELECT q.id, {cells}, CASE WHEN q.nth = 1 THEN q.n ELSE 0 END AS n, q.was, CASE WHEN {pair} AND q.act = 3 THEN q.old_part ELSE q.part END AS part,"
+            " CASE WHEN {pair} AND q.act = 3 THEN q.old_place ELSE q.place END AS place,"
+            " CASE WHEN NOT {pair} THEN q.act WHEN q.act = 3 THEN 4 ELSE 0 END AS act FROM (SELECT p.*, count(*) FILTER (WHERE p.nth = 1) OVER k AS many,"
             " count(*) FILTER (WHERE {leaves}) OVER k AS leaving, count(*) FILTER (WHERE {comes}) OVER k AS coming,"
             " max(p.part) FILTER (WHERE {leaves}) OVER k AS old_part, max(p.place) FILTER (WHERE {leaves}) OVER k AS old_place"
-            " FROM ({rows}) AS p WINDOW k AS (PARTITION BY",
-            cells=joined(self.cells(v, "q")), pair=sql("(q.many = 2 AND q.leaving = 1 AND q.coming = 1)"), leaves=leaves, comes=comes,
+            " FROM ({rows}) AS p WINDOW k AS (PARTITION BY {key})) AS q WHERE q.nth = 1 OR q.act = 1",
+            cells=joined(self.cells(v, "q")), pair=sql("(q.many = 2 AND q.leaving = 1 AND q.coming = 1)"), leaves=leaves, comes=comes, key=KEY,
             rows=self.acting(v, self.looked_up(v, changed, is_unique)),
         )  # fmt: skip
-        begun, ended = self.counting_parts(v)
-        return sql("{begun} {first}", begun=begun, first=first), sql(")) AS q WHERE q.nth = 1 OR q.act = 1 {ended}", ended=ended)
-
-    def counting_parts(self, v):
-        """What keeps rows and counts them, before the query for them and behind it."""
-        columns = joined([word("id"), *self.cells(v), *map(word, ("n", "was", "part", "place", "act"))])
-        begun = sql("WITH put AS (INSERT INTO {net} ({columns})", net=self.working(v, "net"), columns=columns)
-        return begun, sql("RETURNING id, n, was, act) SELECT {numbers} FROM put AS d", numbers=joined(self.judging(v).values()))
-
-    def counting(self, v, rows):
-        begun, ended = self.counting_parts(v)
-        return sql("{begun} {rows} {ended}", begun=begun, rows=rows, ended=ended)
 
     def judging(self, v):
         """What is counted of the rows d of a change, and what is told where it is refused."""
@@ -237,9 +254,6 @@ class PlacedScript(PlacedGroups, LeanComps, Script):
             return [absent]
         large = sql("{large} > 0", large=self.many(sql("d.n > 0 AND d.n > {most} - d.was", most=self.dialect.whole(MOST))))
         return [(sql("count(*) <> max(d.id)"), self.told_twice(v)), absent, (large, self.told_large(v))]
-
-    def into(self, v):
-        return joined([self.counter(kind, v) for kind in self.judging(v)])
 
     # ---- what a change would take with it
 
@@ -291,7 +305,7 @@ class PlacedScript(PlacedGroups, LeanComps, Script):
         return sql("SELECT {shown} FROM {change} AS d WHERE {act}", shown=shown, change=change or self.change(v), act=becomes(act))
 
     def left(self, v):
-        return self.put(v, self.dialect.delete(self.said(v), self.placed(v, [], LEAVES)), self.counter("gone", v))
+        return self.put(v, self.once(self.dialect.delete(self.said(v), self.placed(v, [], LEAVES))), self.counter("gone", v))
 
     def update_of(self, v, columns, cells, act, change=None):
         """An update of these columns of rows of which one thing becomes."""
@@ -306,7 +320,7 @@ class PlacedScript(PlacedGroups, LeanComps, Script):
             return []
         count = [(COUNT, sql("d.n"))] if self.shape.is_counted(v) else []
         columns, cells = zip(*zip(self.users(v), self.cells(v, "d")), *count)
-        return self.put(v, self.update_of(v, columns, cells, CHANGED), self.counter("other", v))
+        return self.put(v, self.once(self.update_of(v, columns, cells, CHANGED)), self.counter("other", v))
 
     def recounted(self, v):
         """Rows that stand more or less often than before, or groups with other sums."""
@@ -316,7 +330,7 @@ class PlacedScript(PlacedGroups, LeanComps, Script):
             columns, cells = [COUNT], [self.count_after()]
         else:
             return []
-        return self.put(v, self.update_of(v, columns, cells, RECOUNTED), self.counter("stay", v))
+        return self.put(v, self.once(self.update_of(v, columns, cells, RECOUNTED)), self.counter("stay", v))
 
     def count_after(self):
         return sql("d.was + d.n")
@@ -334,7 +348,7 @@ class PlacedScript(PlacedGroups, LeanComps, Script):
                    cells=joined(cells), rows=rows, comes=becomes(COMES))  # fmt: skip
 
     def came(self, v):
-        return self.put(v, self.insert_of(v, self.change(v)), self.counter("come", v))
+        return self.put(v, self.once(self.insert_of(v, self.change(v))), self.counter("come", v))
 
     # ---- a look afterwards
 

@@ -87,11 +87,9 @@ class PlacedChecks(Checks):
         found = {"finding": sql("coalesce({queries})", queries=joined([sql("({query})", query=each) for each in refused])),
                  **{said: sql(query, **holes) for said, query in FOUND.items()}, "watched": self.asking.watched(),
                  **{f"there{v}": sql("EXISTS (SELECT 1 FROM {changes} AS d)", changes=self.script.table(v, "~changes")) for v in base}}  # fmt: skip
-        return sql(
-            "WITH RECURSIVE {made} SELECT {listed} FROM generate_series(0, {last}) AS n LEFT JOIN counted AS c ON c.view = n INTO {into}",
-            made=self.made(MADE, **holes), listed=joined(found.values()),
-            last=number(len(views) - 1), into=joined(list(map(word, found))),
-        )  # fmt: skip
+        query = sql("WITH RECURSIVE {made} SELECT {listed} FROM generate_series(0, {last}) AS n LEFT JOIN counted AS c ON c.view = n",
+                    made=self.made(MADE, **holes), listed=joined(found.values()), last=number(len(views) - 1))  # fmt: skip
+        return sql("EXECUTE {query} INTO {into}", query=body(query), into=joined(list(map(word, found))))
 
     def made(self, names, **holes):
         return joined([sql(f"{said} AS MATERIALIZED ({MADE[said]})", **holes) for said in names])
