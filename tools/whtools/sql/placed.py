@@ -10,6 +10,7 @@ from whtools.sql.dialect import COUNT, MOST
 from whtools.sql.lean import LARGE, LOOK_UPS, LeanComps, joins
 from whtools.sql.placed_checks import PlacedChecks
 from whtools.sql.placed_groups import PlacedGroups
+from whtools.sql.placed_opening import PlacedOpening
 from whtools.sql.postgresql import PostgreSQL
 from whtools.sql.script import Script
 from whtools.sql.tokens import END_OF_STATEMENT, Sql, body, joined, name, number, sql, text, word
@@ -40,13 +41,12 @@ def filled(query, key):
     return joined(found, "||")
 
 
-class PlacedScript(PlacedGroups, LeanComps, Script):
+class PlacedScript(PlacedGroups, PlacedOpening, LeanComps, Script):
     """The statements of such a night."""
 
     def __init__(self, catalogue, dialect, plain=(), keyed=()):
         super().__init__(catalogue, dialect, plain, keyed)
         self.checked = PlacedChecks(self)
-        self.opening = Script(catalogue, dialect, plain, keyed)
 
     def variables(self):
         """What a night counts. At first each is NULL."""
@@ -55,13 +55,11 @@ class PlacedScript(PlacedGroups, LeanComps, Script):
         found = [sql("{said} pg_catalog.int8", said=said) for said in [*numbers, word("lost")]]
         found += [sql("{said} pg_catalog.text", said=self.counter("told", v)) for v in range(len(self.views))]
         found += [sql("{said} pg_catalog.bool", said=self.counter("there", v)) for v in self.steps.base()]
+        found += [sql("{said} pg_catalog.bool", said=self.counter("apart", v)) for v in self.steps.derived()]
         kept = ["hashed pg_catalog.text", "is_apart pg_catalog.bool", "parts pg_catalog.oid[]", "places pg_catalog.tid[]"]
         return [*PostgreSQL.variables, *found, *map(sql, kept), *self.checked.variables()]
 
     # ---- scripts
-
-    def open(self, comment):
-        return self.opening.open(comment)
 
     def working_tables(self):
         """Each is made where it is filled."""

@@ -100,11 +100,11 @@ class PlacedChecks(Checks):
 
     # ---- what steps ask
 
-    def spared(self, v, _):
+    def spared(self, v, coming):
         told = text("table %s does not fit: a row comes, and the column %s, which the catalogue has not, has no default")
         column = self.known("spare_columns", v)
         raised = self.dialect.raised(sql("format({told}, {view}::text, {column})", told=told, view=text(self.script.views[v].name), column=column))
-        return [self.dialect.where(sql("{column} IS NOT NULL", column=column), raised)]
+        return [self.dialect.where(sql("{column} IS NOT NULL AND EXISTS ({coming})", column=column, coming=coming), raised)]
 
     def cascades(self, v, gone, moved):
         """Where a foreign key acts it is asked what it would change; that is read then, and not before."""

@@ -118,11 +118,11 @@ class Script(Comps, Changes, Insts, Catalogued):
 
     def working_tables(self):
         """The tables that pass with a night: of each view its change and where its rows stand, and of a derived one what its Comps make."""
-        found = []
-        for v, view in enumerate(self.views):
-            tables = self.change_tables(v) + (self.comp_tables(v) if view.over else [])
-            found += [(self.working_name(v, kind), columns) for kind, columns in tables]
-        return found
+        return [table for v in range(len(self.views)) for table in self.working_tables_of(v)]
+
+    def working_tables_of(self, v):
+        tables = self.change_tables(v) + (self.comp_tables(v) if self.views[v].over else [])
+        return [(self.working_name(v, kind), columns) for kind, columns in tables]
 
     # ---- scripts
 
