@@ -198,21 +198,20 @@ class Beside:
         return self.spent() - began
 
     def prepare(self):
-        """Captures and opens, makes the hand's tables, and the materialized views; the seconds of opening and of these."""
+        """Captures and opens, makes the materialized views, the hand's tables and those of one's own; the seconds of all but the hand's."""
         captured = self.timed(self.live("--capture"))
         opened = self.timed(self.live("--live", "--open"))
         made = sum(self.timed(f"CREATE MATERIALIZED VIEW m_{name} AS {query}; CREATE UNIQUE INDEX ON m_{name} ({key});")
                    for name, (query, key) in MATERIALIZED.items())  # fmt: skip
         self.database.asked(BY_HAND + "RESET search_path;" + MEMORY)
-        self.prepare_own()
-        return captured, opened, made
+        return captured, opened, made, self.prepare_own()
 
     def prepare_own(self):
-        """The tables of one's own, opened."""
+        """The tables of one's own; the seconds of opening them."""
         self.database.asked("CREATE SCHEMA own;")
         self.timed(self.script("--create", *OF_ONES_OWN))
         self.database.asked("".join(f"INSERT INTO own.{name} SELECT * FROM {name};" for name in BASE) + "ANALYZE;")
-        self.timed(self.script("--open", *OF_ONES_OWN))
+        return self.timed(self.script("--open", *OF_ONES_OWN))
 
     def refreshed(self, rounds):
         refresh = "".join(f"REFRESH MATERIALIZED VIEW m_{name};" for name in MATERIALIZED)
@@ -253,8 +252,9 @@ def measure(asked):
 
         os.environ.update(PGHOST=str(server.folder), PGUSER="postgres")
         beside = Beside(server, folder, asked.facts)
-        captured, opened, made = beside.prepare()
-        print(f"hand: --capture {captured:.1f} s, --open {opened:.1f} s, materialized views with keys {made:.1f} s: {opened / made:.2f}", flush=True)
+        captured, opened, made, own = beside.prepare()
+        print(f"hand: --capture {captured:.1f} s, --open {opened:.1f} s, of one's own tables {own:.1f} s, materialized views with keys {made:.1f} s:"
+              f" {opened / made:.2f} and {own / made:.2f}", flush=True)  # fmt: skip
         refreshed = beside.refreshed(asked.rounds)
         for many in CHANGES:
             night, own, hand = beside.nights(many, asked.rounds)
