@@ -187,7 +187,11 @@ def settings():
         "CREATE FUNCTION elsewhere.sum(bigint) RETURNS bigint LANGUAGE sql AS 'SELECT 7::bigint';",
     ]
     before = Client(("-v", "ON_ERROR_STOP=1"), {"PGOPTIONS": "-c search_path=elsewhere,public,pg_catalog", "PGCLIENTENCODING": "UTF8"})
-    return found + [Case("another schema stands first in the path", PG, JAM_IS_DEARER, keyed(), shadows, client=before)]
+    types = [f"CREATE TABLE {said} (other int);" for said in ("bool", "text", "int8", "oid", "tid")]
+    return found + [
+        Case("another schema stands first in the path", PG, JAM_IS_DEARER, keyed(), shadows, client=before),
+        Case("types of others stand first in the path", PG, JAM_IS_DEARER, keyed(), types, client=before),
+    ]
 
 
 # ---- limits of parsers

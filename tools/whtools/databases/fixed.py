@@ -255,9 +255,12 @@ def hidden_rows():
         "ALTER TABLE products RENAME TO all_products;",
         "CREATE VIEW products AS SELECT * FROM all_products WHERE price < 400;",
     ]
+    changes = [each.replace("ON products ", 'ON "products~changes" ').replace("TABLE products ", 'TABLE "products~changes" ') for each in secured]
     return [
         Case("the night is run by someone who owns nothing", PG, JAM_IS_DEARER, keyed(), granted, role="clerk", **KEYED),
         Case("rows are hidden by a policy", PG, ALE_COMES, more=[*granted, *secured], wanted=REFUSED, role="clerk"),
+        Case("changes are hidden by a policy", PG, ALE_COMES, more=[*granted, *changes], wanted=REFUSED, role="clerk",
+             word="table products~changes does not fit: row-level security hides rows of it"),
         Case("products are a view", PG, ALE_COMES, more=behind, wanted=REFUSED),
     ]
 
@@ -381,8 +384,50 @@ def changes():
     return found
 
 
+# ---- summaries and their indexes
+
+BY_TWO = """
+[[view]]
+name = "lines"
+columns = ["shop", "day", "pieces"]
+[[view]]
+name = "sums"
+over = ["lines"]
+group = [["shop", "lines.shop"], ["day", "lines.day"]]
+count = "n"
+sum = [["pieces", "lines.pieces"]]
+"""
+SUMS = "shop bigint NOT NULL, day bigint NOT NULL, n bigint NOT NULL, pieces bigint NOT NULL, UNIQUE (shop, day)"
+JAM_LEAVES = {"lines": [((2, "jam", 1), -1), ((3, "jam", 4), -1)]}
+
+
+def by_product(more, *after):
+    return {"by_product": [f"CREATE TABLE by_product (product text NOT NULL, n bigint NOT NULL, cost bigint NOT NULL, {more});", *after]}
+
+
+def summaries():
+    """Summaries whose tables have unique indexes of all kinds: a group has to leave before another one comes that an index does not let in
+    beside it, and an index that has a sum says nothing about how often a group stands there."""
+    twice = ["UPDATE by_product SET n = 1, cost = 450 WHERE product = 'jam';", "INSERT INTO by_product VALUES ('jam', 1, 1800);"]
+    few = ["UPDATE by_product SET n = 1 WHERE product = 'jam';"]
+    day = {"catalogue": BY_TWO, "rows": {"lines": [(1, 1, 5), (2, 2, 6)]}}
+    next_day = {"lines": [((1, 1, 5), -1), ((1, 3, 5), 1)]}
+    constraints = {"a group": "UNIQUE (shop)", "a sum": "UNIQUE (pieces)", "a group beside the other": "UNIQUE (shop) INCLUDE (day)",
+                   "what an exclusion keeps out": "EXCLUDE USING btree (shop WITH =)"}  # fmt: skip
+    partial = ["CREATE UNIQUE INDEX one_day ON sums (shop) WHERE n > 0;"]
+    return [
+        *(Case(f"a group stands twice, and {told} is unique", PG, JAM_IS_DEARER, by_product(f"UNIQUE ({unique})"), twice, REFUSED,
+               "a group stands in it twice") for told, unique in (("it with its sum", "product, cost"), ("a sum", "cost"))),
+        *(Case(f"a group comes before another one leaves, and {told} is unique", PG, next_day, {"sums": [f"CREATE TABLE sums ({SUMS}, {more});"]}, **day)
+          for told, more in constraints.items()),
+        Case("a group comes before another one leaves, and some are unique", PG, next_day, {"sums": [f"CREATE TABLE sums ({SUMS});", *partial]}, **day),
+        Case("more rows leave than a group has, and a check wants some", PG, JAM_LEAVES, by_product("UNIQUE (product), CHECK (n > 0)"), few, REFUSED,
+             "refused absent by_product"),
+    ]  # fmt: skip
+
+
 def cases():
-    return [*changes(), *partitions(), *foreign_keys(), *other_columns(), *triggers(), *types()]
+    return [*changes(), *partitions(), *foreign_keys(), *other_columns(), *triggers(), *types(), *summaries()]
 
 
 

@@ -111,16 +111,16 @@ class PlacedScript(PlacedGroups, PlacedOpening, LeanComps, Script):
         return self.shape.is_summary(v) and not any(v in view.over for view in self.views)
 
     def net_made(self, v, rows, cells, counted):
-        """The change of a view whose rows are told by their cells, with what becomes of each, is kept and counted. Where no unique index finds a row
-        of the table, none is looked up alone."""
+        """The change of a view whose rows are told by their cells, with what becomes of each, is kept and counted. Where no index finds rows of the
+        table, none is looked up alone."""
         put = self.put_together(v, lambda key: self.changed(v, rows, cells, counted, key))
-        at_once = [self.where_unfound(v, ALL_AT_ONCE), put, self.where_unfound(v, ALONE)]
+        at_once = [self.where_bare(v, ALL_AT_ONCE), put, self.where_bare(v, ALONE)]
         query = sql("SELECT {numbers} FROM {net} AS d", numbers=joined(self.judging(v).values()), net=self.working(v, "net"))
         judged = sql("EXECUTE {query} INTO {into}", query=body(query), into=joined([self.counter(kind, v) for kind in self.judging(v)]))
         return [*self.dialect.counted(self.told_large(v), at_once), judged, *self.analyzed(v)]
 
-    def where_unfound(self, v, statement):
-        return self.dialect.where(sql("NOT {found}", found=self.checked.known("is_found", v)), statement)
+    def where_bare(self, v, statement):
+        return self.dialect.where(sql("NOT {indexed}", indexed=self.checked.known("is_indexed", v)), statement)
 
     def changed(self, v, rows, cells, counted, key=None):
         """Equal rows added up, each with a number of its own; by a key in its order, so that they are looked up in it."""

@@ -5,20 +5,22 @@ from whtools.sql.postgresql_checks import TOUCHED, Checks, cast, rows_of
 from whtools.sql.tokens import body, joined, number, sql, text, word
 
 # The tables and those below them; and of each view, in an array, its key's columns, a column that has to have a value and has none, whether a
-# foreign key to it acts, whether a unique index finds each row of it, and how many rows this transaction had written and removed before.
-VARIABLES = (
-    "below_numbers int[]", "below_relations oid[]", "key_columns text[]", "spare_columns text[]", "is_referred bool[]", "is_found bool[]",
-    "had_written int8[]", "had_removed int8[]", "watched bool",
-)  # fmt: skip
+# foreign key to it acts, whether a unique index finds each row of it, whether any index may find some of its rows, whether one may keep a group
+# out that comes before another one leaves, and how many rows this transaction had written and removed before. They are declared before the path
+# of names is set.
+VARIABLES = {
+    "below_numbers": "int4[]", "below_relations": "oid[]", "key_columns": "text[]", "spare_columns": "text[]", "is_referred": "bool[]",
+    "is_found": "bool[]", "is_indexed": "bool[]", "is_crowded": "bool[]", "had_written": "int8[]", "had_removed": "int8[]", "watched": "bool",
+}  # fmt: skip
 # Tables that are made while it is asked: those that are expected and their columns, those below them, which columns of the server's are which
-# of the catalogue's, unique indexes with the columns that are in the catalogue, and tables to which a foreign key acts.
+# of those that tell a row from others, unique indexes with such columns, and tables to which a foreign key acts.
 MADE = {
-    "tables (number, role, told, relation)": "VALUES {tables}",
+    "tables (number, role, told, relation, telling)": "VALUES {tables}",
     "wanted (number, place, said, kind)": "VALUES {columns}",
     "below (number, told, relation)": "SELECT t.number, t.told, t.relation FROM tables AS t UNION SELECT b.number, b.told, i.inhrelid FROM below AS b"
     " JOIN pg_inherits AS i ON i.inhparent = b.relation",
     "fields (number, place, attnum)": "SELECT t.number, w.place, a.attnum FROM tables AS t JOIN pg_attribute AS a ON a.attrelid = t.relation"
-    " JOIN wanted AS w ON w.number = t.number AND w.said = a.attname AND w.said <> {count}",
+    " JOIN wanted AS w ON w.number = t.number AND w.said = a.attname AND w.said <> {count} AND w.place <= t.telling",
     "uniques": "SELECT t.number, i.indexrelid, i.indisprimary, i.indnkeyatts, ARRAY(SELECT f.place FROM fields AS f WHERE f.number = t.number"
     " AND f.attnum IN (SELECT i.indkey[k] FROM generate_series(0, i.indnkeyatts - 1) AS k)) AS places FROM tables AS t JOIN pg_index AS i"
     " ON i.indrelid = t.relation WHERE i.indisunique AND i.indisvalid AND i.indpred IS NULL AND i.indexprs IS NULL",
@@ -38,6 +40,13 @@ FOUND = {
     "is_found": "array_agg(EXISTS (SELECT 1 FROM uniques AS u WHERE u.number = n AND cardinality(u.places) = u.indnkeyatts) AND NOT EXISTS (SELECT 1"
     " FROM below AS b JOIN pg_inherits AS i ON i.inhparent = b.relation JOIN pg_class AS k ON k.oid = b.relation WHERE b.number = n AND k.relkind = {ordinary})"
     " ORDER BY n)",
+    "is_indexed": "array_agg(NOT EXISTS (SELECT 1 FROM below AS b JOIN pg_class AS k ON k.oid = b.relation WHERE b.number = n AND k.relkind = {ordinary}"
+    " AND NOT EXISTS (SELECT 1 FROM pg_index AS i JOIN pg_attribute AS a ON a.attrelid = i.indrelid AND a.attnum = i.indkey[0] JOIN wanted AS w"
+    " ON w.number = n AND w.said = a.attname WHERE i.indrelid = b.relation AND i.indisvalid AND i.indpred IS NULL)) ORDER BY n)",
+    "is_crowded": "array_agg(EXISTS (SELECT 1 FROM below AS b JOIN tables AS t ON t.number = b.number JOIN pg_index AS i ON i.indrelid = b.relation"
+    " WHERE b.number = n AND n IN ({put}) AND (i.indisexclusion OR (i.indisunique AND t.telling > (SELECT count(*) FROM wanted AS w JOIN pg_attribute AS a"
+    " ON a.attname = w.said WHERE w.number = n AND w.place <= t.telling AND a.attrelid = i.indrelid"
+    " AND a.attnum IN (SELECT i.indkey[k] FROM generate_series(0, i.indnkeyatts - 1) AS k))))) ORDER BY n)",
     "had_written": "array_agg(c.written ORDER BY n)",
     "had_removed": "array_agg(c.removed ORDER BY n)",
 }
@@ -58,7 +67,7 @@ class PlacedChecks(Checks):
         }  # fmt: skip
 
     def variables(self):
-        return [sql(each) for each in VARIABLES]
+        return [sql(f"{said} pg_catalog.{kind}") for said, kind in VARIABLES.items()]
 
     def known(self, said, v):
         """What is known of a view."""
@@ -66,27 +75,37 @@ class PlacedChecks(Checks):
 
     def statements(self, locked):
         return [*self.missing(), self.lock(locked), *self.dialect.deferred(), self.learned(),
-                self.dialect.where(sql("finding IS NOT NULL"), self.dialect.raised(word("finding")))]  # fmt: skip
+                self.dialect.where(sql("finding IS NOT NULL"), self.dialect.raised(word("finding"))), *self.changed()]  # fmt: skip
+
+    def changed(self):
+        """Which base views have changes. A table of them that does not fit, such as one whose rows are hidden, is not read but refused before."""
+        base = self.script.steps.base()
+        tests = [sql("EXISTS (SELECT 1 FROM {changes} AS d)", changes=self.script.table(v, "~changes")) for v in base]
+        return [sql("SELECT {tests} INTO {there}", tests=joined(tests), there=joined([self.script.counter("there", v) for v in base]))]
 
     def tables(self):
-        """Of each table that is expected its number, role, what it is called, and itself."""
+        """Of each table that is expected its number, role, what it is called, itself, and how many columns tell a row: the groups of a summary."""
         found = []
         for at, each in enumerate(self.expected):
             (said,) = self.dialect.written([self.dialect.table(each.said)])
-            found.append([number(at), text(each.role), text(each.told), cast(said, "regclass::oid")])
+            found.append([number(at), text(each.role), text(each.told), cast(said, "regclass::oid"), number(self.telling(at))])
         return found
+
+    def telling(self, at):
+        is_summary = at < len(self.script.views) and self.script.shape.is_summary(at)
+        return self.script.shape.groups(at) if is_summary else len(self.expected[at].columns)
 
     def learned(self):
         """What is refused of the tables, and all that steps ask of them, of each view in the order of the views."""
-        views, base = range(len(self.script.views)), self.script.steps.base()
+        views = range(len(self.script.views))
         acts = sql("({c}, {n}, {d})", c=text("c"), n=text("n"), d=text("d"))
         holes = {"tables": rows_of(self.tables()), "columns": rows_of(self.columns()), "spare": self.asking.spare(), "count": text("#"), "foreign": text("f"),
                  "acts": acts, "ordinary": text("r"), "cell": text("p.c"), "comma": text(", "), "keyed": joined(self.keyed(), ""),
-                 "paired": joined([number(v) for v in views if self.script.has_pairs(v)] or [number(-1)])}  # fmt: skip
+                 **{said: joined([number(v) for v in views if test(v)] or [number(-1)])
+                    for said, test in (("paired", self.script.has_pairs), ("put", self.script.is_last))}}  # fmt: skip
         refused = [*(self.asking.without_key(v, places) for v, places in self.script.keyed.items()), *self.asking.unfit()]
         found = {"finding": sql("coalesce({queries})", queries=joined([sql("({query})", query=each) for each in refused])),
-                 **{said: sql(query, **holes) for said, query in FOUND.items()}, "watched": self.asking.watched(),
-                 **{f"there{v}": sql("EXISTS (SELECT 1 FROM {changes} AS d)", changes=self.script.table(v, "~changes")) for v in base}}  # fmt: skip
+                 **{said: sql(query, **holes) for said, query in FOUND.items()}, "watched": self.asking.watched()}  # fmt: skip
         query = sql("WITH RECURSIVE {made} SELECT {listed} FROM generate_series(0, {last}) AS n LEFT JOIN counted AS c ON c.view = n",
                     made=self.made(MADE, **holes), listed=joined(found.values()), last=number(len(views) - 1))  # fmt: skip
         return sql("EXECUTE {query} INTO {into}", query=body(query), into=joined(list(map(word, found))))

@@ -11,9 +11,9 @@ class PlacedGroups:
 
     def last_put(self, v):
         """What is done when such a summary is put: in one statement, or apart where a number leaves 64 bits or its column, where a group may stand
-        there twice, or where more has to be looked at."""
-        known = {said: self.checked.known(said, v) for said in ("is_referred", "spare_columns", "is_found")}
-        chosen = sql("is_apart := watched OR {is_referred} OR {spare_columns} IS NOT NULL OR NOT {is_found}", **known)
+        there twice, where one has to leave before another one comes, or where more has to be looked at."""
+        known = {said: self.checked.known(said, v) for said in ("is_referred", "spare_columns", "is_found", "is_crowded")}
+        chosen = sql("is_apart := watched OR {is_referred} OR {spare_columns} IS NOT NULL OR NOT {is_found} OR {is_crowded}", **known)
         at_once = [self.quickly(lambda: self.groups_at_once(v, self.added(v))), *self.judged(v), *self.groups_left(v)]
         tried = sql("BEGIN {made} EXCEPTION WHEN numeric_value_out_of_range THEN is_apart := TRUE{end} END", made=statements(at_once, 2),
                     end=END_OF_STATEMENT)  # fmt: skip
@@ -51,13 +51,15 @@ class PlacedGroups:
         return sql("EXECUTE {query} INTO {into}, parts, places", query=body(query), into=self.groups_into(v))
 
     def groups_placed(self, v, added):
-        """Each group that changes, with its sums after, its place, and what becomes of it."""
+        """Each group that changes, with its sums after, its place, and what becomes of it; one that would have fewer rows than none is refused
+        and put nowhere, so that no check of the table is asked about it."""
         groups = self.shape.groups(v)
         cells, sums, lost, read = self.cells(v)[:groups], self.summed_columns(v, "s"), self.lost_column(v), self.read(v)
         after = [sql("coalesce({column}, 0)::numeric + d.{sum}", column=column, sum=each) for column, each in zip(read[groups:], sums)]
         named = [sql("{value} AS {name}", value=value, name=name) for value, name in zip(after, self.summed_columns(v, "a"))]
         shown = [*(sql("d.{cell}", cell=cell) for cell in cells), *named, *(sql("d.{each}", each=each) for each in lost)]
-        act = sql("CASE WHEN t.ctid IS NULL THEN CASE WHEN {after} > 0 THEN 3 ELSE 0 END WHEN {after} = 0 THEN 1 ELSE 2 END", after=after[0])
+        act = sql("CASE WHEN {after} < 0 THEN 0 WHEN {after} > 0 THEN CASE WHEN t.ctid IS NULL THEN 3 ELSE 2 END WHEN t.ctid IS NULL THEN 0 ELSE 1 END",
+                  after=after[0])  # fmt: skip
         return sql("SELECT {shown}, t.tableoid AS part, t.ctid AS place, {act} AS act FROM ({added}) AS d ({given}) LEFT JOIN {table} AS t ON {same}",
                    shown=joined(shown), act=act, added=added, given=joined([*cells, *sums, *lost]), table=self.table(v), same=self.same(v, groups))  # fmt: skip
 
