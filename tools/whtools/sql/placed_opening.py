@@ -43,8 +43,8 @@ class PlacedOpening:
         grouped = sql("SET LOCAL enable_hashagg = off{end} {grouped}{end} SET LOCAL enable_hashagg = on", grouped=grouped, end=END_OF_STATEMENT)
         if v not in self.said_keys:
             return grouped
-        keyed = [sql("{key} = {said}", key=self.checked.known("key_columns", u), said=text(", ".join(f"p.c{place + 1}" for place in self.said_keys[u])))
-                 for u in set(self.views[v].over)]  # fmt: skip
+        keyed = [sql("{found} AND {key} = {said}", found=self.checked.known("is_found", u), key=self.checked.known("key_columns", u),
+                     said=text(", ".join(f"p.c{place + 1}" for place in self.said_keys[u]))) for u in sorted(set(self.views[v].over))]  # fmt: skip
         return sql("IF {keyed} THEN {alone}{end} ELSE {grouped}{end} END IF", keyed=joined(keyed, "AND"), alone=self.once(self.filled_with(v, term, None)),
                    grouped=grouped, end=END_OF_STATEMENT)  # fmt: skip
 
