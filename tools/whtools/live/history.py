@@ -7,6 +7,12 @@ NIGHTS, SIZES, STEPS = "~nights", "~sizes", "~steps"
 MOMENTS = "night~moments"
 
 
+def array(cells):
+    """Texts, numbers and NULLs as the text of an array."""
+    said = ["NULL" if cell is None else '"' + str(cell).replace("\\", "\\\\").replace('"', '\\"') + '"' for cell in cells]
+    return text("{" + ",".join(said) + "}")
+
+
 class History:
     """The tables of a script's nights, and the statements that add a night to them."""
 
@@ -75,7 +81,7 @@ class History:
         added = "INSERT INTO {target} (night, view, pre, post, change) SELECT {night}, {view}, g.many, g.many, 0 FROM (SELECT {now} AS many) AS g"
         return sql(added, target=self.target(SIZES), night=self.number(), view=text(self.script.views[v].name), now=counted or now)
 
-    def steps(self, told, works, night=None):
+    def steps(self, told, works):
         """Each step with its predicted work, where there is one, and its seconds, where the engine tells the time while it works."""
         nothing = sql("NULL")
         rows = [
@@ -86,7 +92,7 @@ class History:
             "INSERT INTO {target} (night, step, told, work, seconds) SELECT {night}, l.step, l.told, CAST(l.work AS {whole}), {seconds}"
             " FROM (WITH listed (step, told, work) AS (VALUES {rows}) SELECT * FROM listed) AS l {moments}"
         )
-        return sql(added, target=self.target(STEPS), night=night or self.number(), rows=joined(rows), whole=self.dialect.kinds["int"],
+        return sql(added, target=self.target(STEPS), night=self.number(), rows=joined(rows), whole=self.dialect.kinds["int"],
                    seconds=self.seconds, moments=self.moments())  # fmt: skip
 
     seconds = sql("e.at - s.at")
@@ -123,19 +129,31 @@ class SwiftHistory(History):
 
     def ended(self, told, works):
         """The night, its steps, and the sizes of all views, each from those of the last night; a view that was not in it is counted."""
-        views = self.script.views
-        rows = [sql("({view}, coalesce(more{at}, 0), coalesce(moved{at}, 0))".replace("{at}", str(v)), view=self.dialect.text(view.name)) for v, view in enumerate(views)]
-        night = sql("INSERT INTO {target} (night, began, ended) SELECT coalesce(max(b.night), 0) + 1, moments[0], {moment} FROM {target} AS b RETURNING night",
-                    target=self.target(NIGHTS), moment=self.dialect.moment)  # fmt: skip
+        night = sql("INSERT INTO {target} (night, began, ended) SELECT coalesce(max(b.night), 0) + 1, moments[0], {moment} FROM {target} AS b"
+                    " RETURNING night INTO tonight", target=self.target(NIGHTS), moment=self.dialect.moment)  # fmt: skip
+        changes = zip(*(self.changed(v) for v in range(len(self.script.views))))
         sizes = sql(
-            "INSERT INTO {target} (night, view, pre, post, change) SELECT (SELECT b.night FROM ended AS b), l.view, s.post, s.post + l.more, l.moved"
-            " FROM (VALUES {rows}) AS l (view, more, moved) JOIN {target} AS s ON s.view = l.view AND s.night = (SELECT max(b.night) FROM {target} AS b)"
-            " RETURNING 1", target=self.target(SIZES), rows=joined(rows),
+            "INSERT INTO {target} (night, view, pre, post, change) SELECT tonight, l.view, s.post, s.post + coalesce(l.more, 0), coalesce(l.moved, 0)"
+            " FROM unnest({views}::text[], ARRAY[{more}], ARRAY[{moved}]) AS l (view, more, moved) JOIN {target} AS s ON s.view = l.view"
+            " AND s.night = tonight - 1", target=self.target(SIZES),
+            views=array([view.name for view in self.script.views]), **dict(zip(("more", "moved"), map(joined, changes))),
         )  # fmt: skip
-        steps = [sql("stepped AS ({steps})", steps=self.steps(told, works, sql("(SELECT b.night FROM ended AS b)")))] if told else []
-        parts = [sql("ended AS ({night})", night=night), sql("sized AS ({sizes})", sizes=sizes), *steps]
-        few = sql("touched < {many}", many=number(len(views)))
-        return [sql("WITH {parts} SELECT count(*) FROM sized INTO touched", parts=joined(parts)), *self.dialect.only_where(few, [self.counted()])]
+        few = sql("touched < {many}", many=number(len(self.script.views)))
+        counted = [sql("GET DIAGNOSTICS touched = ROW_COUNT"), *self.dialect.only_where(few, [self.counted()])]
+        return [night, *([self.steps(told, works)] if told else []), sizes, *counted]
+
+    def changed(self, v):
+        """By how many rows a view grew, and how many changed: of two with a key that change each is one, and of a group that stays both."""
+        rows, gone, stay, come, more, moved = (self.script.counter(kind, v) for kind in ("rows", "gone", "stay", "come", "more", "moved"))
+        if not self.script.is_told_by_key(v):
+            return more, moved
+        both = sql("{come} + {gone} + 2 * {stay}", come=come, gone=gone, stay=stay)
+        return sql("{come} - {gone}", come=come, gone=gone), both if self.script.shape.is_summary(v) else rows
+
+    def steps(self, told, works):
+        listed = "unnest({told}::text[], {works}::bigint[]) WITH ORDINALITY AS l (told, work, step)"
+        return sql("INSERT INTO {target} (night, step, told, work, seconds) SELECT tonight, l.step, l.told, l.work, {seconds} FROM " + listed,
+                   target=self.target(STEPS), told=array(told), works=array(works), seconds=self.seconds)  # fmt: skip
 
     def filled(self, v):
         """The rows of a mirror that a statement has just filled, each of which counts once: those of a night before the first."""
@@ -150,8 +168,9 @@ class SwiftHistory(History):
         rows = []
         for v, view in enumerate(self.script.views):
             _, now = self.before(v)
+            more, moved = self.changed(v)
             rows.append(sql("SELECT {view}, {now}, coalesce({more}, 0), coalesce({moved}, 0)", view=self.dialect.text(view.name), now=now,
-                            more=word("more", v), moved=word("moved", v)))  # fmt: skip
+                            more=more, moved=moved))  # fmt: skip
         added = (
             "INSERT INTO {target} (night, view, pre, post, change) SELECT {night}, l.view, l.many - l.more, l.many, l.moved"
             " FROM ({rows}) AS l (view, many, more, moved) ON CONFLICT DO NOTHING"
@@ -163,6 +182,3 @@ class SwiftHistory(History):
         "coalesce(extract(epoch FROM moments[l.step] - greatest(moments[0], max(moments[l.step]) OVER (ORDER BY l.step ROWS BETWEEN UNBOUNDED"
         " PRECEDING AND 1 PRECEDING))), 0)"
     )
-
-    def moments(self):
-        return sql("")

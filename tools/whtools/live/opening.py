@@ -11,7 +11,7 @@ class Opening:
         derived = self.steps.derived()
         made = [each for v in derived for each in self.filled(v)]
         sizes = [self.history.opened(v, self.counted_rows(v)) for v in range(len(self.views))]
-        ended = [*sizes, *self.captures.noted_as_opened(), self.history.closed(), *self.captures.noted_as_judged()]
+        ended = [*sizes, *self.captures.noted_as_opened(), self.history.closed(), *self.captures.looked_at(), *self.captures.noted_as_judged()]
         return self.whole([*self.history.opening_began(), *made], [], ended, comment)
 
     def counted_rows(self, v):

@@ -1,5 +1,7 @@
 """PostgreSQL as tables are captured there: by statement triggers with transition tables, beside writers that do not wait."""
 
+from hashlib import sha256
+
 from whtools.live.history import SIZES
 from whtools.live.turned import NULL
 from whtools.sql.dialect import COUNT
@@ -76,6 +78,8 @@ HOLES = (
 )  # fmt: skip
 STRANGE = "there is a table %s already, which is none of --capture's: name another schema by --schema"
 UNKNOWN = "%s is captured too, and is not in this catalogue: a catalogue with all that is captured lets it go"
+# A statement of the block is read where it is carried out, and not before, too.
+UNREAD = sql("SET LOCAL check_function_bodies = off")
 UNTRUNCATED = "a table whose changes are captured is truncated at READ COMMITTED alone: another isolation does not see all rows that go"
 BUSY = "somebody is writing to %s all the time, and its triggers wait for a moment without: run the script again"
 
@@ -99,7 +103,8 @@ class LivePostgreSQL(PostgreSQL):
         server, since that has a snapshot from before."""
         level = sql("SET TRANSACTION ISOLATION LEVEL " + self.isolation + " READ WRITE")
         tables = [self.created(name(said), columns) for said, columns in working]
-        begun = [sql("{each}{end}", each=each, end=END_OF_STATEMENT) for each in (sql("BEGIN ISOLATION LEVEL READ COMMITTED"), level, locked)]
+        begun = (sql("BEGIN ISOLATION LEVEL READ COMMITTED"), level, locked, UNREAD)
+        begun = [sql("{each}{end}", each=each, end=END_OF_STATEMENT) for each in begun]
         return [*begun, self.block([*tables, *made]), sql("COMMIT{end}", end=END_OF_STATEMENT)]
 
 
@@ -401,36 +406,37 @@ class Captures:
 
     def own(self):
         """The tables of the night."""
-        names = [self.script.said(v) for v in range(len(self.script.views))]
-        names += [self.script.said(v, "~changes") for v in self.script.steps.base()]
-        return sql("ARRAY(SELECT k.oid FROM pg_class AS k WHERE k.relnamespace = to_regnamespace({schema}) AND k.relname IN ({names}))",
-                   schema=self.written(name(self.dialect.schema)), names=joined(list(map(text, names))))  # fmt: skip
+        tables = [self.script.table(v) for v in range(len(self.script.views))]
+        tables += [self.script.table(v, "~changes") for v in self.script.steps.base()]
+        return sql("ARRAY[{tables}]::oid[]", tables=joined([sql("to_regclass({table})", table=self.written(table)) for table in tables]))
 
     def sources(self):
         """The tables that are captured, with their parts and heirs."""
         return sql("ARRAY(SELECT p.part FROM {noted} AS p ORDER BY p.part)", noted=self.parts)
 
     def print(self):
-        """What tells whether all of these are as they were, for this role: their columns, whatever may act on their rows, parts, names, and
-        values of enumerations. A row of the server's catalogue that is written anew has the number of another transaction."""
+        """What tells whether all of these are as they were, for this role and these definitions of the views: their columns, whatever may act on
+        their rows, parts, names, and values of enumerations, if only of others. A row of the server's catalogue that is written anew has the
+        number of another transaction. In which order they come is the server's: where it is another one, the tables are judged once more."""
         both, parts = sql("(own || captured)"), (
-            "SELECT k.xmin FROM pg_class AS k WHERE k.oid = ANY (own) ORDER BY k.oid",
-            "SELECT a.xmin FROM pg_attribute AS a WHERE a.attrelid = ANY {both} AND a.attnum > 0 ORDER BY a.attrelid, a.attnum",
-            "SELECT t.xmin FROM pg_trigger AS t WHERE t.tgrelid = ANY {both} ORDER BY t.oid",
-            "SELECT i.xmin FROM pg_inherits AS i WHERE i.inhparent = ANY {both} OR i.inhrelid = ANY {both} ORDER BY i.inhparent, i.inhrelid",
-            "SELECT concat_ws({comma}, k.relname, k.relnamespace, k.relpersistence) FROM pg_class AS k WHERE k.oid = ANY (captured) ORDER BY k.oid",
-            "SELECT r.xmin FROM pg_subscription_rel AS r WHERE r.srrelid = ANY (captured) ORDER BY r.srrelid, r.srsubid",
-            "SELECT e.xmin FROM pg_enum AS e JOIN pg_attribute AS a ON a.atttypid = e.enumtypid WHERE a.attrelid = ANY (captured) ORDER BY e.oid",
+            "SELECT concat_ws({comma}, CASE WHEN k.oid = ANY (own) THEN k.xmin END, CASE WHEN k.oid = ANY (captured) THEN concat_ws({comma}, k.relname,"
+            " k.relnamespace, k.relpersistence) END) FROM pg_class AS k WHERE k.oid = ANY {both}",
+            "SELECT a.xmin FROM pg_attribute AS a WHERE a.attrelid = ANY {both} AND a.attnum > 0",
+            "SELECT t.xmin FROM pg_trigger AS t WHERE t.tgrelid = ANY {both}",
+            "SELECT i.xmin FROM pg_inherits AS i WHERE i.inhparent = ANY {both} OR i.inhrelid = ANY {both}",
+            "SELECT r.xmin FROM pg_subscription_rel AS r WHERE r.srrelid = ANY (captured)",
+            "SELECT e.xmin FROM pg_enum AS e",
         )  # fmt: skip
         listed = joined([sql("ARRAY(" + part + ")", both=both, comma=text(",")) for part in parts])
-        return sql("concat_ws({comma}, current_user, captured, {parts})", comma=text(","), parts=listed)
+        definitions = sha256("".join(self.script.definitions().values()).encode()).hexdigest()
+        return sql("concat_ws({comma}, current_user, {definitions}, captured, {parts})", comma=text(","), definitions=text(definitions), parts=listed)
 
     def looked_at(self):
-        """The tables whose print is taken."""
-        return [sql("own := {own}", own=self.own()), sql("captured := {sources}", sources=self.sources())]
+        """The tables, and their print."""
+        return [sql("own := {own}", own=self.own()), sql("captured := {sources}", sources=self.sources()), sql("seen := {print}", print=self.print())]
 
     def is_changed(self):
-        return sql("NOT EXISTS (SELECT 1 FROM {judged} AS j WHERE j.print = {print})", judged=self.script.own(JUDGED), print=self.print())
+        return sql("NOT EXISTS (SELECT 1 FROM {judged} AS j WHERE j.print = seen)", judged=self.script.own(JUDGED))
 
     def judged(self):
         """A refusal of triggers on the night's tables that may change what it writes, since it does not look again."""
@@ -445,9 +451,9 @@ class Captures:
         return self.dialect.refuse_with(acting)
 
     def noted_as_judged(self):
-        """All passed, as it is now."""
+        """All passed, as it was seen."""
         judged = self.script.own(JUDGED)
-        return [sql("DELETE FROM {judged}", judged=judged), sql("INSERT INTO {judged} VALUES ({print})", judged=judged, print=self.print())]
+        return [sql("DELETE FROM {judged}", judged=judged), sql("INSERT INTO {judged} VALUES (seen)", judged=judged)]
 
     # ---- by what definitions the views were filled: in the table of columns each stands by no name
 

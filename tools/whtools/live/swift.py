@@ -1,8 +1,8 @@
 """Nights over mirrors in PostgreSQL, as fast as a good hand writes them.
 
-One statement takes the changes of a base view, adds them up, finds how often each row stands in its view's table and where, and counts
-what leaves, stays and comes; that serves the DELETE, the UPDATE and the INSERT of its Inst. All of a night is one snapshot. Where a view has a key, a row that leaves and
-one that comes with it are one UPDATE. A step without changes runs no statement, and a view that is over one other makes its change in one."""
+One statement adds up the changes of a base view and finds how often each row stands in its view's table and where, and one counts what leaves,
+stays and comes; an Inst is one MERGE, which goes to each place once and has to touch as many rows. All of a night is one snapshot. Where a view
+has a key, a row that leaves and one that comes with it are one that changes. A step without changes runs no statement."""
 
 from functools import cached_property
 
@@ -13,15 +13,26 @@ from whtools.live.swift_groups import SwiftGroups
 from whtools.sql.catalogued import WIDEST_INDEX
 from whtools.sql.dialect import COUNT, MOST
 from whtools.sql.keys import Keys
-from whtools.sql.lean import LARGE, LOOK_UPS, LeanComps, joins
+from whtools.sql.lean import LOOK_UPS, LeanComps
 from whtools.sql.postgresql import KEPT, LIMITS, PostgreSQL
 from whtools.sql.tokens import joined, number, sql, text, word
 
-# How many rows of a view's change there are, that leave, that stay otherwise and that come; by how many its table grows, and how many change.
-COUNTERS = ("rows", "gone", "stay", "come", "more", "moved")
-BY_PLACE, AS_EVER = joins(hashjoin="off", mergejoin="off"), joins(hashjoin="on", mergejoin="on", nestloop="on")
-# How many changes there are PostgreSQL takes from when they were last vacuumed: none. Where no index finds a row, none may be looked up alone.
-ALL_AT_ONCE = joins(nestloop="off")
+# How many rows of a view's change there are, that leave, that stay otherwise and that come; and of views without keys by how many rows their
+# tables grow, and how many change.
+COUNTERS, SUMS = ("rows", "gone", "stay", "come"), ("more", "moved")
+
+
+def switched(said, *ways):
+    return [sql("SET LOCAL {way} = {said}", way=word(f"enable_{way}"), said=word(said)) for way in ways]
+
+
+def without(made, *ways):
+    """Statements for which PostgreSQL does not go a way, if there is another."""
+    return [*switched("off", *ways), *made, *switched("on", *ways)]
+
+
+# How many rows a change has is all that is asked of its statistics, for which few of them are enough. Whole tables are not sorted for a night.
+OF_NIGHTS = [sql("SET LOCAL default_statistics_target = 1"), *switched("off", "mergejoin")]
 
 
 class SwiftScript(SwiftGroups, Opening, LeanComps, LiveScript):
@@ -33,13 +44,14 @@ class SwiftScript(SwiftGroups, Opening, LeanComps, LiveScript):
 
     def variables(self):
         """What a night and an opening count. At first each is NULL: a value to begin with would be an expression that is planned."""
-        numbers = [word(kind, v) for v in range(len(self.views)) for kind in COUNTERS]
+        numbers = [word(kind, v) for v in range(len(self.views)) for kind in (COUNTERS if self.is_told_by_key(v) else COUNTERS + SUMS)]
         numbers += [word("made", v) for v in self.steps.derived() if not self.is_direct(v)]
         whole = [sql("{said} pg_catalog.int8", said=said) for said in [*numbers, word("lost")]]
         refusals = [sql("{told} pg_catalog.text", told=self.counter("told", v)) for v in range(len(self.views))]
         refusals += [sql("{there} pg_catalog.bool", there=self.counter("there", v)) for v in self.steps.base()]
-        arrays = ["moments pg_catalog.timestamptz[]", "own pg_catalog.oid[]", "captured pg_catalog.oid[]", "places pg_catalog.tid[]"]
-        return [*PostgreSQL.variables, *whole, *refusals, *map(sql, arrays)]
+        others = ["moments pg_catalog.timestamptz[]", "own pg_catalog.oid[]", "captured pg_catalog.oid[]", "places pg_catalog.tid[]", "seen pg_catalog.text",
+                  "tonight pg_catalog.int8"]  # fmt: skip
+        return [*PostgreSQL.variables, *whole, *refusals, *map(sql, others)]
 
     @cached_property
     def keys(self):
@@ -77,35 +89,47 @@ class SwiftScript(SwiftGroups, Opening, LeanComps, LiveScript):
     # ---- the changes of base views
 
     def net(self, step):
-        """What stands in a table of changes leaves it; in the same statement equal rows add up and opposite ones cancel, each is looked up, and
-        all are counted."""
-        v = step.view
-        taken = sql("WITH taken AS ({taken}), put AS", taken=self.taken_from(v))
-        put = self.counted(v, self.placed_rows(v, self.added_up(v, word("taken"), self.users(v), COUNT)), self.judging(v), taken)
-        has_no_index = self.shape.width(v) > WIDEST_INDEX and not self.is_keyed(v)
-        return [self.made(v, "net", self.net_columns(v)), *([ALL_AT_ONCE, put, AS_EVER] if has_no_index else [put]), *self.analyzed(v)]
+        """What stands in a table of changes is added up, where equal rows add up and opposite ones cancel, and leaves it: the same rows, since a
+        night is one snapshot."""
+        v, changes = step.view, self.table(step.view, "~changes")
+        taken = sql("WITH taken AS (DELETE FROM {changes})", changes=changes)
+        return self.kept(v, lambda: self.added_up(v, changes, self.users(v), COUNT), taken)
 
-    def taken_from(self, v):
-        return sql("DELETE FROM {changes} RETURNING {columns}", changes=self.table(v, "~changes"), columns=joined([*self.users(v), COUNT]))
+    def kept(self, v, rows, taken=sql("")):
+        """The rows of a change are kept with what stands in the table of each, and counted."""
+        put = lambda: self.once(self.placed_rows(v, rows()))  # noqa: E731
+        counted = self.counted(v, self.working(v, "net"), self.judging(v), taken)
+        return [self.made(v, "net", self.net_columns(v)), *self.looked_up(v, self.in_64_bits(put, [put()])), counted, *self.analyzed(v)]
+
+    def looked_up(self, v, made):
+        """A statement that looks rows up: one by one, by a key in its order. How many there are PostgreSQL takes from when a table was last
+        vacuumed: none, so that it would also look up alone what no index finds."""
+        if (len(self.key(v)) or self.shape.width(v)) > WIDEST_INDEX:
+            return without([made], "nestloop")
+        return without([made], "hashjoin", "hashagg") if self.is_keyed(v) else [made]
 
     def added_up(self, v, rows, cells, counted):
-        """Rows added up, and with a key how many there are with it; NULL where a count leaves 64 bits."""
-        total, key = sql("sum({counted})", counted=counted), [cells[place] for place in self.key(v)]
+        """Rows added up, and with a key how many there are with it; NULL where a count leaves 64 bits. Numbers of 16 bits add up to one of 64."""
+        total, key = sql("sum({counted}::smallint)" if self.is_fast else "sum({counted})", counted=counted), [cells[place] for place in self.key(v)]
         pair = [sql("count(*) OVER (PARTITION BY {key})", key=joined(key))] if self.is_keyed(v) else []
         grouped = [*key, *(cell for place, cell in enumerate(cells) if place not in self.key(v))]
-        kept = sql("CASE WHEN {total} BETWEEN {limits} THEN {total}::bigint END", total=total, limits=LIMITS)
+        kept = total if self.is_fast else sql("CASE WHEN {total} BETWEEN {limits} THEN {total}::bigint END", total=total, limits=LIMITS)
         return sql("SELECT {shown} FROM {rows} GROUP BY {grouped} HAVING {total} <> 0", shown=joined([*cells, kept, *pair]), rows=rows,
                    grouped=joined(grouped), total=total)  # fmt: skip
 
     def is_keyed(self, v):
         return v in self.keys and not self.shape.is_summary(v)
 
+    def is_told_by_key(self, v):
+        """Whether each row of a view's table counts once."""
+        return v in self.keys or self.shape.is_summary(v)
+
     def key(self, v):
         return self.keys[v] if self.is_keyed(v) else ()
 
     def placed_rows(self, v, rows):
         """The statement that keeps the rows of a change, each with how often it stands in the table, and the place of it or of the row with
-        its key, and gives what is counted."""
+        its key."""
         cells, read, pair = self.cells(v, "g"), self.read(v), [word("pair")] if self.is_keyed(v) else []
         pairs = list(zip(read, cells))
         on = [pairs[place] for place in self.key(v)] or pairs
@@ -115,31 +139,28 @@ class SwiftScript(SwiftGroups, Opening, LeanComps, LiveScript):
         if rest:
             was = sql("CASE WHEN {same} THEN {was} ELSE 0 END", same=same(rest), was=was)
         return sql(
-            "INSERT INTO {net} ({columns}) SELECT {cells}, g.n, {was}, t.ctid {pair} FROM ({rows}) AS g ({own}) LEFT JOIN {table} AS t ON {on}"
-            " RETURNING {told}",
+            "INSERT INTO {net} ({columns}) SELECT {cells}, g.n, {was}, t.ctid {pair} FROM ({rows}) AS g ({own}) LEFT JOIN {table} AS t ON {on}",
             net=self.working(v, "net"), columns=joined([*self.cells(v), *map(word, ("n", "was", "place")), *pair]), cells=joined(cells), was=was,
             pair=sql(", g.pair") if pair else sql(""), rows=rows, own=joined([*self.cells(v), word("n"), *pair]), table=self.table(v), on=same(on),
-            told=joined([*map(word, ("n", "was", "place")), *pair]),
         )  # fmt: skip
 
     def judging(self, v):
         """What is counted of the rows d of a change, and what is told where it is refused: by a key each row leaves, comes, or is one of two of
         which one leaves and one comes."""
-        tests = {"gone": "d.was + d.n = 0", "stay": "d.was > 0 AND d.was + d.n > 0", "come": "d.was = 0 AND d.n > 0"}
+        tests, most, sums = {"gone": "d.was + d.n = 0", "stay": "d.was > 0 AND d.was + d.n > 0", "come": "d.was = 0 AND d.n > 0"}, self.dialect.whole(MOST), {}
         if self.is_keyed(v):
-            tests = {"gone": "d.n = -1 AND d.pair = 1", "stay": "d.n = 1 AND d.place IS NOT NULL", "come": "d.n = 1 AND d.place IS NULL"}
-        counted, most = {kind: self.many(sql(test)) for kind, test in tests.items()}, self.dialect.whole(MOST)
-        more, moved = sql("{come} - {gone}", **counted), sql("count(*)")
-        if not self.is_keyed(v):
-            more, moved = (sql(f"greatest(least(coalesce(sum({each}), 0), {{most}}), - {{most}})::bigint", most=most) for each in ("d.n", "abs(d.n)"))
+            tests = {"gone": "d.n = -1 AND d.pair = 1", "stay": "d.n = 1 AND d.place IS NOT NULL AND d.pair = 2", "come": "d.n = 1 AND d.place IS NULL"}
+        else:
+            summed = "greatest(least(coalesce(sum({each}), 0), {most}), - {most})::bigint"
+            sums = {kind: sql(summed, each=sql(each), most=most) for kind, each in zip(SUMS, ("d.n", "abs(d.n)"))}
+        counted = {kind: self.many(sql(test)) for kind, test in tests.items()}
         refusals = [
             (sql("{wrong} > 0", wrong=self.many(sql("d.n < 0 AND d.was + d.n < 0"))), self.told_absent(v)),
             (sql("{large} > 0", large=self.many(sql("d.n IS NULL OR d.n > 0 AND d.n > {most} - d.was", most=most))), self.told_large(v)),
         ]
         if self.is_keyed(v):
-            pairs = self.many(sql("d.n = 1 AND d.place IS NOT NULL AND d.pair = 2"))
-            refusals.append((sql("count(*) <> {gone} + {come} + 2 * {pairs}", pairs=pairs, **counted), self.told_torn(v)))
-        return {"rows": sql("count(*)"), **counted, "more": more, "moved": moved, "told": self.first_told(refusals)}
+            refusals.append((sql("count(*) <> {gone} + {come} + 2 * {stay}", **counted), self.told_torn(v)))
+        return {"rows": sql("count(*)"), **counted, **sums, "told": self.first_told(refusals)}
 
     def judge(self, step):
         return self.judged(step.view)
@@ -160,25 +181,13 @@ class SwiftScript(SwiftGroups, Opening, LeanComps, LiveScript):
         v, (term,) = step.view, step.terms
         if self.shape.is_summary(v):
             return self.group_change(v, lambda: self.summed_rows(v, term))
-        cells = self.cells(v, "r")
-        rows = lambda: self.added_up(v, sql("({term}) AS r", term=self.term(v, term)), cells, sql("r.n"))  # noqa: E731
-        made = self.put(lambda: self.counted(v, self.placed_rows(v, rows()), self.judging(v)))
-        return [self.made(v, "net", self.net_columns(v)), made, *self.analyzed(v)]
+        return self.kept(v, lambda: self.added_up(v, sql("({term}) AS r", term=self.term(v, term)), self.cells(v, "r"), sql("r.n")))
 
-    def put(self, made):
-        """A statement that keeps a change; in 64 bits, or exactly where a number leaves them."""
-        return self.in_64_bits(made, [made()])
-
-    def counted(self, v, made, judging, before=None):
-        """A statement that keeps a change, with what is counted of its rows d."""
-        return self.counted_with(v, sql("{before} ({made})", before=before or sql("WITH put AS"), made=made), judging)
-
-    def counted_with(self, v, parts, judging):
-        query = sql("{parts} SELECT {numbers} FROM put AS d", parts=parts, numbers=joined(judging.values()))
-        return sql("{query} INTO {into}", query=self.once(query), into=self.into(v, judging))
-
-    def into(self, v, judging):
-        return joined([word(kind) if kind in ("lost", "places") else self.counter(kind, v) for kind in judging])
+    def counted(self, v, change, judging, before=sql("")):
+        """A statement that counts the rows d of a change, and tells what is refused of them."""
+        query = sql("{before} SELECT {numbers} FROM {change} AS d", before=before, numbers=joined(judging.values()), change=change)
+        into = joined([word(kind) if kind in ("lost", "places") else self.counter(kind, v) for kind in judging])
+        return sql("{query} INTO {into}", query=self.once(query), into=into)
 
     def counts_once(self, operand):
         return super().counts_once(operand) or (operand.view in self.keys and not operand.is_change)
@@ -193,49 +202,38 @@ class SwiftScript(SwiftGroups, Opening, LeanComps, LiveScript):
 
     def joined_change(self, v):
         pending = sql("{pending} AS r", pending=self.working(v, "pending"))
-        rows = self.added_up(v, pending, self.cells(v, "r"), sql("r.s1"))
-        return [self.made(v, "net", self.net_columns(v)), self.counted(v, self.placed_rows(v, rows), self.judging(v)), *self.analyzed(v)]
+        return self.kept(v, lambda: self.added_up(v, pending, self.cells(v, "r"), sql("r.s1")))
 
     # ---- Insts
 
     def inst(self, step):
+        """A change is put into the table by one statement, which has to touch as many rows as were counted."""
         v = step.view
         if self.is_last(v):
             return []
-        left, stayed, came = self.groups_put(v) if self.shape.is_summary(v) else self.rows_put(v)
-        done = zip(("gone", "stay", "come"), ([self.once(left)], self.fitting(v, stayed), self.fitting(v, came)))
-        put = [each for kind, made in done for each in self.then(sql("{many} > 0", many=self.counter(kind, v)), self.touching(v, kind, made))]
-        is_large = sql("{rows} > {large}", rows=self.counter("rows", v), large=number(LARGE))
-        return [*self.then(is_large, [BY_PLACE]), *put, *self.then(is_large, [AS_EVER])]
+        large = f"{self.told_large(v)}: a number does not fit its column"
+        put = self.dialect.counted(large, [self.once(self.groups_put(v) if self.shape.is_summary(v) else self.rows_put(v))])
+        torn = sql("touched <> {many}", many=joined([self.counter(kind, v) for kind in ("gone", "stay", "come")], "+"))
+        return [*without([*put, sql("GET DIAGNOSTICS touched = ROW_COUNT")], "hashjoin"), self.refused_where(torn, self.told_torn(v))]
 
-    def fitting(self, v, statement):
-        """A statement that writes numbers, with the words for one that does not fit its column."""
-        return self.dialect.counted(f"{self.told_large(v)}: a number does not fit its column", [self.once(statement)])
-
-    def touching(self, v, kind, made):
-        """Statements of which the last has to touch as many rows as were counted."""
-        torn = sql("touched <> {many}", many=self.counter(kind, v))
-        return [*made, sql("GET DIAGNOSTICS touched = ROW_COUNT"), self.refused_where(torn, self.told_torn(v))]
-
-    def deleted(self, v, change, test):
-        return sql("DELETE FROM {table} AS t USING {change} AS d WHERE t.ctid = d.place AND {test}", table=self.table(v), change=change, test=test)
-
-    def inserted(self, v, change, columns, shown, test):
-        return sql("INSERT INTO {table} ({columns}) SELECT {shown} FROM {change} AS d WHERE {test}", table=self.table(v),
-                   columns=joined(columns), shown=joined(shown), change=change, test=test)  # fmt: skip
+    def merged(self, v, change, leaves, sets, comes, cells):
+        """The statement by which the rows d of a change leave the table, change or come, each at its place."""
+        return sql(
+            "MERGE INTO {table} AS t USING {change} AS d ON t.ctid = d.place WHEN MATCHED AND {leaves} THEN DELETE WHEN MATCHED THEN UPDATE SET {sets}"
+            " WHEN NOT MATCHED AND {comes} THEN INSERT ({columns}) VALUES ({cells})", table=self.table(v), change=change, leaves=sql(leaves),
+            sets=joined([sql("{column} = {cell}", column=column, cell=cell) for column, cell in sets]), comes=sql(comes),
+            columns=joined([column for column, _ in cells]), cells=joined([cell for _, cell in cells]),
+        )  # fmt: skip
 
     def rows_put(self, v):
-        """The statements by which rows leave, change and come."""
-        net, columns, cells = self.working(v, "net"), [*self.users(v), COUNT], [*self.cells(v, "d"), sql("d.n")]
-        changed = "UPDATE {table} AS t SET {sets} FROM {net} AS d WHERE t.ctid = d.place AND "
+        """Of two rows with one key the one that comes says it all. Without one those that leave go first: the table that is mirrored may have one."""
+        net, cells, count = self.working(v, "net"), list(zip(self.users(v), self.cells(v, "d"))), [(COUNT, sql("d.n"))]
         if not self.is_keyed(v):
-            sets = sql("{count} = d.was + d.n", count=COUNT)
-            stayed = sql(changed + "d.was > 0 AND d.was + d.n > 0", table=self.table(v), sets=sets, net=net)
-            return self.deleted(v, net, sql("d.was + d.n = 0")), stayed, self.inserted(v, net, columns, cells, sql("d.was = 0 AND d.n > 0"))
-        sets = [sql("{column} = d.{cell}", column=column, cell=cell) for place, (column, cell) in enumerate(zip(self.users(v), self.cells(v)))
-                if place not in self.keys[v]]  # fmt: skip
-        stayed = sql(changed + "d.n > 0", table=self.table(v), sets=joined(sets), net=net)
-        return self.deleted(v, net, sql("d.n < 0 AND d.pair = 1")), stayed, self.inserted(v, net, columns, cells, sql("d.place IS NULL"))
+            change = sql("(SELECT * FROM {net} AS d ORDER BY d.was + d.n)", net=net)
+            return self.merged(v, change, "d.was + d.n = 0", [(COUNT, sql("d.was + d.n"))], "d.n > 0", cells + count)
+        change = sql("(SELECT * FROM {net} AS d WHERE d.n > 0 OR d.pair = 1)", net=net)
+        changed = [each for place, each in enumerate(cells) if place not in self.keys[v]]
+        return self.merged(v, change, "d.n < 0", changed, "d.n > 0", cells + count)
 
     # ---- a look afterwards is not needed: every statement has told how many rows it touched, and the tables are the night's own
 
@@ -248,17 +246,19 @@ class SwiftScript(SwiftGroups, Opening, LeanComps, LiveScript):
     # ---- what was judged once
 
     def looked_at(self):
-        """Which base views have changes, asked at once, behind whether views are filled as the catalogue has them; whether tables are captured
-        as they were is judged with all else that is judged once."""
+        """Which base views have changes, asked at once."""
         base = self.steps.base()
         tests = [sql("EXISTS (SELECT 1 FROM {changes} AS d)", changes=self.table(v, "~changes")) for v in base]
-        return [*self.captures.opened(), sql("SELECT {tests} INTO {there}", tests=joined(tests), there=joined([self.counter("there", v) for v in base]))]
+        return [*OF_NIGHTS, sql("SELECT {tests} INTO {there}", tests=joined(tests), there=joined([self.counter("there", v) for v in base]))]
 
     def whole(self, before, steps, after, comment):
-        """The tables are judged where they are not as they were when they last passed: nothing else than the night makes use of them."""
+        """The tables are judged where they are not as they were when they last passed: nothing else than the night makes use of them. A night
+        wants views that are filled as the catalogue has them, too."""
         tables = [self.table(v) for v in range(len(self.views))]
         checks = self.dialect.block([*self.checked.statements(tables), *self.captures.judged()])
-        judged = [*self.captures.looked_at(), *self.then(self.captures.is_changed(), [self.once(checks), *self.captures.whole(), *self.captures.noted_as_judged()])]
+        opened = self.captures.opened() if steps else []
+        judged = [self.once(checks), *self.captures.whole(), *opened, *self.captures.noted_as_judged()]
+        judged = [*self.captures.looked_at(), *self.then(self.captures.is_changed(), judged)]
         made = before + self.carried(steps, comment) + after
         kept = KEPT if any(word("collapsed").tokens[0] in each.tokens for each in made) else []
         self.dialect.variables = self.variables()

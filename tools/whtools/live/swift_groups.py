@@ -20,7 +20,8 @@ class SwiftGroups:
         cells, read = self.cells(v)[:groups], self.read(v)
         on = joined([sql("{a} = g.{b}", a=a, b=b) for a, b in zip(read, cells)], "AND") if groups else sql("1 = 1")
         before = [sql("coalesce({column}, 0)", column=column) for column in read[groups:]]
-        after = [sql("{was}::numeric + g.{sum}", was=was, sum=each) for was, each in zip(before, self.summed_columns(v, "s"))]
+        after = "{was} + g.{sum}::bigint" if self.is_fast else "{was}::numeric + g.{sum}"
+        after = [sql(after, was=was, sum=each) for was, each in zip(before, self.summed_columns(v, "s"))]
         sums = after if self.is_last(v) else before + after
         shown = [sql("g.{cell}", cell=cell) for cell in cells] + sums + [sql("g.{lost}", lost=each) for each in self.lost_column(v)]
         return sql("SELECT {shown}, t.ctid FROM ({added}) AS g ({given}) LEFT JOIN {table} AS t ON {on}", shown=joined(shown), added=added,
@@ -35,50 +36,54 @@ class SwiftGroups:
 
     def group_change(self, v, added):
         """The groups that change are found in one pass: of a view that none is over they are put by it, and else kept, and made rows of."""
-        table, found = [self.made(v, "beside", self.beside_columns(v))], lambda: self.counted(v, self.groups_kept(v, added()), self.judging_groups(v))
+        lost = [self.refused_where(sql("lost > 0"), self.told_range(v))] if self.shape.checked(v) else []
+        found = lambda: self.groups_at_once(v, added()) if self.is_last(v) else self.once(self.groups_kept(v, added()))  # noqa: E731
         sure = found
         if self.is_last(v):
             told = sql("{told} := {range}", told=self.counter("told", v), range=text(self.told_range(v)))
-            table, found = [], lambda: self.groups_at_once(v, added())
             sure = lambda: self.unless_large([found()], [told])  # noqa: E731
-        lost = [self.refused_where(sql("lost > 0"), self.told_range(v))] if self.shape.checked(v) else []
-        gone = self.gone_at_once(v) if self.is_last(v) else []
-        return [*table, self.in_64_bits(found, [sure()]) if self.is_direct(v) else sure(), *lost, *gone, *self.group_rows(v)]
+        made = self.in_64_bits(found, [sure()]) if self.is_direct(v) else sure()
+        if self.is_last(v):
+            return [made, *lost, *self.gone_at_once(v)]
+        counted = self.counted(v, self.working(v, "beside"), self.judging_groups(v))
+        return [self.made(v, "beside", self.beside_columns(v)), made, counted, *lost, *self.group_rows(v)]
 
     def beside_columns(self, v):
         own = [sql("{sum} numeric", sum=each) for each in self.placed_columns(v)[self.shape.groups(v) : -1]]
         return [*self.typed_cells(v, self.shape.groups(v)), *own, sql("place tid")]
 
     def groups_kept(self, v, added):
-        """The statement that keeps the groups that change, and gives what is counted."""
-        columns = self.placed_columns(v)
-        return sql("INSERT INTO {beside} ({columns}) {placed} RETURNING {told}", beside=self.working(v, "beside"), columns=joined(columns),
-                   placed=self.groups_placed(v, added), told=joined([*self.summed_columns(v, "a"), *self.lost_column(v), word("place")]))  # fmt: skip
+        """The statement that keeps the groups that change."""
+        return sql("INSERT INTO {beside} ({columns}) {placed}", beside=self.working(v, "beside"), columns=joined(self.placed_columns(v)),
+                   placed=self.groups_placed(v, added))  # fmt: skip
 
     def groups_at_once(self, v, added):
-        """One statement for a change and its Inst: it counts what was put, too, and gives the places of groups that leave, as hardly any does."""
+        """One statement for a change and its Inst: it counts what was put, and gives the places of groups that leave, as hardly any does."""
+        (sets, cells), table = self.group_cells(v), self.table(v)
         put = sql("put ({columns}) AS ({placed})", columns=joined(self.placed_columns(v)), placed=self.groups_placed(v, added))
-        _, *done = self.groups_put(v)
-        done = [sql("{kind} AS ({made} RETURNING 1)", kind=word(kind), made=made) for kind, made in zip(("stay", "come"), done)]
-        judging = self.judging_groups(v)
-        torn = joined([sql("(SELECT count(*) FROM {kind}) <> {many}", kind=word(kind), many=judging[kind]) for kind in ("stay", "come")], "OR")
+        stay = sql("stay AS (UPDATE {table} AS t SET {sets} FROM put AS d WHERE t.ctid = d.place AND d.a1 > 0 RETURNING 1)", table=table,
+                   sets=joined([sql("{column} = {cell}", column=column, cell=cell) for column, cell in sets]))  # fmt: skip
+        columns, shown = (joined(each) for each in zip(*cells))
+        come = sql("come AS (INSERT INTO {table} ({columns}) SELECT {shown} FROM put AS d WHERE d.a1 > 0 AND {coming} RETURNING 1)", table=table,
+                   columns=columns, shown=shown, coming=COMING)  # fmt: skip
+        judging = {**self.judging_groups(v), **{kind: sql("(SELECT count(*) FROM {kind})", kind=word(kind)) for kind in ("stay", "come")}}
+        torn = sql("{stay} + {come} <> {put}", stay=judging["stay"], come=judging["come"], put=self.many(sql("d.a1 > 0")))
         judging["told"] = self.first_told([*self.refused_groups(v), (torn, self.told_torn(v))])
         judging["places"] = sql("array_agg(d.place) FILTER (WHERE d.a1 = 0 AND {placed})", placed=PLACED)
-        return self.counted_with(v, sql("WITH {parts}", parts=joined([put, *done])), judging)
+        return self.counted(v, word("put"), judging, sql("WITH {parts}", parts=joined([put, stay, come])))
 
     def gone_at_once(self, v):
         """Groups that leave."""
         many, gone = self.counter("gone", v), sql("DELETE FROM {table} AS t WHERE t.ctid = ANY (places)", table=self.table(v))
-        return self.then(sql("{many} > 0", many=many), self.touching(v, "gone", [gone]))
+        torn = self.refused_where(sql("touched <> {many}", many=many), self.told_torn(v))
+        return self.then(sql("{many} > 0", many=many), [gone, sql("GET DIAGNOSTICS touched = ROW_COUNT"), torn])
 
     def judging_groups(self, v):
         """What is counted of the groups d that change, and what is told where they are refused."""
         tests = {"gone": "d.a1 = 0 AND {placed}", "stay": "d.a1 > 0 AND {placed}", "come": "d.a1 > 0 AND {coming}"}
         counted = {kind: self.many(sql(test, placed=PLACED, coming=COMING)) for kind, test in tests.items()}
-        return {
-            "rows": sql("count(*)"), **counted, "more": sql("{come} - {gone}", **counted), "moved": sql("{come} + {gone} + 2 * {stay}", **counted),
-            "told": self.first_told(self.refused_groups(v)), **{"lost": sql("coalesce(sum(d.lost), 0)") for _ in self.lost_column(v)},
-        }  # fmt: skip
+        lost = {"lost": sql("coalesce(sum(d.lost), 0)") for _ in self.lost_column(v)}
+        return {"rows": sql("count(*)"), **counted, "told": self.first_told(self.refused_groups(v)), **lost}
 
     def refused_groups(self, v):
         """What is refused of groups that are kept; of those that are put at once a sum that leaves 64 bits does not come into its column."""
@@ -99,11 +104,12 @@ class SwiftGroups:
         both = sql("INSERT INTO {net} ({own}, n) {gone} UNION ALL {come}", net=self.working(v, "net"), own=joined(self.cells(v)), gone=parts[0], come=parts[1])
         return [self.made(v, "net", self.net_columns(v)), self.once(both), *self.analyzed(v)]
 
+    def group_cells(self, v):
+        """The columns with sums, and all of them, each with what it gets of a group d."""
+        groups = self.shape.groups(v)
+        cells = list(zip(self.users(v), [*self.cells(v, "d")[:groups], *self.summed_columns(v, "a", "d")]))
+        return cells[groups:], cells
+
     def groups_put(self, v):
-        """The statements by which groups leave, change and come."""
-        groups, change = self.shape.groups(v), word("put") if self.is_last(v) else self.working(v, "beside")
-        columns, shown = self.users(v), [*self.cells(v, "d")[:groups], *self.summed_columns(v, "a", "d")]
-        sets = joined([sql("{column} = {sum}", column=column, sum=each) for column, each in zip(columns[groups:], shown[groups:])])
-        changed = sql("UPDATE {table} AS t SET {sets} FROM {change} AS d WHERE t.ctid = d.place AND d.a1 > 0", table=self.table(v), sets=sets,
-                      change=change)  # fmt: skip
-        return self.deleted(v, change, sql("d.a1 = 0")), changed, self.inserted(v, change, columns, shown, sql("d.a1 > 0 AND d.place IS NULL"))
+        sets, cells = self.group_cells(v)
+        return self.merged(v, self.working(v, "beside"), "d.a1 = 0", sets, "d.a1 > 0", cells)

@@ -6,26 +6,16 @@ from whtools.live import command
 from whtools.live.sqlite import Captures as SQLiteCaptures
 from whtools.live.swift import SwiftScript
 from whtools.live_trials import beside, cases
-from whtools.sql.dialect import COUNT
-from whtools.sql.tokens import joined, sql
+from whtools.sql.tokens import sql
 
 
 class TableByTable(SwiftScript):
-    """Each statement has a snapshot of its own: a transaction may be in the night by one table and in the next by another."""
+    """Each statement has a snapshot of its own: a transaction may be in the night by one table and in the next by another, and what is committed
+    between the reading and the emptying is lost."""
 
     def __init__(self, catalogue, dialect, prefix=""):
         super().__init__(catalogue, dialect, prefix)
         dialect.isolation = "READ COMMITTED"
-
-
-class EmptiedLater(TableByTable):
-    """What is committed between the reading and the emptying is lost."""
-
-    def taken_from(self, v):
-        return sql("SELECT {columns} FROM {changes}", columns=joined([*self.users(v), COUNT]), changes=self.table(v, "~changes"))
-
-    def net(self, step):
-        return [*super().net(step), sql("DELETE FROM {changes}", changes=self.table(step.view, "~changes"))]
 
 
 class NotLookedAt(SwiftScript):
@@ -39,9 +29,9 @@ class NotLookedAt(SwiftScript):
 class NoGroupChanges(SwiftScript):
     """Groups that stay keep their sums."""
 
-    def groups_put(self, v):
-        left, stayed, came = super().groups_put(v)
-        return left, sql("{stayed} AND 1 = 0", stayed=stayed), came
+    def group_cells(self, v):
+        sets, cells = super().group_cells(v)
+        return [(column, sql("t.{column}", column=column)) for column, _ in sets], cells
 
 
 class NothingIsAbsent(SwiftScript):
@@ -105,7 +95,7 @@ def trigger_mistakes(live):
 def unnoticed(live):
     """The spoilt scripts of an engine that nothing notices."""
     if live.engine == "postgresql":
-        found = [each for kind in (TableByTable, EmptiedLater) for each in unnoticed_beside(live, kind)]
+        found = unnoticed_beside(live, TableByTable)
         for kind, case in ((NotLookedAt, "a part that is dropped"), (NoGroupChanges, "rows change")):
             with mock.patch.object(command, "SwiftScript", kind):
                 found += unnoticed_case(live, kind.__name__, case)
