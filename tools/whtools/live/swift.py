@@ -15,7 +15,7 @@ from whtools.sql.dialect import COUNT, MOST
 from whtools.sql.keys import Keys
 from whtools.sql.lean import LOOK_UPS, LeanComps
 from whtools.sql.postgresql import KEPT, LIMITS, PostgreSQL
-from whtools.sql.tokens import joined, number, sql, text, word
+from whtools.sql.tokens import body, joined, name, sql, text, word
 
 # How many rows of a view's change there are, that leave, that stay otherwise and that come; and of views without keys by how many rows their
 # tables grow, and how many change.
@@ -58,12 +58,6 @@ class SwiftScript(SwiftGroups, Opening, LeanComps, LiveScript):
         """Of each view that has one the places of its key."""
         return Keys(self.catalogue, self.shape).found
 
-    # ---- working tables, each made where it is filled
-
-    def net_columns(self, v):
-        pair = [sql("pair bigint")] if self.is_keyed(v) else []
-        return [*self.typed_cells(v), *map(sql, ("n bigint", "was bigint", "place tid")), *pair]
-
     # ---- steps
 
     def worth(self, step):
@@ -97,9 +91,9 @@ class SwiftScript(SwiftGroups, Opening, LeanComps, LiveScript):
 
     def kept(self, v, rows, taken=sql("")):
         """The rows of a change are kept with what stands in the table of each, and counted."""
-        put = lambda: self.once(self.placed_rows(v, rows()))  # noqa: E731
+        made = lambda: self.once(self.placed_rows(v, rows()))  # noqa: E731
         counted = self.counted(v, self.working(v, "net"), self.judging(v), taken)
-        return [self.made(v, "net", self.net_columns(v)), *self.looked_up(v, self.in_64_bits(put, [put()])), counted, *self.analyzed(v)]
+        return [*self.looked_up(v, self.in_64_bits(made, [made()])), counted, *self.analyzed(v)]
 
     def looked_up(self, v, made):
         """A statement that looks rows up: one by one, by a key in its order. How many there are PostgreSQL takes from when a table was last
@@ -128,8 +122,8 @@ class SwiftScript(SwiftGroups, Opening, LeanComps, LiveScript):
         return self.keys[v] if self.is_keyed(v) else ()
 
     def placed_rows(self, v, rows):
-        """The statement that keeps the rows of a change, each with how often it stands in the table, and the place of it or of the row with
-        its key."""
+        """The statement that makes a table of the rows of a change, each with how often it stands in the view's, and the place of it or of the row
+        with its key."""
         cells, read, pair = self.cells(v, "g"), self.read(v), [word("pair")] if self.is_keyed(v) else []
         pairs = list(zip(read, cells))
         on = [pairs[place] for place in self.key(v)] or pairs
@@ -139,8 +133,8 @@ class SwiftScript(SwiftGroups, Opening, LeanComps, LiveScript):
         if rest:
             was = sql("CASE WHEN {same} THEN {was} ELSE 0 END", same=same(rest), was=was)
         return sql(
-            "INSERT INTO {net} ({columns}) SELECT {cells}, g.n, {was}, t.ctid {pair} FROM ({rows}) AS g ({own}) LEFT JOIN {table} AS t ON {on}",
-            net=self.working(v, "net"), columns=joined([*self.cells(v), *map(word, ("n", "was", "place")), *pair]), cells=joined(cells), was=was,
+            "CREATE TEMPORARY TABLE {net} ON COMMIT DROP AS SELECT {cells}, g.n, {was} AS was, t.ctid AS place {pair} FROM ({rows}) AS g ({own})"
+            " LEFT JOIN {table} AS t ON {on}", net=name(self.working_name(v, "net")), cells=joined(cells), was=was,
             pair=sql(", g.pair") if pair else sql(""), rows=rows, own=joined([*self.cells(v), word("n"), *pair]), table=self.table(v), on=same(on),
         )  # fmt: skip
 
@@ -182,6 +176,30 @@ class SwiftScript(SwiftGroups, Opening, LeanComps, LiveScript):
         if self.shape.is_summary(v):
             return self.group_change(v, lambda: self.summed_rows(v, term))
         return self.kept(v, lambda: self.added_up(v, sql("({term}) AS r", term=self.term(v, term)), self.cells(v, "r"), sql("r.n")))
+
+    def pending_made(self, v):
+        """The first term that is computed makes the table."""
+        return []
+
+    def computed_term(self, v, term):
+        if self.shape.is_summary(v) or self.dialect.is_wide(len(term), self.pairs(v, term)):
+            return [*super().pending_made(v), *super().computed_term(v, term)]
+        put = lambda: self.put_pending(v, term)  # noqa: E731
+        return [self.in_64_bits(put, [*self.dialect.counted(self.told_large(v), [put()]), sql("lost := 1")])]
+
+    def put_pending(self, v, term):
+        """A statement that keeps the combined rows of a term, in a table that it makes where there is none."""
+        kinds, table = self.dialect.kinds, self.working(v, "pending")
+        cells = [sql("r.{cell}::{kind} AS {cell}", cell=cell, kind=kinds[kind]) for cell, kind in zip(self.cells(v), self.kinds(v))]
+        return sql(
+            "EXECUTE concat(CASE WHEN {made} IS NULL THEN {create} ELSE {insert} END, {query})", made=self.counter("made", v),
+            create=body(sql("CREATE TEMPORARY TABLE {table} ON COMMIT DROP AS", table=name(self.working_name(v, "pending")))),
+            insert=body(sql("INSERT INTO {table}", table=table)),
+            query=body(sql("SELECT {cells}, r.n AS s1, r.lost FROM ({term}) AS r", cells=joined(cells), term=self.term(v, term))),
+        )  # fmt: skip
+
+    def added_to(self, v):
+        return [sql("GET DIAGNOSTICS touched = ROW_COUNT"), sql("{made} := coalesce({made}, 0) + touched", made=self.counter("made", v))]
 
     def counted(self, v, change, judging, before=sql("")):
         """A statement that counts the rows d of a change, and tells what is refused of them."""

@@ -102,7 +102,7 @@ class SwiftGroups:
             for letter, sign, test in (("o", -1, PLACED), ("a", 1, sql("d.a1 <> 0")))
         ]  # fmt: skip
         both = sql("INSERT INTO {net} ({own}, n) {gone} UNION ALL {come}", net=self.working(v, "net"), own=joined(self.cells(v)), gone=parts[0], come=parts[1])
-        return [self.made(v, "net", self.net_columns(v)), self.once(both), *self.analyzed(v)]
+        return [self.made(v, "net", [*self.typed_cells(v), sql("n bigint")]), self.once(both), *self.analyzed(v)]
 
     def group_cells(self, v):
         """The columns with sums, and all of them, each with what it gets of a group d."""
