@@ -78,7 +78,7 @@ HOLES = (
 )  # fmt: skip
 STRANGE = "there is a table %s already, which is none of --capture's: name another schema by --schema"
 UNKNOWN = "%s is captured too, and is not in this catalogue: a catalogue with all that is captured lets it go"
-# A statement of the block is read where it is carried out, and not before, too.
+# Else all statements of the block would be read before it begins, and those that are carried out once more.
 UNREAD = sql("SET LOCAL check_function_bodies = off")
 UNTRUNCATED = "a table whose changes are captured is truncated at READ COMMITTED alone: another isolation does not see all rows that go"
 BUSY = "somebody is writing to %s all the time, and its triggers wait for a moment without: run the script again"

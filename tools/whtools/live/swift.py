@@ -141,15 +141,16 @@ class SwiftScript(SwiftGroups, Opening, LeanComps, LiveScript):
     def judging(self, v):
         """What is counted of the rows d of a change, and what is told where it is refused: by a key each row leaves, comes, or is one of two of
         which one leaves and one comes."""
-        tests, most, sums = {"gone": "d.was + d.n = 0", "stay": "d.was > 0 AND d.was + d.n > 0", "come": "d.was = 0 AND d.n > 0"}, self.dialect.whole(MOST), {}
+        most, summed = self.dialect.whole(MOST), "greatest(least(coalesce(sum({each}), 0), {most}), - {most})::bigint"
         if self.is_keyed(v):
             tests = {"gone": "d.n = -1 AND d.pair = 1", "stay": "d.n = 1 AND d.place IS NOT NULL AND d.pair = 2", "come": "d.n = 1 AND d.place IS NULL"}
+            sums = {}
         else:
-            summed = "greatest(least(coalesce(sum({each}), 0), {most}), - {most})::bigint"
+            tests = {"gone": "d.n = - d.was", "stay": "d.was > 0 AND d.n > - d.was", "come": "d.was = 0 AND d.n > 0"}
             sums = {kind: sql(summed, each=sql(each), most=most) for kind, each in zip(SUMS, ("d.n", "abs(d.n)"))}
         counted = {kind: self.many(sql(test)) for kind, test in tests.items()}
         refusals = [
-            (sql("{wrong} > 0", wrong=self.many(sql("d.n < 0 AND d.was + d.n < 0"))), self.told_absent(v)),
+            (sql("{wrong} > 0", wrong=self.many(sql("d.n < - d.was"))), self.told_absent(v)),
             (sql("{large} > 0", large=self.many(sql("d.n IS NULL OR d.n > 0 AND d.n > {most} - d.was", most=most))), self.told_large(v)),
         ]
         if self.is_keyed(v):
@@ -178,10 +179,11 @@ class SwiftScript(SwiftGroups, Opening, LeanComps, LiveScript):
         return self.kept(v, lambda: self.added_up(v, sql("({term}) AS r", term=self.term(v, term)), self.cells(v, "r"), sql("r.n")))
 
     def pending_made(self, v):
-        """The first term that is computed makes the table."""
+        """The first term that is computed makes the table of what is."""
         return []
 
     def computed_term(self, v, term):
+        """A term of a joined view in numbers of 64 bits; where one leaves them, exactly, with the words for what does."""
         if self.shape.is_summary(v) or self.dialect.is_wide(len(term), self.pairs(v, term)):
             return [*super().pending_made(v), *super().computed_term(v, term)]
         put = lambda: self.put_pending(v, term)  # noqa: E731

@@ -37,16 +37,18 @@ class SwiftGroups:
     def group_change(self, v, added):
         """The groups that change are found in one pass: of a view that none is over they are put by it, and else kept, and made rows of."""
         lost = [self.refused_where(sql("lost > 0"), self.told_range(v))] if self.shape.checked(v) else []
-        found = lambda: self.groups_at_once(v, added()) if self.is_last(v) else self.once(self.groups_kept(v, added()))  # noqa: E731
-        sure = found
         if self.is_last(v):
             told = sql("{told} := {range}", told=self.counter("told", v), range=text(self.told_range(v)))
-            sure = lambda: self.unless_large([found()], [told])  # noqa: E731
-        made = self.in_64_bits(found, [sure()]) if self.is_direct(v) else sure()
-        if self.is_last(v):
-            return [made, *lost, *self.gone_at_once(v)]
+            put = lambda: self.groups_at_once(v, added())  # noqa: E731
+            return [self.if_direct(v, put, self.unless_large([put()], [told])), *lost, *self.gone_at_once(v)]
+        keep = lambda: self.once(self.groups_kept(v, added()))  # noqa: E731
         counted = self.counted(v, self.working(v, "beside"), self.judging_groups(v))
-        return [self.made(v, "beside", self.beside_columns(v)), made, counted, *lost, *self.group_rows(v)]
+        rows = self.then(sql("{told} IS NULL", told=self.counter("told", v)), self.group_rows(v))
+        return [self.made(v, "beside", self.beside_columns(v)), self.if_direct(v, keep, keep()), counted, *lost, *rows]
+
+    def if_direct(self, v, made, sure):
+        """A statement that is sure; where it computes a term itself, it is tried in 64 bits first."""
+        return self.in_64_bits(made, [sure]) if self.is_direct(v) else sure
 
     def beside_columns(self, v):
         own = [sql("{sum} numeric", sum=each) for each in self.placed_columns(v)[self.shape.groups(v) : -1]]
@@ -93,8 +95,6 @@ class SwiftGroups:
 
     def group_rows(self, v):
         """The rows before leave, and those after come, for the views over this one."""
-        if self.is_last(v):
-            return []
         cells = self.cells(v)[: self.shape.groups(v)]
         parts = [
             sql("SELECT {cells}, {sign} FROM {beside} AS d WHERE {test}", cells=joined([*cells, *self.summed_columns(v, letter)]), sign=number(sign),
