@@ -5,7 +5,7 @@ from hashlib import sha256
 from whtools.live.history import SIZES
 from whtools.live.turned import NULL
 from whtools.sql.dialect import COUNT
-from whtools.sql.postgresql import SETTINGS, PostgreSQL
+from whtools.sql.postgresql import SETTINGS, UNREAD, PostgreSQL
 from whtools.sql.tokens import END_OF_STATEMENT, body, joined, name, number, sql, statements, text, word
 
 # How often a table is tried that somebody is writing to, and how many milliseconds it is left alone in between: a minute in all.
@@ -78,8 +78,6 @@ HOLES = (
 )  # fmt: skip
 STRANGE = "there is a table %s already, which is none of --capture's: name another schema by --schema"
 UNKNOWN = "%s is captured too, and is not in this catalogue: a catalogue with all that is captured lets it go"
-# Else all statements of the block would be read before it begins, and those that are carried out once more.
-UNREAD = sql("SET LOCAL check_function_bodies = off")
 UNTRUNCATED = "a table whose changes are captured is truncated at READ COMMITTED alone: another isolation does not see all rows that go"
 BUSY = "somebody is writing to %s all the time, and its triggers wait for a moment without: run the script again"
 
@@ -103,9 +101,8 @@ class LivePostgreSQL(PostgreSQL):
         server, since that has a snapshot from before."""
         level = sql("SET TRANSACTION ISOLATION LEVEL " + self.isolation + " READ WRITE")
         tables = [self.created(name(said), columns) for said, columns in working]
-        begun = (sql("BEGIN ISOLATION LEVEL READ COMMITTED"), level, locked, UNREAD)
-        begun = [sql("{each}{end}", each=each, end=END_OF_STATEMENT) for each in begun]
-        return [*begun, self.block([*tables, *made]), sql("COMMIT{end}", end=END_OF_STATEMENT)]
+        begun = [sql("{each}{end}", each=each, end=END_OF_STATEMENT) for each in (sql("BEGIN ISOLATION LEVEL READ COMMITTED"), level, locked)]
+        return [*begun, UNREAD, self.block([*tables, *made]), sql("COMMIT{end}", end=END_OF_STATEMENT)]
 
 
 class Captures:

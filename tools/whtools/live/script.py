@@ -92,6 +92,9 @@ class LiveScript(Script):
 
     keys = {}
 
+    def key_places(self, v):
+        return self.keys.get(v)
+
     def key_of(self, v, sources):
         """The names of the columns of a view's key: what the night goes by, or that of the table that it mirrors."""
         if v in self.keys:

@@ -108,13 +108,17 @@ class Script(Comps, Changes, Insts, Catalogued):
         return [index for u in range(len(self.views)) for index in self.indexes_of(u)]
 
     def indexes_of(self, u):
-        """Those of a view's table."""
+        """Those of a view's table, but for what its key serves."""
         found = []
         for at, columns in enumerate(self.asked_for()[u], 1):
             index, table = self.dialect.index(self.said(u, f"~{at}")), self.dialect.indexed(self.said(u))
             listed = joined([self.users(u)[column] for column in columns])
-            found.append(sql("CREATE INDEX {index} ON {table} ({columns})", index=index, table=table, columns=listed))
+            found += [] if columns == self.key_places(u) else [sql("CREATE INDEX {index} ON {table} ({columns})", index=index, table=table, columns=listed)]
         return found
+
+    def key_places(self, v):
+        """The places of a view's key, in their order."""
+        return self.said_keys.get(v)
 
     def working_tables(self):
         """The tables that pass with a night: of each view its change and where its rows stand, and of a derived one what its Comps make."""
