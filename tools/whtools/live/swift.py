@@ -15,7 +15,7 @@ from whtools.sql.dialect import COUNT, MOST
 from whtools.sql.keys import Keys
 from whtools.sql.lean import LOOK_UPS, LeanComps
 from whtools.sql.postgresql import KEPT, LIMITS, PostgreSQL
-from whtools.sql.tokens import body, joined, name, sql, text, word
+from whtools.sql.tokens import joined, name, sql, word
 
 # How many rows of a view's change there are, that leave, that stay otherwise and that come; and of views without keys by how many rows their
 # tables grow, and how many change.
@@ -177,31 +177,6 @@ class SwiftScript(SwiftGroups, Opening, LeanComps, LiveScript):
         if self.shape.is_summary(v):
             return self.group_change(v, lambda: self.summed_rows(v, term))
         return self.kept(v, lambda: self.added_up(v, sql("({term}) AS r", term=self.term(v, term)), self.cells(v, "r"), sql("r.n")))
-
-    def pending_made(self, v):
-        """The first term that is computed makes the table of what is."""
-        return []
-
-    def computed_term(self, v, term):
-        """A term of a joined view in numbers of 64 bits; where one leaves them, exactly, with the words for what does."""
-        if self.shape.is_summary(v) or self.dialect.is_wide(len(term), self.pairs(v, term)):
-            return [*super().pending_made(v), *super().computed_term(v, term)]
-        put = lambda: self.put_pending(v, term)  # noqa: E731
-        return [self.in_64_bits(put, [*self.dialect.counted(self.told_large(v), [put()]), sql("lost := 1")])]
-
-    def put_pending(self, v, term):
-        """A statement that keeps the combined rows of a term, in a table that it makes where there is none."""
-        kinds, table = self.dialect.kinds, self.working(v, "pending")
-        cells = [sql("r.{cell}::{kind} AS {cell}", cell=cell, kind=kinds[kind]) for cell, kind in zip(self.cells(v), self.kinds(v))]
-        return sql(
-            "EXECUTE concat(CASE WHEN {made} IS NULL THEN {create} ELSE {insert} END, {query})", made=self.counter("made", v),
-            create=body(sql("CREATE TEMPORARY TABLE {table} ON COMMIT DROP AS", table=name(self.working_name(v, "pending")))),
-            insert=body(sql("INSERT INTO {table}", table=table)),
-            query=body(sql("SELECT {cells}, r.n AS s1, r.lost FROM ({term}) AS r", cells=joined(cells), term=self.term(v, term))),
-        )  # fmt: skip
-
-    def added_to(self, v):
-        return [sql("GET DIAGNOSTICS touched = ROW_COUNT"), sql("{made} := coalesce({made}, 0) + touched", made=self.counter("made", v))]
 
     def counted(self, v, change, judging, before=sql("")):
         """A statement that counts the rows d of a change, and tells what is refused of them."""

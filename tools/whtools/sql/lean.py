@@ -90,15 +90,29 @@ class LeanComps(Comps):
         for term in step.terms:
             changes = [operand.view for operand in term if operand.is_change]
             test = joined([sql("{rows} > 0", rows=self.counter("rows", u)) for u in changes], "AND")
-            found += self.then(test, [*self.pending_made(v), *self.computed_term(v, term), *self.added_to(v)])
+            found += self.then(test, [*self.computed_term(v, term), *self.added_to(v)])
         return [*found, *self.computed_right(v)]
 
     def computed_term(self, v, term):
         """A term in numbers of 64 bits; where one leaves them, exactly, with the words for what does."""
-        if self.dialect.is_wide(len(term), self.pairs(v, term)):
-            return [*self.dialect.planned(len(term), self.pairs(v, term), self.term_statement(v, term), self.told_large(v)), sql("lost := 1")]
-        sure = [*self.dialect.counted(self.told_large(v), [self.once(self.term_statement(v, term))]), sql("lost := 1")]
-        return [self.in_64_bits(lambda: self.once(self.term_statement(v, term)), sure)]
+        pairs, told = self.pairs(v, term), self.told_large(v)
+        if self.dialect.is_wide(len(term), pairs):
+            return [*self.pending_made(v), *self.dialect.planned(len(term), pairs, self.term_statement(v, term), told), sql("lost := 1")]
+        put = (lambda: self.once(self.term_statement(v, term))) if self.shape.is_summary(v) else lambda: self.put_pending(v, term)
+        tried = self.in_64_bits(put, [*self.dialect.counted(told, [put()]), sql("lost := 1")])
+        return [*(self.pending_made(v) if self.shape.is_summary(v) else []), tried]
+
+    def put_pending(self, v, term):
+        """A statement that keeps the combined rows of a joined view as they are, since all are added up once in any case; in a table that the first
+        term makes."""
+        kinds, table = self.dialect.kinds, self.working(v, "pending")
+        cells = [sql("r.{cell}::{kind} AS {cell}", cell=cell, kind=kinds[kind]) for cell, kind in zip(self.cells(v), self.kinds(v))]
+        return sql(
+            "EXECUTE concat(CASE WHEN {made} IS NULL THEN {create} ELSE {insert} END, {query})", made=self.counter("made", v),
+            create=body(sql("CREATE TEMPORARY TABLE {table} ON COMMIT DROP AS", table=name(self.working_name(v, "pending")))),
+            insert=body(sql("INSERT INTO {table}", table=table)),
+            query=body(sql("SELECT {cells}, r.n AS s1, r.lost FROM ({term}) AS r", cells=joined(cells), term=self.term(v, term))),
+        )  # fmt: skip
 
     def in_64_bits(self, made, sure):
         """A statement that is tried in 64 bits, and what is done where a number leaves them."""
@@ -138,7 +152,7 @@ class LeanComps(Comps):
                          [self.made(v, kind, columns), sql("{made} := 0", made=self.counter("made", v))])  # fmt: skip
 
     def added_to(self, v):
-        return [sql("GET DIAGNOSTICS touched = ROW_COUNT"), sql("{made} := {made} + touched", made=self.counter("made", v))]
+        return [sql("GET DIAGNOSTICS touched = ROW_COUNT"), sql("{made} := coalesce({made}, 0) + touched", made=self.counter("made", v))]
 
     def computed_right(self, v):
         """A refusal of an output without a value: there is none where all was computed in 64 bits."""
