@@ -2,7 +2,7 @@
 
 
 from whtools.databases.cases import (
-    ALE_COMES, EITHER, JAM_IS_DEARER, LINES, REFUSED, TEA_GOES, Case,
+    ALE_COMES, EITHER, JAM_IS_DEARER, LINES, PRODUCTS, REFUSED, TEA_GOES, Case,
 )  # fmt: skip
 
 PG, LITE = "postgresql", "sqlite"
@@ -421,13 +421,59 @@ def summaries():
         *(Case(f"a group comes before another one leaves, and {told} is unique", PG, next_day, {"sums": [f"CREATE TABLE sums ({SUMS}, {more});"]}, **day)
           for told, more in constraints.items()),
         Case("a group comes before another one leaves, and some are unique", PG, next_day, {"sums": [f"CREATE TABLE sums ({SUMS});", *partial]}, **day),
+        *joined_views(),
         Case("more rows leave than a group has, and a check wants some", PG, JAM_LEAVES, by_product("UNIQUE (product), CHECK (n > 0)"), few, REFUSED,
              "refused absent by_product"),
     ]  # fmt: skip
 
 
+SOLD = 'id bigint NOT NULL, product text NOT NULL, cost bigint NOT NULL, "#" bigint NOT NULL DEFAULT 1, note text, UNIQUE (id)'
+NOTED = {"more": ["UPDATE sales SET note = 'of ' || id;"], "keys": {"sales": [0]}, "others": {"sales": ["note"]}}
+
+
+def sold(more="", *after):
+    return {"sales": [f"CREATE TABLE sales ({SOLD}{more});", *after]}
+
+
+def joined_views():
+    """Joined views whose tables have a key by which a row stays the same row, and two rows of which change places under another unique index."""
+    swapped = {"lines": [((1, "tea", 2), -1), ((2, "jam", 1), -1), ((1, "jam", 2), 1), ((2, "tea", 1), 1)]}
+    two = {"rows": {"products": PRODUCTS, "lines": LINES[:2]}}
+    others = {"a column": ", UNIQUE (product)", "what an exclusion keeps out": ", EXCLUDE USING btree (product WITH =)"}
+    return [
+        Case("a cost changes beside a note of a joined view", PG, JAM_IS_DEARER, sold(), **NOTED),
+        Case("a cost changes beside a note of a joined view, and the key with a column is unique", PG, JAM_IS_DEARER, sold(", UNIQUE (product, id)"), **NOTED),
+        *(Case(f"rows of a joined view change places, and {told} is unique", PG, swapped, sold(more, "ALTER TABLE sales DROP note;"), **two)
+          for told, more in others.items()),
+    ]  # fmt: skip
+
+
+# ---- tables with heirs and keys, and many changes
+
+HEIR = ["CREATE TABLE imported () INHERITS (products);"]
+JAM_TWICE = {"products": [("tea", 300), (("jam", 450), 2)], "lines": LINES}
+ONE_MOVES = ["INSERT INTO imported SELECT * FROM products WHERE product = 'jam' LIMIT 1;",
+             "DELETE FROM ONLY products WHERE ctid = (SELECT min(ctid) FROM ONLY products WHERE product = 'jam');",
+             "ALTER TABLE products ADD PRIMARY KEY (product);"]  # fmt: skip
+HUNDREDS = {"products": [(f"product {n}", 100 + n) for n in range(900)], "lines": [(n, f"product {n}", 2) for n in range(900)]}
+HUNDREDS_CHANGE = {"products": [each for n in range(600) for each in (((f"product {n}", 100 + n), -1), ((f"product {n}", 101 + n), 1))]}
+
+
+def heirs():
+    """An index of a table does not cover its heirs: what has its key may stand in one of them, too."""
+    described_heir = {"products": [*described("description text")["products"], *HEIR]}
+    return [
+        Case("a price changes beside a description of an heir", PG, JAM_IS_DEARER, described_heir, [DESCRIBED, *MOVED], **KEYED, **BESIDE),
+        Case("one of two products leaves, of which an heir has one", PG, {"products": [(("jam", 450), -1)]}, INHERITED, ONE_MOVES, rows=JAM_TWICE),
+        Case("both of two products leave, of which an heir has one", PG, {"products": [(("jam", 450), -2)]}, INHERITED, ONE_MOVES, rows=JAM_TWICE),
+        Case("one of two products gets another price, of which an heir has one", PG, JAM_IS_DEARER, INHERITED, ONE_MOVES, rows=JAM_TWICE),
+        Case("hundreds of prices change", PG, HUNDREDS_CHANGE, keyed(), rows=HUNDREDS, **KEYED),
+        Case("hundreds of prices change where no index finds them", PG, HUNDREDS_CHANGE, rows=HUNDREDS),
+    ]  # fmt: skip
+
+
 def cases():
-    return [*changes(), *partitions(), *foreign_keys(), *other_columns(), *triggers(), *types(), *summaries()]
+    return [*heirs(), *changes(), *partitions(), *foreign_keys(), *other_columns(), *triggers(), *types(), *summaries()]
 
 
 

@@ -13,17 +13,22 @@ VARIABLES = {
     "is_found": "bool[]", "is_indexed": "bool[]", "is_crowded": "bool[]", "had_written": "int8[]", "had_removed": "int8[]", "watched": "bool",
 }  # fmt: skip
 # Tables that are made while it is asked: those that are expected and their columns, those below them, which columns of the server's are which
-# of those that tell a row from others, unique indexes with such columns, and tables to which a foreign key acts.
+# of those that tell a row from others, unique indexes with such columns; of derived views all indexes that keep a row out beside another one,
+# those below too, where a row that leaves another one's place for it to come has to leave before; and tables to which a foreign key acts.
 MADE = {
     "tables (number, role, told, relation, telling)": "VALUES {tables}",
     "wanted (number, place, said, kind)": "VALUES {columns}",
-    "below (number, told, relation)": "SELECT t.number, t.told, t.relation FROM tables AS t UNION SELECT b.number, b.told, i.inhrelid FROM below AS b"
-    " JOIN pg_inherits AS i ON i.inhparent = b.relation",
+    "below (number, role, told, relation)": "SELECT t.number, t.role, t.told, t.relation FROM tables AS t UNION SELECT b.number, b.role, b.told, i.inhrelid"
+    " FROM below AS b JOIN pg_inherits AS i ON i.inhparent = b.relation",
     "fields (number, place, attnum)": "SELECT t.number, w.place, a.attnum FROM tables AS t JOIN pg_attribute AS a ON a.attrelid = t.relation"
     " JOIN wanted AS w ON w.number = t.number AND w.said = a.attname AND w.said <> {count} AND w.place <= t.telling",
     "uniques": "SELECT t.number, i.indexrelid, i.indisprimary, i.indnkeyatts, ARRAY(SELECT f.place FROM fields AS f WHERE f.number = t.number"
     " AND f.attnum IN (SELECT i.indkey[k] FROM generate_series(0, i.indnkeyatts - 1) AS k)) AS places FROM tables AS t JOIN pg_index AS i"
     " ON i.indrelid = t.relation WHERE i.indisunique AND i.indisvalid AND i.indpred IS NULL AND i.indexprs IS NULL",
+    "enforced": "SELECT b.number, ARRAY(SELECT w.place FROM tables AS t JOIN wanted AS w ON w.number = t.number JOIN pg_attribute AS a ON a.attname = w.said"
+    " WHERE t.number = b.number AND w.place <= t.telling AND a.attrelid = i.indrelid AND NOT i.indisexclusion"
+    " AND a.attnum IN (SELECT i.indkey[k] FROM generate_series(0, i.indnkeyatts - 1) AS k)) AS places FROM below AS b JOIN pg_index AS i"
+    " ON i.indrelid = b.relation WHERE b.role = {derived} AND (i.indisunique OR i.indisexclusion)",
     "spare (view, told)": "{spare}",
     "referred (view)": "SELECT DISTINCT b.number FROM below AS b JOIN pg_constraint AS f ON f.confrelid = b.relation WHERE f.contype = {foreign}"
     " AND (f.confdeltype IN {acts} OR f.confupdtype IN {acts})",
@@ -34,7 +39,8 @@ FOUND = {
     "below_relations": "(SELECT array_agg(b.relation ORDER BY b.relation) FROM below AS b)",
     "key_columns": "array_agg(CASE {keyed} WHEN n IN ({paired}) THEN (SELECT string_agg(concat({cell}, l), {comma}) FROM unnest((SELECT u.places"
     " FROM uniques AS u WHERE u.number = n AND cardinality(u.places) = u.indnkeyatts AND u.indnkeyatts < (SELECT count(*) FROM fields AS f"
-    " WHERE f.number = n) ORDER BY u.indisprimary DESC, u.indnkeyatts, u.indexrelid LIMIT 1)) AS l) END ORDER BY n)",
+    " WHERE f.number = n) AND NOT EXISTS (SELECT 1 FROM enforced AS e CROSS JOIN unnest(u.places) AS m WHERE e.number = n AND m <> ALL (e.places))"
+    " ORDER BY u.indisprimary DESC, u.indnkeyatts, u.indexrelid LIMIT 1)) AS l) END ORDER BY n)",
     "spare_columns": "array_agg((SELECT min(s.told) FROM spare AS s WHERE s.view = n) ORDER BY n)",
     "is_referred": "array_agg(EXISTS (SELECT 1 FROM referred AS r WHERE r.view = n) ORDER BY n)",
     "is_found": "array_agg(EXISTS (SELECT 1 FROM uniques AS u WHERE u.number = n AND cardinality(u.places) = u.indnkeyatts) AND NOT EXISTS (SELECT 1"
@@ -43,10 +49,8 @@ FOUND = {
     "is_indexed": "array_agg(NOT EXISTS (SELECT 1 FROM below AS b JOIN pg_class AS k ON k.oid = b.relation WHERE b.number = n AND k.relkind = {ordinary}"
     " AND NOT EXISTS (SELECT 1 FROM pg_index AS i JOIN pg_attribute AS a ON a.attrelid = i.indrelid AND a.attnum = i.indkey[0] JOIN wanted AS w"
     " ON w.number = n AND w.said = a.attname WHERE i.indrelid = b.relation AND i.indisvalid AND i.indpred IS NULL)) ORDER BY n)",
-    "is_crowded": "array_agg(EXISTS (SELECT 1 FROM below AS b JOIN tables AS t ON t.number = b.number JOIN pg_index AS i ON i.indrelid = b.relation"
-    " WHERE b.number = n AND n IN ({put}) AND (i.indisexclusion OR (i.indisunique AND t.telling > (SELECT count(*) FROM wanted AS w JOIN pg_attribute AS a"
-    " ON a.attname = w.said WHERE w.number = n AND w.place <= t.telling AND a.attrelid = i.indrelid"
-    " AND a.attnum IN (SELECT i.indkey[k] FROM generate_series(0, i.indnkeyatts - 1) AS k))))) ORDER BY n)",
+    "is_crowded": "array_agg(n IN ({put}) AND EXISTS (SELECT 1 FROM enforced AS e JOIN tables AS t ON t.number = e.number WHERE e.number = n"
+    " AND cardinality(e.places) < t.telling) ORDER BY n)",
     "had_written": "array_agg(c.written ORDER BY n)",
     "had_removed": "array_agg(c.removed ORDER BY n)",
 }
@@ -99,8 +103,9 @@ class PlacedChecks(Checks):
         """What is refused of the tables, and all that steps ask of them, of each view in the order of the views."""
         views = range(len(self.script.views))
         acts = sql("({c}, {n}, {d})", c=text("c"), n=text("n"), d=text("d"))
-        holes = {"tables": rows_of(self.tables()), "columns": rows_of(self.columns()), "spare": self.asking.spare(), "count": text("#"), "foreign": text("f"),
-                 "acts": acts, "ordinary": text("r"), "cell": text("p.c"), "comma": text(", "), "keyed": joined(self.keyed(), ""),
+        holes = {"tables": rows_of(self.tables()), "columns": rows_of(self.columns()), "spare": self.asking.spare(), "count": text("#"),
+                 "foreign": text("f"), "acts": acts, "derived": text("derived"), "ordinary": text("r"), "cell": text("p.c"), "comma": text(", "),
+                 "keyed": joined(self.keyed(), ""),
                  **{said: joined([number(v) for v in views if test(v)] or [number(-1)])
                     for said, test in (("paired", self.script.has_pairs), ("put", self.script.is_last))}}  # fmt: skip
         refused = [*(self.asking.without_key(v, places) for v, places in self.script.keyed.items()), *self.asking.unfit()]
@@ -115,7 +120,8 @@ class PlacedChecks(Checks):
 
     def keyed(self):
         """The keys that are said."""
-        return [sql("WHEN n = {v} THEN {key}", v=number(v), key=text(", ".join(f"p.c{place + 1}" for place in places))) for v, places in self.script.keyed.items()]
+        return [sql("WHEN n = {v} THEN {key}", v=number(v), key=text(", ".join(f"p.c{place + 1}" for place in places)))
+                for v, places in self.script.keyed.items()]  # fmt: skip
 
     # ---- what steps ask
 
