@@ -113,7 +113,7 @@ class PlacedScript(PlacedGroups, PlacedOpening, LeanComps, Script):
     def net_made(self, v, rows, cells, counted):
         """The change of a view whose rows are told by their cells, with what becomes of each, is kept and counted. Where no index finds rows of the
         table, none is looked up alone."""
-        put = self.put_together(v, lambda key: self.changed(v, rows, cells, counted, key))
+        put = self.put_together(v, lambda *known: self.changed(v, rows, cells, counted, *known))
         at_once = [self.where_bare(v, ALL_AT_ONCE), put, self.where_bare(v, ALONE)]
         query = sql("SELECT {numbers} FROM {net} AS d", numbers=joined(self.judging(v).values()), net=self.working(v, "net"))
         judged = sql("EXECUTE {query} INTO {into}", query=body(query), into=joined([self.counter(kind, v) for kind in self.judging(v)]))
@@ -122,13 +122,14 @@ class PlacedScript(PlacedGroups, PlacedOpening, LeanComps, Script):
     def where_bare(self, v, statement):
         return self.dialect.where(sql("NOT {indexed}", indexed=self.checked.known("is_indexed", v)), statement)
 
-    def changed(self, v, rows, cells, counted, key=None):
-        """Equal rows added up, each with a number of its own; by a key in its order, so that they are looked up in it."""
+    def changed(self, v, rows, cells, counted, key=None, is_unique=False):
+        """Equal rows added up, each with a number of its own where the table may have several of it; by a key in its order, so that they are looked
+        up in it."""
         kinds = [self.dialect.kinds[kind] for kind in self.kinds(v)]
         named = [sql("{cell}::{kind} AS {own}", cell=cell, kind=kind, own=word("c", at)) for at, (cell, kind) in enumerate(zip(cells, kinds), 1)]
         own = [sql("p.{own}", own=word("c", at)) for at in range(1, len(cells) + 1)]
-        return sql("SELECT row_number() OVER () AS id, {own}, sum(p.n)::bigint AS n FROM (SELECT {named}, {counted} AS n FROM {rows}) AS p GROUP BY {grouped}"
-                   " HAVING sum(p.n) <> 0", own=joined(own), named=joined(named), counted=counted, rows=rows,
+        return sql("SELECT {id} AS id, {own}, sum(p.n)::bigint AS n FROM (SELECT {named}, {counted} AS n FROM {rows}) AS p GROUP BY {grouped}"
+                   " HAVING sum(p.n) <> 0", id=sql("NULL::bigint" if is_unique else "row_number() OVER ()"), own=joined(own), named=joined(named), counted=counted, rows=rows,
                    grouped=joined([key, *own] if key else own))  # fmt: skip
 
     def net(self, step):
@@ -172,11 +173,11 @@ class PlacedScript(PlacedGroups, PlacedOpening, LeanComps, Script):
 
     def put_together(self, v, changed):
         """The rows of a change with what becomes of each; a key is known where the table has been looked at."""
-        alone = self.once(self.kept(v, self.by_itself(v, changed(None))))
+        alone = self.once(self.kept(v, self.by_itself(v, changed())))
         if not self.has_pairs(v):
             return alone
         key = self.checked.known("key_columns", v)
-        one, some = (sql("EXECUTE {query}", query=filled(self.kept(v, self.paired(v, changed(KEY), is_unique)), key)) for is_unique in (True, False))
+        one, some = (sql("EXECUTE {query}", query=filled(self.kept(v, self.paired(v, changed(KEY, is_unique), is_unique)), key)) for is_unique in (True, False))
         return sql("IF {key} IS NULL THEN {alone}{end} ELSE SET LOCAL enable_hashagg = off{end} IF {found} THEN {one}{end} ELSE {some}{end} END IF{end}"
                    " SET LOCAL enable_hashagg = on{end} END IF", key=key, alone=alone, one=one, some=some, end=END_OF_STATEMENT,
                    found=self.checked.known("is_found", v))  # fmt: skip
@@ -222,18 +223,20 @@ class PlacedScript(PlacedGroups, PlacedOpening, LeanComps, Script):
                    " WHERE p.nth = 1 OR p.act = 1", cells=joined(self.cells(v, "p")), rows=self.acting(v, self.looked_up(v, changed)))  # fmt: skip
 
     def paired(self, v, changed, is_unique):
-        """The same where a row that leaves and one that comes with its key are one that changes."""
+        """The same where a row that leaves and one that comes with its key, and no other has it, are one that changes."""
         comes = sql("p.act = 3") if self.shape.is_counted(v) else sql("p.act = 3 AND p.n = 1 AND p.was = 0")
         leaves = sql("p.act = 1") if self.shape.is_counted(v) else sql("p.act = 1 AND p.n = -1")
+        rows = sql(
+            "SELECT p.*, {comes} AS comes, count(*) FILTER (WHERE p.nth = 1) OVER k = 2 AND bool_or({comes}) OVER k AND max(p.place) FILTER (WHERE {leaves})"
+            " OVER k IS NOT NULL AS pair, max(p.part) FILTER (WHERE {leaves}) OVER k AS old_part, max(p.place) FILTER (WHERE {leaves}) OVER k AS old_place"
+            " FROM ({rows}) AS p WINDOW k AS (PARTITION BY {key})",
+            comes=comes, leaves=leaves, key=KEY, rows=self.acting(v, self.looked_up(v, changed, is_unique)),
+        )  # fmt: skip
         return sql(
-            "SELECT q.id, {cells}, CASE WHEN q.nth = 1 THEN q.n ELSE 0 END AS n, q.was, CASE WHEN {pair} AND q.act = 3 THEN q.old_part ELSE q.part END AS part,"
-            " CASE WHEN {pair} AND q.act = 3 THEN q.old_place ELSE q.place END AS place,"
-            " CASE WHEN NOT {pair} THEN q.act WHEN q.act = 3 THEN 4 ELSE 0 END AS act FROM (SELECT p.*, count(*) FILTER (WHERE p.nth = 1) OVER k AS many,"
-            " count(*) FILTER (WHERE {leaves}) OVER k AS leaving, count(*) FILTER (WHERE {comes}) OVER k AS coming,"
-            " max(p.part) FILTER (WHERE {leaves}) OVER k AS old_part, max(p.place) FILTER (WHERE {leaves}) OVER k AS old_place"
-            " FROM ({rows}) AS p WINDOW k AS (PARTITION BY {key})) AS q WHERE q.nth = 1 OR q.act = 1",
-            cells=joined(self.cells(v, "q")), pair=sql("(q.many = 2 AND q.leaving = 1 AND q.coming = 1)"), leaves=leaves, comes=comes, key=KEY,
-            rows=self.acting(v, self.looked_up(v, changed, is_unique)),
+            "SELECT q.id, {cells}, CASE WHEN q.nth = 1 THEN q.n ELSE 0 END AS n, q.was, CASE WHEN q.pair AND q.comes THEN q.old_part ELSE q.part END AS part,"
+            " CASE WHEN q.pair AND q.comes THEN q.old_place ELSE q.place END AS place,"
+            " CASE WHEN NOT q.pair THEN q.act WHEN q.comes THEN 4 ELSE 0 END AS act FROM ({rows}) AS q WHERE q.nth = 1 OR q.act = 1",
+            cells=joined(self.cells(v, "q")), rows=rows,
         )  # fmt: skip
 
     def judging(self, v):
@@ -357,7 +360,7 @@ class PlacedScript(PlacedGroups, PlacedOpening, LeanComps, Script):
             query = self.wrong_groups(v)
         else:
             query = sql(
-                "SELECT 1 FROM {net} AS d LEFT JOIN {table} AS t ON {same} WHERE d.n <> 0 GROUP BY d.id, d.was, d.n"
+                "SELECT 1 FROM {net} AS d LEFT JOIN {table} AS t ON {same} WHERE d.n <> 0 GROUP BY d.ctid, d.was, d.n"
                 " HAVING coalesce(sum({held}) FILTER (WHERE t.ctid IS NOT NULL), 0) <> d.was + d.n",
                 net=self.working(v, "net"), table=self.table(v), same=self.same(v), held=self.held(v),
             )  # fmt: skip

@@ -12,45 +12,45 @@ VARIABLES = {
     "below_numbers": "int4[]", "below_relations": "oid[]", "key_columns": "text[]", "spare_columns": "text[]", "is_referred": "bool[]",
     "is_found": "bool[]", "is_indexed": "bool[]", "is_crowded": "bool[]", "had_written": "int8[]", "had_removed": "int8[]", "watched": "bool",
 }  # fmt: skip
-# Tables that are made while it is asked: those that are expected and their columns, those below them, which columns of the server's are which
-# of those that tell a row from others, unique indexes with such columns; of derived views all indexes that keep a row out beside another one,
-# those below too, where a row that leaves another one's place for it to come has to leave before; and tables to which a foreign key acts.
+# Tables that are made while it is asked: those that are expected and their columns; those below them; which columns of the server's are which of
+# the catalogue's; all their indexes with such of their columns as tell a row from others; and tables to which a foreign key acts.
 MADE = {
     "tables (number, role, told, relation, telling)": "VALUES {tables}",
     "wanted (number, place, said, kind)": "VALUES {columns}",
-    "below (number, role, told, relation)": "SELECT t.number, t.role, t.told, t.relation FROM tables AS t UNION SELECT b.number, b.role, b.told, i.inhrelid"
-    " FROM below AS b JOIN pg_inherits AS i ON i.inhparent = b.relation",
-    "fields (number, place, attnum)": "SELECT t.number, w.place, a.attnum FROM tables AS t JOIN pg_attribute AS a ON a.attrelid = t.relation"
-    " JOIN wanted AS w ON w.number = t.number AND w.said = a.attname AND w.said <> {count} AND w.place <= t.telling",
-    "uniques": "SELECT t.number, i.indexrelid, i.indisprimary, i.indnkeyatts, ARRAY(SELECT f.place FROM fields AS f WHERE f.number = t.number"
-    " AND f.attnum IN (SELECT i.indkey[k] FROM generate_series(0, i.indnkeyatts - 1) AS k)) AS places FROM tables AS t JOIN pg_index AS i"
-    " ON i.indrelid = t.relation WHERE i.indisunique AND i.indisvalid AND i.indpred IS NULL AND i.indexprs IS NULL",
-    "enforced": "SELECT b.number, ARRAY(SELECT w.place FROM tables AS t JOIN wanted AS w ON w.number = t.number JOIN pg_attribute AS a ON a.attname = w.said"
-    " WHERE t.number = b.number AND w.place <= t.telling AND a.attrelid = i.indrelid AND NOT i.indisexclusion"
-    " AND a.attnum IN (SELECT i.indkey[k] FROM generate_series(0, i.indnkeyatts - 1) AS k)) AS places FROM below AS b JOIN pg_index AS i"
-    " ON i.indrelid = b.relation WHERE b.role = {derived} AND (i.indisunique OR i.indisexclusion)",
+    "below (number, role, told, relation, top, telling)": "SELECT t.number, t.role, t.told, t.relation, t.relation, t.telling FROM tables AS t"
+    " UNION SELECT b.number, b.role, b.told, i.inhrelid, b.top, b.telling FROM below AS b JOIN pg_inherits AS i ON i.inhparent = b.relation",
+    "kinds": "SELECT b.number, b.relation, b.top, k.relkind FROM below AS b JOIN pg_class AS k ON k.oid = b.relation",
+    "fields": "SELECT b.number, b.relation, w.place, a.attnum FROM below AS b JOIN pg_attribute AS a ON a.attrelid = b.relation JOIN wanted AS w"
+    " ON w.number = b.number AND w.said = a.attname AND w.said <> {count} WHERE b.role <> {changes}",
+    "indexes": "SELECT b.number, b.role, b.relation, b.telling, b.relation = b.top AND i.indisunique AND i.indisvalid AND i.indpred IS NULL"
+    " AND i.indexprs IS NULL AS is_unique, i.indisunique OR i.indisexclusion AS is_strict, i.indisvalid AND i.indpred IS NULL AND EXISTS (SELECT 1"
+    " FROM fields AS f WHERE f.relation = b.relation AND f.attnum = i.indkey[0]) AS is_looked_up, i.indexrelid, i.indisprimary, i.indnkeyatts,"
+    " ARRAY(SELECT f.place FROM fields AS f WHERE f.relation = b.relation AND f.place <= b.telling AND NOT i.indisexclusion"
+    " AND f.attnum IN (SELECT i.indkey[k] FROM generate_series(0, i.indnkeyatts - 1) AS k)) AS places"
+    " FROM below AS b JOIN pg_index AS i ON i.indrelid = b.relation WHERE b.role <> {changes}",
     "spare (view, told)": "{spare}",
-    "referred (view)": "SELECT DISTINCT b.number FROM below AS b JOIN pg_constraint AS f ON f.confrelid = b.relation WHERE f.contype = {foreign}"
+    "referred (view)": "SELECT b.number FROM below AS b JOIN pg_constraint AS f ON f.confrelid = b.relation WHERE f.contype = {foreign}"
     " AND (f.confdeltype IN {acts} OR f.confupdtype IN {acts})",
     "counted (view, written, removed)": TOUCHED.replace("{parts}", "below"),
 }
+# A unique index is a key of a view where it has not all of the columns; of a derived view only where no other index keeps a row out beside the
+# one whose place it takes: there it has to leave before. An index of a table with heirs finds none of their rows.
 FOUND = {
     "below_numbers": "(SELECT array_agg(b.number ORDER BY b.relation) FROM below AS b)",
     "below_relations": "(SELECT array_agg(b.relation ORDER BY b.relation) FROM below AS b)",
     "key_columns": "array_agg(CASE {keyed} WHEN n IN ({paired}) THEN (SELECT string_agg(concat({cell}, l), {comma}) FROM unnest((SELECT u.places"
-    " FROM uniques AS u WHERE u.number = n AND cardinality(u.places) = u.indnkeyatts AND u.indnkeyatts < (SELECT count(*) FROM fields AS f"
-    " WHERE f.number = n) AND NOT EXISTS (SELECT 1 FROM enforced AS e CROSS JOIN unnest(u.places) AS m WHERE e.number = n AND m <> ALL (e.places))"
-    " ORDER BY u.indisprimary DESC, u.indnkeyatts, u.indexrelid LIMIT 1)) AS l) END ORDER BY n)",
+    " FROM indexes AS u WHERE u.number = n AND u.is_unique AND cardinality(u.places) = u.indnkeyatts AND u.indnkeyatts < (SELECT count(*) FROM fields AS f"
+    " WHERE f.number = n AND f.relation = u.relation) AND (u.role <> {derived} OR NOT EXISTS (SELECT 1 FROM indexes AS e CROSS JOIN unnest(u.places) AS m"
+    " WHERE e.number = n AND e.is_strict AND m <> ALL (e.places))) ORDER BY u.indisprimary DESC, u.indnkeyatts, u.indexrelid LIMIT 1)) AS l) END ORDER BY n)",
     "spare_columns": "array_agg((SELECT min(s.told) FROM spare AS s WHERE s.view = n) ORDER BY n)",
     "is_referred": "array_agg(EXISTS (SELECT 1 FROM referred AS r WHERE r.view = n) ORDER BY n)",
-    "is_found": "array_agg(EXISTS (SELECT 1 FROM uniques AS u WHERE u.number = n AND cardinality(u.places) = u.indnkeyatts) AND NOT EXISTS (SELECT 1"
-    " FROM below AS b JOIN pg_inherits AS i ON i.inhparent = b.relation JOIN pg_class AS k ON k.oid = b.relation WHERE b.number = n AND k.relkind = {ordinary})"
+    "is_found": "array_agg(EXISTS (SELECT 1 FROM indexes AS u WHERE u.number = n AND u.is_unique AND cardinality(u.places) = u.indnkeyatts)"
+    " AND NOT EXISTS (SELECT 1 FROM kinds AS k WHERE k.number = n AND k.relation = k.top AND k.relkind = {ordinary} AND (SELECT count(*) FROM kinds AS h"
+    " WHERE h.number = n) > 1) ORDER BY n)",
+    "is_indexed": "array_agg(NOT EXISTS (SELECT 1 FROM kinds AS k WHERE k.number = n AND k.relkind = {ordinary} AND NOT EXISTS (SELECT 1 FROM indexes AS i"
+    " WHERE i.relation = k.relation AND i.is_looked_up)) ORDER BY n)",
+    "is_crowded": "array_agg(n IN ({put}) AND EXISTS (SELECT 1 FROM indexes AS e WHERE e.number = n AND e.is_strict AND cardinality(e.places) < e.telling)"
     " ORDER BY n)",
-    "is_indexed": "array_agg(NOT EXISTS (SELECT 1 FROM below AS b JOIN pg_class AS k ON k.oid = b.relation WHERE b.number = n AND k.relkind = {ordinary}"
-    " AND NOT EXISTS (SELECT 1 FROM pg_index AS i JOIN pg_attribute AS a ON a.attrelid = i.indrelid AND a.attnum = i.indkey[0] JOIN wanted AS w"
-    " ON w.number = n AND w.said = a.attname WHERE i.indrelid = b.relation AND i.indisvalid AND i.indpred IS NULL)) ORDER BY n)",
-    "is_crowded": "array_agg(n IN ({put}) AND EXISTS (SELECT 1 FROM enforced AS e JOIN tables AS t ON t.number = e.number WHERE e.number = n"
-    " AND cardinality(e.places) < t.telling) ORDER BY n)",
     "had_written": "array_agg(c.written ORDER BY n)",
     "had_removed": "array_agg(c.removed ORDER BY n)",
 }
@@ -104,7 +104,7 @@ class PlacedChecks(Checks):
         views = range(len(self.script.views))
         acts = sql("({c}, {n}, {d})", c=text("c"), n=text("n"), d=text("d"))
         holes = {"tables": rows_of(self.tables()), "columns": rows_of(self.columns()), "spare": self.asking.spare(), "count": text("#"),
-                 "foreign": text("f"), "acts": acts, "derived": text("derived"), "ordinary": text("r"), "cell": text("p.c"), "comma": text(", "),
+                 "foreign": text("f"), "acts": acts, "derived": text("derived"), "changes": text("changes"), "ordinary": text("r"), "cell": text("p.c"), "comma": text(", "),
                  "keyed": joined(self.keyed(), ""),
                  **{said: joined([number(v) for v in views if test(v)] or [number(-1)])
                     for said, test in (("paired", self.script.has_pairs), ("put", self.script.is_last))}}  # fmt: skip

@@ -44,8 +44,8 @@ class PlacedGroups:
                  *(sql("{kind} AS ({made} RETURNING 1)", kind=word(kind), made=made) for kind, made in done.items())]  # fmt: skip
         judging = self.judging_groups(v)
         torn = joined([sql("(SELECT count(*) FROM {kind}) <> {many}", kind=word(kind), many=judging[kind]) for kind in done], "OR")
-        _, *refused = self.refused_groups(v)
-        judging["told"] = self.first_told([*refused, (torn, self.told_torn(v))])
+        *_, absent = self.refused_groups(v)
+        judging["told"] = self.first_told([absent, (torn, self.told_torn(v))])
         left = [sql("array_agg(d.{what}) FILTER (WHERE {leaves})", what=word(what), leaves=becomes(LEAVES)) for what in ("part", "place")]
         query = sql("WITH {parts} SELECT {numbers}, {left} FROM put AS d", parts=joined(parts), numbers=joined(judging.values()), left=joined(left))
         return sql("EXECUTE {query} INTO {into}, parts, places", query=body(query), into=self.groups_into(v))
@@ -55,7 +55,7 @@ class PlacedGroups:
         and put nowhere, so that no check of the table is asked about it."""
         groups = self.shape.groups(v)
         cells, sums, lost, read = self.cells(v)[:groups], self.summed_columns(v, "s"), self.lost_column(v), self.read(v)
-        after = [sql("coalesce({column}, 0)::numeric + d.{sum}", column=column, sum=each) for column, each in zip(read[groups:], sums)]
+        after = [sql("coalesce({column}, 0)::bigint + d.{sum}::bigint", column=column, sum=each) for column, each in zip(read[groups:], sums)]
         named = [sql("{value} AS {name}", value=value, name=name) for value, name in zip(after, self.summed_columns(v, "a"))]
         shown = [*(sql("d.{cell}", cell=cell) for cell in cells), *named, *(sql("d.{each}", each=each) for each in lost)]
         act = sql("CASE WHEN {after} < 0 THEN 0 WHEN {after} > 0 THEN CASE WHEN t.ctid IS NULL THEN 3 ELSE 2 END WHEN t.ctid IS NULL THEN 0 ELSE 1 END",

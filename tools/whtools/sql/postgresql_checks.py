@@ -175,14 +175,20 @@ class Checks:
         return [each for query in self.unfit() for each in self.dialect.refuse_with(query)]
 
     def unfit(self):
-        """Queries for what is told of such tables."""
-        below = "SELECT format({sentence}, p.told) FROM {parts} AS p JOIN pg_class AS c ON c.oid = p.relation WHERE {test} ORDER BY p.number LIMIT 1"
+        """Queries for what is told of such tables, by their columns and by what they are, the first fault of any."""
         tests = {
             "a table below it is no ordinary or partitioned table": sql("c.relkind NOT IN ({r}, {p})", r=text("r"), p=text("p")),
             "row-level security hides rows of it from this role": sql("row_security_active(c.oid)"),
             "it has a rule, which would change what a night does; drop the rule": sql("EXISTS (SELECT 1 FROM pg_rewrite AS r WHERE r.ev_class = c.oid)"),
         }
-        return [self.misfit(), *(self.query(below, sentence=text(f"table %s does not fit: {told}"), test=test) for told, test in tests.items())]
+        faults = joined([sql("WHEN {test} THEN {at}", test=test, at=number(at)) for at, test in enumerate(tests.values(), 1)], "")
+        told = joined([sql("WHEN {at} THEN {said}", at=number(at), said=text(said)) for at, said in enumerate(tests, 1)], "")
+        unfit = self.query(
+            "SELECT format({sentence}, u.told, CASE u.fault {told} END) FROM (SELECT p.number, p.told, CASE {faults} END AS fault FROM {parts} AS p"
+            " JOIN pg_class AS c ON c.oid = p.relation) AS u WHERE u.fault IS NOT NULL ORDER BY u.fault, u.number LIMIT 1",
+            sentence=text("table %s does not fit: %s"), told=told, faults=faults,
+        )  # fmt: skip
+        return [self.misfit(), unfit]
 
     def misfit(self):
         """Columns that are not as they have to be, with what they are."""
