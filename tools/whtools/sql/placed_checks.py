@@ -5,12 +5,11 @@ from whtools.sql.postgresql_checks import TOUCHED, Checks, cast, rows_of
 from whtools.sql.tokens import body, joined, number, sql, text, word
 
 # The tables and those below them; and of each view, in an array, its key's columns, a column that has to have a value and has none, whether a
-# foreign key to it acts, whether a unique index finds each row of it, whether any index may find some of its rows, whether one may keep a group
-# out that comes before another one leaves, and how many rows this transaction had written and removed before. They are declared before the path
-# of names is set.
+# foreign key to it acts, whether a unique index finds each row of it, whether any index may find some of its rows, and how many rows this
+# transaction had written and removed before. They are declared before the path of names is set.
 VARIABLES = {
     "below_numbers": "int4[]", "below_relations": "oid[]", "key_columns": "text[]", "spare_columns": "text[]", "is_referred": "bool[]",
-    "is_found": "bool[]", "is_indexed": "bool[]", "is_crowded": "bool[]", "had_written": "int8[]", "had_removed": "int8[]", "watched": "bool",
+    "is_found": "bool[]", "is_indexed": "bool[]", "had_written": "int8[]", "had_removed": "int8[]", "watched": "bool",
 }  # fmt: skip
 # Tables that are made while it is asked: those that are expected and their columns; those below them; which columns of the server's are which of
 # the catalogue's; all their indexes with such of their columns as tell a row from others; and tables to which a foreign key acts.
@@ -49,8 +48,6 @@ FOUND = {
     " WHERE h.number = n) > 1) ORDER BY n)",
     "is_indexed": "array_agg(NOT EXISTS (SELECT 1 FROM kinds AS k WHERE k.number = n AND k.relkind = {ordinary} AND NOT EXISTS (SELECT 1 FROM indexes AS i"
     " WHERE i.relation = k.relation AND i.is_looked_up)) ORDER BY n)",
-    "is_crowded": "array_agg(n IN ({put}) AND EXISTS (SELECT 1 FROM indexes AS e WHERE e.number = n AND e.is_strict AND cardinality(e.places) < e.telling)"
-    " ORDER BY n)",
     "had_written": "array_agg(c.written ORDER BY n)",
     "had_removed": "array_agg(c.removed ORDER BY n)",
 }
@@ -105,9 +102,7 @@ class PlacedChecks(Checks):
         acts = sql("({c}, {n}, {d})", c=text("c"), n=text("n"), d=text("d"))
         holes = {"tables": rows_of(self.tables()), "columns": rows_of(self.columns()), "spare": self.asking.spare(), "count": text("#"),
                  "foreign": text("f"), "acts": acts, "derived": text("derived"), "changes": text("changes"), "ordinary": text("r"), "cell": text("p.c"), "comma": text(", "),
-                 "keyed": joined(self.keyed(), ""),
-                 **{said: joined([number(v) for v in views if test(v)] or [number(-1)])
-                    for said, test in (("paired", self.script.has_pairs), ("put", self.script.is_last))}}  # fmt: skip
+                 "keyed": joined(self.keyed(), ""), "paired": joined([number(v) for v in views if self.script.has_pairs(v)] or [number(-1)])}  # fmt: skip
         refused = [*(self.asking.without_key(v, places) for v, places in self.script.keyed.items()), *self.asking.unfit()]
         found = {"finding": sql("coalesce({queries})", queries=joined([sql("({query})", query=each) for each in refused])),
                  **{said: sql(query, **holes) for said, query in FOUND.items()}, "watched": self.asking.watched()}  # fmt: skip
@@ -124,6 +119,12 @@ class PlacedChecks(Checks):
                 for v, places in self.script.keyed.items()]  # fmt: skip
 
     # ---- what steps ask
+
+    def counted_anew(self, v):
+        """What was undone of a view's Inst counts too as written and removed by this transaction."""
+        counts = "(SELECT sum(pg_stat_get_xact_tuples_{kind}(p.relation) + pg_stat_get_xact_tuples_updated(p.relation)) FROM {{parts}} AS p WHERE p.number = {{v}})"
+        return [sql("{said} := {count}", said=self.known(said, v), count=self.query(counts.format(kind=kind), v=number(v)))
+                for said, kind in (("had_written", "inserted"), ("had_removed", "deleted"))]  # fmt: skip
 
     def spared(self, v, coming):
         told = text("table %s does not fit: a row comes, and the column %s, which the catalogue has not, has no default")

@@ -1,7 +1,7 @@
 """Summaries in nights over tables of one's own: each group that changes is found once, with its sums before and after and its place."""
 
 from whtools.sql.acts import COMES, LEAVES, RECOUNTED, becomes
-from whtools.sql.tokens import END_OF_STATEMENT, body, joined, number, sql, statements, word
+from whtools.sql.tokens import body, joined, number, sql, statements, word
 
 
 class PlacedGroups:
@@ -11,12 +11,12 @@ class PlacedGroups:
 
     def last_put(self, v):
         """What is done when such a summary is put: in one statement, or apart where a number leaves 64 bits or its column, where a group may stand
-        there twice, where one has to leave before another one comes, or where more has to be looked at."""
-        known = {said: self.checked.known(said, v) for said in ("is_referred", "spare_columns", "is_found", "is_crowded")}
-        chosen = sql("is_apart := watched OR {is_referred} OR {spare_columns} IS NOT NULL OR NOT {is_found} OR {is_crowded}", **known)
+        there twice, where an index keeps one out until another one has left, or where more has to be looked at."""
+        known = {said: self.checked.known(said, v) for said in ("is_referred", "spare_columns", "is_found")}
+        chosen = sql("is_apart := watched OR {is_referred} OR {spare_columns} IS NOT NULL OR NOT {is_found}", **known)
         at_once = [self.quickly(lambda: self.groups_at_once(v, self.added(v))), *self.judged(v), *self.groups_left(v)]
-        tried = sql("BEGIN {made} EXCEPTION WHEN numeric_value_out_of_range THEN is_apart := TRUE{end} END", made=statements(at_once, 2),
-                    end=END_OF_STATEMENT)  # fmt: skip
+        tried = sql("BEGIN {made} EXCEPTION WHEN numeric_value_out_of_range OR unique_violation OR exclusion_violation THEN {undone} END",
+                    made=statements(at_once, 2), undone=statements([sql("is_apart := TRUE"), *self.checked.counted_anew(v)], 2))  # fmt: skip
         made = self.groups_directly(v) if self.is_direct(v) else self.groups_made(v, self.groups_counted(v, self.added(v)))
         apart = [*made, *self.judged(v), *self.spared(v), *self.cascades(v), *self.gone_to(v)]
         return [chosen, self.dialect.where(sql("NOT is_apart"), tried), *self.then(sql("is_apart"), apart)]
