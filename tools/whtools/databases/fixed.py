@@ -398,6 +398,7 @@ count = "n"
 sum = [["pieces", "lines.pieces"]]
 """
 SUMS = "shop bigint NOT NULL, day bigint NOT NULL, n bigint NOT NULL, pieces bigint NOT NULL, UNIQUE (shop, day)"
+GROUPS_CHANGE = {"products": [(("ale", 220), 1)], "lines": [((1, "tea", 2), -1), ((4, "jam", 2), 1), ((5, "ale", 3), 1)]}
 JAM_LEAVES = {"lines": [((2, "jam", 1), -1), ((3, "jam", 4), -1)]}
 
 
@@ -422,8 +423,39 @@ def summaries():
           for told, more in constraints.items()),
         Case("a group comes before another one leaves, and some are unique", PG, next_day, {"sums": [f"CREATE TABLE sums ({SUMS});", *partial]}, **day),
         *joined_views(),
+        *groups(),
         Case("more rows leave than a group has, and a check wants some", PG, JAM_LEAVES, by_product("UNIQUE (product), CHECK (n > 0)"), few, REFUSED,
              "refused absent by_product"),
+    ]  # fmt: skip
+
+
+FAR = 2**62 + 1
+FAR_LINES = {"lines": [((1, 1, 7), 1), ((2, 2, FAR), 2), ((2, 2, -FAR), 2), ((2, 2, 5), 1)]}
+FAR_LEAVE = {"lines": [((1, 1, 8), 1), ((2, 2, FAR), -2), ((2, 2, -FAR), -2)]}
+
+
+def groups():
+    """Groups that a unique index finds, whose change is put in one statement, and what makes it be put apart."""
+    beside = {"keys": {"by_product": [0]}, "others": {"by_product": ["note"]}}
+    noted = by_product("note text, UNIQUE (product)")
+    one = by_product("UNIQUE (product)")
+    both = by_product("UNIQUE (product), UNIQUE (product, cost)")
+    held = ["CREATE TABLE held (product text REFERENCES by_product (product) ON DELETE CASCADE);", "INSERT INTO held VALUES ('jam');"]
+    told = ["CREATE TABLE told (product text, cost bigint, FOREIGN KEY (product, cost) REFERENCES by_product (product, cost) ON UPDATE CASCADE);",
+            "INSERT INTO told VALUES ('jam', 2250);"]  # fmt: skip
+    parts = {"by_product": [GROUPS["by_product"][0].replace("cost bigint NOT NULL", "cost bigint NOT NULL, UNIQUE (product)"), *GROUPS["by_product"][1:]]}
+    narrow = {"sums": [f"CREATE TABLE sums ({SUMS.replace('pieces bigint', 'pieces smallint')});"]}
+    two = {"catalogue": BY_TWO, "counted": ("lines",)}
+    return [
+        *(Case(f"a group leaves, one changes and one comes {where}", PG, GROUPS_CHANGE, own) for where, own in (("", one), ("in parts", parts))),
+        Case("a product of numbers leaves 64 bits, and the sum does not", PG, FAR_LEAVE, {"sums": [f"CREATE TABLE sums ({SUMS});"]}, rows=FAR_LINES, **two),
+        Case("a sum leaves its column of 16 bits", PG, {"lines": [((1, 1, 32000), 1), ((2, 2, 1), 1)]}, narrow, wanted=REFUSED,
+             word="refused large sums: a number does not fit its column", rows={"lines": [(1, 1, 800), (2, 2, 6)]}, **two),
+        Case("a group changes beside a note", PG, JAM_IS_DEARER, noted, ["UPDATE by_product SET note = 'of ' || product;"], **beside),
+        Case("a group comes without its note", PG, GROUPS_CHANGE, noted, wanted=REFUSED, word="no default"),
+        Case("a group changes under ON DELETE CASCADE", PG, JAM_IS_DEARER, one, held),
+        Case("a group goes under ON DELETE CASCADE", PG, JAM_LEAVES, one, held, REFUSED, "refused cascade by_product"),
+        Case("a sum changes under ON UPDATE CASCADE", PG, JAM_IS_DEARER, both, told, REFUSED, "refused cascade by_product"),
     ]  # fmt: skip
 
 

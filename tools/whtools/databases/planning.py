@@ -212,6 +212,53 @@ def extended(rows, table, pair):
             yield row + cells, count * times
 
 
+class Read(NamedTuple):
+    """A night whose rows an index finds that is not unique: what it changes, how many values the index tells apart, and what is done beforehand."""
+
+    name: str
+    changed: int
+    values: int
+    before: list
+    most: int
+
+
+MANY = 4000
+HEIR = ["CREATE TABLE heir (UNIQUE (c0)) INHERITS (b0);", "INSERT INTO heir SELECT * FROM ONLY b0;", "DELETE FROM ONLY b0;"]
+EMPTY = ["""UPDATE pg_class SET reltuples = 0, relpages = 1 WHERE relname IN ('b0', 'b0~changes');"""]
+READS = [
+    Read("one row changes that an index finds", 1, MANY, [], MANY),
+    Read("one row changes that the index of an heir finds", 1, MANY, HEIR, MANY),
+    Read("many rows change of few values, and statistics tell of none", MANY // 2, 5, EMPTY, 20 * MANY),
+]
+
+
+def read_mistakes(database):
+    """Nights in PostgreSQL that read a whole table for one row, or the same rows again and again."""
+    found = []
+    for each in READS:
+        rows = [((number % each.values, number), 1) for number in range(MANY)]
+        night = Night([base(0, 2)], [rows], [[((cell, number + MANY), 1) for (cell, number), _ in rows[: each.changed]]], plain=[0])
+        filled = Filled(database, night)
+        database.fresh()
+        database.make([*filled.made(0), *filled.made_changes(0), "CREATE INDEX found ON b0 (c0);", *filled.base_rows(0), *filled.changed(0)])
+        database.asked("VACUUM ANALYZE;")
+        database.make(each.before or ["SELECT 1;"])
+        before = rows_read(database)
+        with in_folder() as folder:
+            script = written("--engine", database.engine, *night.option(), night.folder(folder)).text
+        told = database.run(f"{script}\nSELECT pg_stat_force_next_flush();\n")
+        read = rows_read(database) - before
+        found += [f"postgresql: {each.name}: {told or f'{read} rows were read'}"] if told or read >= each.most else []
+    return found
+
+
+def rows_read(database):
+    """How many rows of tables were read so far."""
+    database.asked("SELECT pg_stat_force_next_flush();")
+    asked = "SELECT sum(seq_tup_read) + coalesce(sum(idx_tup_fetch), 0) FROM pg_stat_user_tables WHERE relname IN ('b0', 'heir');"
+    return int(database.asked(asked)[-1])
+
+
 def planning_mistakes(database, is_whole):
     """What each shape does that it should not, and what it took."""
     found, told = [], []
@@ -221,6 +268,6 @@ def planning_mistakes(database, is_whole):
         found += [f"{database.engine}: {shape.name}: {text[:500]}" for text in wrong]
         if hasattr(planned, "seconds"):
             told.append((shape.name, round(planned.writing, 2), round(planned.seconds, 2), planned.memory >> 10))
-    return found, told
+    return found + (read_mistakes(database) if database.engine == "postgresql" else []), told
 
 

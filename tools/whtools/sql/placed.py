@@ -16,11 +16,11 @@ from whtools.sql.script import Script
 from whtools.sql.tokens import END_OF_STATEMENT, Sql, body, joined, name, number, sql, text, word
 
 COUNTERS = ("rows", "gone", "stay", "come", "other")
-BY_PLACE, ALL_AT_ONCE = joins(hashjoin="off", mergejoin="off"), joins(nestloop="off")
+BY_PLACE, ALL_AT_ONCE = joins(hashjoin="off", mergejoin="off"), joins(nestloop="off", mergejoin="off")
 # How many rows a change has is all that is asked of its statistics, for which few of them are enough.
 FEW = sql("SET LOCAL default_statistics_target = 1")
 HASHED = sql("hashed := current_setting({key})", key=text("enable_hashjoin"))
-ALONE = sql("PERFORM set_config({key}, nested, TRUE)", key=text("enable_nestloop"))
+ALONE = sql("PERFORM set_config({loop}, nested, TRUE), set_config({merge}, merged, TRUE)", loop=text("enable_nestloop"), merge=text("enable_mergejoin"))
 AS_EVER = sql("PERFORM set_config({hash}, hashed, TRUE), set_config({merge}, merged, TRUE)", hash=text("enable_hashjoin"), merge=text("enable_mergejoin"))
 
 
@@ -56,7 +56,7 @@ class PlacedScript(PlacedGroups, PlacedOpening, LeanComps, Script):
         found += [sql("{said} pg_catalog.text", said=self.counter("told", v)) for v in range(len(self.views))]
         found += [sql("{said} pg_catalog.bool", said=self.counter("there", v)) for v in self.steps.base()]
         found += [sql("{said} pg_catalog.bool", said=self.counter("apart", v)) for v in self.steps.derived()]
-        kept = ["hashed pg_catalog.text", "is_apart pg_catalog.bool", "parts pg_catalog.oid[]", "places pg_catalog.tid[]"]
+        kept = ["hashed pg_catalog.text", "is_apart pg_catalog.bool", "is_bare pg_catalog.bool", "parts pg_catalog.oid[]", "places pg_catalog.tid[]"]
         return [*PostgreSQL.variables, *found, *map(sql, kept), *self.checked.variables()]
 
     # ---- scripts
@@ -110,17 +110,17 @@ class PlacedScript(PlacedGroups, PlacedOpening, LeanComps, Script):
         """Whether a view is a summary that none is over: nothing reads its change, so that it is made when it is put."""
         return self.shape.is_summary(v) and not any(v in view.over for view in self.views)
 
-    def net_made(self, v, rows, cells, counted):
+    def net_made(self, v, rows, cells, counted, many):
         """The change of a view whose rows are told by their cells, with what becomes of each, is kept and counted. Where no index finds rows of the
-        table, none is looked up alone."""
+        table, or none that is unique and as many rows change as the table has pages, none is looked up alone."""
+        found, indexed, pages = (self.checked.known(said, v) for said in ("is_found", "is_indexed", "pages"))
+        counted_rows = sql("is_bare := NOT {indexed} OR {many} > {pages}", indexed=indexed, many=many, pages=pages)
+        chosen = [sql("is_bare := NOT {found}", found=found), self.dialect.where(sql("is_bare"), counted_rows)]
         put = self.put_together(v, lambda *known: self.changed(v, rows, cells, counted, *known))
-        at_once = [self.where_bare(v, ALL_AT_ONCE), put, self.where_bare(v, ALONE)]
+        at_once = [*chosen, self.dialect.where(sql("is_bare"), ALL_AT_ONCE), put, self.dialect.where(sql("is_bare"), ALONE)]
         query = sql("SELECT {numbers} FROM {net} AS d", numbers=joined(self.judging(v).values()), net=self.working(v, "net"))
         judged = sql("EXECUTE {query} INTO {into}", query=body(query), into=joined([self.counter(kind, v) for kind in self.judging(v)]))
         return [*self.dialect.counted(self.told_large(v), at_once), judged, *self.analyzed(v)]
-
-    def where_bare(self, v, statement):
-        return self.dialect.where(sql("NOT {indexed}", indexed=self.checked.known("is_indexed", v)), statement)
 
     def changed(self, v, rows, cells, counted, key=None, is_unique=False):
         """Equal rows added up, each with a number of its own where the table may have several of it; by a key in its order, so that they are looked
@@ -129,13 +129,14 @@ class PlacedScript(PlacedGroups, PlacedOpening, LeanComps, Script):
         named = [sql("{cell}::{kind} AS {own}", cell=cell, kind=kind, own=word("c", at)) for at, (cell, kind) in enumerate(zip(cells, kinds), 1)]
         own = [sql("p.{own}", own=word("c", at)) for at in range(1, len(cells) + 1)]
         return sql("SELECT {id} AS id, {own}, sum(p.n)::bigint AS n FROM (SELECT {named}, {counted} AS n FROM {rows}) AS p GROUP BY {grouped}"
-                   " HAVING sum(p.n) <> 0", id=sql("NULL::bigint" if is_unique else "row_number() OVER ()"), own=joined(own), named=joined(named), counted=counted, rows=rows,
-                   grouped=joined([key, *own] if key else own))  # fmt: skip
+                   " HAVING sum(p.n) <> 0", id=sql("NULL::bigint" if is_unique else "row_number() OVER ()"), own=joined(own), named=joined(named),
+                   counted=counted, rows=rows, grouped=joined([key, *own] if key else own))  # fmt: skip
 
     def net(self, step):
         v = step.view
         counted = self.dialect.read_count(sql("t.{count}", count=COUNT))
-        return self.net_made(v, sql("{table} AS t", table=self.changes(v)), self.read(v), counted)
+        many = sql("(SELECT count(*) FROM {table} AS t)", table=self.changes(v))
+        return self.net_made(v, sql("{table} AS t", table=self.changes(v)), self.read(v), counted, many)
 
     def judge(self, step):
         v = step.view
@@ -156,7 +157,7 @@ class PlacedScript(PlacedGroups, PlacedOpening, LeanComps, Script):
             return []
         if self.shape.is_summary(v):
             return self.groups_directly(v)
-        return self.net_made(v, sql("({term}) AS r", term=self.term(v, term)), self.cells(v, "r"), sql("r.n"))
+        return self.net_made(v, sql("({term}) AS r", term=self.term(v, term)), self.cells(v, "r"), sql("r.n"), self.counter("rows", self.views[v].over[0]))
 
     def finish(self, step):
         """What was computed becomes the change, is looked up and judged; that of a view which no other reads when it is put."""
@@ -166,7 +167,9 @@ class PlacedScript(PlacedGroups, PlacedOpening, LeanComps, Script):
         if self.shape.is_summary(v):
             made = [] if self.is_direct(v) else self.groups_made(v, self.groups_counted(v, self.summed_pending(v)))
             return [*made, *self.judged(v), *self.group_rows(v)]
-        made = [] if self.is_direct(v) else self.net_made(v, sql("{pending} AS r", pending=self.working(v, "pending")), self.cells(v, "r"), sql("r.s1"))
+        if self.is_direct(v):
+            return self.judged(v)
+        made = self.net_made(v, sql("{pending} AS r", pending=self.working(v, "pending")), self.cells(v, "r"), sql("r.s1"), self.counter("made", v))
         return [*made, *self.judged(v)]
 
     # ---- the pass over a change

@@ -5,11 +5,11 @@ from whtools.sql.postgresql_checks import TOUCHED, Checks, cast, rows_of
 from whtools.sql.tokens import body, joined, number, sql, text, word
 
 # The tables and those below them; and of each view, in an array, its key's columns, a column that has to have a value and has none, whether a
-# foreign key to it acts, whether a unique index finds each row of it, whether any index may find some of its rows, and how many rows this
-# transaction had written and removed before. They are declared before the path of names is set.
+# foreign key to it acts, whether a unique index finds each row of it, whether any index may find some of its rows, how many pages they
+# fill, and how many rows this transaction had written and removed before. They are declared before the path of names is set.
 VARIABLES = {
     "below_numbers": "int4[]", "below_relations": "oid[]", "key_columns": "text[]", "spare_columns": "text[]", "is_referred": "bool[]",
-    "is_found": "bool[]", "is_indexed": "bool[]", "had_written": "int8[]", "had_removed": "int8[]", "watched": "bool",
+    "is_found": "bool[]", "is_indexed": "bool[]", "pages": "int8[]", "had_written": "int8[]", "had_removed": "int8[]", "watched": "bool",
 }  # fmt: skip
 # Tables that are made while it is asked: those that are expected and their columns; those below them; which columns of the server's are which of
 # the catalogue's; all their indexes with such of their columns as tell a row from others; and tables to which a foreign key acts.
@@ -22,11 +22,12 @@ MADE = {
     "fields": "SELECT b.number, b.relation, w.place, a.attnum FROM below AS b JOIN pg_attribute AS a ON a.attrelid = b.relation JOIN wanted AS w"
     " ON w.number = b.number AND w.said = a.attname AND w.said <> {count} WHERE b.role <> {changes}",
     "indexes": "SELECT b.number, b.role, b.relation, b.telling, b.relation = b.top AND i.indisunique AND i.indisvalid AND i.indpred IS NULL"
-    " AND i.indexprs IS NULL AS is_unique, i.indisunique OR i.indisexclusion AS is_strict, i.indisvalid AND i.indpred IS NULL AND EXISTS (SELECT 1"
-    " FROM fields AS f WHERE f.relation = b.relation AND f.attnum = i.indkey[0]) AS is_looked_up, i.indexrelid, i.indisprimary, i.indnkeyatts,"
-    " ARRAY(SELECT f.place FROM fields AS f WHERE f.relation = b.relation AND f.place <= b.telling AND NOT i.indisexclusion"
+    " AND i.indexprs IS NULL AS is_unique, i.indisunique OR i.indisexclusion AS is_strict, i.indisvalid AND i.indpred IS NULL AND m.amname IN {equal}"
+    " AND EXISTS (SELECT 1 FROM fields AS f WHERE f.relation = b.relation AND f.attnum = i.indkey[0]) AS is_looked_up, i.indexrelid, i.indisprimary,"
+    " i.indnkeyatts, ARRAY(SELECT f.place FROM fields AS f WHERE f.relation = b.relation AND f.place <= b.telling AND NOT i.indisexclusion"
     " AND f.attnum IN (SELECT i.indkey[k] FROM generate_series(0, i.indnkeyatts - 1) AS k)) AS places"
-    " FROM below AS b JOIN pg_index AS i ON i.indrelid = b.relation WHERE b.role <> {changes}",
+    " FROM below AS b JOIN pg_index AS i ON i.indrelid = b.relation JOIN pg_class AS x ON x.oid = i.indexrelid JOIN pg_am AS m ON m.oid = x.relam"
+    " WHERE b.role <> {changes}",
     "spare (view, told)": "{spare}",
     "referred (view)": "SELECT b.number FROM below AS b JOIN pg_constraint AS f ON f.confrelid = b.relation WHERE f.contype = {foreign}"
     " AND (f.confdeltype IN {acts} OR f.confupdtype IN {acts})",
@@ -48,6 +49,7 @@ FOUND = {
     " WHERE h.number = n) > 1) ORDER BY n)",
     "is_indexed": "array_agg(NOT EXISTS (SELECT 1 FROM kinds AS k WHERE k.number = n AND k.relkind = {ordinary} AND NOT EXISTS (SELECT 1 FROM indexes AS i"
     " WHERE i.relation = k.relation AND i.is_looked_up)) ORDER BY n)",
+    "pages": "array_agg((SELECT sum(pg_relation_size(b.relation)) / 8192 FROM below AS b WHERE b.number = n) ORDER BY n)",
     "had_written": "array_agg(c.written ORDER BY n)",
     "had_removed": "array_agg(c.removed ORDER BY n)",
 }
@@ -100,9 +102,11 @@ class PlacedChecks(Checks):
         """What is refused of the tables, and all that steps ask of them, of each view in the order of the views."""
         views = range(len(self.script.views))
         acts = sql("({c}, {n}, {d})", c=text("c"), n=text("n"), d=text("d"))
-        holes = {"tables": rows_of(self.tables()), "columns": rows_of(self.columns()), "spare": self.asking.spare(), "count": text("#"),
-                 "foreign": text("f"), "acts": acts, "derived": text("derived"), "changes": text("changes"), "ordinary": text("r"), "cell": text("p.c"), "comma": text(", "),
-                 "keyed": joined(self.keyed(), ""), "paired": joined([number(v) for v in views if self.script.has_pairs(v)] or [number(-1)])}  # fmt: skip
+        said = {"count": "#", "foreign": "f", "derived": "derived", "changes": "changes", "ordinary": "r", "cell": "p.c", "comma": ", "}
+        holes = {"tables": rows_of(self.tables()), "columns": rows_of(self.columns()), "spare": self.asking.spare(), "acts": acts,
+                 "equal": sql("({btree}, {hash})", btree=text("btree"), hash=text("hash")), "keyed": joined(self.keyed(), ""),
+                 "paired": joined([number(v) for v in views if self.script.has_pairs(v)] or [number(-1)]),
+                 **{hole: text(letters) for hole, letters in said.items()}}  # fmt: skip
         refused = [*(self.asking.without_key(v, places) for v, places in self.script.keyed.items()), *self.asking.unfit()]
         found = {"finding": sql("coalesce({queries})", queries=joined([sql("({query})", query=each) for each in refused])),
                  **{said: sql(query, **holes) for said, query in FOUND.items()}, "watched": self.asking.watched()}  # fmt: skip
@@ -122,7 +126,8 @@ class PlacedChecks(Checks):
 
     def counted_anew(self, v):
         """What was undone of a view's Inst counts too as written and removed by this transaction."""
-        counts = "(SELECT sum(pg_stat_get_xact_tuples_{kind}(p.relation) + pg_stat_get_xact_tuples_updated(p.relation)) FROM {{parts}} AS p WHERE p.number = {{v}})"
+        counts = "(SELECT sum(pg_stat_get_xact_tuples_{kind}(p.relation) + pg_stat_get_xact_tuples_updated(p.relation)) FROM {{parts}} AS p"
+        counts += " WHERE p.number = {{v}})"
         return [sql("{said} := {count}", said=self.known(said, v), count=self.query(counts.format(kind=kind), v=number(v)))
                 for said, kind in (("had_written", "inserted"), ("had_removed", "deleted"))]  # fmt: skip
 
