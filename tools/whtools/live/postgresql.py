@@ -77,6 +77,7 @@ HOLES = (
     *(("SELECT format({told}, b.view, format({why}, b.relation::regclass)) FROM below AS b " + test, why) for test, why in UNFIT),
 )  # fmt: skip
 STRANGE = "there is a table %s already, which is none of --capture's: name another schema by --schema"
+READ = "%s depends on %s, which would go: drop it before, and run the script again"
 UNKNOWN = "%s is captured too, and is not in this catalogue: a catalogue with all that is captured lets it go"
 UNTRUNCATED = "a table whose changes are captured is truncated at READ COMMITTED alone: another isolation does not see all rows that go"
 BUSY = "somebody is writing to %s all the time, and its triggers wait for a moment without: run the script again"
@@ -375,9 +376,7 @@ class Captures:
 
     def uncapture(self, _):
         """Triggers first, so that no writer meets a table that is gone; what was not made by --capture stays as it is."""
-        base = self.script.steps.base()
-        tables = [self.script.table(v) for v in range(len(self.script.views))] + [self.script.table(v, "~changes") for v in base]
-        tables += [self.state, self.columns, self.parts, self.script.own(JUDGED), *(self.script.own(said) for said, _ in self.script.history.tables())]
+        base, tables = self.script.steps.base(), self.tables()
         gone = [sql("DROP TABLE IF EXISTS {table}", table=table) for table in tables]
         schema = name(self.dialect.schema)
         is_empty = sql(
@@ -386,8 +385,28 @@ class Captures:
         )  # fmt: skip
         functions = [sql("DROP FUNCTION IF EXISTS {function}()", function=self.function(v)) for v in base]
         gone = [*functions, *gone, self.dialect.where(is_empty, sql("DROP SCHEMA {schema}", schema=schema))]
-        judged = self.dialect.creation(self.if_captured([*self.no_strangers(), *self.no_others()]))
+        judged = self.dialect.creation(self.if_captured([*self.no_strangers(), *self.no_others(), *self.no_readers()]))
         return [*judged, *(self.let_go(v) for v in base), *self.dialect.creation(self.if_captured(gone))]
+
+    def tables(self):
+        """All tables that --capture makes."""
+        own = [self.script.own(said) for said in (JUDGED, *(said for said, _ in self.script.history.tables()))]
+        changes = [self.script.table(v, "~changes") for v in self.script.steps.base()]
+        return [*(self.script.table(v) for v in range(len(self.script.views))), *changes, self.state, self.columns, self.parts, *own]
+
+    def no_readers(self):
+        """A refusal where something else depends on a table that would go, such as a view that reads it or a foreign key to it."""
+        tables = joined([sql("to_regclass({table})::oid", table=self.written(table)) for table in self.tables()])
+        return self.dialect.refuse_with(
+            sql(
+                "SELECT format({told}, pg_describe_object(d.classid, d.objid, 0), d.refobjid::regclass) FROM pg_depend AS d"
+                " LEFT JOIN pg_rewrite AS r ON d.classid = {rules}::regclass AND r.oid = d.objid LEFT JOIN pg_constraint AS f"
+                " ON d.classid = {constraints}::regclass AND f.oid = d.objid WHERE d.refclassid = {classes}::regclass AND d.refobjid IN ({tables})"
+                " AND d.deptype = {normal} AND coalesce(coalesce(r.ev_class, f.conrelid) NOT IN (SELECT o FROM unnest(ARRAY[{tables}]) AS o"
+                " WHERE o IS NOT NULL), TRUE) LIMIT 1",
+                told=text(READ), rules=text("pg_rewrite"), constraints=text("pg_constraint"), classes=text("pg_class"), normal=text("n"), tables=tables,
+            )
+        )  # fmt: skip
 
     def if_captured(self, made):
         """Statements that are carried out where anything was captured."""

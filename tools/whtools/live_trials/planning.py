@@ -238,6 +238,29 @@ def uncapture_mistakes(live):
     return [f"--uncapture: {text}" for text in ([first] if first else []) + bare.differences(live.database.state())]
 
 
+READERS = {
+    "CREATE VIEW best AS SELECT * FROM wh.sales;": "DROP VIEW best;",
+    "CREATE TABLE noted (id int REFERENCES wh.orders (id));": "DROP TABLE noted;",
+}
+
+
+def reader_mistakes(live):
+    """What depends on a table that --uncapture would take away keeps all of it, triggers too, until it is dropped."""
+    if live.engine != "postgresql":
+        return []
+    wrong = []
+    for made, dropped in READERS.items():
+        wrong += live.fresh()
+        live.database.asked(made)
+        before = live.database.state()
+        said = live.database.run(live.words("--uncapture"))
+        wrong += [] if "drop it before" in (said or "") else [f"--uncapture beside {made} is told {said!r}"]
+        wrong += before.differences(live.database.state())
+        live.database.asked(dropped)
+        wrong += [told for told in [live.database.run(live.words("--uncapture"))] if told]
+    return [f"something that depends on a mirror: {text}" for text in wrong]
+
+
 # A table of the application's that has the name of one of the night's, by what it would be captured and let go; and less than is captured.
 TAKEN = {
     "postgresql": ("CREATE TABLE lines (id int, product text, pieces int); INSERT INTO lines VALUES (7);", ("--schema", "public"), "lines"),
@@ -378,8 +401,8 @@ def mistakes(live, program):
     """All of these."""
     found = []
     each_of = (
-        catalogue_mistakes, lambda each: plan_mistakes(each, program), uncapture_mistakes, taken_mistakes, definition_mistakes, unfit_mistakes,
-        elsewhere_mistakes, refusal_mistakes,
+        catalogue_mistakes, lambda each: plan_mistakes(each, program), uncapture_mistakes, reader_mistakes, taken_mistakes, definition_mistakes,
+        unfit_mistakes, elsewhere_mistakes, refusal_mistakes,
     )  # fmt: skip
     for tried in each_of:
         try:
