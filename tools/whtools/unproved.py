@@ -101,10 +101,16 @@ def compiled(kit, room):
 
 def take(kit, room, crate):
     """Takes what is compiled of a crate to the room, and the words for it."""
-    made = lay(kit, room)
-    tried = subprocess.run([made / "bin/rt", "try", "--", "--help"], cwd=crate, stdin=subprocess.DEVNULL, capture_output=True, text=True)
+    made, quiet = lay(kit, room), {"stdin": subprocess.DEVNULL, "stdout": subprocess.DEVNULL, "stderr": subprocess.PIPE}
+    tried = subprocess.Popen([made / "bin/rt", "try", "--", "--help"], cwd=crate, text=True, **quiet)
+    try:
+        _, told = tried.communicate()
+    finally:
+        # Where this tool is told to stop, rt is too, and stops what it has begun.
+        tried.terminate()
+        tried.wait()
     if not (room / "module.bc").is_file():
-        raise NotBuilt(f"rt try compiled nothing: {tried.stderr.strip()[-2000:]}")
+        raise NotBuilt(f"rt try compiled nothing: {told.strip()[-2000:]}")
 
 
 @contextmanager
