@@ -395,16 +395,17 @@ class Captures:
         return [*(self.script.table(v) for v in range(len(self.script.views))), *changes, self.state, self.columns, self.parts, *own]
 
     def no_readers(self):
-        """A refusal where something else depends on a table that would go, such as a view that reads it or a foreign key to it."""
+        """A refusal where something else depends on a table that would go, or on its type, such as a view that reads it or a foreign key to it; what
+        is a table's own, such as a trigger of it, goes with it."""
         tables = joined([sql("to_regclass({table})::oid", table=self.written(table)) for table in self.tables()])
         return self.dialect.refuse_with(
             sql(
-                "SELECT format({told}, pg_describe_object(d.classid, d.objid, 0), d.refobjid::regclass) FROM pg_depend AS d"
-                " LEFT JOIN pg_rewrite AS r ON d.classid = {rules}::regclass AND r.oid = d.objid LEFT JOIN pg_constraint AS f"
-                " ON d.classid = {constraints}::regclass AND f.oid = d.objid WHERE d.refclassid = {classes}::regclass AND d.refobjid IN ({tables})"
-                " AND d.deptype = {normal} AND coalesce(coalesce(r.ev_class, f.conrelid) NOT IN (SELECT o FROM unnest(ARRAY[{tables}]) AS o"
-                " WHERE o IS NOT NULL), TRUE) LIMIT 1",
-                told=text(READ), rules=text("pg_rewrite"), constraints=text("pg_constraint"), classes=text("pg_class"), normal=text("n"), tables=tables,
+                "SELECT format({told}, pg_describe_object(d.classid, d.objid, 0), k.relation::regclass) FROM pg_depend AS d LEFT JOIN pg_type AS t"
+                " ON d.refclassid = {types}::regclass AND d.refobjid IN (t.oid, t.typarray) CROSS JOIN LATERAL (SELECT CASE WHEN"
+                " d.refclassid = {classes}::regclass THEN d.refobjid ELSE t.typrelid END AS relation) AS k WHERE k.relation IN ({tables})"
+                " AND d.deptype = {normal} AND NOT EXISTS (SELECT 1 FROM pg_depend AS o WHERE o.classid = d.classid AND o.objid = d.objid"
+                " AND o.refclassid = {classes}::regclass AND o.refobjid IN ({tables}) AND o.deptype IN ({own}, {part})) LIMIT 1",
+                told=text(READ), types=text("pg_type"), classes=text("pg_class"), normal=text("n"), own=text("a"), part=text("i"), tables=tables,
             )
         )  # fmt: skip
 

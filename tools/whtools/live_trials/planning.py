@@ -241,7 +241,13 @@ def uncapture_mistakes(live):
 READERS = {
     "CREATE VIEW best AS SELECT * FROM wh.sales;": "DROP VIEW best;",
     "CREATE TABLE noted (id int REFERENCES wh.orders (id));": "DROP TABLE noted;",
+    "CREATE FUNCTION best() RETURNS SETOF wh.sales LANGUAGE sql AS 'SELECT * FROM wh.sales';": "DROP FUNCTION best;",
 }
+# What goes with a table, since it is the table's own.
+OF_A_TABLE = (
+    "CREATE FUNCTION told() RETURNS trigger LANGUAGE plpgsql AS 'BEGIN RETURN NULL; END'; CREATE TRIGGER told AFTER UPDATE ON wh.orders FOR EACH ROW"
+    " WHEN (OLD.day <> NEW.day) EXECUTE FUNCTION told(); CREATE POLICY few ON wh.orders USING (id < 9);"
+)
 
 
 def reader_mistakes(live):
@@ -258,6 +264,9 @@ def reader_mistakes(live):
         wrong += before.differences(live.database.state())
         live.database.asked(dropped)
         wrong += [told for told in [live.database.run(live.words("--uncapture"))] if told]
+    wrong += live.fresh()
+    live.database.asked(OF_A_TABLE)
+    wrong += [told for told in [live.database.run(live.words("--uncapture"))] if told]
     return [f"something that depends on a mirror: {text}" for text in wrong]
 
 
