@@ -212,21 +212,22 @@ class SwiftScript(SwiftGroups, Opening, LeanComps, LiveScript):
         return [*without([*put, sql("GET DIAGNOSTICS touched = ROW_COUNT")], "hashjoin"), self.refused_where(torn, self.told_torn(v))]
 
     def merged(self, v, change, leaves, sets, comes, cells):
-        """The statement by which the rows d of a change leave the table, change or come, each at its place."""
+        """The statement by which the rows d of a change leave the table, change or come, each at its place. Those that leave go first, and those
+        that come last: the table may have a unique index of one's own, and that of a mirror the source's key."""
         return sql(
-            "MERGE INTO {table} AS t USING {change} AS d ON t.ctid = d.place WHEN MATCHED AND {leaves} THEN DELETE WHEN MATCHED THEN UPDATE SET {sets}"
+            "MERGE INTO {table} AS t USING (SELECT * FROM {change} ORDER BY {leaves} DESC, d.place) AS d ON t.ctid = d.place"
+            " WHEN MATCHED AND {leaves} THEN DELETE WHEN MATCHED THEN UPDATE SET {sets}"
             " WHEN NOT MATCHED AND {comes} THEN INSERT ({columns}) VALUES ({cells})", table=self.table(v), change=change, leaves=sql(leaves),
             sets=joined([sql("{column} = {cell}", column=column, cell=cell) for column, cell in sets]), comes=sql(comes),
             columns=joined([column for column, _ in cells]), cells=joined([cell for _, cell in cells]),
         )  # fmt: skip
 
     def rows_put(self, v):
-        """Of two rows with one key the one that comes says it all. Without one those that leave go first: the table that is mirrored may have one."""
+        """Of two rows with one key the one that comes says it all."""
         net, cells, count = self.working(v, "net"), list(zip(self.users(v), self.cells(v, "d"))), [(COUNT, sql("d.n"))]
         if not self.is_keyed(v):
-            change = sql("(SELECT * FROM {net} AS d ORDER BY d.was + d.n)", net=net)
-            return self.merged(v, change, "d.was + d.n = 0", [(COUNT, sql("d.was + d.n"))], "d.n > 0", cells + count)
-        change = sql("(SELECT * FROM {net} AS d WHERE d.n > 0 OR d.pair = 1)", net=net)
+            return self.merged(v, sql("{net} AS d", net=net), "d.was + d.n = 0", [(COUNT, sql("d.was + d.n"))], "d.n > 0", cells + count)
+        change = sql("{net} AS d WHERE d.n > 0 OR d.pair = 1", net=net)
         changed = [each for place, each in enumerate(cells) if place not in self.keys[v]]
         return self.merged(v, change, "d.n < 0", changed, "d.n > 0", cells + count)
 

@@ -1,6 +1,6 @@
 """Summaries in nights as fast as a good hand writes them: each group that changes is found once, with its sums before and after."""
 
-from whtools.sql.tokens import joined, number, sql, text, word
+from whtools.sql.tokens import body, joined, number, sql, text, word
 
 PLACED, COMING = sql("d.place IS NOT NULL"), sql("d.place IS NULL")
 
@@ -75,8 +75,9 @@ class SwiftGroups:
         return self.counted(v, word("put"), judging, sql("WITH {parts}", parts=joined([put, stay, come])))
 
     def gone_at_once(self, v):
-        """Groups that leave."""
-        many, gone = self.counter("gone", v), sql("DELETE FROM {table} AS t WHERE t.ctid = ANY (places)", table=self.table(v))
+        """Groups that leave. The places are written into the statement, since a column of the table may be called as the variable is."""
+        many, gone = self.counter("gone", v), sql("EXECUTE concat({delete}, quote_literal(places), {end})", end=text(")"),
+                                                  delete=body(sql("DELETE FROM {table} AS t WHERE t.ctid = ANY (", table=self.table(v))))  # fmt: skip
         torn = self.refused_where(sql("touched <> {many}", many=many), self.told_torn(v))
         return self.then(sql("{many} > 0", many=many), [gone, sql("GET DIAGNOSTICS touched = ROW_COUNT"), torn])
 
@@ -112,4 +113,4 @@ class SwiftGroups:
 
     def groups_put(self, v):
         sets, cells = self.group_cells(v)
-        return self.merged(v, self.working(v, "beside"), "d.a1 = 0", sets, "d.a1 > 0", cells)
+        return self.merged(v, sql("{beside} AS d", beside=self.working(v, "beside")), "d.a1 = 0", sets, "d.a1 > 0", cells)

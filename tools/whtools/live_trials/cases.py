@@ -181,6 +181,12 @@ OF_POSTGRESQL = {
         " GRANT SELECT ON lines TO seller; GRANT USAGE ON SCHEMA public TO seller; ALTER TABLE lines ENABLE ROW LEVEL SECURITY;"
         " CREATE POLICY few ON lines USING (id < 9); INSERT INTO lines VALUES (3, 'product 3', 3); TRUNCATE lines;", fails="row-level security",
     ),
+    "a row that a unique index of one's own keeps out until another one has left": Case(
+        "CREATE UNIQUE INDEX own ON wh.orders (at) WHERE at > 1800000000; INSERT INTO orders (id, day, at) VALUES (0, '2026-02-02', '2030-01-01 00:00Z');"
+        " DELETE FROM orders WHERE id = 7; UPDATE orders SET at = '2031-01-01 00:00Z' WHERE id = 8;"
+        " INSERT INTO orders (id, day, at) VALUES (-1, '2026-02-02', '2032-01-01 00:00Z'); UPDATE orders SET at = NULL WHERE id = 9;",
+        made="UPDATE orders SET at = '2030-01-01 00:00Z' WHERE id = 7; UPDATE orders SET at = '2032-01-01 00:00Z' WHERE id = 9;",
+    ),
     "a table by another name": Case("ALTER TABLE lines RENAME TO positions; INSERT INTO positions VALUES (4, 'product 4', 4); ALTER TABLE positions RENAME TO lines;"),
 }  # fmt: skip
 OF_SQLITE = {

@@ -1,4 +1,5 @@
-"""The application of the trials: its tables with all types that are turned, the catalogue over them, and what its views have to be."""
+"""The application of the trials: its tables with all types that are turned, the catalogue over them, and what its views have to be. A column of
+the last view is called as a variable of a night is."""
 
 from collections import Counter
 from pathlib import Path
@@ -45,7 +46,7 @@ keep = [["region", "orders.region"], ["id", "orders.id"], ["double", ["*", "orde
 [[view]]
 name = "moments"
 over = ["orders"]
-group = [["at", "orders.at"]]
+group = [["places", "orders.at"]]
 count = "orders"
 """
 TABLES = {
