@@ -15,7 +15,7 @@ from whtools.sql.dialect import COUNT, MOST
 from whtools.sql.keys import Keys
 from whtools.sql.lean import LOOK_UPS, LeanComps
 from whtools.sql.postgresql import KEPT, LIMITS, PostgreSQL
-from whtools.sql.tokens import joined, name, sql, word
+from whtools.sql.tokens import joined, name, sql, statements, word
 
 # How many rows of a view's change there are, that leave, that stay otherwise and that come; and of views without keys by how many rows their
 # tables grow, and how many change.
@@ -206,30 +206,40 @@ class SwiftScript(SwiftGroups, Opening, LeanComps, LiveScript):
         v = step.view
         if self.is_last(v):
             return []
-        large = f"{self.told_large(v)}: a number does not fit its column"
-        put = self.dialect.counted(large, [self.once(self.groups_put(v) if self.shape.is_summary(v) else self.rows_put(v))])
+        put = self.put_in_order(v) if self.is_told_by_key(v) else self.fitting(v, self.rows_put(v))
         torn = sql("touched <> {many}", many=joined([self.counter(kind, v) for kind in ("gone", "stay", "come")], "+"))
         return [*without([*put, sql("GET DIAGNOSTICS touched = ROW_COUNT")], "hashjoin"), self.refused_where(torn, self.told_torn(v))]
 
-    def merged(self, v, change, leaves, sets, comes, cells):
-        """The statement by which the rows d of a change leave the table, change or come, each at its place. Those that leave go first, and those
-        that come last: the table may have a unique index of one's own, and that of a mirror the source's key."""
+    def fitting(self, v, statement):
+        """A statement that writes numbers, with the words for one that does not fit its column."""
+        return self.dialect.counted(f"{self.told_large(v)}: a number does not fit its column", [self.once(statement)])
+
+    def put_in_order(self, v):
+        """Rows are put as they come; where a unique index of one's own keeps one out, those that leave go first, and those that come last."""
+        put = self.groups_put if self.shape.is_summary(v) else self.rows_put
+        tried, ordered = (self.fitting(v, put(v, order)) for order in ((), ("ORDER BY {leaves} DESC, d.place",)))
+        return [sql("BEGIN {tried} EXCEPTION WHEN unique_violation OR exclusion_violation THEN {ordered} END", tried=statements(tried, 2),
+                    ordered=statements(ordered, 2))]  # fmt: skip
+
+    def merged(self, v, change, leaves, sets, comes, cells, order=()):
+        """The statement by which the rows d of a change leave the table, change or come, each at its place."""
         return sql(
-            "MERGE INTO {table} AS t USING (SELECT * FROM {change} ORDER BY {leaves} DESC, d.place) AS d ON t.ctid = d.place"
-            " WHEN MATCHED AND {leaves} THEN DELETE WHEN MATCHED THEN UPDATE SET {sets}"
-            " WHEN NOT MATCHED AND {comes} THEN INSERT ({columns}) VALUES ({cells})", table=self.table(v), change=change, leaves=sql(leaves),
+            "MERGE INTO {table} AS t USING (SELECT * FROM {change} {order}) AS d ON t.ctid = d.place WHEN MATCHED AND {leaves} THEN DELETE"
+            " WHEN MATCHED THEN UPDATE SET {sets} WHEN NOT MATCHED AND {comes} THEN INSERT ({columns}) VALUES ({cells})", table=self.table(v),
+            change=change, order=joined([sql(each, leaves=sql(leaves)) for each in order]), leaves=sql(leaves),
             sets=joined([sql("{column} = {cell}", column=column, cell=cell) for column, cell in sets]), comes=sql(comes),
             columns=joined([column for column, _ in cells]), cells=joined([cell for _, cell in cells]),
         )  # fmt: skip
 
-    def rows_put(self, v):
-        """Of two rows with one key the one that comes says it all."""
+    def rows_put(self, v, order=()):
+        """Of two rows with one key the one that comes says it all. Without one those that leave go first: the table that is mirrored may have one."""
         net, cells, count = self.working(v, "net"), list(zip(self.users(v), self.cells(v, "d"))), [(COUNT, sql("d.n"))]
         if not self.is_keyed(v):
-            return self.merged(v, sql("{net} AS d", net=net), "d.was + d.n = 0", [(COUNT, sql("d.was + d.n"))], "d.n > 0", cells + count)
+            change = sql("{net} AS d", net=net)
+            return self.merged(v, change, "d.was + d.n = 0", [(COUNT, sql("d.was + d.n"))], "d.n > 0", cells + count, ("ORDER BY d.was + d.n",))
         change = sql("{net} AS d WHERE d.n > 0 OR d.pair = 1", net=net)
         changed = [each for place, each in enumerate(cells) if place not in self.keys[v]]
-        return self.merged(v, change, "d.n < 0", changed, "d.n > 0", cells + count)
+        return self.merged(v, change, "d.n < 0", changed, "d.n > 0", cells + count, order)
 
     # ---- a look afterwards is not needed: every statement has told how many rows it touched, and the tables are the night's own
 

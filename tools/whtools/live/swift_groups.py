@@ -111,6 +111,6 @@ class SwiftGroups:
         cells = list(zip(self.users(v), [*self.cells(v, "d")[:groups], *self.summed_columns(v, "a", "d")]))
         return cells[groups:], cells
 
-    def groups_put(self, v):
+    def groups_put(self, v, order=()):
         sets, cells = self.group_cells(v)
-        return self.merged(v, sql("{beside} AS d", beside=self.working(v, "beside")), "d.a1 = 0", sets, "d.a1 > 0", cells)
+        return self.merged(v, sql("{beside} AS d", beside=self.working(v, "beside")), "d.a1 = 0", sets, "d.a1 > 0", cells, order)
