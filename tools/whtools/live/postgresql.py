@@ -77,6 +77,8 @@ HOLES = (
     *(("SELECT format({told}, b.view, format({why}, b.relation::regclass)) FROM below AS b " + test, why) for test, why in UNFIT),
 )  # fmt: skip
 STRANGE = "there is a table %s already, which is none of --capture's: name another schema by --schema"
+# Without the lines before it a block would read changes by one snapshot and take them away by another: what comes in between would be lost.
+ALONE = "the isolation is not REPEATABLE READ: run the whole script, and not its block alone"
 READ = "%s depends on %s, which would go: drop it before, and run the script again"
 UNKNOWN = "%s is captured too, and is not in this catalogue: a catalogue with all that is captured lets it go"
 UNTRUNCATED = "a table whose changes are captured is truncated at READ COMMITTED alone: another isolation does not see all rows that go"
@@ -103,7 +105,9 @@ class LivePostgreSQL(PostgreSQL):
         level = sql("SET TRANSACTION ISOLATION LEVEL " + self.isolation + " READ WRITE")
         tables = [self.created(name(said), columns) for said, columns in working]
         begun = [sql("{each}{end}", each=each, end=END_OF_STATEMENT) for each in (sql("BEGIN ISOLATION LEVEL READ COMMITTED"), level, locked)]
-        return [*begun, UNREAD, self.block([*tables, *made]), sql("COMMIT{end}", end=END_OF_STATEMENT)]
+        other = sql("current_setting({key}) <> {wanted}", key=text("transaction_isolation"), wanted=text(self.isolation.lower()))
+        judged = self.where(other, self.raised(text(ALONE)))
+        return [*begun, UNREAD, self.block([judged, *tables, *made]), sql("COMMIT{end}", end=END_OF_STATEMENT)]
 
 
 class Captures:

@@ -86,7 +86,17 @@ def within_mistakes(live):
         told = live.database.run(f"{begun_as} SELECT count(*) FROM orders;\n{live.script}")
         wrong += [] if told and "must be called before any query" in told and live.pending() == before else [f"after {begun_as} it was told {told!r}"]
         wrong += [f"{told}" for told in [live.night()] if told] + live.mistakes()
-    return [f"a night within a transaction: {text}" for text in wrong]
+    return [f"a night within a transaction: {text}" for text in wrong + alone_mistakes(live)]
+
+
+def alone_mistakes(live):
+    """The block of a night without the lines before it: it is refused, and changes nothing."""
+    wrong = live.fresh()
+    live.database.asked("UPDATE lines SET pieces = pieces + 1;")
+    before, block = live.pending(), live.script[live.script.index("\nDO ") : live.script.rindex("COMMIT")]
+    told = live.database.run(block)
+    wrong += [] if told and "run the whole script" in told and live.pending() == before else [f"the block alone was told {told!r}"]
+    return wrong + [f"{told}" for told in [live.night()] if told] + live.mistakes()
 
 
 def part_mistakes(live):
