@@ -3,7 +3,7 @@
 
 from whtools.sql.placed import PlacedScript
 from whtools.sql.script import Script
-from whtools.sql.tokens import number, sql
+from whtools.sql.tokens import joined, number, sql
 
 
 class EveryCompReadsTheOldTables(Script):
@@ -125,6 +125,14 @@ class RowsThatStayKeepTheirCounts(PlacedScript):
         return super().recounted(v) if self.shape.is_summary(v) else []
 
 
+class GroupsKeepTheirSums(PlacedScript):
+    def update_of(self, v, columns, cells, act, change=None):
+        if not self.shape.is_summary(v):
+            return super().update_of(v, columns, cells, act, change)
+        sets = joined([sql("{column} = t.{column}", column=column) for column in columns])
+        return self.dialect.update(self.said(v), sets, self.placed(v, [], act, change))
+
+
 class SumsBecomeTheCount(PlacedScript):
     def sums_after(self, v):
         return [sql("d.a1") for _ in super().sums_after(v)]
@@ -152,6 +160,7 @@ SPOILT_PLACED = [
     AbsentRowsAreNotRefused,
     AllEqualRowsLeave,
     RowsThatStayKeepTheirCounts,
+    GroupsKeepTheirSums,
     SumsBecomeTheCount,
     OneSourceIsEnough,
     ACountIsPutAsItChanges,
