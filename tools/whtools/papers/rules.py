@@ -12,20 +12,20 @@ MOST = {
     "CHANGELOG.md": 2,
     "docs/ARCHITECTURE.md": 14,
     "docs/CLUSTER.md": 8.2,
-    "docs/DECISIONS.md": 55,
+    "docs/DECISIONS.md": 62,
     "docs/DEFINITIONS.md": 22,
     "docs/FORMATS.md": 29,
     "docs/OPERATING.md": 6,
-    "docs/PERFORMANCE.md": 12,
+    "docs/PERFORMANCE.md": 14,
     "docs/PLANTED.md": 5,
     "docs/PROMISES.md": 20,
-    "docs/SQL.md": 8.5,
-    "docs/TESTING.md": 10,
+    "docs/SQL.md": 18,
+    "docs/TESTING.md": 12,
     "docs/WAREHOUSE.md": 8,
 }
 MOST_OF_A_HEAD = 1.2
 # The most bytes of all that a reader has before him: the papers at the top and in docs/.
-MOST_TOGETHER = 220_000
+MOST_TOGETHER = 260_000
 TOGETHER = re.compile(r"(?:README|CONTRIBUTING|CHANGELOG)\.md|docs/\w+\.md")
 # What was said of things before they were there, and what stands outside of the repository.
 FORBIDDEN = [
