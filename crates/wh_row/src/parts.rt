@@ -12,20 +12,20 @@ ghost use Rattle.wh_row.specs.Records.{EachSumFits, IsFirstTooLarge, joined};
 use crate::bag::Bag;
 use crate::fault::RecordsFault;
 use crate::records::Records;
-use crate::shares::{FEW, Hands, behind};
+use crate::shares::behind;
 use std::alloc::{AllocError, Global};
 use std::thread;
 use std::thread::Threads;
+use wh_threads::{ThreadBudget, Work};
 
 /// The largest count.
 const MOST: u64 = 9223372036854775807;
 
 impl Bag {
-    /// What [`Bag::from_records`] answers for the records of all parts, those of a part behind those of the part before, by several
-    /// threads. Takes O(r w) time for r records of w cells where each part rises, none twice, and is above the part before.
-    pub fn from_parts_wide<R: Threads + Sync>(
-        hands: &Hands<'_, R>,
-        alloc: Global,
+    /// What [`Bag::from_records`] answers for the records of all parts, those of a part behind those of the part before.
+    /// Takes O(r w) time for r records of w cells where each part rises, none twice, and is above the part before.
+    pub fn from_parts<R: Threads + Sync>(
+        budget: &ThreadBudget<'_, R>,
         parts: &[Records],
     ) -> Result<Self, RecordsFault>
         ensures ok { IfOk result (λ bag. bag ≡ bag_of (joined parts.now)) }
@@ -37,22 +37,21 @@ impl Bag {
         ensures memory { result ≡ Err RecordsFault.Memory → joined parts.now ≢ [] }
     {
         if let [records] = parts {
-            return Bag::from_records_wide(hands, alloc, records);
+            return Bag::from_records(budget, records);
         }
-        if let Some(bag) = from_rising_parts(hands, alloc, parts) {
+        if let Some(bag) = from_rising_parts(budget, parts) {
             return Ok(bag);
         }
-        let Ok(records) = in_one(alloc, parts) else {
+        let Ok(records) = in_one(budget.alloc, parts) else {
             return Err(RecordsFault::Memory);
         };
-        Bag::from_records_wide(hands, alloc, &records)
+        Bag::from_records(budget, &records)
     }
 }
 
 /// The bag of the records of parts that rise, where all absolute counts together are an i64 and there is memory for it.
 fn from_rising_parts<R: Threads + Sync>(
-    hands: &Hands<'_, R>,
-    alloc: Global,
+    budget: &ThreadBudget<'_, R>,
     parts: &[Records],
 ) -> Option<Bag>
     ensures bag { IfSome result (λ bag. bag ≡ bag_of (joined parts.now)) }
@@ -60,8 +59,8 @@ fn from_rising_parts<R: Threads + Sync>(
 {
     // Each part has its share of the room of an i64.
     let room = MOST.checked_div(parts.len() as u64)?;
-    let threads = hands.threads.min(parts.len()).min(len_of(parts) / FEW);
-    from_parts(hands.rt, threads, alloc, room, parts)
+    let threads = budget.parts(Work::Records, len_of(parts)).min(parts.len());
+    from_parts(budget.rt, threads, budget.alloc, room, parts)
 }
 
 /// The bag of the records of parts that rise, whose absolute counts are no more than this for each, by so many threads.
