@@ -34,5 +34,4 @@ pub use wh_text_lines::{
 };
 pub use wh_text_tables::{
     changes_read_back_law, read_changes, read_sizes, read_table, table_reads_back_law, write_table,
-    write_table_wide,
 };

@@ -1,14 +1,16 @@
 -- Parts of rows that were read in pieces.
-use Rattle.std.proofs.Common.{◌≡◌, ◌∙◌, ◌≤◌, ◌<◌, ◌+◌, ◌-◌, ℕ, ℤ, zero, suc, pos, Bool, true, false, List, [], ◌∷◌, ◌++◌, length, take, drop, get_or, Option, Some, None, Ok, Err, Result, ◌⊎◌, inl, inr, refl, sym, ap, subst, arith, append_assoc, slice_get}
-use Rattle.std.specs.declared.alloc.Global.{Global}
-use Rattle.std.specs.Prelude.{⊤, Vec, OnOk, ◌&&◌, ◌==◌, if◌then◌else◌, ok_or, option_and_then, option_map}
-use Rattle.std.specs.List.{list_all, list_any}
+use Rattle.std.proofs.Common.{◌≡◌, ◌∙◌, ◌≤◌, ◌<◌, ◌+◌, ◌-◌, ℕ, ℤ, zero, suc, pos, Bool, true, false, List, [], ◌∷◌, ◌++◌, length, take, drop, get_or, Option, Some, None, Ok, Err, Result, ◌⊎◌, inl, inr, refl, sym, ap, subst, arith, append_assoc, slice_get, map}
+use Rattle.std.specs.Prelude.{⊤, ◌&&◌, ◌==◌, if◌then◌else◌, IfSome, flat_map, ok_or, option_and_then, option_map}
+use denote.Ref.{Bor}
+use Rattle.std.specs.List.{AllZip, list_all, list_any}
 use Rattle.std.specs.Str.{bytes_eq, is_utf8}
 use Rattle.std.proofs.lemmas.Bool.{cases_Bool}
 use Rattle.std.proofs.lemmas.List.{append-nil, length-map, length-take-le, take_all}
 use Rattle.std.proofs.Math.Seq.{take-suc}
 use Rattle.std.proofs.lemmas.List.Folds.{list_any-append}
+use Rattle.std.proofs.lemmas.List.Concat.{flat_map-append}
 use Rattle.std.proofs.lemmas.Slice.Eq.{bytes_eq-Decides}
+use Rattle.std.proofs.lemmas.Slice.Zip.{all_zipped_more}
 use Rattle.wh_row.specs.Bag.{Bag}
 use Rattle.wh_row.specs.Records.{joined}
 use Rattle.wh_row.specs.Row.{Row}
@@ -24,12 +26,14 @@ use Rattle.wh_text.specs.WholeNumber.{whole_number}
 use Rattle.wh_text.specs.ValueOrFault.{◌>>=◌, or_fault}
 use Rattle.wh_text.proofs.DictGrowth.{begins-text, begins-texts, has-text, number-begins, number-own, with_texts-append}
 use Rattle.wh_text_tables.specs.Part.{Below, Scheme, below_header, part_gives, record_gives, records_give}
-use Rattle.wh_text_tables.specs.Records.{form_fault}
+use Rattle.wh_text_tables.specs.Records.{form_fault, records_of}
 use Rattle.wh_text_tables.specs.TableText.{EntriesRead, bag_read, cell_number, count_of, entry_of, row_cells, row_of, table_scheme, texts_after, texts_in_row, with_entry}
 use Rattle.wh_text_tables.specs.Inner.TableText.{entered, entry_scheme}
-use Rattle.wh_text_tables.specs.Inner.Pieces.{AllNumbers, AreEntries, AreFormed, AreNumbers, ArePartsRenumbered, ArePiecesRead, AreWholeNumbers, IsBagOf, IsCellRenumbered, IsFormed, IsPartRenumbered, IsPieceRead, IsReadAlone, IsRenumbered, all_texts, texts_in}
+use Rattle.wh_text_tables.specs.Inner.Pieces.{AreEntries, AreFormed, AreNumbers, AreWholeNumbers, IsBagOf, IsCellRenumbered, IsFormed, IsNumbered, IsPartRenumbered, IsPieceRead, IsReadAlone, IsRenumbered, IsRenumberedBy, all_texts, texts_in}
 use Rattle.wh_text_tables.specs.declared.table.header.Content.{Content}
 use Rattle.wh_text_tables.specs.declared.table.header.Counting.{Counting}
+use Rattle.wh_text_tables.specs.declared.table.renumbered.Numbered.{Numbered}
+use Rattle.wh_text_tables.specs.declared.table.rows.RowsRead.{RowsRead}
 use Rattle.wh_text_tables.proofs.TableSums.{pass}
 use Rattle.wh_text_tables.proofs.PartReads.{from_step, or_fault-ok, same_Ok, some-or}
 
@@ -227,12 +231,6 @@ numbers-next old dict texts own numbers is long so_far text has = by (last-has t
         let at : number_of_text (texts ++ text ∷ []) text ≡ length texts = position-seam texts text new in
         rw (← same, at, ← long, number-own dict text) (get-seam numbers (pos (number_of_text dict text)))
 
--- a dictionary that grows
-pub numbers-begin : (dict all texts : List (List ℕ)) (own : List (List ℕ)) (old : List (List ℕ)) (numbers : List ℤ) → dict ≡ with_texts old texts → BeginsWith dict all → AreNumbers dict texts numbers → AreNumbers all texts numbers
-numbers-begin dict all texts own old numbers is b are text has =
-    let in_dict : HasText dict text = subst (λ d. HasText d text) (sym is) (has-of (with_texts old texts) texts text (have-own old texts) has) in
-    are text has ∙ ap (λ n. Some (pos n)) (sym (number-begins dict all text b in_dict))
-
 -- ---- whole numbers alone
 
 pub whole-next : (kinds : List Kind) (kind : Kind) → AreWholeNumbers kinds → kind ≡ of_kind.Int → AreWholeNumbers (kinds ++ kind ∷ [])
@@ -253,12 +251,10 @@ unfolding IsPartRenumbered
 part-same kinds dict texts [] are = refl
 part-same kinds dict texts (entry ∷ entries) are = (refl, row-same kinds dict texts entry.0 are, part-same kinds dict texts entries are)
 
-pub parts-same : (kinds : List Kind) (dict : List (List ℕ)) (texts : List (List (List ℕ))) (parts : List Counted) → AreWholeNumbers kinds → length texts ≡ length parts → ArePartsRenumbered kinds dict texts parts parts
-unfolding ArePartsRenumbered
-parts-same kinds dict [] [] are long = refl
-parts-same kinds dict [] (part ∷ parts) are long = absurd (omega arith)
-parts-same kinds dict (own ∷ texts) [] are long = absurd (omega arith)
-parts-same kinds dict (own ∷ texts) (part ∷ parts) are long = (part-same kinds dict own part are, parts-same kinds dict texts parts are (omega arith))
+-- entries without texts are as they were read
+pub parts-same : (kinds : List Kind) (parts : List Numbered) → AreWholeNumbers kinds → AllZip (IsRenumberedBy kinds) parts (map (λ (own : Numbered). own.records) parts)
+parts-same kinds [] are = tt
+parts-same kinds (own ∷ parts) are = ((λ dict texts numbers. part-same kinds dict texts own.records are), parts-same kinds parts are)
 
 -- ---- rows by the numbers of one dictionary
 
@@ -349,27 +345,31 @@ pub record AreAllRead (count : Counting) (kinds : List Kind) (width : ℕ) (old 
   pub numbered : dict ≡ with_texts old (texts_in count kinds rows)
   pub each : AreEntries count kinds dict rows entries
 
-pub all-read : (count : Counting) (kinds : List Kind) (width : ℕ) (old dict : List (List ℕ)) (rows : List (List (List ℕ))) (texts : List (List (List ℕ))) (parts others : List Counted)
-    → ArePiecesRead count kinds width rows texts parts → dict ≡ with_texts old (all_texts texts) → ArePartsRenumbered kinds dict texts parts others
-    → AreAllRead count kinds width old dict rows (joined others)
-unfolding ArePiecesRead ArePartsRenumbered with_texts texts_in AreFormed AreEntries
-all-read count kinds width old dict rows [] [] others read is same = rw (read, same) (record { formed = tt; numbered = is; each = refl })
-all-read count kinds width old dict rows [] (part ∷ parts) others read is same = absurd read
-all-read count kinds width old dict rows (own ∷ texts) [] others read is same = absurd read
-all-read count kinds width old dict rows (own ∷ texts) (part ∷ parts) [] read is same = absurd same
-all-read count kinds width old dict rows (own ∷ texts) (part ∷ parts) (other ∷ others) (first, rest, whole, piece, more) is same =
+pub all-read : {X : Type 0} (f : X → List (List (List ℕ))) (count : Counting) (kinds : List Kind) (width : ℕ) (old dict : List (List ℕ)) (texts : List X) (pieces : List RowsRead) (others : List Counted)
+    → AllZip (λ text read. IsPieceRead count kinds width (f text) read.dict read.counted) texts pieces → dict ≡ with_texts old (all_texts pieces)
+    → AllZip (λ read own. IsPartRenumbered kinds dict read.dict read.counted own) pieces others → AreAllRead count kinds width old dict (flat_map f texts) (joined others)
+unfolding with_texts texts_in AreFormed AreEntries
+all-read f count kinds width old dict [] [] [] read is same = record { formed = tt; numbered = is; each = refl }
+all-read f count kinds width old dict [] [] (other ∷ others) read is same = absurd same
+all-read f count kinds width old dict [] (piece ∷ pieces) others read is same = absurd read
+all-read f count kinds width old dict (text ∷ texts) [] others read is same = absurd read
+all-read f count kinds width old dict (text ∷ texts) (piece ∷ pieces) [] read is same = absurd same
+all-read f count kinds width old dict (text ∷ texts) (piece ∷ pieces) (other ∷ others) read is same =
+    let own = piece.dict in
+    let first = f text in
+    let rest = flat_map f texts in
     let mine = texts_in count kinds first in
     let theirs = texts_in count kinds rest in
     let mid = with_texts old own in
-    let later : dict ≡ with_texts mid (all_texts texts) = is ∙ with_texts-append old own (all_texts texts) in
-    let tail = all-read count kinds width mid dict rest texts parts others more later same.1 in
-    let through : mid ≡ with_texts old mine = ap (with_texts old) piece.numbered ∙ with-through old [] mine in
-    let have : HaveTexts own mine = subst (λ t. HaveTexts t mine) (sym piece.numbered) (have-own [] mine) in
-    rw whole (record {
-      formed = formed-append width first rest piece.formed tail.formed;
+    let later : dict ≡ with_texts mid (all_texts pieces) = is ∙ with_texts-append old own (all_texts pieces) in
+    let tail = all-read f count kinds width mid dict texts pieces others read.1 later same.1 in
+    let through : mid ≡ with_texts old mine = ap (with_texts old) read.0.numbered ∙ with-through old [] mine in
+    let have : HaveTexts own mine = subst (λ t. HaveTexts t mine) (sym read.0.numbered) (have-own [] mine) in
+    record {
+      formed = formed-append width first rest read.0.formed tail.formed;
       numbered = tail.numbered ∙ ap (λ t. with_texts t theirs) through ∙ sym (with_texts-append old mine theirs) ∙ ap (with_texts old) (sym (texts-append count kinds first rest));
-      each = entries-append count kinds dict first rest other (joined others) (part-entries count kinds dict own first part other same.0 have piece.each) tail.each;
-    })
+      each = entries-append count kinds dict first rest other (joined others) (part-entries count kinds dict own first piece.counted other same.0 have read.0.each) tail.each;
+    }
 
 -- one place more of a list
 pub take-one : {X : Type 0} (xs : List X) (j : ℕ) (x : X) → slice_get xs j ≡ Some x → take (j + 1) xs ≡ take j xs ++ x ∷ []
@@ -427,70 +427,86 @@ part-one kinds dict texts [] others entry own same counts row = rw same (counts,
 part-one kinds dict texts (e ∷ entries) [] entry own same counts row = absurd same
 part-one kinds dict texts (e ∷ entries) (o ∷ others) entry own same counts row = (same.0, same.1, part-one kinds dict texts entries others entry own same.2 counts row)
 
--- ---- lists that are taken from the front
+-- ---- what all parts answered
 
-pub none-there : {X : Type 0} (xs : List X) → length xs < 1 → xs ≡ []
-none-there [] few = refl
-none-there (x ∷ xs) few = absurd (omega arith)
+-- what is said of each answer, where there is one, holds of all that is there
+pub all-there : {X Y : Type 0} (Q : X → Y → Type 0) (parts : List X) (answers : List (Option Y)) (all : List Y) → AllZip (λ part answer. IfSome answer (Q part)) parts answers → answers ≡ map Some all → AllZip Q parts all
+all-there Q [] [] [] are is = tt
+all-there Q [] [] (y ∷ all) are is = cc is
+all-there Q [] (answer ∷ answers) all are is = absurd are
+all-there Q (part ∷ parts) [] all are is = absurd are
+all-there Q (part ∷ parts) (answer ∷ answers) [] are is = cc is
+all-there Q (part ∷ parts) (answer ∷ answers) (y ∷ all) are is =
+    let first : answer ≡ Some y = cc is in
+    let rest : answers ≡ map Some all = cc is in
+    (rw first at are.0, all-there Q parts answers all are.1 rest)
 
-pub first-there : {X : Type 0} (xs : List X) (x : X) → 1 ≤ length xs → x ≡ get_or xs 0 x → xs ≡ x ∷ take (length xs - 1) (drop 1 xs)
-first-there [] x some is = absurd (omega arith)
-first-there (y ∷ xs) x some is =
-    let rest : take (length (y ∷ xs) - 1) xs ≡ xs = take_all (length (y ∷ xs) - 1) xs (omega arith) in
-    rw rest (ap (λ z. z ∷ xs) (sym is))
+-- ---- pieces that get the numbers of one dictionary
 
-pub no-texts : (dict : List (List ℕ)) (texts : List (List (List ℕ))) → AllNumbers dict texts [] → texts ≡ []
-unfolding AllNumbers
-no-texts dict [] are = refl
-no-texts dict (own ∷ texts) are = absurd are
+numbered-grow : (dict more : List (List ℕ)) (pieces : List RowsRead) (all : List Numbered) → BeginsWith dict more → HaveTexts dict (all_texts pieces) → AllZip (IsNumbered dict) pieces all → AllZip (IsNumbered more) pieces all
+numbered-grow dict more [] [] begins have are = tt
+numbered-grow dict more [] (own ∷ all) begins have are = absurd are
+numbered-grow dict more (piece ∷ pieces) [] begins have are = absurd are
+numbered-grow dict more (piece ∷ pieces) (own ∷ all) begins have are =
+    let mine = have-front dict piece.dict (all_texts pieces) have in
+    let theirs = have-back dict piece.dict (all_texts pieces) have in
+    (
+      (are.0.0, λ text has. are.0.1 text has ∙ ap (λ n. Some (pos n)) (sym (number-begins dict more text begins (has-of dict piece.dict text mine has)))),
+      numbered-grow dict more pieces all begins theirs are.1,
+    )
 
-pub numbers-cons : (old dict all : List (List ℕ)) (own : List (List ℕ)) (texts : List (List (List ℕ))) (numbers : Vec ℤ Global) (others : List (Vec ℤ Global)) → dict ≡ with_texts old own → BeginsWith dict all
-    → AreNumbers dict own numbers.items → AllNumbers all texts others → AllNumbers all (own ∷ texts) (numbers ∷ others)
-unfolding AllNumbers
-numbers-cons old dict all own texts numbers others is begins are more = (numbers-begin dict all own [] old numbers.items is begins are, more)
+-- a piece more
+pub numbered-next : (old dict more : List (List ℕ)) (pieces : List RowsRead) (all : List Numbered) (piece : RowsRead) (own : Numbered) → dict ≡ with_texts old (all_texts pieces) → more ≡ with_texts dict piece.dict
+    → AllZip (IsNumbered dict) pieces all → IsNumbered more piece own → AllZip (IsNumbered more) (pieces ++ piece ∷ []) (all ++ own ∷ [])
+numbered-next old dict more pieces all piece own is grown are numbered =
+    let begins : BeginsWith dict more = subst (BeginsWith dict) (sym grown) (begins-texts dict piece.dict) in
+    let have : HaveTexts dict (all_texts pieces) = subst (λ d. HaveTexts d (all_texts pieces)) (sym is) (have-own old (all_texts pieces)) in
+    all_zipped_more (IsNumbered more) pieces all piece own (numbered-grow dict more pieces all begins have are) numbered
 
-pub parts-cons : (kinds : List Kind) (dict : List (List ℕ)) (texts : List (List (List ℕ))) (own : Vec ℤ Global) (others : List (Vec ℤ Global)) (part first : Counted) (rest behind : List Counted)
-    → ((t d : List (List ℕ)) → AreNumbers d t own.items → IsPartRenumbered kinds d t part first)
-    → ((ts : List (List (List ℕ))) (d : List (List ℕ)) → AllNumbers d ts others → ArePartsRenumbered kinds d ts rest behind)
-    → AllNumbers dict texts (own ∷ others) → ArePartsRenumbered kinds dict texts (part ∷ rest) (first ∷ behind)
-unfolding AllNumbers ArePartsRenumbered
-parts-cons kinds dict [] own others part first rest behind one more are = absurd are
-parts-cons kinds dict (t ∷ texts) own others part first rest behind one more are = (one t dict are.0, more texts dict are.1)
+pub texts-next : (old dict more : List (List ℕ)) (pieces : List RowsRead) (piece : RowsRead) → dict ≡ with_texts old (all_texts pieces) → more ≡ with_texts dict piece.dict → more ≡ with_texts old (all_texts (pieces ++ piece ∷ []))
+texts-next old dict more pieces piece is grown =
+    let all : all_texts (pieces ++ piece ∷ []) ≡ all_texts pieces ++ piece.dict = flat_map-append (λ (read : RowsRead). read.dict) pieces (piece ∷ []) ∙ ap (λ t. all_texts pieces ++ t) (append-nil piece.dict) in
+    grown ∙ ap (λ d. with_texts d piece.dict) is ∙ sym (with_texts-append old (all_texts pieces) piece.dict) ∙ ap (with_texts old) (sym all)
 
-pub on-ok : {T E P Q : Type 0} (r : Result T E) → OnOk r P → (P → Q) → OnOk r Q
-on-ok (Ok x) is so = so is
-on-ok (Err f) is so = tt
+-- the entries by those numbers
+pub parts-renumbered : (kinds : List Kind) (dict : List (List ℕ)) (pieces : List RowsRead) (all : List Numbered) (others : List Counted) → AllZip (IsNumbered dict) pieces all → AllZip (IsRenumberedBy kinds) all others
+    → AllZip (λ read own. IsPartRenumbered kinds dict read.dict read.counted own) pieces others
+parts-renumbered kinds dict [] [] [] are same = tt
+parts-renumbered kinds dict [] [] (other ∷ others) are same = absurd same
+parts-renumbered kinds dict [] (own ∷ all) others are same = absurd are
+parts-renumbered kinds dict (piece ∷ pieces) [] others are same = absurd are
+parts-renumbered kinds dict (piece ∷ pieces) (own ∷ all) [] are same = absurd same
+parts-renumbered kinds dict (piece ∷ pieces) (own ∷ all) (other ∷ others) are same = (
+  subst (λ r. IsPartRenumbered kinds dict piece.dict r other) are.0.0 (same.0 dict piece.dict are.0.1),
+  parts-renumbered kinds dict pieces all others are.1 same.1,
+)
 
-pub one-read : (count : Counting) (kinds : List Kind) (width : ℕ) (rows : List (List (List ℕ))) (own : List (List ℕ)) (part : Counted) (texts : List (List (List ℕ))) (parts : List Counted)
-    → IsPieceRead count kinds width rows own part → texts ≡ own ∷ [] → parts ≡ part ∷ [] → ArePiecesRead count kinds width rows texts parts
-unfolding ArePiecesRead
-one-read count kinds width rows own part texts parts is first second = rw (first, second) (rows, [], sym (append-nil rows), is, refl)
+-- ---- a text that is cut into pieces
 
-pub front-read : (count : Counting) (kinds : List Kind) (width : ℕ) (rows first rest : List (List (List ℕ))) (own : List (List ℕ)) (part : Counted) (texts more : List (List (List ℕ))) (parts others : List Counted)
-    → rows ≡ first ++ rest → IsPieceRead count kinds width first own part → ArePiecesRead count kinds width rest more others → texts ≡ own ∷ more → parts ≡ part ∷ others
-    → ArePiecesRead count kinds width rows texts parts
-unfolding ArePiecesRead
-front-read count kinds width rows first rest own part texts more parts others whole is are front behind = rw (front, behind) (first, rest, whole, is, are)
+-- a piece more
+pub cut-next : (text rest : List ℕ) (pieces : List (Bor (List ℕ))) (own : Bor (List ℕ)) (others : List ℕ) → records_of text ≡ flat_map (λ piece. records_of piece.now) pieces ++ records_of rest
+    → records_of rest ≡ records_of own.now ++ records_of others → records_of text ≡ flat_map (λ piece. records_of piece.now) (pieces ++ own ∷ []) ++ records_of others
+cut-next text rest pieces own others is cut =
+    let so_far = flat_map (λ (piece : Bor (List ℕ)). records_of piece.now) pieces in
+    is ∙ ap (λ t. so_far ++ t) cut ∙ sym (append_assoc so_far (records_of own.now) (records_of others))
+    ∙ ap (λ t. t ++ records_of others) (sym (flat_map-append (λ (piece : Bor (List ℕ)). records_of piece.now) pieces (own ∷ []) ∙ ap (λ t. so_far ++ t) (append-nil (records_of own.now))))
+
+-- the last piece
+pub cut-last : (text rest : List ℕ) (pieces all : List (Bor (List ℕ))) (own : Bor (List ℕ)) → records_of text ≡ flat_map (λ piece. records_of piece.now) pieces ++ records_of rest → own.now ≡ rest → all ≡ pieces ++ own ∷ []
+    → records_of text ≡ flat_map (λ piece. records_of piece.now) all
+cut-last text rest pieces all own is same last =
+    rw last (is ∙ sym (flat_map-append (λ (piece : Bor (List ℕ)). records_of piece.now) pieces (own ∷ []) ∙ ap (λ t. flat_map (λ (piece : Bor (List ℕ)). records_of piece.now) pieces ++ t) (append-nil (records_of own.now) ∙ ap records_of same)))
 
 -- the answer of a part whose header tells this of the records below it
-pub part-read : (content : Content) (columns : List NamedKind) (records : List (List (List ℕ))) (texts dict : List (List ℕ)) (own : List (List (List ℕ))) (parts : List Counted) (bag : Bag)
-    → IsReadAlone content columns records own parts → dict ≡ with_texts texts (all_texts own) → IsBagOf (kinds_of columns) dict own parts bag
+pub part-read : (content : Content) (columns : List NamedKind) (records : List (List (List ℕ))) (texts dict : List (List ℕ)) (pieces : List RowsRead) (bag : Bag)
+    → IsReadAlone content columns records pieces → dict ≡ with_texts texts (all_texts pieces) → IsBagOf (kinds_of columns) dict pieces bag
     → bag_read (part_gives (table_scheme content columns) (record { texts = texts; entries = [] }) records) ≡ Ok (bag, dict)
-part-read content columns records texts dict own parts bag read is sum =
+part-read content columns records texts dict pieces bag read is sum =
     let below = read.below in
-    let all = all-read below.kind (kinds_of columns) below.width texts dict below.rows own parts sum.entries read.pieces is sum.renumbered in
+    let all = rw (← read.follow) at (all-read (λ (text : Bor (List ℕ)). records_of text.now) below.kind (kinds_of columns) below.width texts dict read.texts pieces sum.entries read.each is sum.renumbered) in
     let given = read-given content columns below.kind below.width 2 texts dict [] (joined sum.entries) below.rows all.formed all.numbered all.each in
     let summed = pass content columns below.width below.kind 2 (record { texts = texts; entries = [] }) (record { texts = dict; entries = joined sum.entries }) below.rows given sum.fits in
     rw (read.tells, summed) (ap (λ b. Ok (b, dict)) (sym sum.is))
-
-pub pieces-long : (count : Counting) (kinds : List Kind) (width : ℕ) (rows : List (List (List ℕ))) (texts : List (List (List ℕ))) (parts : List Counted) → ArePiecesRead count kinds width rows texts parts → length texts ≡ length parts
-unfolding ArePiecesRead
-pieces-long count kinds width rows [] [] are = refl
-pieces-long count kinds width rows [] (part ∷ parts) are = absurd are
-pieces-long count kinds width rows (own ∷ texts) [] are = absurd are
-pieces-long count kinds width rows (own ∷ texts) (part ∷ parts) (first, rest, whole, piece, more) =
-    let long = pieces-long count kinds width rest texts parts more in
-    omega (arith, long)
 
 -- a header by itself tells what it tells before more records
 pub header-cut : {K S : Type 0} (scheme : Scheme K S) (head rest : List (List (List ℕ))) (kind : K) (width : ℕ) → below_header scheme head ≡ Ok (record { kind = kind; width = width; rows = [] })

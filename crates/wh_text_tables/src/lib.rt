@@ -14,5 +14,4 @@ pub use laws::{sizes_end_by_first_law, tables_end_by_first_law};
 pub use sizes::{read_sizes, sizes_read_back_law};
 pub use table::{
     changes_read_back_law, read_changes, read_table, table_reads_back_law, write_table,
-    write_table_wide,
 };

@@ -10,6 +10,7 @@ ghost use Rattle.wh_text_tables.specs.TableText.{text_gives};
 ghost use Rattle.wh_text_tables.specs.Inner.TableText.{EndsSum};
 ghost use Rattle.wh_text_tables.specs.declared.table.header.Content.TheVariants.{Table, Changes};
 
+mod answers;
 mod entry;
 mod header;
 mod renumbered;
@@ -22,18 +23,16 @@ use crate::part::read_part;
 use crate::table::header::Content;
 use crate::table::rows::{RowsRead, RowsReader};
 use crate::table::wide::read_beside;
-use std::alloc::Global;
 use std::mem;
 use std::thread::Threads;
-use wh_row::{Bag, Hands, Records, RecordsFault};
+use wh_row::{Bag, Records, RecordsFault};
 use wh_text::{Column, Dict, LoadFault};
-pub use write::write_table;
-pub use written::write_table_wide;
+use wh_threads::ThreadBudget;
+pub use written::write_table;
 
 /// The bag that the entries add up to, or the first fault: a sum that leaves i64 comes before a fault that ended the reading.
 fn sum_up<R: Threads + Sync>(
-    hands: &Hands<'_, R>,
-    alloc: Global,
+    budget: &ThreadBudget<'_, R>,
     counted: &Records,
     read: Result<(), LoadFault>,
 ) -> Result<Bag, LoadFault>
@@ -42,7 +41,7 @@ fn sum_up<R: Threads + Sync>(
     ensures fits { OnOk result (EachSumFits counted.now × (result_err read ≡ None)) }
     ensures err { IfErr result (λ f. (f ≡ LoadFault.Memory) ⊎ EndsSum counted.now (result_err read) f) }
 {
-    match Bag::from_records_wide(hands, alloc, counted) {
+    match Bag::from_records(budget, counted) {
         Ok(bag) => {
             read?;
             Ok(bag)
@@ -53,9 +52,8 @@ fn sum_up<R: Threads + Sync>(
 }
 
 /// What the text gives, read record by record; where it has a fault, some of its texts may have got numbers.
-fn read_singly<R: Threads + Sync>(
-    hands: &Hands<'_, R>,
-    alloc: Global,
+fn read_through<R: Threads + Sync>(
+    budget: &ThreadBudget<'_, R>,
     reader: &RowsReader<'_>,
     text: &[u8],
     rows: &mut RowsRead,
@@ -65,39 +63,39 @@ fn read_singly<R: Threads + Sync>(
     ensures err { IfErr result (λ f. (f ≡ LoadFault.Memory) ⊎ (text_gives reader.now.content reader.now.columns.now rows.old.dict text.now ≡ Err f)) }
     ensures begins { BeginsWith rows.old.dict rows.new.dict }
 {
-    let read = read_part(alloc, reader, text, rows);
-    sum_up(hands, alloc, &rows.counted, read)
+    let read = read_part(budget.alloc, reader, text, rows);
+    sum_up(budget, &rows.counted, read)
 }
 
-/// The same, by several threads where the text is large.
-fn read_counted<R: Threads + Sync>(
-    hands: &Hands<'_, R>,
-    alloc: Global,
-    content: Content,
-    columns: &[Column],
+/// What the text gives, read record by record. Where it has a fault, the texts that it gave numbers lose them again.
+fn read_singly<R: Threads + Sync>(
+    budget: &ThreadBudget<'_, R>,
+    reader: &RowsReader<'_>,
     text: &[u8],
-    rows: &mut RowsRead,
+    dict: &mut Dict,
 ) -> Result<Bag, LoadFault>
-    requires { rows.old.counted ≡ [] }
-    ensures ok { IfOk result (λ bag. text_gives content columns.now rows.old.dict text.now ≡ Ok (bag, rows.new.dict)) }
-    ensures err { IfErr result (λ f. (f ≡ LoadFault.Memory) ⊎ (text_gives content columns.now rows.old.dict text.now ≡ Err f)) }
-    ensures begins { BeginsWith rows.old.dict rows.new.dict }
+    ensures ok { IfOk result (λ bag. text_gives reader.now.content reader.now.columns.now dict.old text.now ≡ Ok (bag, dict.new)) }
+    ensures err { IfErr result (λ f. (f ≡ LoadFault.Memory) ⊎ (text_gives reader.now.content reader.now.columns.now dict.old text.now ≡ Err f)) }
+    ensures kept { OnErr result (dict.new ≡ dict.old) }
 {
-    let reader = RowsReader {
-        alloc,
-        content,
-        columns,
+    let texts = dict.len();
+    let mut rows = RowsRead {
+        dict: mem::replace(dict, Dict::new(budget.alloc)),
+        counted: Records::new(budget.alloc),
+        row: Vec::new(budget.alloc),
     };
-    match read_beside(hands, alloc, &reader, text, &mut rows.dict) {
-        Some(bag) => Ok(bag),
-        None => read_singly(hands, alloc, &reader, text, rows),
+    let outcome = read_through(budget, reader, text, &mut rows);
+    let RowsRead { dict: read, .. } = rows;
+    *dict = read;
+    if outcome.is_err() {
+        dict.truncate(texts);
     }
+    outcome
 }
 
-/// The same, but a fault leaves the dictionary as it was.
-fn read_table_part<R: Threads + Sync>(
-    hands: &Hands<'_, R>,
-    alloc: Global,
+/// What the text of these columns gives, by several threads where it is large. After an error the dictionary is as before.
+fn read_text<R: Threads + Sync>(
+    budget: &ThreadBudget<'_, R>,
     content: Content,
     columns: &[Column],
     text: &[u8],
@@ -107,19 +105,16 @@ fn read_table_part<R: Threads + Sync>(
     ensures err { IfErr result (λ f. (f ≡ LoadFault.Memory) ⊎ (text_gives content columns.now dict.old text.now ≡ Err f)) }
     ensures kept { OnErr result (dict.new ≡ dict.old) }
 {
-    let texts = dict.len();
-    let mut rows = RowsRead {
-        dict: mem::replace(dict, Dict::new(alloc)),
-        counted: Records::new(alloc),
-        row: Vec::new(alloc),
+    let reader = RowsReader {
+        alloc: budget.alloc,
+        content,
+        columns,
     };
-    let outcome = read_counted(hands, alloc, content, columns, text, &mut rows);
-    let RowsRead { dict: read, .. } = rows;
-    *dict = read;
-    if outcome.is_err() {
-        dict.truncate(texts);
+    match read_beside(budget, &reader, text, dict) {
+        Some(bag) => Ok(bag),
+        // One thread finds the first fault.
+        None => read_singly(budget, &reader, text, dict),
     }
-    outcome
 }
 
 /// The table of these columns that the text writes: a header of the columns' names, with or without `#` before them, and
@@ -130,8 +125,7 @@ fn read_table_part<R: Threads + Sync>(
 /// of the wrong form, a count not allowed, or equal rows whose sum leaves i64 here). After an error the dictionary is as
 /// before.
 pub fn read_table<R: Threads + Sync>(
-    hands: &Hands<'_, R>,
-    alloc: Global,
+    budget: &ThreadBudget<'_, R>,
     columns: &[Column],
     text: &[u8],
     dict: &mut Dict,
@@ -142,14 +136,13 @@ pub fn read_table<R: Threads + Sync>(
     ensures err { IfErr result (λ f. (f ≡ LoadFault.Memory) ⊎ (text_gives Table columns.now dict.old text.now ≡ Err f)) }
     ensures kept { OnErr result (dict.new ≡ dict.old) }
 {
-    read_table_part(hands, alloc, Content::Table, columns, text, dict)
+    read_text(budget, Content::Table, columns, text, dict)
 }
 
 /// The changes to a table of these columns that the text writes: as [`read_table`], but the header always has `#`, and a
 /// count is any number but zero, below zero for rows that leave. A row whose counts cancel is not among the changes.
 pub fn read_changes<R: Threads + Sync>(
-    hands: &Hands<'_, R>,
-    alloc: Global,
+    budget: &ThreadBudget<'_, R>,
     columns: &[Column],
     text: &[u8],
     dict: &mut Dict,
@@ -159,7 +152,7 @@ pub fn read_changes<R: Threads + Sync>(
     ensures err { IfErr result (λ f. (f ≡ LoadFault.Memory) ⊎ (text_gives Changes columns.now dict.old text.now ≡ Err f)) }
     ensures kept { OnErr result (dict.new ≡ dict.old) }
 {
-    read_table_part(hands, alloc, Content::Changes, columns, text, dict)
+    read_text(budget, Content::Changes, columns, text, dict)
 }
 
 /// A law of the definitions: a table that was written is read back as it was, and leaves the dictionary as it is. It asks

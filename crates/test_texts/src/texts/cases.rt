@@ -9,7 +9,7 @@ use std::process::Abort;
 use std::thread::Threads;
 use wh_dag::Shape;
 use wh_load::{LoadFault, Names, Nights, read_shape};
-use wh_row::Hands;
+use wh_threads::ThreadBudget;
 
 /// What a text is read as.
 #[derive(Clone, Copy)]
@@ -70,7 +70,11 @@ fn outcome<R: Threads + Sync>(
     reads: Reads,
     text: &[u8],
 ) -> Result<String, AllocError> {
-    let hands = Hands { rt, threads: 2 };
+    let budget = ThreadBudget {
+        rt,
+        alloc,
+        threads: 2,
+    };
     match reads {
         Reads::Bundle(nights) => bundles::outcome(alloc, nights, text),
         Reads::Shape => catalogues::outcome(alloc, text),
@@ -79,9 +83,9 @@ fn outcome<R: Threads + Sync>(
         Reads::Strategy => strategies::outcome(alloc, text),
         Reads::Plan => plans::outcome(alloc, text),
         Reads::Schedule => schedules::outcome(alloc, text),
-        Reads::Replay => replays::outcome(&hands, alloc, text),
-        Reads::Table(columns) => tables::table_outcome(&hands, alloc, columns, text),
-        Reads::Changes(columns) => tables::changes_outcome(&hands, alloc, columns, text),
+        Reads::Replay => replays::outcome(&budget, text),
+        Reads::Table(columns) => tables::table_outcome(&budget, columns, text),
+        Reads::Changes(columns) => tables::changes_outcome(&budget, columns, text),
     }
 }
 

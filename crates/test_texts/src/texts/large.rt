@@ -6,7 +6,7 @@ use std::alloc::{AllocError, Global};
 use std::test::Fail;
 use std::thread::Threads;
 use wh_load::{Dict, read_table};
-use wh_row::Hands;
+use wh_threads::ThreadBudget;
 
 /// How many records a part has. It is then large enough for three threads.
 const RECORDS: usize = 18_000;
@@ -71,9 +71,9 @@ fn outcome<R: Threads + Sync>(
     let columns = columns_of(alloc, columns)?;
     let mut dict = Dict::new(alloc);
     let _ = dict.number(alloc, "name 7")?;
-    let hands = Hands { rt, threads };
-    let read = read_table(&hands, alloc, &columns, text.as_bytes(), &mut dict);
-    let mut out = written(alloc, &columns, read, &dict)?;
+    let budget = ThreadBudget { rt, alloc, threads };
+    let read = read_table(&budget, &columns, text.as_bytes(), &mut dict);
+    let mut out = written(&budget, &columns, read, &dict)?;
     out.push_str(dict_lines(alloc, &dict)?.as_str())?;
     Ok(out)
 }

@@ -11,46 +11,51 @@ use std::thread::Threads;
 use wh_load::{
     Dict, GivenNight, Names, ReplayInput, WrittenView, read_for_replay, write_strategy, write_table,
 };
-use wh_row::{Bag, Hands};
+use wh_row::Bag;
+use wh_threads::ThreadBudget;
 
 /// The tables of these views, as they are written.
-fn rows_text(
-    alloc: Global,
+fn rows_text<R: Threads + Sync>(
+    budget: &ThreadBudget<'_, R>,
     views: &[WrittenView],
     rows: &[Bag],
     dict: &Dict,
 ) -> Result<String, AllocError> {
-    let mut out = Vec::new(alloc);
+    let mut out = Vec::new(budget.alloc);
     for (view, own) in views.iter().zip(rows) {
-        write_table(&mut out, &view.columns, own, dict)?;
+        write_table(budget, &mut out, &view.columns, own, dict)?;
     }
-    text_of(alloc, &out)
+    text_of(budget.alloc, &out)
 }
 
 /// What is given of a night: its changes as tables, and its strategy.
-fn night_text(
-    alloc: Global,
+fn night_text<R: Threads + Sync>(
+    budget: &ThreadBudget<'_, R>,
     names: &Names,
     views: &[WrittenView],
     night: &GivenNight,
     dict: &Dict,
 ) -> Result<String, AllocError> {
-    let mut text = rows_text(alloc, views, &night.changes, dict)?;
-    let mut list = Vec::new(alloc);
+    let mut text = rows_text(budget, views, &night.changes, dict)?;
+    let mut list = Vec::new(budget.alloc);
     write_strategy(&mut list, names, &night.strategy)?;
-    text.push_str(text_of(alloc, &list)?.as_str())?;
+    text.push_str(text_of(budget.alloc, &list)?.as_str())?;
     Ok(text)
 }
 
 /// All that was read for a replay: texts, tables, nights and schedule.
-fn input_text(alloc: Global, input: &ReplayInput) -> Result<String, AllocError> {
+fn input_text<R: Threads + Sync>(
+    budget: &ThreadBudget<'_, R>,
+    input: &ReplayInput,
+) -> Result<String, AllocError> {
+    let alloc = budget.alloc;
     let names = Names::of(alloc, &input.shape)?;
     let opening = &input.opening;
     let mut text = dict_lines(alloc, &opening.texts)?;
-    let tables = rows_text(alloc, &opening.views, &opening.tables, &opening.texts)?;
+    let tables = rows_text(budget, &opening.views, &opening.tables, &opening.texts)?;
     text.push_str(tables.as_str())?;
     for night in &input.nights {
-        let own = night_text(alloc, &names, &opening.views, night, &opening.texts)?;
+        let own = night_text(budget, &names, &opening.views, night, &opening.texts)?;
         text.push_str("night\n")?;
         text.push_str(own.as_str())?;
     }
@@ -60,13 +65,12 @@ fn input_text(alloc: Global, input: &ReplayInput) -> Result<String, AllocError> 
 
 /// The texts that cells stand for, the tables, the changes and the strategy of each night, and the schedule; or the fault.
 pub(crate) fn outcome<R: Threads + Sync>(
-    hands: &Hands<'_, R>,
-    alloc: Global,
+    budget: &ThreadBudget<'_, R>,
     text: &[u8],
 ) -> Result<String, AllocError> {
-    match read_for_replay(hands, alloc, text) {
-        Ok(input) => input_text(alloc, &input),
-        Err(fault) => fault_line(alloc, &fault),
+    match read_for_replay(budget, text) {
+        Ok(input) => input_text(budget, &input),
+        Err(fault) => fault_line(budget.alloc, &fault),
     }
 }
 

@@ -13,7 +13,8 @@ use std::alloc::{AllocError, Global};
 use std::test::Fail;
 use std::thread::Threads;
 use wh_load::{Column, Dict, Kind, LoadFault, read_changes, read_table, write_table};
-use wh_row::{Bag, Hands};
+use wh_row::Bag;
+use wh_threads::ThreadBudget;
 
 /// Columns by their names: with `:` behind a name one of texts, without one of numbers.
 pub(crate) fn columns_of(alloc: Global, names: &str) -> Result<Vec<Column>, AllocError> {
@@ -29,46 +30,44 @@ pub(crate) fn columns_of(alloc: Global, names: &str) -> Result<Vec<Column>, Allo
 }
 
 /// The table that was read as it is written again, or the line of its fault.
-pub(crate) fn written(
-    alloc: Global,
+pub(crate) fn written<R: Threads + Sync>(
+    budget: &ThreadBudget<'_, R>,
     columns: &[Column],
     read: Result<Bag, LoadFault>,
     dict: &Dict,
 ) -> Result<String, AllocError> {
     match read {
         Ok(bag) => {
-            let mut out = Vec::new(alloc);
-            write_table(&mut out, columns, &bag, dict)?;
-            text_of(alloc, &out)
+            let mut out = Vec::new(budget.alloc);
+            write_table(budget, &mut out, columns, &bag, dict)?;
+            text_of(budget.alloc, &out)
         }
-        Err(fault) => fault_line(alloc, &fault),
+        Err(fault) => fault_line(budget.alloc, &fault),
     }
 }
 
 /// The table as it is written, or the fault.
 pub(crate) fn table_outcome<R: Threads + Sync>(
-    hands: &Hands<'_, R>,
-    alloc: Global,
+    budget: &ThreadBudget<'_, R>,
     columns: &str,
     text: &[u8],
 ) -> Result<String, AllocError> {
-    let columns = columns_of(alloc, columns)?;
-    let mut dict = Dict::new(alloc);
-    let read = read_table(hands, alloc, &columns, text, &mut dict);
-    written(alloc, &columns, read, &dict)
+    let columns = columns_of(budget.alloc, columns)?;
+    let mut dict = Dict::new(budget.alloc);
+    let read = read_table(budget, &columns, text, &mut dict);
+    written(budget, &columns, read, &dict)
 }
 
 /// The changes as a table is written, or the fault.
 pub(crate) fn changes_outcome<R: Threads + Sync>(
-    hands: &Hands<'_, R>,
-    alloc: Global,
+    budget: &ThreadBudget<'_, R>,
     columns: &str,
     text: &[u8],
 ) -> Result<String, AllocError> {
-    let columns = columns_of(alloc, columns)?;
-    let mut dict = Dict::new(alloc);
-    let read = read_changes(hands, alloc, &columns, text, &mut dict);
-    written(alloc, &columns, read, &dict)
+    let columns = columns_of(budget.alloc, columns)?;
+    let mut dict = Dict::new(budget.alloc);
+    let read = read_changes(budget, &columns, text, &mut dict);
+    written(budget, &columns, read, &dict)
 }
 
 #[test]
@@ -106,15 +105,14 @@ fn counts(alloc: Global, table: &Bag, delta: &Bag) -> Result<String, AllocError>
 
 /// The counts of a table and a change that are read one after another.
 fn two_table_night<R: Threads + Sync>(
-    hands: &Hands<'_, R>,
-    alloc: Global,
+    budget: &ThreadBudget<'_, R>,
 ) -> Result<String, LoadFault> {
+    let alloc = budget.alloc;
     let columns = columns_of(alloc, "x y")?;
     let mut dict = Dict::new(alloc);
-    let table = read_table(hands, alloc, &columns, b"x,y\n1,10\n2,10\n", &mut dict)?;
+    let table = read_table(budget, &columns, b"x,y\n1,10\n2,10\n", &mut dict)?;
     let delta = read_changes(
-        hands,
-        alloc,
+        budget,
         &columns,
         b"#,x,y\n-1,2,10\n1,3,10\n",
         &mut dict,
@@ -124,13 +122,11 @@ fn two_table_night<R: Threads + Sync>(
 
 #[test]
 fn the_rows_of_two_table_night_are_read(rt: HostRuntime) -> Result<(), Fail> {
-    let counts = two_table_night(
-        &Hands {
-            rt: &rt,
-            threads: 1,
-        },
-        rt.alloc(),
-    )?;
+    let counts = two_table_night(&ThreadBudget {
+        rt: &rt,
+        alloc: rt.alloc(),
+        threads: 1,
+    })?;
     assert_eq!(&rt; counts.as_str(), "0 0;1 0;1 -1;0 1;");
     Ok(())
 }
@@ -150,19 +146,18 @@ static PARTS: [&str; 3] = [
 
 /// What is read of each part, with one dictionary for all of them.
 fn read_in_turn<R: Threads + Sync>(
-    hands: &Hands<'_, R>,
-    alloc: Global,
+    budget: &ThreadBudget<'_, R>,
     columns: &[Column],
     dict: &mut Dict,
 ) -> Result<String, AllocError> {
-    let mut text = String::new(alloc);
+    let mut text = String::new(budget.alloc);
     for part in &PARTS {
         let read = if part.starts_with("#") {
-            read_changes(hands, alloc, columns, part.as_bytes(), dict)
+            read_changes(budget, columns, part.as_bytes(), dict)
         } else {
-            read_table(hands, alloc, columns, part.as_bytes(), dict)
+            read_table(budget, columns, part.as_bytes(), dict)
         };
-        text.push_str(written(alloc, columns, read, dict)?.as_str())?;
+        text.push_str(written(budget, columns, read, dict)?.as_str())?;
     }
     Ok(text)
 }
@@ -176,23 +171,22 @@ fn note_literals(alloc: Global, dict: &mut Dict) -> bool {
 }
 
 /// What is read of each part after the catalogue with texts.
-fn numbered<R: Threads + Sync>(hands: &Hands<'_, R>, alloc: Global) -> Result<String, AllocError> {
-    let mut dict = Dict::new(alloc);
-    if !note_literals(alloc, &mut dict) {
-        return String::from_str(alloc, "no catalogue");
+fn numbered<R: Threads + Sync>(budget: &ThreadBudget<'_, R>) -> Result<String, AllocError> {
+    let mut dict = Dict::new(budget.alloc);
+    if !note_literals(budget.alloc, &mut dict) {
+        return String::from_str(budget.alloc, "no catalogue");
     }
-    numbered_after(hands, alloc, &mut dict)
+    numbered_after(budget, &mut dict)
 }
 
 /// The parts, and the texts that have numbers then.
 fn numbered_after<R: Threads + Sync>(
-    hands: &Hands<'_, R>,
-    alloc: Global,
+    budget: &ThreadBudget<'_, R>,
     dict: &mut Dict,
 ) -> Result<String, AllocError> {
-    let columns = columns_of(alloc, "k:text n")?;
-    let mut text = read_in_turn(hands, alloc, &columns, dict)?;
-    text.push_str(dict_lines(alloc, dict)?.as_str())?;
+    let columns = columns_of(budget.alloc, "k:text n")?;
+    let mut text = read_in_turn(budget, &columns, dict)?;
+    text.push_str(dict_lines(budget.alloc, dict)?.as_str())?;
     Ok(text)
 }
 
@@ -215,16 +209,11 @@ z
 y
 x
 ";
-    assert_eq!(&rt;
-        numbered(
-            &Hands {
-                rt: &rt,
-                threads: 3
-            },
-            rt.alloc()
-        )?
-        .as_str(),
-        want
-    );
+    let found = numbered(&ThreadBudget {
+        rt: &rt,
+        alloc: rt.alloc(),
+        threads: 3,
+    })?;
+    assert_eq!(&rt; found.as_str(), want);
     Ok(())
 }

@@ -9,17 +9,16 @@ use super::base::only_base_parts;
 use super::inputs::GivenNight;
 use super::rows::{changes_in, tables_in};
 use super::views::KnownViews;
-use std::alloc::Global;
 use std::thread::Threads;
-use wh_row::{Bag, Hands};
+use wh_row::Bag;
 use wh_text::{Dict, LoadFault};
 use wh_text_bundle::Bundle;
 use wh_text_lines::read_strategy;
+use wh_threads::ThreadBudget;
 
 /// The tables of these views, where all rows are of base views.
 pub fn tables_of<R: Threads + Sync>(
-    hands: &Hands<'_, R>,
-    alloc: Global,
+    budget: &ThreadBudget<'_, R>,
     bundle: &Bundle<'_>,
     known: &KnownViews<'_>,
     texts: &mut Dict,
@@ -28,15 +27,13 @@ pub fn tables_of<R: Threads + Sync>(
     ensures fit { IfOk result (λ rows. AreReadRows TableRows (map shown_view known.now.views.now) rows.items) }
     ensures err { IfErr result (λ f. (f ≡ LoadFault.Memory) ⊎ (tables_of bundle.now known.now.names.now (map shown_view known.now.views.now) texts.old ≡ Err f)) }
 {
-    only_base_parts(alloc, bundle, known)?;
-    let tables = tables_in(hands, alloc, bundle, known, texts)?;
-    Ok(tables)
+    only_base_parts(budget.alloc, bundle, known)?;
+    tables_in(budget, bundle, known, texts)
 }
 
 /// What is given of the night of this number, which counts from 0: its changes and the strategy that the text says.
 pub fn given_of<R: Threads + Sync>(
-    hands: &Hands<'_, R>,
-    alloc: Global,
+    budget: &ThreadBudget<'_, R>,
     bundle: &Bundle<'_>,
     night: usize,
     known: &KnownViews<'_>,
@@ -47,7 +44,7 @@ pub fn given_of<R: Threads + Sync>(
     ensures fit { IfOk result (λ given. AreReadRows (ChangeRows 0) (map shown_view known.now.views.now) given.changes.items) }
     ensures err { IfErr result (λ f. (f ≡ LoadFault.Memory) ⊎ (given_of bundle.now known.now.names.now (map shown_view known.now.views.now) night strategy.now texts.old ≡ Err f)) }
 {
-    let changes = changes_in(hands, alloc, bundle, night, known, texts)?;
-    let strategy = read_strategy(alloc, known.names, strategy)?;
+    let changes = changes_in(budget, bundle, night, known, texts)?;
+    let strategy = read_strategy(budget.alloc, known.names, strategy)?;
     Ok(GivenNight { changes, strategy })
 }

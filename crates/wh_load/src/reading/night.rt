@@ -10,13 +10,13 @@ use super::given::{given_of, tables_of};
 use super::inputs::{GivenNight, NightInput, Opening};
 use super::parts::{bundle_of, text_of};
 use super::views::KnownViews;
-use std::alloc::Global;
 use std::thread::Threads;
 use wh_dag::Shape;
-use wh_row::{Bag, Hands};
+use wh_row::Bag;
 use wh_text::{Dict, LoadFault, Names};
 use wh_text_bundle::{Bundle, Heading, Nights};
 use wh_text_catalogue::{Written, WrittenView, read_definitions, read_shape};
+use wh_threads::ThreadBudget;
 
 /// What is read beside a catalogue.
 #[derive(Drop)]
@@ -27,8 +27,7 @@ struct Rows {
 
 /// The tables of these views, and what is given of the night.
 fn rows_in<R: Threads + Sync>(
-    hands: &Hands<'_, R>,
-    alloc: Global,
+    budget: &ThreadBudget<'_, R>,
     bundle: &Bundle<'_>,
     shape: &Shape,
     views: &[WrittenView],
@@ -42,21 +41,20 @@ fn rows_in<R: Threads + Sync>(
     ensures changes { IfOk result (λ r. AreReadRows (ChangeRows 0) (map shown_view views.now) r.given.changes.items) }
     ensures err { IfErr result (λ f. (f ≡ LoadFault.Memory) ⊎ (night_over bundle.now shape.now (map shown_view views.now) texts.old strategy.now ≡ Err f)) }
 {
-    let names = Names::of(alloc, shape)?;
+    let names = Names::of(budget.alloc, shape)?;
     prove!(names.len() == shape.len());
     let known = KnownViews {
         names: &names,
         views,
     };
-    let tables = tables_of(hands, alloc, bundle, &known, texts)?;
-    let given = given_of(hands, alloc, bundle, 0, &known, texts, strategy)?;
+    let tables = tables_of(budget, bundle, &known, texts)?;
+    let given = given_of(budget, bundle, 0, &known, texts, strategy)?;
     Ok(Rows { tables, given })
 }
 
 /// What a night over these views is given.
 fn night_over<R: Threads + Sync>(
-    hands: &Hands<'_, R>,
-    alloc: Global,
+    budget: &ThreadBudget<'_, R>,
     bundle: &Bundle<'_>,
     shape: Shape,
     views: Vec<WrittenView>,
@@ -70,8 +68,7 @@ fn night_over<R: Threads + Sync>(
     ensures err { IfErr result (λ f. (f ≡ LoadFault.Memory) ⊎ (night_over bundle.now shape (map shown_view views.items) texts strategy.now ≡ Err f)) }
 {
     let mut texts = texts;
-    let rows = rows_in(hands, alloc, bundle, &shape, &views, &mut texts, strategy)?;
-    let Rows { tables, given } = rows;
+    let Rows { tables, given } = rows_in(budget, bundle, &shape, &views, &mut texts, strategy)?;
     Ok(NightInput {
         shape,
         opening: Opening {
@@ -85,22 +82,20 @@ fn night_over<R: Threads + Sync>(
 
 /// What the parts of a bundle say of its first night, or the first fault.
 fn night_in<R: Threads + Sync>(
-    hands: &Hands<'_, R>,
-    alloc: Global,
+    budget: &ThreadBudget<'_, R>,
     bundle: &Bundle<'_>,
 ) -> Result<NightInput, LoadFault>
     ensures ok { IfOk result (λ n. night_in bundle.now ≡ Ok (shown_night n)) }
     ensures fit { IfOk result IsReadNight }
     ensures err { IfErr result (λ f. (f ≡ LoadFault.Memory) ⊎ (night_in bundle.now ≡ Err f)) }
 {
+    let alloc = budget.alloc;
     let catalogue = text_of(alloc, bundle, &Heading::Catalogue, 0)?;
     let strategy = text_of(alloc, bundle, &Heading::Strategy, 0)?;
     let shape = read_shape(alloc, &catalogue)?;
     let mut texts = Dict::new(alloc);
-    let written = read_definitions(alloc, &catalogue, &shape, &mut texts)?;
-    let Written { views } = written;
-    let night = night_over(hands, alloc, bundle, shape, views, texts, &strategy)?;
-    Ok(night)
+    let Written { views } = read_definitions(alloc, &catalogue, &shape, &mut texts)?;
+    night_over(budget, bundle, shape, views, texts, &strategy)
 }
 
 /// Reads what a bundle of one night has to be carried out. The fault is the first one: of the headings, from the top, a
@@ -109,14 +104,13 @@ fn night_in<R: Threads + Sync>(
 ///
 /// What is read makes a catalogue over the shape, and there are a table and changes of each view, of its columns.
 pub fn read_for_night<R: Threads + Sync>(
-    hands: &Hands<'_, R>,
-    alloc: Global,
+    budget: &ThreadBudget<'_, R>,
     bytes: &[u8],
 ) -> Result<NightInput, LoadFault>
     ensures ok { IfOk result (λ n. night_read bytes.now ≡ Ok (shown_night n)) }
     ensures fit { IfOk result IsReadNight }
     ensures err { IfErr result (λ f. (f ≡ LoadFault.Memory) ⊎ (night_read bytes.now ≡ Err f)) }
 {
-    let bundle = bundle_of(alloc, bytes, Nights::First)?;
-    night_in(hands, alloc, &bundle)
+    let bundle = bundle_of(budget.alloc, bytes, Nights::First)?;
+    night_in(budget, &bundle)
 }

@@ -11,16 +11,18 @@ ghost use Rattle.wh_load.specs.ReadingShown.{IsReadReplay, shown_given, shown_re
 use super::given::{given_of, tables_of};
 use super::inputs::{GivenNight, Opening, ReplayInput};
 use super::parts::{bundle_of, text_of};
+use super::texts::ReplayTexts;
 use super::views::KnownViews;
 use std::alloc::Global;
 use std::borrow::CowSlice;
 use std::thread::Threads;
 use wh_dag::Shape;
-use wh_row::{Bag, Hands};
+use wh_row::Bag;
 use wh_text::{Dict, LoadFault, Names};
 use wh_text_bundle::{Bundle, Heading, Nights};
 use wh_text_catalogue::{Written, WrittenView, read_definitions, read_shape};
 use wh_text_lines::{Schedule, read_schedule};
+use wh_threads::ThreadBudget;
 
 /// The texts of the strategies of all nights, in order.
 fn strategies_in<'a>(alloc: Global, bundle: &Bundle<'a>) -> Result<Vec<CowSlice<'a, u8>>, LoadFault>
@@ -37,8 +39,7 @@ fn strategies_in<'a>(alloc: Global, bundle: &Bundle<'a>) -> Result<Vec<CowSlice<
 
 /// What is given of the nights with these strategies, in order.
 fn nights_in<R: Threads + Sync>(
-    hands: &Hands<'_, R>,
-    alloc: Global,
+    budget: &ThreadBudget<'_, R>,
     bundle: &Bundle<'_>,
     known: &KnownViews<'_>,
     texts: &mut Dict,
@@ -50,9 +51,9 @@ fn nights_in<R: Threads + Sync>(
     ensures err { IfErr result (λ f. (f ≡ LoadFault.Memory)
         ⊎ (nights_after bundle.now known.now.names.now (map shown_view known.now.views.now) [] (map cow_slice_items strategies.now) texts.old ≡ Err f)) }
 {
-    let mut nights = Vec::new(alloc);
+    let mut nights = Vec::new(budget.alloc);
     for strategy in strategies {
-        let own = given_of(hands, alloc, bundle, nights.len(), known, texts, strategy)?;
+        let own = given_of(budget, bundle, nights.len(), known, texts, strategy)?;
         nights.push(own)?;
     }
     Ok(nights)
@@ -68,32 +69,30 @@ struct Rows {
 
 /// The tables of these views, what is given of the nights, and the schedule.
 fn rows_in<R: Threads + Sync>(
-    hands: &Hands<'_, R>,
-    alloc: Global,
+    budget: &ThreadBudget<'_, R>,
     bundle: &Bundle<'_>,
     shape: &Shape,
     views: &[WrittenView],
     texts: &mut Dict,
-    strategies: &[CowSlice<'_, u8>],
-    schedule: &[u8],
+    replayed: &ReplayTexts<'_>,
 ) -> Result<Rows, LoadFault>
     requires { length views.now ≡ length shape.now.children }
-    ensures ok { IfOk result (λ r. replay_over bundle.now shape.now (map shown_view views.now) texts.old (map cow_slice_items strategies.now) schedule.now
+    ensures ok { IfOk result (λ r. replay_over bundle.now shape.now (map shown_view views.now) texts.old (map cow_slice_items replayed.now.strategies.items) (cow_slice_items replayed.now.schedule)
         ≡ Ok (replay_with shape.now (map shown_view views.now) texts.new r.tables.items (map shown_given r.nights.items) r.schedule)) }
     ensures tables { IfOk result (λ r. AreReadRows TableRows (map shown_view views.now) r.tables.items) }
     ensures nights { IfOk result (λ r. AreReadNights (map shown_view views.now) (map shown_given r.nights.items)) }
     ensures err { IfErr result (λ f. (f ≡ LoadFault.Memory)
-        ⊎ (replay_over bundle.now shape.now (map shown_view views.now) texts.old (map cow_slice_items strategies.now) schedule.now ≡ Err f)) }
+        ⊎ (replay_over bundle.now shape.now (map shown_view views.now) texts.old (map cow_slice_items replayed.now.strategies.items) (cow_slice_items replayed.now.schedule) ≡ Err f)) }
 {
-    let names = Names::of(alloc, shape)?;
+    let names = Names::of(budget.alloc, shape)?;
     prove!(names.len() == shape.len());
     let known = KnownViews {
         names: &names,
         views,
     };
-    let tables = tables_of(hands, alloc, bundle, &known, texts)?;
-    let nights = nights_in(hands, alloc, bundle, &known, texts, strategies)?;
-    let schedule = read_schedule(alloc, &names, schedule)?;
+    let tables = tables_of(budget, bundle, &known, texts)?;
+    let nights = nights_in(budget, bundle, &known, texts, &replayed.strategies)?;
+    let schedule = read_schedule(budget.alloc, &names, &replayed.schedule)?;
     Ok(Rows {
         tables,
         nights,
@@ -103,31 +102,26 @@ fn rows_in<R: Threads + Sync>(
 
 /// What is replayed over these views.
 fn replay_over<R: Threads + Sync>(
-    hands: &Hands<'_, R>,
-    alloc: Global,
+    budget: &ThreadBudget<'_, R>,
     bundle: &Bundle<'_>,
     shape: Shape,
     views: Vec<WrittenView>,
     texts: Dict,
-    strategies: &[CowSlice<'_, u8>],
-    schedule: &[u8],
+    replayed: &ReplayTexts<'_>,
 ) -> Result<ReplayInput, LoadFault>
     requires definitions { AreDefinitions shape (map shown_view views.items) }
     requires each { length views.items ≡ length shape.children }
-    ensures ok { IfOk result (λ r. replay_over bundle.now shape (map shown_view views.items) texts (map cow_slice_items strategies.now) schedule.now ≡ Ok (shown_replay r)) }
+    ensures ok { IfOk result (λ r. replay_over bundle.now shape (map shown_view views.items) texts (map cow_slice_items replayed.now.strategies.items) (cow_slice_items replayed.now.schedule) ≡ Ok (shown_replay r)) }
     ensures fit { IfOk result IsReadReplay }
     ensures err { IfErr result (λ f. (f ≡ LoadFault.Memory)
-        ⊎ (replay_over bundle.now shape (map shown_view views.items) texts (map cow_slice_items strategies.now) schedule.now ≡ Err f)) }
+        ⊎ (replay_over bundle.now shape (map shown_view views.items) texts (map cow_slice_items replayed.now.strategies.items) (cow_slice_items replayed.now.schedule) ≡ Err f)) }
 {
     let mut texts = texts;
-    let rows = rows_in(
-        hands, alloc, bundle, &shape, &views, &mut texts, strategies, schedule,
-    )?;
     let Rows {
         tables,
         nights,
         schedule,
-    } = rows;
+    } = rows_in(budget, bundle, &shape, &views, &mut texts, replayed)?;
     Ok(ReplayInput {
         shape,
         opening: Opening {
@@ -142,32 +136,23 @@ fn replay_over<R: Threads + Sync>(
 
 /// What the parts of a bundle say of its nights, or the first fault.
 fn replay_in<R: Threads + Sync>(
-    hands: &Hands<'_, R>,
-    alloc: Global,
+    budget: &ThreadBudget<'_, R>,
     bundle: &Bundle<'_>,
 ) -> Result<ReplayInput, LoadFault>
     ensures ok { IfOk result (λ r. replay_in bundle.now ≡ Ok (shown_replay r)) }
     ensures fit { IfOk result IsReadReplay }
     ensures err { IfErr result (λ f. (f ≡ LoadFault.Memory) ⊎ (replay_in bundle.now ≡ Err f)) }
 {
+    let alloc = budget.alloc;
     let catalogue = text_of(alloc, bundle, &Heading::Catalogue, 0)?;
-    let strategies = strategies_in(alloc, bundle)?;
-    let schedule = text_of(alloc, bundle, &Heading::Schedule, 0)?;
+    let replayed = ReplayTexts {
+        strategies: strategies_in(alloc, bundle)?,
+        schedule: text_of(alloc, bundle, &Heading::Schedule, 0)?,
+    };
     let shape = read_shape(alloc, &catalogue)?;
     let mut texts = Dict::new(alloc);
-    let written = read_definitions(alloc, &catalogue, &shape, &mut texts)?;
-    let Written { views } = written;
-    let replay = replay_over(
-        hands,
-        alloc,
-        bundle,
-        shape,
-        views,
-        texts,
-        &strategies,
-        &schedule,
-    )?;
-    Ok(replay)
+    let Written { views } = read_definitions(alloc, &catalogue, &shape, &mut texts)?;
+    replay_over(budget, bundle, shape, views, texts, &replayed)
 }
 
 /// Reads what a bundle of any nights has to be replayed. The fault is the first one: of the headings, from the top, a line that
@@ -177,14 +162,13 @@ fn replay_in<R: Threads + Sync>(
 ///
 /// What is read makes a catalogue over the shape, and there are a table and, in each night, changes of each view, of its columns.
 pub fn read_for_replay<R: Threads + Sync>(
-    hands: &Hands<'_, R>,
-    alloc: Global,
+    budget: &ThreadBudget<'_, R>,
     bytes: &[u8],
 ) -> Result<ReplayInput, LoadFault>
     ensures ok { IfOk result (λ r. replay_of bytes.now ≡ Ok (shown_replay r)) }
     ensures fit { IfOk result IsReadReplay }
     ensures err { IfErr result (λ f. (f ≡ LoadFault.Memory) ⊎ (replay_of bytes.now ≡ Err f)) }
 {
-    let bundle = bundle_of(alloc, bytes, Nights::All)?;
-    replay_in(hands, alloc, &bundle)
+    let bundle = bundle_of(budget.alloc, bytes, Nights::All)?;
+    replay_in(budget, &bundle)
 }

@@ -22,3 +22,10 @@ pub struct ClaimTexts<'a> {
     pub measured: MeasuredTexts<'a>,
     pub plan: CowSlice<'a, u8>,
 }
+
+/// The texts of the strategies of nights, in order, and that of their schedule.
+#[derive(Drop)]
+pub struct ReplayTexts<'a> {
+    pub strategies: Vec<CowSlice<'a, u8>>,
+    pub schedule: CowSlice<'a, u8>,
+}

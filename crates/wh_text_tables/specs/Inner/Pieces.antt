@@ -1,8 +1,8 @@
 -- What only proofs and private contracts use. A part of rows that is read in pieces: each as if no text had a number yet, and then with the numbers of one dictionary.
-use Rattle.std.specs.Prelude.{◌≡◌, ◌&&◌, ◌==◌, ℕ, ℤ, pos, true, List, [], ◌∷◌, ◌++◌, length, slice_get, Some, Ok, Vec, flat_map, ⊤}
-use Rattle.std.specs.List.{list_all}
+use Rattle.std.specs.Prelude.{◌≡◌, ◌&&◌, ◌==◌, ℕ, ℤ, pos, true, List, [], ◌∷◌, ◌++◌, length, slice_get, Some, Ok, flat_map, ⊤}
+use denote.Ref.{Bor}
+use Rattle.std.specs.List.{AllZip, list_all}
 use Rattle.std.specs.Str.{is_utf8}
-use Rattle.std.specs.declared.alloc.Global.{Global}
 use Rattle.wh_row.specs.Bag.{Bag, bag_of}
 use Rattle.wh_row.specs.Records.{EachSumFits, joined}
 use Rattle.wh_row.specs.Row.{Row}
@@ -12,10 +12,13 @@ use Rattle.wh_text.specs.Dict.{HasText, number_of_text, with_texts}
 use Rattle.wh_text.specs.declared.columns.Kind.{Kind}
 use Rattle.wh_text.specs.declared.columns.Kind.TheVariants as of_kind
 use Rattle.wh_text_tables.specs.Part.{Below, below_header}
+use Rattle.wh_text_tables.specs.Records.{records_of}
 use Rattle.wh_text_tables.specs.TableText.{entry_of, row_cells, texts_in_row}
 use Rattle.wh_text_tables.specs.Inner.TableText.{entry_scheme}
 use Rattle.wh_text_tables.specs.declared.table.header.Content.{Content}
 use Rattle.wh_text_tables.specs.declared.table.header.Counting.{Counting}
+use Rattle.wh_text_tables.specs.declared.table.renumbered.Numbered.{Numbered}
+use Rattle.wh_text_tables.specs.declared.table.rows.RowsRead.{RowsRead}
 
 -- ---- what records give by themselves
 
@@ -44,23 +47,17 @@ pub record IsPieceRead (count : Counting) (kinds : List Kind) (width : ℕ) (row
   pub numbered : texts ≡ with_texts [] (texts_in count kinds rows)
   pub each : AreEntries count kinds texts rows entries
 
--- the same of pieces, one behind the other
-unfoldable pub ArePiecesRead : Counting → List Kind → ℕ → List (List (List ℕ)) → List (List (List ℕ)) → List Counted → Type 0
-ArePiecesRead count kinds width rows [] [] = rows ≡ []
-ArePiecesRead count kinds width rows [] (part ∷ parts) = ⊥
-ArePiecesRead count kinds width rows (texts ∷ more) [] = ⊥
-ArePiecesRead count kinds width rows (texts ∷ more) (part ∷ parts) =
-    (first : List (List (List ℕ))) × (rest : List (List (List ℕ))) × (rows ≡ first ++ rest) × IsPieceRead count kinds width first texts part × ArePiecesRead count kinds width rest more parts
-
--- the same of the records below a header
-pub record IsReadAlone (content : Content) (columns : List NamedKind) (records : List (List (List ℕ))) (texts : List (List (List ℕ))) (parts : List Counted) : Type 0 where
+-- the records below a header, read in pieces: of each piece of their text, one behind the other, what its records give
+pub record IsReadAlone (content : Content) (columns : List NamedKind) (records : List (List (List ℕ))) (pieces : List RowsRead) : Type 0 where
   pub below : Below Counting
   pub tells : below_header (entry_scheme content columns) records ≡ Ok below
-  pub pieces : ArePiecesRead below.kind (kinds_of columns) below.width below.rows texts parts
+  pub texts : List (Bor (List ℕ))
+  pub follow : below.rows ≡ flat_map (λ text. records_of text.now) texts
+  pub each : AllZip (λ text read. IsPieceRead below.kind (kinds_of columns) below.width (records_of text.now) read.dict read.counted) texts pieces
 
 -- all texts of pieces, those of a piece behind those of the piece before
-abbrev pub all_texts : List (List (List ℕ)) → List (List ℕ)
-all_texts texts = flat_map (λ own. own) texts
+abbrev pub all_texts : List RowsRead → List (List ℕ)
+all_texts pieces = flat_map (λ read. read.dict) pieces
 
 -- ---- the numbers of one dictionary
 
@@ -68,18 +65,16 @@ all_texts texts = flat_map (λ own. own) texts
 abbrev pub AreNumbers : List (List ℕ) → List (List ℕ) → List ℤ → Type 0
 AreNumbers dict texts numbers = (text : List ℕ) → HasText texts text → slice_get numbers (number_of_text texts text) ≡ Some (pos (number_of_text dict text))
 
-unfoldable pub AllNumbers : List (List ℕ) → List (List (List ℕ)) → List (Vec ℤ Global) → Type 0
-AllNumbers dict [] [] = ⊤
-AllNumbers dict [] (own ∷ others) = ⊥
-AllNumbers dict (texts ∷ more) [] = ⊥
-AllNumbers dict (texts ∷ more) (own ∷ others) = AreNumbers dict texts own.items × AllNumbers dict more others
+-- these are the records of what was read, with the numbers of its texts in a dictionary
+abbrev pub IsNumbered : List (List ℕ) → RowsRead → Numbered → Type 0
+IsNumbered dict read own = (own.records ≡ read.counted) × AreNumbers dict read.dict own.numbers.items
 
 -- a cell of a kind, once its text has the number of a dictionary for that among these texts
 abbrev pub IsCellRenumbered : Kind → List (List ℕ) → List (List ℕ) → ℤ → ℤ → Type 0
 IsCellRenumbered of_kind.Int dict texts cell other = other ≡ cell
 IsCellRenumbered of_kind.Text dict texts cell other = (text : List ℕ) → HasText texts text → pos (number_of_text texts text) ≡ cell → other ≡ pos (number_of_text dict text)
 
--- the same of a row, of entries, and of those of pieces
+-- the same of a row, and of entries
 unfoldable pub IsRenumbered : List Kind → List (List ℕ) → List (List ℕ) → Row → Row → Type 0
 IsRenumbered [] dict texts row other = other ≡ row
 IsRenumbered (kind ∷ kinds) dict texts [] other = other ≡ []
@@ -91,12 +86,9 @@ IsPartRenumbered kinds dict texts [] others = others ≡ []
 IsPartRenumbered kinds dict texts (entry ∷ entries) [] = ⊥
 IsPartRenumbered kinds dict texts (entry ∷ entries) (own ∷ others) = (own.1 ≡ entry.1) × IsRenumbered kinds dict texts entry.0 own.0 × IsPartRenumbered kinds dict texts entries others
 
-unfoldable pub ArePartsRenumbered : List Kind → List (List ℕ) → List (List (List ℕ)) → List Counted → List Counted → Type 0
-ArePartsRenumbered kinds dict [] [] others = others ≡ []
-ArePartsRenumbered kinds dict [] (part ∷ parts) others = ⊥
-ArePartsRenumbered kinds dict (texts ∷ more) [] others = ⊥
-ArePartsRenumbered kinds dict (texts ∷ more) (part ∷ parts) [] = ⊥
-ArePartsRenumbered kinds dict (texts ∷ more) (part ∷ parts) (own ∷ others) = IsPartRenumbered kinds dict texts part own × ArePartsRenumbered kinds dict more parts others
+-- the same of entries whose texts have these numbers in some dictionary
+abbrev pub IsRenumberedBy : List Kind → Numbered → Counted → Type 0
+IsRenumberedBy kinds own other = (dict texts : List (List ℕ)) → AreNumbers dict texts own.numbers.items → IsPartRenumbered kinds dict texts own.records other
 
 -- no cell is a text
 unfoldable pub AreWholeNumbers : List Kind → Type 0
@@ -105,8 +97,8 @@ AreWholeNumbers (of_kind.Int ∷ kinds) = AreWholeNumbers kinds
 AreWholeNumbers (of_kind.Text ∷ kinds) = ⊥
 
 -- the bag that the entries of pieces add up to by the numbers of a dictionary
-pub record IsBagOf (kinds : List Kind) (dict : List (List ℕ)) (texts : List (List (List ℕ))) (parts : List Counted) (bag : Bag) : Type 0 where
+pub record IsBagOf (kinds : List Kind) (dict : List (List ℕ)) (pieces : List RowsRead) (bag : Bag) : Type 0 where
   pub entries : List Counted
-  pub renumbered : ArePartsRenumbered kinds dict texts parts entries
+  pub renumbered : AllZip (λ read own. IsPartRenumbered kinds dict read.dict read.counted own) pieces entries
   pub fits : EachSumFits (joined entries)
   pub is : bag ≡ bag_of (joined entries)

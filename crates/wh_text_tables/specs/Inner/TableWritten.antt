@@ -11,10 +11,6 @@ use Rattle.wh_text_tables.specs.TableWritten.{record_of}
 abbrev pub rows_text : List NamedKind → List (List ℕ) → Counted → List ℕ
 rows_text columns texts rows = flat_map (row_text default_writer) (map (record_of texts (kinds_of columns)) rows)
 
--- the rows of parts that follow each other
-abbrev pub all_rows : List Counted → Counted
-all_rows parts = flat_map (λ part. part) parts
-
 -- a text that was written; nothing where memory was refused for it
 abbrev pub written_text : {E : Type 0} → Result (Vec ℕ) E → List ℕ
 written_text (Ok text) = text.items

@@ -8,9 +8,10 @@ ghost use Rattle.wh_text_tables.specs.TableText.{cell_number, count_cells, count
 
 use crate::records::{cell, whole_number};
 use crate::table::header::Counting;
+use crate::table::rows::RowsReader;
 use csv::StringRecord;
 use std::alloc::Global;
-use wh_text::{Column, Dict, Kind, LoadFault};
+use wh_text::{Dict, Kind, LoadFault};
 
 /// How often the record counts, where its count is allowed.
 fn count_of(counting: Counting, cells: &StringRecord) -> Option<i64>
@@ -54,25 +55,24 @@ fn number_of(
 
 /// Puts the row that the cells write into `row`; its texts get their numbers.
 fn read_row(
-    alloc: Global,
-    columns: &[Column],
+    reader: &RowsReader<'_>,
     from: usize,
     number: usize,
     cells: &StringRecord,
     dict: &mut Dict,
     row: &mut Vec<i64>,
 ) -> Result<(), LoadFault>
-    requires cells { length (fields_of cells.now) ≡ from + length columns.now }
+    requires cells { length (fields_of cells.now) ≡ from + length reader.now.columns.now }
     requires few { from ≤ 1 }
-    ensures ok { OnOk result ((more : List (List ℕ)) → row_of (with_texts dict.new more) (kinds_of columns.now) (drop from (fields_of cells.now)) ≡ Some row.new.items) }
-    ensures texts { OnOk result (dict.new ≡ with_texts dict.old (texts_in_row (kinds_of columns.now) (drop from (fields_of cells.now)))) }
-    ensures err { IfErr result (λ f. (f ≡ LoadFault.Memory) ⊎ ((f ≡ LoadFault.Number number) × ((texts : List (List ℕ)) → row_of texts (kinds_of columns.now) (drop from (fields_of cells.now)) ≡ None))) }
+    ensures ok { OnOk result ((more : List (List ℕ)) → row_of (with_texts dict.new more) (kinds_of reader.now.columns.now) (drop from (fields_of cells.now)) ≡ Some row.new.items) }
+    ensures texts { OnOk result (dict.new ≡ with_texts dict.old (texts_in_row (kinds_of reader.now.columns.now) (drop from (fields_of cells.now)))) }
+    ensures err { IfErr result (λ f. (f ≡ LoadFault.Memory) ⊎ ((f ≡ LoadFault.Number number) × ((texts : List (List ℕ)) → row_of texts (kinds_of reader.now.columns.now) (drop from (fields_of cells.now)) ≡ None))) }
     ensures begins { BeginsWith dict.old dict.new }
 {
     row.clear();
-    for (place, column) in columns.iter().enumerate() {
+    for (place, column) in reader.columns.iter().enumerate() {
         let text = cell(cells, from + place);
-        let value = number_of(alloc, column.kind(), text, number, dict)?;
+        let value = number_of(reader.alloc, column.kind(), text, number, dict)?;
         row.push(value)?;
     }
     Ok(())
@@ -80,23 +80,22 @@ fn read_row(
 
 /// Puts the row of the record of this number into `row`, and says how often it counts; its texts get their numbers.
 pub(crate) fn read_entry(
-    alloc: Global,
-    columns: &[Column],
+    reader: &RowsReader<'_>,
     counting: Counting,
     number: usize,
     cells: &StringRecord,
     dict: &mut Dict,
     row: &mut Vec<i64>,
 ) -> Result<i64, LoadFault>
-    requires { length (fields_of cells.now) ≡ count_cells counting + length columns.now }
-    ensures ok { IfOk result (λ count. (more : List (List ℕ)) → entry_of counting (with_texts dict.new more) (kinds_of columns.now) (fields_of cells.now) ≡ Some (row.new.items, count)) }
-    ensures texts { OnOk result (dict.new ≡ with_texts dict.old (texts_in_row (kinds_of columns.now) (row_cells counting (fields_of cells.now)))) }
-    ensures err { IfErr result (λ f. (f ≡ LoadFault.Memory) ⊎ ((f ≡ LoadFault.Number number) × ((texts : List (List ℕ)) → entry_of counting texts (kinds_of columns.now) (fields_of cells.now) ≡ None))) }
+    requires { length (fields_of cells.now) ≡ count_cells counting + length reader.now.columns.now }
+    ensures ok { IfOk result (λ count. (more : List (List ℕ)) → entry_of counting (with_texts dict.new more) (kinds_of reader.now.columns.now) (fields_of cells.now) ≡ Some (row.new.items, count)) }
+    ensures texts { OnOk result (dict.new ≡ with_texts dict.old (texts_in_row (kinds_of reader.now.columns.now) (row_cells counting (fields_of cells.now)))) }
+    ensures err { IfErr result (λ f. (f ≡ LoadFault.Memory) ⊎ ((f ≡ LoadFault.Number number) × ((texts : List (List ℕ)) → entry_of counting texts (kinds_of reader.now.columns.now) (fields_of cells.now) ≡ None))) }
     ensures begins { BeginsWith dict.old dict.new }
 {
     let Some(count) = count_of(counting, cells) else {
         return Err(LoadFault::Number(number));
     };
-    read_row(alloc, columns, counting.cells(), number, cells, dict, row)?;
+    read_row(reader, counting.cells(), number, cells, dict, row)?;
     Ok(count)
 }

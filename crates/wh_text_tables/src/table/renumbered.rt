@@ -1,40 +1,48 @@
 //! Rows whose texts were numbered by themselves, with the numbers that their texts have in a dictionary.
 
-ghost use Rattle.std.specs.Prelude.{◌≡◌, ◌<◌, ◌++◌, ◌∷◌, [], List, ℕ, ℤ, Vec, IfSome, IfOk, OnOk, Some, length, slice_get, true};
-ghost use Rattle.std.specs.declared.alloc.Global.{Global};
-ghost use Rattle.std.specs.Thread.{IsSync};
+ghost use Rattle.std.specs.Prelude.{◌≡◌, ◌<◌, List, ℕ, IfSome, IfOk, OnOk, Some, length, slice_get, false, true};
+ghost use Rattle.std.specs.List.{AllZip};
 ghost use Rattle.wh_text.specs.Columns.{kinds_of};
 ghost use Rattle.wh_text.specs.Dict.{with_texts};
 ghost use Rattle.wh_text.specs.Inner.Dict.{BeginsWith};
-ghost use Rattle.wh_text_tables.specs.Inner.Pieces.{AllNumbers, AreNumbers, ArePartsRenumbered, IsCellRenumbered, IsPartRenumbered, IsRenumbered, all_texts};
+ghost use Rattle.wh_text_tables.specs.Inner.Pieces.{AreNumbers, AreWholeNumbers, IsCellRenumbered, IsNumbered, IsPartRenumbered, IsRenumbered, IsRenumberedBy, all_texts};
 
+use crate::table::answers::all_of;
+use crate::table::rows::RowsRead;
 use std::alloc::{AllocError, Global};
-use std::thread;
 use std::thread::Threads;
 use wh_row::Records;
 use wh_text::{Column, Dict, Kind};
+use wh_threads::ThreadBudget;
 
-/// Puts the numbers that the texts of these dictionaries have in another, which gets those that it lacks, behind `out`: a list for
-/// each dictionary.
-#[cycle(numbering)]
+/// Records whose texts were numbered by themselves, and the number of each of these texts in a dictionary.
+#[derive(Drop)]
+pub(crate) struct Numbered {
+    records: Records,
+    numbers: Vec<i64>,
+}
+
+/// What was read of each piece, with the numbers of its texts in a dictionary, which gets those that it lacks.
 pub(crate) fn number_texts(
     alloc: Global,
-    dicts: &[Dict],
+    pieces: Vec<RowsRead>,
     dict: &mut Dict,
-    out: &mut Vec<Vec<i64>>,
-) -> Result<(), AllocError>
-    ensures texts { OnOk result (dict.new ≡ with_texts dict.old (all_texts dicts.now)) }
-    ensures numbers { OnOk result ((numbers : List (Vec ℤ Global)) × (out.new.items ≡ out.old.items ++ numbers) × AllNumbers dict.new dicts.now numbers) }
+) -> Option<Vec<Numbered>>
+    ensures texts { IfSome result (λ all. dict.new ≡ with_texts dict.old (all_texts pieces.items)) }
+    ensures numbers { IfSome result (λ all. AllZip (IsNumbered dict.new) pieces.items all.items) }
     ensures begins { BeginsWith dict.old dict.new }
 {
-    match dicts {
-        [] => Ok(()),
-        [first, rest @ ..] => {
-            let numbers = numbers_of(alloc, first, dict)?;
-            out.push(numbers)?;
-            number_texts(alloc, rest, dict, out)
-        }
+    let mut all = Vec::new(alloc);
+    for piece in pieces {
+        let RowsRead {
+            dict: texts,
+            counted: records,
+            ..
+        } = piece;
+        let numbers = numbers_of(alloc, &texts, dict).ok()?;
+        all.push(Numbered { records, numbers }).ok()?;
     }
+    Some(all)
 }
 
 /// The numbers that the texts of one dictionary have in another, which gets those that it lacks.
@@ -60,52 +68,51 @@ fn text_at(texts: &Dict, place: usize) -> &str
     texts.text(place as i64).unwrap_or("")
 }
 
-/// The records of each part with the numbers of their texts turned into these, each part by a thread.
-#[cycle(renumbering)]
+/// The records of all parts with the numbers of their texts in the dictionary. Where no column is of texts they are as they were.
 pub(crate) fn renumbered_parts<R: Threads + Sync>(
-    rt: &R,
-    alloc: Global,
+    budget: &ThreadBudget<'_, R>,
     columns: &[Column],
-    numbers: &[Vec<i64>],
-    parts: &[Records],
+    parts: Vec<Numbered>,
 ) -> Option<Vec<Records>>
-    ensures { IfSome result (λ all. (texts : List (List (List ℕ))) (dict : List (List ℕ)) → AllNumbers dict texts numbers.now → ArePartsRenumbered (kinds_of columns.now) dict texts parts.now all.items) }
+    ensures { IfSome result (λ all. AllZip (IsRenumberedBy (kinds_of columns.now)) parts.items all.items) }
 {
-    let [part, rest @ ..] = parts else {
-        return none_left(alloc, numbers);
-    };
-    let [own, others @ ..] = numbers else {
-        return None;
-    };
-    let later = move || -> Option<Vec<Records>>
-        requires { IsSync R.row }
-        ensures { IfSome result (λ all. (texts : List (List (List ℕ))) (dict : List (List ℕ)) → AllNumbers dict texts others.entry.now → ArePartsRenumbered (kinds_of columns.entry.now) dict texts rest.entry.now all.items) }
-    { renumbered_parts(rt, alloc, columns, others, rest) };
-    let sooner = move || -> Option<Records>
-        ensures { IfSome result (λ all. (texts dict : List (List ℕ)) → AreNumbers dict texts own.entry.now.items → IsPartRenumbered (kinds_of columns.entry.now) dict texts part.entry.now all) }
-    { renumbered(alloc, columns, own, part) };
-    let (behind, first) = thread::join(rt, later, sooner);
-    before(first?, behind?)
-}
-
-/// The part before those behind it.
-fn before(first: Records, behind: Vec<Records>) -> Option<Vec<Records>>
-    ensures { IfSome result (λ all. all.items ≡ first ∷ behind.items) }
-{
-    let mut all = behind;
-    all.insert(0, first).ok()?;
-    Some(all)
-}
-
-/// No parts, where there are no numbers for any.
-fn none_left(alloc: Global, numbers: &[Vec<i64>]) -> Option<Vec<Records>>
-    ensures { IfSome result (λ all. (all.items ≡ []) × (numbers.now ≡ [])) }
-{
-    if numbers.is_empty() {
-        Some(Vec::new(alloc))
-    } else {
-        None
+    if have_texts(columns) {
+        return renumbered_beside(budget, columns, &parts);
     }
+    parts
+        .into_iter()
+        .map(|part| part.records)
+        .collect(budget.alloc)
+        .ok()
+}
+
+/// Whether a column is of texts.
+fn have_texts(columns: &[Column]) -> bool
+    ensures { result ≡ false → AreWholeNumbers (kinds_of columns.now) }
+{
+    for column in columns {
+        match column.kind() {
+            Kind::Text => return true,
+            Kind::Int => {}
+        }
+    }
+    false
+}
+
+/// The records of each part with the numbers of their texts in the dictionary, each part by a thread.
+fn renumbered_beside<R: Threads + Sync>(
+    budget: &ThreadBudget<'_, R>,
+    columns: &[Column],
+    parts: &[Numbered],
+) -> Option<Vec<Records>>
+    ensures { IfSome result (λ all. AllZip (IsRenumberedBy (kinds_of columns.now)) parts.now all.items) }
+{
+    let alloc = budget.alloc;
+    let renumber = move |part: &Numbered| -> Option<Records>
+        ensures { IfSome result (λ all. IsRenumberedBy (kinds_of columns.entry.now) part.now all) }
+    { renumbered(alloc, columns, &part.numbers, &part.records) };
+    let answers = budget.each(parts, renumber).ok()?;
+    all_of(alloc, answers)
 }
 
 /// The records with the numbers of their texts turned into these.
@@ -115,7 +122,7 @@ fn renumbered(
     numbers: &[i64],
     records: &Records,
 ) -> Option<Records>
-    ensures { IfSome result (λ all. (texts dict : List (List ℕ)) → AreNumbers dict texts numbers.now → IsPartRenumbered (kinds_of columns.now) dict texts records.now all) }
+    ensures { IfSome result (λ all. (dict texts : List (List ℕ)) → AreNumbers dict texts numbers.now → IsPartRenumbered (kinds_of columns.now) dict texts records.now all) }
 {
     let mut all = Records::new(alloc);
     let Ok(()) = all.reserve(columns.len(), records.len()) else {

@@ -58,7 +58,7 @@ impl<'a> PartReader for RowsReader<'a> {
         state: &mut RowsRead,
     ) -> Result<(), LoadFault> {
         let texts = state.dict.len();
-        let taken = add_entry(self.alloc, self.columns, kind, number, cells, state);
+        let taken = add_entry(self, kind, number, cells, state);
         if taken.is_err() {
             state.dict.truncate(texts);
         }
@@ -68,29 +68,21 @@ impl<'a> PartReader for RowsReader<'a> {
 
 /// Adds the entry of this record; where it has a fault, some of its texts may have got numbers.
 fn add_entry(
-    alloc: Global,
-    columns: &[Column],
+    reader: &RowsReader<'_>,
     counting: Counting,
     number: usize,
     cells: &StringRecord,
     rows: &mut RowsRead,
 ) -> Result<(), LoadFault>
-    requires { length (fields_of cells.now) ≡ count_cells counting + length columns.now }
-    ensures ok { OnOk result (entered (kinds_of columns.now) counting (record { texts = rows.old.dict; entries = rows.old.counted }) number (fields_of cells.now) ≡ Ok (record { texts = rows.new.dict; entries = rows.new.counted })) }
-    ensures err { IfErr result (λ f. (f ≡ LoadFault.Memory) ⊎ (entered (kinds_of columns.now) counting (record { texts = rows.old.dict; entries = rows.old.counted }) number (fields_of cells.now) ≡ Err f)) }
+    requires { length (fields_of cells.now) ≡ count_cells counting + length reader.now.columns.now }
+    ensures ok { OnOk result (entered (kinds_of reader.now.columns.now) counting (record { texts = rows.old.dict; entries = rows.old.counted }) number (fields_of cells.now) ≡ Ok (record { texts = rows.new.dict; entries = rows.new.counted })) }
+    ensures err { IfErr result (λ f. (f ≡ LoadFault.Memory) ⊎ (entered (kinds_of reader.now.columns.now) counting (record { texts = rows.old.dict; entries = rows.old.counted }) number (fields_of cells.now) ≡ Err f)) }
     ensures begins { BeginsWith rows.old.dict rows.new.dict }
     ensures kept { OnErr result (rows.new.counted ≡ rows.old.counted) }
     ensures more { OnOk result (length rows.new.counted ≡ length rows.old.counted + 1) }
 {
-    let count = read_entry(
-        alloc,
-        columns,
-        counting,
-        number,
-        cells,
-        &mut rows.dict,
-        &mut rows.row,
-    )?;
-    rows.counted.push(&rows.row, count)?;
+    let RowsRead { dict, counted, row } = rows;
+    let count = read_entry(reader, counting, number, cells, dict, row)?;
+    counted.push(row, count)?;
     Ok(())
 }

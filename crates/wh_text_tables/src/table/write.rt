@@ -1,4 +1,4 @@
-//! Writing tables.
+//! The lines of a table: its header, and a line for each row.
 ghost use Rattle.std.specs.Prelude.{◌≡◌, ◌+◌, ◌++◌, ◌∷◌, ℕ, List, [], drop, OnOk, OnErr};
 ghost use Rattle.std.specs.Fmt.{signed_decimal};
 ghost use Rattle.std.specs.List.{list_any};
@@ -6,11 +6,11 @@ ghost use Rattle.csv.specs.Writing.{default_writer, escaped, field_text, fields_
 ghost use Rattle.wh_text.specs.Columns.{kinds_of, names_of};
 ghost use Rattle.wh_text_tables.specs.TableText.{counted_header};
 ghost use Rattle.wh_text_tables.specs.Inner.TableWritten.{rows_text};
-ghost use Rattle.wh_text_tables.specs.TableWritten.{cell_text, cell_texts, record_of, table_text};
+ghost use Rattle.wh_text_tables.specs.TableWritten.{cell_text, cell_texts, record_of};
 
 use itoa::Buffer;
 use std::alloc::AllocError;
-use wh_row::{Bag, Rows};
+use wh_row::Rows;
 use wh_text::{Column, Dict, Kind};
 
 /// Whether the text has to stand in quotes.
@@ -145,7 +145,7 @@ fn pass_on(out: &mut Vec<u8>, block: &mut Vec<u8>) -> Result<(), AllocError>
     Ok(())
 }
 
-/// Appends the rows, a line each.
+/// Appends these rows, a line each.
 pub(crate) fn append_rows(
     out: &mut Vec<u8>,
     columns: &[Column],
@@ -161,41 +161,4 @@ pub(crate) fn append_rows(
         pass_on(out, &mut block)?;
     }
     out.extend_from_slice(&block)
-}
-
-/// Appends the table line by line.
-fn append_table(
-    out: &mut Vec<u8>,
-    columns: &[Column],
-    bag: &Bag,
-    dict: &Dict,
-) -> Result<(), AllocError>
-    ensures ok { OnOk result (out.new.items ≡ out.old.items ++ table_text columns.now dict.now bag.now) }
-    ensures begins { OnErr result ((more : List ℕ) × (out.new.items ≡ out.old.items ++ more)) }
-{
-    let mut header = Vec::new(*out.allocator());
-    write_header(&mut header, columns)?;
-    out.extend_from_slice(&header)?;
-    append_rows(out, columns, bag.rows(), dict)
-}
-
-/// Appends the table as it is written: the header `#` and the columns' names, then each row's count and cells, in rising
-/// order of the rows, a line each. Fields are in quotes where they have a comma, a quote, CR or LF. A cell of a text column
-/// is written as the text of its number, as nothing where the dictionary has none of this number. Where memory fails,
-/// nothing is appended.
-pub fn write_table(
-    out: &mut Vec<u8>,
-    columns: &[Column],
-    bag: &Bag,
-    dict: &Dict,
-) -> Result<(), AllocError>
-    ensures ok { OnOk result (out.new.items ≡ out.old.items ++ table_text columns.now dict.now bag.now) }
-    ensures err { OnErr result (out.new.items ≡ out.old.items) }
-{
-    let start = out.len();
-    let written = append_table(out, columns, bag, dict);
-    if written.is_err() {
-        out.truncate(start);
-    }
-    written
 }

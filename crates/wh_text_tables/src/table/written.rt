@@ -1,29 +1,27 @@
-//! Writing tables by several threads.
+//! Writing tables, by several threads where there are rows enough for two.
 //!
 //! The rows are cut into as many parts as there are threads. Each thread writes the lines of its part into a text of its own, as one
 //! thread does of all; the texts are then appended in the order of the parts.
 
 ghost use Rattle.std.specs.Prelude.{◌≡◌, ◌++◌, ℕ, List, IsOk, IfOk, OnOk, OnErr};
-ghost use Rattle.csv.specs.Writing.{default_writer, row_text};
-ghost use Rattle.wh_text.specs.Columns.{names_of};
-ghost use Rattle.wh_text_tables.specs.Inner.TableWritten.{all_rows, rows_text, written_text, whole_text, AreDone};
-ghost use Rattle.wh_text_tables.specs.TableText.{counted_header};
+ghost use Rattle.std.specs.List.{AllZip};
+ghost use Rattle.wh_row.specs.Records.{joined};
 ghost use Rattle.wh_text_tables.specs.TableWritten.{table_text};
+ghost use Rattle.wh_text_tables.specs.Inner.TableWritten.{AreDone, rows_text, whole_text, written_text};
 
-use crate::table::write::{append_rows, write_header, write_table};
+use crate::table::write::{append_rows, write_header};
 use std::alloc::{AllocError, Global};
-use std::thread;
 use std::thread::Threads;
-use wh_row::{Bag, Hands, Rows};
+use wh_row::{Bag, Rows};
 use wh_text::{Column, Dict};
+use wh_threads::{ThreadBudget, Work};
 
-/// A thread is not worth its start for fewer rows.
-const FEW: usize = 10_000;
-
-/// Appends what [`write_table`] appends, by several threads where there are rows enough for two. Where memory fails, nothing is
-/// appended. Takes O(b) time for b bytes of text, of which the threads share all but a copy.
-pub fn write_table_wide<R: Threads + Sync>(
-    hands: &Hands<'_, R>,
+/// Appends the table as it is written: the header `#` and the columns' names, then each row's count and cells, in rising
+/// order of the rows, a line each. Fields are in quotes where they have a comma, a quote, CR or LF. A cell of a text column
+/// is written as the text of its number, as nothing where the dictionary has none of this number. Where memory fails,
+/// nothing is appended. Takes O(b) time for b bytes of text, of which the threads share all but a copy.
+pub fn write_table<R: Threads + Sync>(
+    budget: &ThreadBudget<'_, R>,
     out: &mut Vec<u8>,
     columns: &[Column],
     bag: &Bag,
@@ -32,46 +30,73 @@ pub fn write_table_wide<R: Threads + Sync>(
     ensures ok { OnOk result (out.new.items ≡ out.old.items ++ table_text columns.now dict.now bag.now) }
     ensures err { OnErr result (out.new.items ≡ out.old.items) }
 {
-    let threads = hands.threads.min(bag.len() / FEW);
-    if threads < 2 {
-        return write_table(out, columns, bag, dict);
+    let start = out.len();
+    let written = append_table(budget, out, columns, bag, dict);
+    if written.is_err() {
+        out.truncate(start);
     }
-    let alloc = *out.allocator();
-    let header = header_text(alloc, columns)?;
-    let texts = texts_by(hands.rt, threads, alloc, columns, dict, bag.rows())?;
-    append_all(out, &header, &texts)
+    written
 }
 
-/// The header's line.
-fn header_text(alloc: Global, columns: &[Column]) -> Result<Vec<u8>, AllocError>
-    ensures { IfOk result (λ text. text.items ≡ row_text default_writer (counted_header (names_of columns.now))) }
+/// Appends the table line by line.
+fn append_table<R: Threads + Sync>(
+    budget: &ThreadBudget<'_, R>,
+    out: &mut Vec<u8>,
+    columns: &[Column],
+    bag: &Bag,
+    dict: &Dict,
+) -> Result<(), AllocError>
+    ensures ok { OnOk result (out.new.items ≡ out.old.items ++ table_text columns.now dict.now bag.now) }
+    ensures begins { OnErr result ((more : List ℕ) × (out.new.items ≡ out.old.items ++ more)) }
 {
-    let mut text = Vec::new(alloc);
-    write_header(&mut text, columns)?;
-    Ok(text)
+    let mut header = Vec::new(budget.alloc);
+    write_header(&mut header, columns)?;
+    out.extend_from_slice(&header)?;
+    let count = budget.parts(Work::WrittenRows, bag.len());
+    if count < 2 {
+        return append_rows(out, columns, bag.rows(), dict);
+    }
+    let parts = bag.rows().in_parts(budget.alloc, count)?;
+    append_parts(budget, out, columns, &parts, dict)
 }
 
-/// These rows in so many parts that follow each other, or in one where none are asked for.
-fn parts_of<'a>(alloc: Global, rows: Rows<'a>, count: usize) -> Result<Vec<Rows<'a>>, AllocError>
-    ensures { IfOk result (λ parts. all_rows parts.items ≡ rows.entry) }
+/// Appends the rows of these parts, a line each, each part written by a thread.
+fn append_parts<R: Threads + Sync>(
+    budget: &ThreadBudget<'_, R>,
+    out: &mut Vec<u8>,
+    columns: &[Column],
+    parts: &[Rows<'_>],
+    dict: &Dict,
+) -> Result<(), AllocError>
+    ensures ok { OnOk result (out.new.items ≡ out.old.items ++ rows_text columns.now dict.now (joined parts.now)) }
+    ensures begins { OnErr result ((more : List ℕ) × (out.new.items ≡ out.old.items ++ more)) }
 {
-    let mut parts = Vec::new(alloc);
-    let mut rest = rows;
-    for part in 1..count {
-        let (first, others) = rest.split(1, count - part + 1);
-        parts.push(first)?;
-        rest = others;
-    }
-    parts.push(rest)?;
-    Ok(parts)
+    let texts = texts_of(budget, columns, parts, dict)?;
+    append_each(out, &texts)
+}
+
+/// The lines of the rows of each part in a text, each by a thread.
+fn texts_of<R: Threads + Sync>(
+    budget: &ThreadBudget<'_, R>,
+    columns: &[Column],
+    parts: &[Rows<'_>],
+    dict: &Dict,
+) -> Result<Vec<Result<Vec<u8>, AllocError>>, AllocError>
+    ensures { IfOk result (λ texts. AllZip (λ part text. IfOk text (λ text. text.items ≡ rows_text columns.now dict.now part)) parts.now texts.items) }
+{
+    let alloc = budget.alloc;
+    let write = move |part: &Rows<'_>| -> Result<Vec<u8>, AllocError>
+        ensures { IfOk result (λ text. text.items ≡ rows_text columns.entry.now dict.entry.now part.now) }
+    { text_of(alloc, columns, part.again(), dict) };
+    budget.each(parts, write)
 }
 
 /// The lines of these rows in one text.
 fn text_of(
     alloc: Global,
     columns: &[Column],
-    dict: &Dict,
     rows: Rows<'_>,
+    dict: &Dict,
 ) -> Result<Vec<u8>, AllocError>
     ensures { IfOk result (λ text. text.items ≡ rows_text columns.now dict.now rows.entry) }
 {
@@ -80,23 +105,19 @@ fn text_of(
     Ok(text)
 }
 
-/// The lines of these rows in texts that follow each other, each by a thread.
-fn texts_by<R: Threads + Sync>(
-    rt: &R,
-    threads: usize,
-    alloc: Global,
-    columns: &[Column],
-    dict: &Dict,
-    rows: Rows<'_>,
-) -> Result<Vec<Result<Vec<u8>, AllocError>>, AllocError>
-    ensures { IfOk result (λ texts. AreDone texts.items → whole_text texts.items ≡ rows_text columns.now dict.now rows.entry) }
+/// Appends the texts one after another, up to the first that was not written.
+fn append_each(
+    out: &mut Vec<u8>,
+    texts: &[Result<Vec<u8>, AllocError>],
+) -> Result<(), AllocError>
+    ensures ok { OnOk result (out.new.items ≡ out.old.items ++ whole_text texts.now) }
+    ensures done { OnOk result (AreDone texts.now) }
+    ensures begins { OnErr result ((more : List ℕ) × (out.new.items ≡ out.old.items ++ more)) }
 {
-    let parts = parts_of(alloc, rows, threads)?;
-    let write = move |part: Rows<'_>| -> Result<Vec<u8>, AllocError>
-        ensures { IfOk result (λ text. text.items ≡ rows_text columns.entry.now dict.entry.now part.entry) }
-    { text_of(alloc, columns, dict, part) };
-    let texts = thread::map_vec(rt, parts, &write)?;
-    Ok(texts)
+    for text in texts {
+        append_one(out, text)?;
+    }
+    Ok(())
 }
 
 /// Appends a text that was written. It fails where the writing failed.
@@ -109,39 +130,4 @@ fn append_one(out: &mut Vec<u8>, text: &Result<Vec<u8>, AllocError>) -> Result<(
         Ok(text) => out.extend_from_slice(text),
         Err(_) => Err(AllocError),
     }
-}
-
-/// Appends a header and the texts behind it, one after another. It fails where one of them was not written.
-fn append_each(
-    out: &mut Vec<u8>,
-    header: &[u8],
-    texts: &[Result<Vec<u8>, AllocError>],
-) -> Result<(), AllocError>
-    ensures ok { OnOk result (out.new.items ≡ out.old.items ++ (header.now ++ whole_text texts.now)) }
-    ensures done { OnOk result (AreDone texts.now) }
-    ensures begins { OnErr result ((more : List ℕ) × (out.new.items ≡ out.old.items ++ more)) }
-{
-    out.extend_from_slice(header)?;
-    for text in texts {
-        append_one(out, text)?;
-    }
-    Ok(())
-}
-
-/// Appends a header and the texts behind it. Where one was not written or memory fails, nothing is appended.
-fn append_all(
-    out: &mut Vec<u8>,
-    header: &[u8],
-    texts: &[Result<Vec<u8>, AllocError>],
-) -> Result<(), AllocError>
-    ensures ok { OnOk result (out.new.items ≡ out.old.items ++ (header.now ++ whole_text texts.now)) }
-    ensures done { OnOk result (AreDone texts.now) }
-    ensures err { OnErr result (out.new.items ≡ out.old.items) }
-{
-    let start = out.len();
-    let appended = append_each(out, header, texts);
-    if appended.is_err() {
-        out.truncate(start);
-    }
-    appended
 }

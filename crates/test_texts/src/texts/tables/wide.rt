@@ -5,8 +5,9 @@ use std::alloc::{AllocError, Global};
 use std::process::Abort;
 use std::test::Fail;
 use std::thread::Threads;
-use wh_load::{Column, Dict, write_table, write_table_wide};
-use wh_row::{Bag, Hands, Records};
+use wh_load::{Column, Dict, write_table};
+use wh_row::{Bag, Records};
+use wh_threads::ThreadBudget;
 
 /// The texts of cells. The last number stands for none.
 const WORDS: [&str; 5] = ["plain", "", "a,b", "say \"so\"", "two\r\nlines"];
@@ -35,6 +36,19 @@ fn words(alloc: Global) -> Result<Dict, AllocError> {
     Ok(dict)
 }
 
+/// What is appended behind a byte.
+fn appended<R: Threads + Sync>(
+    budget: &ThreadBudget<'_, R>,
+    columns: &[Column],
+    bag: &Bag,
+    dict: &Dict,
+) -> Result<Vec<u8>, AllocError> {
+    let mut out = Vec::new(budget.alloc);
+    out.push(b'>')?;
+    write_table(budget, &mut out, columns, bag, dict)?;
+    Ok(out)
+}
+
 /// Asserts that up to four threads append what one thread appends.
 fn assert_written<R: Threads + Sync + Abort>(
     rt: &R,
@@ -43,14 +57,16 @@ fn assert_written<R: Threads + Sync + Abort>(
     bag: &Bag,
     dict: &Dict,
 ) -> Result<(), AllocError> {
-    let mut alone = Vec::new(alloc);
-    alone.push(b'>')?;
-    write_table(&mut alone, columns, bag, dict)?;
-    for threads in 0..5 {
-        let mut wide = Vec::new(alloc);
-        wide.push(b'>')?;
-        write_table_wide(&Hands { rt, threads }, &mut wide, columns, bag, dict)?;
-        assert!(rt; wide.as_slice() == alone.as_slice());
+    let alone = ThreadBudget {
+        rt,
+        alloc,
+        threads: 1,
+    };
+    let wanted = appended(&alone, columns, bag, dict)?;
+    for threads in [0, 2, 3, 4] {
+        let budget = ThreadBudget { rt, alloc, threads };
+        let found = appended(&budget, columns, bag, dict)?;
+        assert!(rt; found.as_slice() == wanted.as_slice());
     }
     Ok(())
 }
@@ -61,7 +77,12 @@ fn threads_write_what_one_writes(rt: HostRuntime) -> Result<(), Fail> {
     let columns = columns_of(alloc, "k:text n")?;
     let dict = words(alloc)?;
     for rows in [0, 1, 9_999, 20_000, 25_017, 30_000, 41_234, 60_000] {
-        let bag = Bag::from_records(alloc, &drawn(alloc, rows)?)?;
+        let budget = ThreadBudget {
+            rt: &rt,
+            alloc,
+            threads: 1,
+        };
+        let bag = Bag::from_records(&budget, &drawn(alloc, rows)?)?;
         assert_written(&rt, alloc, &columns, &bag, &dict)?;
     }
     Ok(())

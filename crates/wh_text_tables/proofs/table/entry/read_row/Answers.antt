@@ -15,7 +15,7 @@ returns-in_err-value-clause-err c =
     let cells = fields_of c.args.cells.now in
     let place = c.loop-place.place in
     let column = c.index-columns-place.result in
-    let columns = c.args.columns.now in
+    let columns = c.args.reader.now.columns.now in
     let below : place < length columns = omega (arith, c.loop-place-test.true) in
     let read = IsReadTo-cons columns cells c.args.from place column c.args.dict.now c.loop-place.dict c.loop-place.row.items c.index-columns-place.is below (omega (arith, c.requires.cells)) c.loop-place.invariant in
     let p = err_from_is_err_and c.from_residual.result c.from_residual.ensures.1 in
@@ -31,7 +31,7 @@ loop-place-preserved c =
     let cells = fields_of c.args.cells.now in
     let place = c.loop-place.place in
     let column = c.index-columns-place.result in
-    let columns = c.args.columns.now in
+    let columns = c.args.reader.now.columns.now in
     let below : place < length columns = omega (arith, c.loop-place-test.true) in
     let read = IsReadTo-cons columns cells c.args.from place column c.args.dict.now c.loop-place.dict c.loop-place.row.items c.index-columns-place.is below (omega (arith, c.requires.cells)) c.loop-place.invariant in
     let number = rw (c.kind.ensures, c.cell-text.ensures) at c.in_ok-value.ensures.ok in
@@ -43,13 +43,13 @@ loop-place-preserved c =
 pub returns-clause-ok : goal.returns-clause-ok
 returns-clause-ok c =
     let cells = fields_of c.args.cells.now in
-    let past : length c.args.columns.now ≤ c.loop-place.place = omega (arith, c.loop-place-test.false) in
-    let read = IsReadTo-end c.args.columns.now cells c.args.from c.loop-place.place c.args.dict.now c.loop-place.dict c.loop-place.row.items past c.loop-place.invariant in
-    IsReadTo-row (kinds_of c.args.columns.now) (drop c.args.from cells) (drop (c.args.from + c.loop-place.place) cells) c.args.dict.now c.loop-place.dict c.loop-place.row.items read
+    let past : length c.args.reader.now.columns.now ≤ c.loop-place.place = omega (arith, c.loop-place-test.false) in
+    let read = IsReadTo-end c.args.reader.now.columns.now cells c.args.from c.loop-place.place c.args.dict.now c.loop-place.dict c.loop-place.row.items past c.loop-place.invariant in
+    IsReadTo-row (kinds_of c.args.reader.now.columns.now) (drop c.args.from cells) (drop (c.args.from + c.loop-place.place) cells) c.args.dict.now c.loop-place.dict c.loop-place.row.items read
 
 pub returns-clause-texts : goal.returns-clause-texts
 returns-clause-texts c =
     let cells = fields_of c.args.cells.now in
-    let past : length c.args.columns.now ≤ c.loop-place.place = omega (arith, c.loop-place-test.false) in
-    let read = IsReadTo-end c.args.columns.now cells c.args.from c.loop-place.place c.args.dict.now c.loop-place.dict c.loop-place.row.items past c.loop-place.invariant in
-    IsReadTo-texts (kinds_of c.args.columns.now) (drop c.args.from cells) (drop (c.args.from + c.loop-place.place) cells) c.args.dict.now c.loop-place.dict c.loop-place.row.items read
+    let past : length c.args.reader.now.columns.now ≤ c.loop-place.place = omega (arith, c.loop-place-test.false) in
+    let read = IsReadTo-end c.args.reader.now.columns.now cells c.args.from c.loop-place.place c.args.dict.now c.loop-place.dict c.loop-place.row.items past c.loop-place.invariant in
+    IsReadTo-texts (kinds_of c.args.reader.now.columns.now) (drop c.args.from cells) (drop (c.args.from + c.loop-place.place) cells) c.args.dict.now c.loop-place.dict c.loop-place.row.items read

@@ -8,10 +8,10 @@ use Rattle.wh_text_tables.proofs.table.renumbered.renumbered.Goals as goal
 
 pub loop-place-init : goal.loop-place-init
 unfolding IsPartRenumbered
-loop-place-init c texts dict numbers = c.in-Ok.ensures.same ∙ c.new-all.ensures
+loop-place-init c dict texts numbers = c.in-Ok.ensures.same ∙ c.new-all.ensures
 
 pub loop-place-preserved : goal.loop-place-preserved
-loop-place-preserved c texts dict numbers =
+loop-place-preserved c dict texts numbers =
     let records = c.args.records.now in
     let place = c.loop-place.place in
     let entry : Row × ℤ = (c.get-count.result.0.now, c.get-count.result.1) in
@@ -21,4 +21,4 @@ loop-place-preserved c texts dict numbers =
     let own : Row × ℤ = (c.renumber.new.out.items, c.get-count.result.1) in
     let pushed : c.push.new.self ≡ c.loop-place.all ++ own ∷ [] =
     c.in-Ok-push.ensures.ok ∙ (λ i. c.loop-place.all ++ (c.deref.ensures.value i, back i) ∷ []) in
-    rw (more, pushed) (part-one (kinds_of c.args.columns.now) dict texts (take place records) c.loop-place.all entry own (c.loop-place.invariant texts dict numbers) refl (c.renumber.ensures c.if-not-renumber.false texts dict numbers))
+    rw (more, pushed) (part-one (kinds_of c.args.columns.now) dict texts (take place records) c.loop-place.all entry own (c.loop-place.invariant dict texts numbers) refl (c.renumber.ensures c.if-not-renumber.false texts dict numbers))

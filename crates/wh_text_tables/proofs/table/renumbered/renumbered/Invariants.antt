@@ -5,4 +5,4 @@ use Rattle.wh_text_tables.proofs.table.renumbered.renumbered.Given as goal
 
 -- the records so far are renumbered
 abbrev pub invariant-loop-place : goal.invariant-loop-place
-invariant-loop-place l = (texts dict : List (List ℕ)) → AreNumbers dict texts l.numbers → IsPartRenumbered (kinds_of l.columns) dict texts (take l.place l.records) l.all
+invariant-loop-place l = (dict texts : List (List ℕ)) → AreNumbers dict texts l.numbers → IsPartRenumbered (kinds_of l.columns) dict texts (take l.place l.records) l.all

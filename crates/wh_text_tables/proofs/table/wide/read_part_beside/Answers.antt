@@ -16,8 +16,10 @@ returns g c =
     let cut = c.in_ok-end.ensures in
     let same : records_of text ≡ records_of body = ap (records default_config) (sym c.without_mark-body.ensures ∙ sym cut.bare) in
     let tells = header-cut scheme (records_of (take end body)) (records_of (drop end body)) c.in_ok-layout.layout.counting c.in_ok-layout.layout.width (rw c.split_at.ensures.front at c.in_ok-layout.ensures) in
-    IfSome_then c.read_pieces.result c.read_pieces.ensures (λ read are. record {
+    IfSome_then c.read_pieces.result c.read_pieces.ensures (λ pieces are. record {
       below = record { kind = c.in_ok-layout.layout.counting; width = c.in_ok-layout.layout.width; rows = records_of (drop end body) };
       tells = ap (below_header scheme) (same ∙ cut.parts) ∙ tells;
-      pieces = rw c.split_at.ensures.back at are;
+      texts = c.in_ok-texts.texts.items;
+      follow = rw c.split_at.ensures.back at c.in_ok-texts.ensures;
+      each = rw c.deref.ensures.value at are;
     })

@@ -1,4 +1,4 @@
-use Rattle.wh_text_tables.proofs.table.read_counted.Goals as goal
+use Rattle.wh_text_tables.proofs.table.read_text.Goals as goal
 
 pub returns-in-None-clause-ok : goal.returns-in-None-clause-ok
 returns-in-None-clause-ok g c = rw c.in-None.ensures.none at c.read_singly.ensures.ok
@@ -6,5 +6,5 @@ returns-in-None-clause-ok g c = rw c.in-None.ensures.none at c.read_singly.ensur
 pub returns-in-None-clause-err : goal.returns-in-None-clause-err
 returns-in-None-clause-err g c = rw c.in-None.ensures.none at c.read_singly.ensures.err
 
-pub returns-in-None-clause-begins : goal.returns-in-None-clause-begins
-returns-in-None-clause-begins g c = rw c.in-None.ensures.none at c.read_singly.ensures.begins
+pub returns-in-None-clause-kept : goal.returns-in-None-clause-kept
+returns-in-None-clause-kept g c = rw c.in-None.ensures.none at c.read_singly.ensures.kept

@@ -1,7 +1,7 @@
 use Rattle.std.proofs.Common.{rules, ◌<◌, length, sym}
 use Rattle.wh_text_tables.specs.Inner.Pieces.{AreWholeNumbers}
 use Rattle.wh_text_tables.proofs.PieceLaws.{whole-one}
-use Rattle.wh_text_tables.proofs.table.wide.have_texts.Goals as goal
+use Rattle.wh_text_tables.proofs.table.renumbered.have_texts.Goals as goal
 
 pub loop-column-init : goal.loop-column-init
 unfolding AreWholeNumbers

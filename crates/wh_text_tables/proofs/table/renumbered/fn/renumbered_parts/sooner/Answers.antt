@@ -1,4 +1,0 @@
-use Rattle.wh_text_tables.proofs.table.renumbered.fn.renumbered_parts.sooner.Goals as goal
-
-pub returns : goal.returns
-returns c = rw c.deref.ensures.value at c.renumbered.ensures
