@@ -8,25 +8,19 @@ use test_given::catalogs::{joined, one_way};
 use test_given::tables::{bag, two_bags};
 use wh_carry::CarryFault;
 use wh_maint::are_bags;
-use wh_night::{NoWatch, Options, Readers, Served, Watch, are_fit_for, serve_night};
+use wh_night::{Asked, NoWatch, Served, Watch, are_fit_for, serve_night};
 use wh_row::Bag;
 use wh_strategy::check;
+use wh_threads::ThreadBudget;
 
-/// So many readers, of which nothing is told.
-fn unwatched(count: usize) -> Readers<'static, NoWatch> {
-    Readers {
-        count,
-        watch: &NoWatch,
-    }
-}
-
-/// The night over a(x,y) with (1,10) and (2,10), b(y,z) with (10,5) and v, which joins them, beside these readers; a changes
+/// The night over a(x,y) with (1,10) and (2,10), b(y,z) with (10,5) and v, which joins them, beside so many readers; a changes
 /// so, and b by -(10,5) +(10,6). None where it is not what a night asks for.
 pub(crate) fn served<W: Watch + Sync, R: Threads + Wait + Sync>(
     rt: &R,
     alloc: Global,
     change: &[(&[i64], i64)],
-    readers: Readers<'_, W>,
+    readers: usize,
+    watch: &W,
 ) -> Result<Option<Result<Served, CarryFault>>, Fail> {
     let mut tables = two_bags(alloc, &[(&[1, 10], 1), (&[2, 10], 1)], &[(&[10, 5], 1)])?;
     tables.push(bag(alloc, &[(&[1, 5], 1), (&[2, 5], 1)])?)?;
@@ -39,20 +33,27 @@ pub(crate) fn served<W: Watch + Sync, R: Threads + Wait + Sync>(
     if !correct.is_of(catalog.shape())
         || !are_bags(&catalog, &tables)
         || !are_bags(&catalog, &changes)
-        || readers.count > 16
+        || readers > 16
     {
         return Ok(None);
     }
     let Ok(true) = are_fit_for(alloc, &catalog, &tables, &changes, &correct) else {
         return Ok(None);
     };
-    let options = Options {
-        workers: 1,
-        page_keys: 256,
+    let budget = ThreadBudget {
+        rt,
+        alloc,
+        threads: 1,
     };
-    Ok(Some(serve_night(
-        rt, alloc, &catalog, tables, &changes, &correct, options, readers,
-    )))
+    let asked = Asked {
+        budget: &budget,
+        catalog: &catalog,
+        changes: &changes,
+        correct: &correct,
+        page_keys: 256,
+        gate: watch,
+    };
+    Ok(Some(serve_night(&asked, tables, readers)))
 }
 
 /// Whether each of so many readers was given the five rows of before, and v then has (1,6) and (3,6).
@@ -77,7 +78,7 @@ pub(crate) fn is_served(answer: &Option<Result<Served, CarryFault>>, readers: us
 fn night_with_readers(rt: HostRuntime) -> Result<(), Fail> {
     for readers in [0, 2, 16] {
         let change: [(&[i64], i64); 2] = [(&[2, 10], -1), (&[3, 10], 1)];
-        let answer = served(&rt, rt.alloc(), &change, unwatched(readers))?;
+        let answer = served(&rt, rt.alloc(), &change, readers, &NoWatch)?;
         assert!(rt; is_served(&answer, readers));
     }
     Ok(())
@@ -85,7 +86,7 @@ fn night_with_readers(rt: HostRuntime) -> Result<(), Fail> {
 
 #[test]
 fn absent_row_with_readers(rt: HostRuntime) -> Result<(), Fail> {
-    let answer = served(&rt, rt.alloc(), &[(&[9, 9], -1)], unwatched(2))?;
+    let answer = served(&rt, rt.alloc(), &[(&[9, 9], -1)], 2, &NoWatch)?;
     let refused = match &answer {
         Some(Err(fault)) => fault.fault.number() == 4 && !fault.started,
         _ => false,

@@ -4,7 +4,7 @@ use crate::served::{is_served, served};
 use std::hint::spin_loop;
 use std::sync::atomic::{AtomicBool, AtomicU64, Ordering};
 use std::test::Fail;
-use wh_night::{Gate, Readers, Watch};
+use wh_night::{Gate, Watch};
 
 /// How many readers there are.
 const READERS: usize = 3;
@@ -97,12 +97,8 @@ impl Watch for Meeting {
 #[test]
 fn readers_read_while_the_night_is_open(rt: HostRuntime) -> Result<(), Fail> {
     let meeting = Meeting::new();
-    let readers = Readers {
-        count: READERS,
-        watch: &meeting,
-    };
     let change: [(&[i64], i64); 2] = [(&[2, 10], -1), (&[3, 10], 1)];
-    let answer = served(&rt, rt.alloc(), &change, readers)?;
+    let answer = served(&rt, rt.alloc(), &change, READERS, &meeting)?;
     assert!(rt; is_served(&answer, READERS));
     assert!(rt; meeting.has_met());
     Ok(())

@@ -9,6 +9,7 @@ use Rattle.wh_store.specs.Pages.{Contents}
 use Rattle.wh_store.specs.Versions.{Versions, versions_of}
 use Rattle.wh_carry.specs.Night.{Night}
 use Rattle.wh_carry.specs.Legs.{Remaining, Turn, At_page, after_done, after_draw, after_page, legs_of, turn_of, untouched}
+use Rattle.wh_core.specs.declared.options.MachineOptions.{MachineOptions}
 use Rattle.wh_core.specs.Log.{Log, Began, Drew, Finished, Paged_in, Committed, Gave_up, Sat_down, Turned, Left, last_begun, nights_begun}
 
 -- the changes of the base views that a night brings, and the strategy that carries them out
@@ -26,6 +27,18 @@ pub record Setup : Type 0 where
   pub keys : ℕ
   pub opening : Contents
   pub nights : List GivenNight
+
+-- a warehouse of so many desks and workers over these contents
+abbrev pub setup_of : CatalogOf → MachineOptions → Contents → List GivenNight → Setup
+setup_of catalog options opening nights = record {
+  catalog = catalog;
+  desks = options.desks;
+  workers = options.workers;
+  versions = options.versions;
+  keys = options.page_keys;
+  opening = opening;
+  nights = nights;
+}
 
 -- the given night of this number, from these contents
 abbrev pub night_from : Setup → Contents → ℕ → Night

@@ -8,6 +8,7 @@
 mod event;
 mod laws;
 mod machine;
+mod options;
 mod reply;
 mod session;
 mod warehouse;
@@ -18,5 +19,6 @@ pub use laws::{
     refusals_are_told_in_turn, replies_are_one, runs_come_true, runs_leave_legal_logs,
     sessions_read_tables, versions_are_contents, workers_do_their_jobs,
 };
+pub use options::MachineOptions;
 pub use reply::{Cause, Reply};
 pub use warehouse::Core;

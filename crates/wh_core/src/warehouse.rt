@@ -6,13 +6,14 @@ ghost use Rattle.wh_maint.specs.Asked.{AreBags};
 ghost use Rattle.wh_core.specs.Headline.{ComesTrue};
 ghost use Rattle.wh_core.specs.Laws.{IsSetup, log_after};
 ghost use Rattle.wh_core.specs.Log.{Log, logged};
-ghost use Rattle.wh_core.specs.Nights.{Setup};
+ghost use Rattle.wh_core.specs.Nights.{Setup, setup_of};
 ghost use Rattle.wh_core.specs.Replies.{IsLegalRun, IsReply};
 ghost use Rattle.wh_core.specs.Standing.{AreJudged, IsFresh, IsStanding, StandsWith, nights_of};
 
 use crate::event::Event;
 use crate::laws::{runs_come_true, versions_are_contents};
 use crate::machine::{Machine, taken};
+use crate::options::MachineOptions;
 use crate::reply::{Cause, Reply, cause_of};
 use std::alloc::{AllocError, Global};
 use wh_carry::{base_changes, contents_are_fit_for_nights, course_of};
@@ -34,29 +35,31 @@ pub struct Core<F: RowTest, G: RowValue> {
 impl<F: RowTest + Drop, G: RowValue + Drop> Core<F, G> {
     /// A machine that has done nothing yet, over these tables: the contents of a base, as `opening_contents` gives them, and from
     /// such contents `carry` and a published night. That tables are fit (`are_fit`) does not suffice. A night is the changes of the
-    /// base views and a strategy that was judged over this catalogue's shape. There are 1 to 16 desks and as many workers, and a page
-    /// has 1 to 256 rows. Sessions of the last `versions` versions can be read, 2 to 4, and of one less while a night is open.
+    /// base views and a strategy that was judged over this catalogue's shape.
     pub fn new(
         alloc: Global,
         catalog: Catalog<F, G>,
         tables: Vec<Bag>,
         nights: Vec<(Vec<Bag>, Correct)>,
-        desks: usize,
-        workers: usize,
-        keys: usize,
-        versions: usize,
+        options: MachineOptions,
     ) -> Result<Core<F, G>, AllocError>
-        requires setup { IsSetup (record { catalog = catalog; desks = desks; workers = workers; versions = versions; keys = keys; opening = tables.items; nights = nights_of nights.items }) }
+        requires setup { IsSetup (setup_of catalog options tables.items (nights_of nights.items)) }
         requires judged { AreJudged catalog nights.items }
-        ensures stands { IfOk result (λ core. StandsWith (record { catalog = catalog; desks = desks; workers = workers; versions = versions; keys = keys; opening = tables.items; nights = nights_of nights.items }) [] core) }
+        ensures stands { IfOk result (λ core. StandsWith (setup_of catalog options tables.items (nights_of nights.items)) [] core) }
         ensures fresh { IfOk result (λ core. IsFresh core) }
     {
+        let MachineOptions {
+            desks,
+            workers,
+            page_keys,
+            versions,
+        } = options;
         let machine = Machine::new(alloc, tables, desks, workers, versions)?;
         Ok(Core {
             alloc,
             catalog,
             nights,
-            keys,
+            keys: page_keys,
             machine,
         })
     }

@@ -61,6 +61,10 @@ pub on_err : {A : Type 0} {E : Type 0} (P : Type 0) (r : Result A E) → P → O
 on_err P (Ok x) p = tt
 on_err P (Err e) p = p
 
+pub on_err_so : {A : Type 0} {E : Type 0} (P Q : Type 0) (r : Result A E) → (P → Q) → OnErr r P → OnErr r Q
+on_err_so P Q (Ok x) f h = tt
+on_err_so P Q (Err e) f h = f h
+
 pub on_ok : {A : Type 0} {E : Type 0} (P Q : Type 0) (r : Result A E) → (P → Q) → OnOk r P → OnOk r Q
 on_ok P Q (Ok x) f h = f h
 on_ok P Q (Err e) f h = tt

@@ -14,9 +14,8 @@ cause_number (cause.Large v) = 2
 cause_number (cause.Range v) = 3
 cause_number (cause.Absent v row) = 4
 cause_number cause.NightOpen = 5
-cause_number cause.WorkerLost = 6
-cause_number cause.LastVersion = 7
-cause_number cause.Held = 8
+cause_number cause.LastVersion = 6
+cause_number cause.Held = 7
 
 -- a fault of carrying out, as a cause
 abbrev pub cause_of : MaintFault → NightCause

@@ -14,17 +14,14 @@ ghost use Rattle.wh_night.specs.Tonight.{night_over};
 ghost use Rattle.wh_night.specs.Inner.Underway.{Given, HasCome, night_given};
 
 use crate::gate::Gate;
-use crate::means::{Means, Progress};
+use crate::means::{Asked, Progress};
 use crate::outlet::Nowhere;
 use crate::stages::through;
-use std::alloc::Global;
 use std::thread::Threads;
 use wh_carry::{Carried, CarryFault, NightState, Report, base_changes, waves};
-use wh_dag::Catalog;
 use wh_formula::{RowTest, RowValue};
 use wh_maint::MaintFault;
 use wh_row::Bag;
-use wh_strategy::Correct;
 
 /// Want of memory, before the first expression.
 fn want_of_memory() -> CarryFault
@@ -57,57 +54,39 @@ fn carried(progress: Progress) -> Carried
 /// It is carried out and refused as [`crate::night`] carries it out and refuses it: first the base changes are tested, view by view,
 /// Absent, then Large; then come the waves, whose jobs are drawn by 1 to 16 workers, and the Insts. Memory may be refused at any point.
 pub fn night_alone<F: RowTest, G: RowValue, T: Gate + Sync, R: Threads + Sync>(
-    rt: &R,
-    alloc: Global,
-    catalog: &Catalog<F, G>,
+    asked: &Asked<'_, F, G, T, R>,
     tables: Vec<Bag>,
-    changes: &[Bag],
-    correct: &Correct,
-    workers: usize,
-    gate: &T,
 ) -> Result<Carried, CarryFault>
-    requires judged { correct.now.children ≡ catalog.now.views.children }
-    requires tables { AreBags catalog.now tables.items }
-    requires changes { AreBags catalog.now changes.now }
-    requires fit { AreFitTables catalog.now tables.items }
-    requires one { 1 ≤ workers }
-    requires sixteen { workers ≤ 16 }
-    ensures carried { IfOk result (λ c. IsNightCarried catalog.now correct.now.list tables.items changes.now c.tables.items c.report) }
+    requires judged { asked.now.correct.now.children ≡ asked.now.catalog.now.views.children }
+    requires tables { AreBags asked.now.catalog.now tables.items }
+    requires changes { AreBags asked.now.catalog.now asked.now.changes.now }
+    requires fit { AreFitTables asked.now.catalog.now tables.items }
+    requires one { 1 ≤ asked.now.budget.now.threads }
+    requires sixteen { asked.now.budget.now.threads ≤ 16 }
+    ensures carried { IfOk result (λ c. IsNightCarried asked.now.catalog.now asked.now.correct.now.list tables.items asked.now.changes.now c.tables.items c.report) }
     ensures refused { IfErr result (λ f. (f.fault ≡ Memory)
-        ⊎ ((keys : ℕ) → IsRefusedSo (night_over catalog.now correct.now.list tables.items changes.now keys) (left_of f.started) f.fault)) }
+        ⊎ ((keys : ℕ) → IsRefusedSo (night_over asked.now.catalog.now asked.now.correct.now.list tables.items asked.now.changes.now keys) (left_of f.started) f.fault)) }
 {
-    if let Err(fault) = base_changes(alloc, catalog, &tables, changes) {
+    let alloc = asked.budget.alloc;
+    if let Err(fault) = base_changes(alloc, asked.catalog, &tables, asked.changes) {
         return Err(CarryFault {
             fault,
             started: false,
         });
     }
     // Makes known that the list is correct.
-    let _ = correct.strategy();
-    let Ok(state) = NightState::over(alloc, catalog, tables, changes) else {
+    let _ = asked.correct.strategy();
+    let Ok(state) = NightState::over(alloc, asked.catalog, tables, asked.changes) else {
         return Err(want_of_memory());
     };
-    let Ok(stages) = waves(alloc, correct) else {
+    let Ok(stages) = waves(alloc, asked.correct) else {
         return Err(want_of_memory());
-    };
-    let means = Means {
-        alloc,
-        catalog,
-        workers,
-        gate,
     };
     let mut progress = Progress {
         state,
         steps: Vec::new(alloc),
     };
-    match through(
-        rt,
-        &Nowhere,
-        &mut (),
-        &means,
-        stages.as_slice(),
-        &mut progress,
-    ) {
+    match through(&Nowhere, &mut (), asked, stages.as_slice(), &mut progress) {
         Ok(()) => Ok(carried(progress)),
         Err(fault) => Err(CarryFault {
             fault,

@@ -19,8 +19,6 @@ pub enum NightCause {
     Absent(usize, NamedRow),
     /// A night is open.
     NightOpen,
-    /// A worker's thread could not be started or gave no result.
-    WorkerLost,
     /// The current version has the last number, 2^64 - 1.
     LastVersion,
     /// An operation is held, and has to go out first.
@@ -38,9 +36,8 @@ impl NightCause {
             NightCause::Range(_) => 3,
             NightCause::Absent(_, _) => 4,
             NightCause::NightOpen => 5,
-            NightCause::WorkerLost => 6,
-            NightCause::LastVersion => 7,
-            NightCause::Held => 8,
+            NightCause::LastVersion => 6,
+            NightCause::Held => 7,
         }
     }
 

@@ -6,7 +6,6 @@
 #![tactic(auto)]
 
 mod alone;
-mod asked;
 mod cause;
 mod gate;
 mod insts;
@@ -20,17 +19,19 @@ mod reading;
 mod running;
 mod serving;
 mod stages;
+mod tested;
 mod watch;
 mod waves;
 
 pub use alone::night_alone;
-pub use asked::{are_fit_for, can_run_wave};
 pub use cause::NightCause;
 pub use gate::{Gate, NoGate};
 pub use laws::nights_have_one_refusal;
 pub use left::{Left, NightFault};
+pub use means::Asked;
 pub use opening::current_tables;
-pub use running::{Options, night, night_from};
-pub use serving::{Readers, Served, serve_night};
+pub use running::{night, night_from};
+pub use serving::{Served, serve_night};
+pub use tested::{are_fit_for, can_run_wave};
 pub use watch::{NoWatch, Watch};
-pub use waves::{WaveFault, run_wave};
+pub use waves::run_wave;

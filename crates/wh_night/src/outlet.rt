@@ -6,8 +6,8 @@ ghost use Rattle.wh_store.specs.Ledgers.{Ledger};
 ghost use Rattle.wh_carry.specs.NightList.{counts_in, pages_of};
 ghost use Rattle.wh_night.specs.Inner.Underway.{ArePartlyOut, TakesRows, behind};
 
-use crate::pages::publish_change;
-use std::alloc::{AllocError, Global};
+use crate::pages::{Pages, publish_change};
+use std::alloc::AllocError;
 use std::sync::Wait;
 use wh_row::Bag;
 use wh_store::Publish;
@@ -26,14 +26,7 @@ pub(crate) trait Outlet<W> {
     ghost keys: { Self → ℕ };
 
     /// Puts the rows of a change, each with its count in the table that has the change.
-    fn put(
-        &self,
-        alloc: Global,
-        writer: &mut W,
-        view: usize,
-        table: &Bag,
-        change: &Bag,
-    ) -> Result<(), AllocError>
+    fn put(&self, writer: &mut W, view: usize, table: &Bag, change: &Bag) -> Result<(), AllocError>
         requires some { 1 ≤ keys self.now }
         requires takes { IfSome (kept writer.old) (TakesRows (keys self.now) view (counts_in table.now change.now)) }
         ensures home { home writer.new ≡ home writer.old }
@@ -55,7 +48,6 @@ impl Outlet<()> for Nowhere {
 
     fn put(
         &self,
-        _alloc: Global,
         _writer: &mut (),
         _view: usize,
         _table: &Bag,
@@ -63,14 +55,6 @@ impl Outlet<()> for Nowhere {
     ) -> Result<(), AllocError> {
         Ok(())
     }
-}
-
-/// Pages of at most so many rows, which are published.
-#[derive(Drop)]
-pub(crate) struct Pages<'r, R> {
-    pub(crate) rt: &'r R,
-    /// 1 to 256.
-    pub(crate) keys: usize,
 }
 
 impl<P: Publish, R: Wait> Outlet<P> for Pages<'_, R> {
@@ -84,12 +68,11 @@ impl<P: Publish, R: Wait> Outlet<P> for Pages<'_, R> {
 
     fn put(
         &self,
-        alloc: Global,
         writer: &mut P,
         view: usize,
         table: &Bag,
         change: &Bag,
     ) -> Result<(), AllocError> {
-        publish_change(self.rt, alloc, writer, view, self.keys, table, change)
+        publish_change(self, writer, view, table, change)
     }
 }

@@ -15,10 +15,18 @@ use std::sync::Wait;
 use wh_row::{Bag, Row};
 use wh_store::{Op, Publish, PublishFault};
 
+/// By what pages go out, and how many rows one has at most.
+#[derive(Drop)]
+pub(crate) struct Pages<'r, R> {
+    pub(crate) rt: &'r R,
+    pub(crate) alloc: Global,
+    /// 1 to 256.
+    pub(crate) keys: usize,
+}
+
 /// Publishes these rows as a page of its own, and begins the next.
 fn publish_page<P: Publish, R: Wait>(
-    rt: &R,
-    alloc: Global,
+    pages: &Pages<'_, R>,
     writer: &mut P,
     view: usize,
     page: &mut Vec<(Row, i64)>,
@@ -30,8 +38,8 @@ fn publish_page<P: Publish, R: Wait>(
     ensures out { OnOk result (P.kept writer.new ≡ goes_out (P.kept writer.old) (Writes view (plain page.old.items) ∷ []) None) }
     ensures err { OnErr result ((rest : List Operation) → IsPartly (P.kept writer.old) (Writes view (plain page.old.items) ∷ rest) (P.kept writer.new)) }
 {
-    let rows = std::mem::replace(page, Vec::new(alloc));
-    match writer.publish(rt, Op::Put(view, rows)) {
+    let rows = std::mem::replace(page, Vec::new(pages.alloc));
+    match writer.publish(pages.rt, Op::Put(view, rows)) {
         Ok(()) => Ok(()),
         Err(PublishFault::Memory { held: _ }) => Err(AllocError),
         Err(_) => unreachable!(),
@@ -40,49 +48,44 @@ fn publish_page<P: Publish, R: Wait>(
 
 /// Publishes the page if it is full.
 fn make_room<P: Publish, R: Wait>(
-    rt: &R,
-    alloc: Global,
+    pages: &Pages<'_, R>,
     writer: &mut P,
     view: usize,
-    keys: usize,
     page: &mut Vec<(Row, i64)>,
 ) -> Result<(), AllocError>
     requires takes { TakesPages (P.kept writer.old) view }
-    requires some { 1 ≤ keys }
-    requires few { length page.old.items ≤ keys }
-    requires good { length page.old.items ≡ keys → is_page (plain page.old.items) ≡ true }
+    requires some { 1 ≤ pages.now.keys }
+    requires few { length page.old.items ≤ pages.now.keys }
+    requires good { length page.old.items ≡ pages.now.keys → is_page (plain page.old.items) ≡ true }
     ensures home { P.home writer.new ≡ P.home writer.old }
-    ensures room { OnOk result (length page.new.items < keys) }
-    ensures out { OnOk result (GoesOut view keys (plain page.old.items) (plain page.new.items) (P.kept writer.old) (P.kept writer.new)) }
-    ensures err { OnErr result ((rest : Counted) → IsPartly (P.kept writer.old) (map (Writes view) (pages_of keys (plain page.old.items ++ rest))) (P.kept writer.new)) }
+    ensures room { OnOk result (length page.new.items < pages.now.keys) }
+    ensures out { OnOk result (GoesOut view pages.now.keys (plain page.old.items) (plain page.new.items) (P.kept writer.old) (P.kept writer.new)) }
+    ensures err { OnErr result ((rest : Counted) → IsPartly (P.kept writer.old) (map (Writes view) (pages_of pages.now.keys (plain page.old.items ++ rest))) (P.kept writer.new)) }
 {
-    if page.len() == keys {
-        publish_page(rt, alloc, writer, view, page)?;
+    if page.len() == pages.keys {
+        publish_page(pages, writer, view, page)?;
     }
     Ok(())
 }
 
 /// Publishes the page if it has a row.
 fn close_last<P: Publish, R: Wait>(
-    rt: &R,
-    alloc: Global,
+    pages: &Pages<'_, R>,
     writer: &mut P,
     view: usize,
-    keys: usize,
     page: &mut Vec<(Row, i64)>,
 ) -> Result<(), AllocError>
     requires takes { TakesPages (P.kept writer.old) view }
-    requires few { length page.old.items ≤ keys }
+    requires few { length page.old.items ≤ pages.now.keys }
     requires good { 1 ≤ length page.old.items → is_page (plain page.old.items) ≡ true }
     ensures home { P.home writer.new ≡ P.home writer.old }
-    ensures out { OnOk result (P.kept writer.new ≡ goes_out (P.kept writer.old) (map (Writes view) (pages_of keys (plain page.old.items))) None) }
-    ensures err { OnErr result (IsPartly (P.kept writer.old) (map (Writes view) (pages_of keys (plain page.old.items))) (P.kept writer.new)) }
+    ensures out { OnOk result (P.kept writer.new ≡ goes_out (P.kept writer.old) (map (Writes view) (pages_of pages.now.keys (plain page.old.items))) None) }
+    ensures err { OnErr result (IsPartly (P.kept writer.old) (map (Writes view) (pages_of pages.now.keys (plain page.old.items))) (P.kept writer.new)) }
 {
     if page.len() == 0 {
         return Ok(());
     }
-    publish_page(rt, alloc, writer, view, page)?;
-    Ok(())
+    publish_page(pages, writer, view, page)
 }
 
 /// Puts a row behind those of the open page, with its count in the table.
@@ -100,28 +103,25 @@ fn put_row(
 }
 
 /// Publishes the rows of a change in rising order, each with its count in the table that has the change, by pages of at
-/// most `keys` rows.
+/// most so many rows.
 pub(crate) fn publish_change<P: Publish, R: Wait>(
-    rt: &R,
-    alloc: Global,
+    pages: &Pages<'_, R>,
     writer: &mut P,
     view: usize,
-    keys: usize,
     table: &Bag,
     change: &Bag,
 ) -> Result<(), AllocError>
     requires takes { TakesPages (P.kept writer.old) view }
-    requires some { 1 ≤ keys }
-    requires good { AreGoodPages keys (counts_in table.now change.now) }
+    requires some { 1 ≤ pages.now.keys }
+    requires good { AreGoodPages pages.now.keys (counts_in table.now change.now) }
     ensures home { P.home writer.new ≡ P.home writer.old }
-    ensures out { OnOk result (P.kept writer.new ≡ goes_out (P.kept writer.old) (map (Writes view) (pages_of keys (counts_in table.now change.now))) None) }
-    ensures err { OnErr result (IsPartly (P.kept writer.old) (map (Writes view) (pages_of keys (counts_in table.now change.now))) (P.kept writer.new)) }
+    ensures out { OnOk result (P.kept writer.new ≡ goes_out (P.kept writer.old) (map (Writes view) (pages_of pages.now.keys (counts_in table.now change.now))) None) }
+    ensures err { OnErr result (IsPartly (P.kept writer.old) (map (Writes view) (pages_of pages.now.keys (counts_in table.now change.now))) (P.kept writer.new)) }
 {
-    let mut page = Vec::new(alloc);
+    let mut page = Vec::new(pages.alloc);
     for (row, _) in change.rows() {
-        make_room(rt, alloc, writer, view, keys, &mut page)?;
-        put_row(alloc, table, row, &mut page)?;
+        make_room(pages, writer, view, &mut page)?;
+        put_row(pages.alloc, table, row, &mut page)?;
     }
-    close_last(rt, alloc, writer, view, keys, &mut page)?;
-    Ok(())
+    close_last(pages, writer, view, &mut page)
 }

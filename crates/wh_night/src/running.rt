@@ -24,30 +24,19 @@ ghost use Rattle.wh_night.specs.Published.{IsPublished};
 ghost use Rattle.wh_night.specs.Inner.Underway.{CanStart, Given, HasCome, IsPut, IsRefusedLater, IsStopped, WaitsToCommit, night_given};
 
 use crate::gate::Gate;
-use crate::means::{Means, Progress};
+use crate::means::{Asked, Progress};
 use crate::opening::{current_tables, not_ready};
-use crate::outlet::Pages;
+use crate::pages::Pages;
 use crate::stages::through;
 use crate::{Left, NightCause, NightFault};
-use std::alloc::Global;
 use std::sync::Wait;
 use std::thread::Threads;
 use wh_carry::{Carried, NightState, Report, Stage, base_changes, waves};
-use wh_dag::Catalog;
 use wh_formula::{RowTest, RowValue};
 use wh_maint::MaintFault;
 use wh_row::Bag;
 use wh_store::{Op, Publish, PublishFault};
-use wh_strategy::{Correct, Expression};
-
-/// How a night is run.
-#[derive(Clone, Copy, Debug)]
-pub struct Options {
-    /// How many workers draw jobs, each in a thread, 1 to 16.
-    pub workers: usize,
-    /// How many rows of a view one operation writes at most, 1 to 256.
-    pub page_keys: usize,
-}
+use wh_strategy::Expression;
 
 /// What a night leaves that published nothing.
 fn untouched(cause: NightCause) -> NightFault
@@ -151,38 +140,41 @@ fn commit<P: Publish, R: Wait>(
 
 /// Publishes a night whose stages these are.
 fn run<P: Publish, F: RowTest, G: RowValue, T: Gate + Sync, R: Threads + Wait + Sync>(
-    rt: &R,
     writer: &mut P,
-    means: &Means<'_, F, G, T>,
-    keys: usize,
+    asked: &Asked<'_, F, G, T, R>,
     stages: &[Stage],
     progress: Progress,
 ) -> Result<Carried, NightFault>
     requires free { publish_refusal (P.kept writer.old) Opens ≡ None }
-    requires parts { HaveParts means.now.catalog.now progress.state }
-    requires fit { CanFinish means.now.catalog.now (kept progress.state) }
-    requires stages { (i : ℕ) (stage : StageOf) → slice_get stages.now i ≡ Some stage → IsStageIn means.now.catalog.now stage }
-    requires begins { CanStart means.now.catalog.now keys stages.now (kept progress.state) progress.steps.items (P.kept writer.old) }
-    requires some { 1 ≤ keys }
-    requires few { keys ≤ 256 }
-    requires least { 1 ≤ means.now.workers }
-    requires most { means.now.workers ≤ 16 }
+    requires parts { HaveParts asked.now.catalog.now progress.state }
+    requires fit { CanFinish asked.now.catalog.now (kept progress.state) }
+    requires stages { (i : ℕ) (stage : StageOf) → slice_get stages.now i ≡ Some stage → IsStageIn asked.now.catalog.now stage }
+    requires begins { CanStart asked.now.catalog.now asked.now.page_keys stages.now (kept progress.state) progress.steps.items (P.kept writer.old) }
+    requires some { 1 ≤ asked.now.page_keys }
+    requires few { asked.now.page_keys ≤ 256 }
+    requires least { 1 ≤ asked.now.budget.now.threads }
+    requires most { asked.now.budget.now.threads ≤ 16 }
     ensures home { P.home writer.new ≡ P.home writer.old }
     ensures version { IfOk result (λ c. c.report.version ≡ number (versions_in (P.kept writer.new).of (P.kept writer.new).list)) }
-    ensures bags { IfOk result (λ c. AreBags means.now.catalog.now c.tables.items) }
-    ensures done { IfOk result (λ c. (t : Given) → t.before ≡ Some (P.kept writer.old) → stages.now ≡ stages_of t.list → HasCome (night_given means.now.catalog.now keys t) 0 (kept progress.state) progress.steps.items
-        → IsDone (night_given means.now.catalog.now keys t) (P.kept writer.old) (P.kept writer.new)
-        × ArePassedBelow means.now.catalog.now t.list t.tables t.changes (length t.list)
-        × AreSteps means.now.catalog.now.views.children t.list t.tables (made_by (night_given means.now.catalog.now keys t)) c.report.steps.items
-        × ((v : ℕ) → bag_at c.tables.items v ≡ made_by (night_given means.now.catalog.now keys t) v)) }
-    ensures refused { IfErr result (λ f. (t : Given) → t.before ≡ Some (P.kept writer.old) → stages.now ≡ stages_of t.list → HasCome (night_given means.now.catalog.now keys t) 0 (kept progress.state) progress.steps.items
-        → AreAllowed (night_given means.now.catalog.now keys t)
-        → Leaves (night_given means.now.catalog.now keys t) f.cause (P.kept writer.old) f.left (P.kept writer.new) × IsRefusedLater (night_given means.now.catalog.now keys t) f) }
+    ensures bags { IfOk result (λ c. AreBags asked.now.catalog.now c.tables.items) }
+    ensures done { IfOk result (λ c. (t : Given) → t.before ≡ Some (P.kept writer.old) → stages.now ≡ stages_of t.list → HasCome (night_given asked.now.catalog.now asked.now.page_keys t) 0 (kept progress.state) progress.steps.items
+        → IsDone (night_given asked.now.catalog.now asked.now.page_keys t) (P.kept writer.old) (P.kept writer.new)
+        × ArePassedBelow asked.now.catalog.now t.list t.tables t.changes (length t.list)
+        × AreSteps asked.now.catalog.now.views.children t.list t.tables (made_by (night_given asked.now.catalog.now asked.now.page_keys t)) c.report.steps.items
+        × ((v : ℕ) → bag_at c.tables.items v ≡ made_by (night_given asked.now.catalog.now asked.now.page_keys t) v)) }
+    ensures refused { IfErr result (λ f. (t : Given) → t.before ≡ Some (P.kept writer.old) → stages.now ≡ stages_of t.list → HasCome (night_given asked.now.catalog.now asked.now.page_keys t) 0 (kept progress.state) progress.steps.items
+        → AreAllowed (night_given asked.now.catalog.now asked.now.page_keys t)
+        → Leaves (night_given asked.now.catalog.now asked.now.page_keys t) f.cause (P.kept writer.old) f.left (P.kept writer.new) × IsRefusedLater (night_given asked.now.catalog.now asked.now.page_keys t) f) }
 {
+    let rt = asked.budget.rt;
     begin(rt, writer)?;
     let mut progress = progress;
-    let pages = Pages { rt, keys };
-    if let Err(fault) = through(rt, &pages, writer, means, stages, &mut progress) {
+    let pages = Pages {
+        rt,
+        alloc: asked.budget.alloc,
+        keys: asked.page_keys,
+    };
+    if let Err(fault) = through(&pages, writer, asked, stages, &mut progress) {
         return Err(given_up(rt, writer, fault));
     }
     let Progress { state, steps } = progress;
@@ -207,108 +199,83 @@ fn run<P: Publish, F: RowTest, G: RowValue, T: Gate + Sync, R: Threads + Wait + 
 /// finished, it is; then its new counts go out, `page_keys` rows at a time. The first refusal gives the night up. Memory
 /// may be refused at any point.
 pub fn night<P: Publish, F: RowTest, G: RowValue, T: Gate + Sync, R: Threads + Wait + Sync>(
-    rt: &R,
-    alloc: Global,
     writer: &mut P,
-    catalog: &Catalog<F, G>,
-    changes: &[Bag],
-    correct: &Correct,
-    options: Options,
-    gate: &T,
+    asked: &Asked<'_, F, G, T, R>,
 ) -> Result<Report, NightFault>
-    requires judged { correct.now.children ≡ catalog.now.views.children }
-    requires tables { AreBags catalog.now (newest_in (P.kept writer.old)) }
-    requires changes { AreBags catalog.now changes.now }
-    requires fit { AreFitFor catalog.now (bag_at changes.now) correct.now.list (bag_at (newest_in (P.kept writer.old))) }
-    requires one { 1 ≤ options.workers }
-    requires sixteen { options.workers ≤ 16 }
-    requires least { 1 ≤ options.page_keys }
-    requires most { options.page_keys ≤ 256 }
+    requires judged { asked.now.correct.now.children ≡ asked.now.catalog.now.views.children }
+    requires tables { AreBags asked.now.catalog.now (newest_in (P.kept writer.old)) }
+    requires changes { AreBags asked.now.catalog.now asked.now.changes.now }
+    requires fit { AreFitFor asked.now.catalog.now (bag_at asked.now.changes.now) asked.now.correct.now.list (bag_at (newest_in (P.kept writer.old))) }
+    requires one { 1 ≤ asked.now.budget.now.threads }
+    requires sixteen { asked.now.budget.now.threads ≤ 16 }
+    requires least { 1 ≤ asked.now.page_keys }
+    requires most { asked.now.page_keys ≤ 256 }
     ensures home { P.home writer.new ≡ P.home writer.old }
-    ensures published { IfOk result (λ r. IsPublished catalog.now correct.now.list (P.kept writer.old) changes.now options.page_keys r (P.kept writer.new)) }
-    ensures leaves { IfErr result (λ f. Leaves (tonight catalog.now correct.now.list (P.kept writer.old) changes.now options.page_keys) f.cause (P.kept writer.old) f.left (P.kept writer.new)) }
+    ensures published { IfOk result (λ r. IsPublished asked.now.catalog.now asked.now.correct.now.list (P.kept writer.old) asked.now.changes.now asked.now.page_keys r (P.kept writer.new)) }
+    ensures leaves { IfErr result (λ f. Leaves (tonight asked.now.catalog.now asked.now.correct.now.list (P.kept writer.old) asked.now.changes.now asked.now.page_keys) f.cause (P.kept writer.old) f.left (P.kept writer.new)) }
     ensures newest { OnErr result (newest_in (P.kept writer.new) ≡ newest_in (P.kept writer.old)) }
-    ensures sound { IsSound catalog.now (P.kept writer.old) → IsSound catalog.now (P.kept writer.new) }
+    ensures sound { IsSound asked.now.catalog.now (P.kept writer.old) → IsSound asked.now.catalog.now (P.kept writer.new) }
     ensures refused { MatchOption (publish_refusal (P.kept writer.old) Opens)
-        (IfErr result (IsRefused (tonight catalog.now correct.now.list (P.kept writer.old) changes.now options.page_keys)))
+        (IfErr result (IsRefused (tonight asked.now.catalog.now asked.now.correct.now.list (P.kept writer.old) asked.now.changes.now asked.now.page_keys)))
         (λ fault. result ≡ Err (record { cause = cause_of_begin fault; left = Untouched })) }
 {
     if let Some(cause) = not_ready(writer) {
         return Err(untouched(cause));
     }
-    let Ok(tables) = current_tables(alloc, writer, catalog.shape().len()) else {
+    let views = asked.catalog.shape().len();
+    let Ok(tables) = current_tables(asked.budget.alloc, writer, views) else {
         return Err(untouched(NightCause::Memory));
     };
-    let carried = night_from(
-        rt, alloc, writer, catalog, tables, changes, correct, options, gate,
-    )?;
+    let carried = night_from(writer, asked, tables)?;
     Ok(carried.report)
 }
 
 /// As [`night`], from these tables, which are those of the current version: whoever has them need not copy them out of what is
 /// published. They are changed where they lie; answers them as they stand after the night, with its report.
 pub fn night_from<P: Publish, F: RowTest, G: RowValue, T: Gate + Sync, R: Threads + Wait + Sync>(
-    rt: &R,
-    alloc: Global,
     writer: &mut P,
-    catalog: &Catalog<F, G>,
+    asked: &Asked<'_, F, G, T, R>,
     tables: Vec<Bag>,
-    changes: &[Bag],
-    correct: &Correct,
-    options: Options,
-    gate: &T,
 ) -> Result<Carried, NightFault>
-    requires judged { correct.now.children ≡ catalog.now.views.children }
-    requires tables { AreBags catalog.now (newest_in (P.kept writer.old)) }
+    requires judged { asked.now.correct.now.children ≡ asked.now.catalog.now.views.children }
+    requires tables { AreBags asked.now.catalog.now (newest_in (P.kept writer.old)) }
     requires current { tables.items ≡ newest_in (P.kept writer.old) }
-    requires changes { AreBags catalog.now changes.now }
-    requires fit { AreFitFor catalog.now (bag_at changes.now) correct.now.list (bag_at (newest_in (P.kept writer.old))) }
-    requires one { 1 ≤ options.workers }
-    requires sixteen { options.workers ≤ 16 }
-    requires least { 1 ≤ options.page_keys }
-    requires most { options.page_keys ≤ 256 }
+    requires changes { AreBags asked.now.catalog.now asked.now.changes.now }
+    requires fit { AreFitFor asked.now.catalog.now (bag_at asked.now.changes.now) asked.now.correct.now.list (bag_at (newest_in (P.kept writer.old))) }
+    requires one { 1 ≤ asked.now.budget.now.threads }
+    requires sixteen { asked.now.budget.now.threads ≤ 16 }
+    requires least { 1 ≤ asked.now.page_keys }
+    requires most { asked.now.page_keys ≤ 256 }
     ensures home { P.home writer.new ≡ P.home writer.old }
-    ensures published { IfOk result (λ c. IsPublished catalog.now correct.now.list (P.kept writer.old) changes.now options.page_keys c.report (P.kept writer.new)) }
+    ensures published { IfOk result (λ c. IsPublished asked.now.catalog.now asked.now.correct.now.list (P.kept writer.old) asked.now.changes.now asked.now.page_keys c.report (P.kept writer.new)) }
     ensures tables { IfOk result (λ c. c.tables.items ≡ newest_in (P.kept writer.new)) }
-    ensures leaves { IfErr result (λ f. Leaves (tonight catalog.now correct.now.list (P.kept writer.old) changes.now options.page_keys) f.cause (P.kept writer.old) f.left (P.kept writer.new)) }
+    ensures leaves { IfErr result (λ f. Leaves (tonight asked.now.catalog.now asked.now.correct.now.list (P.kept writer.old) asked.now.changes.now asked.now.page_keys) f.cause (P.kept writer.old) f.left (P.kept writer.new)) }
     ensures newest { OnErr result (newest_in (P.kept writer.new) ≡ newest_in (P.kept writer.old)) }
-    ensures sound { IsSound catalog.now (P.kept writer.old) → IsSound catalog.now (P.kept writer.new) }
+    ensures sound { IsSound asked.now.catalog.now (P.kept writer.old) → IsSound asked.now.catalog.now (P.kept writer.new) }
     ensures refused { MatchOption (publish_refusal (P.kept writer.old) Opens)
-        (IfErr result (IsRefused (tonight catalog.now correct.now.list (P.kept writer.old) changes.now options.page_keys)))
+        (IfErr result (IsRefused (tonight asked.now.catalog.now asked.now.correct.now.list (P.kept writer.old) asked.now.changes.now asked.now.page_keys)))
         (λ fault. result ≡ Err (record { cause = cause_of_begin fault; left = Untouched })) }
 {
     if let Some(cause) = not_ready(writer) {
         return Err(untouched(cause));
     }
-    if let Err(fault) = base_changes(alloc, catalog, &tables, changes) {
+    let alloc = asked.budget.alloc;
+    if let Err(fault) = base_changes(alloc, asked.catalog, &tables, asked.changes) {
         return Err(untouched(NightCause::of(fault)));
     }
     // Makes known that the list is correct.
-    let _ = correct.strategy();
-    let Ok(state) = NightState::over(alloc, catalog, tables, changes) else {
+    let _ = asked.correct.strategy();
+    let Ok(state) = NightState::over(alloc, asked.catalog, tables, asked.changes) else {
         return Err(untouched(NightCause::Memory));
     };
-    let Ok(stages) = waves(alloc, correct) else {
+    let Ok(stages) = waves(alloc, asked.correct) else {
         return Err(untouched(NightCause::Memory));
-    };
-    let means = Means {
-        alloc,
-        catalog,
-        workers: options.workers,
-        gate,
     };
     let progress = Progress {
         state,
         steps: Vec::new(alloc),
     };
-    let answer = run(
-        rt,
-        writer,
-        &means,
-        options.page_keys,
-        stages.as_slice(),
-        progress,
-    );
+    let answer = run(writer, asked, stages.as_slice(), progress);
     // Makes known that the published list is well formed.
     let _ = writer.current();
     answer

@@ -19,29 +19,19 @@ ghost use Rattle.wh_night.specs.Inner.Serving.{CanRun, IsReady, IsRun, IsSeated,
 use crate::alone::night_alone;
 use crate::cause::NightCause;
 use crate::left::{Left, NightFault};
+use crate::means::Asked;
 use crate::reading::read_each;
-use crate::running::{Options, night_from};
+use crate::running::night_from;
 use crate::watch::Watch;
 use std::alloc::Global;
 use std::sync::Wait;
 use std::thread::{Threads, join, join_mut};
 use wh_carry::{Carried, CarryFault, Report};
-use wh_dag::Catalog;
 use wh_desk::{Desk, Writer, open_with_copy};
 use wh_formula::{RowTest, RowValue};
 use wh_maint::MaintFault;
 use wh_row::Bag;
 use wh_store::{MIN_VERSIONS, Store};
-use wh_strategy::Correct;
-
-/// Who reads beside a night.
-#[derive(Drop)]
-pub struct Readers<'w, W> {
-    /// How many readers there are, 0 to 16, each in a thread of its own where one can be started.
-    pub count: usize,
-    /// Is told of each reader, and of each job of the night.
-    pub watch: &'w W,
-}
 
 /// What a night made while readers were served.
 #[derive(Drop)]
@@ -52,17 +42,6 @@ pub struct Served {
     pub report: Report,
     /// How many distinct rows each reader was given.
     pub rows: Vec<usize>,
-}
-
-/// The night that is asked for. Nothing of it is changed.
-#[derive(Drop)]
-struct Asked<'n, F: RowTest, G: RowValue, W: Watch> {
-    alloc: Global,
-    catalog: &'n Catalog<F, G>,
-    changes: &'n [Bag],
-    correct: &'n Correct,
-    options: Options,
-    watch: &'n W,
 }
 
 /// Opens a session of version 0 at each desk. False where one has no answer, or another version.
@@ -81,8 +60,7 @@ fn sit_down(desks: &mut Vec<Desk>) -> bool
 /// Runs a night from these tables while desks go through all views, each in a thread of its own where one can be started, and else
 /// after the night.
 fn beside_readers<F: RowTest, G: RowValue, W: Watch + Sync, R: Threads + Wait + Sync>(
-    rt: &R,
-    asked: &Asked<'_, F, G, W>,
+    asked: &Asked<'_, F, G, W, R>,
     writer: &mut Writer,
     desks: &mut Vec<Desk>,
     tables: &mut Vec<Bag>,
@@ -90,18 +68,13 @@ fn beside_readers<F: RowTest, G: RowValue, W: Watch + Sync, R: Threads + Wait + 
     requires seated { All (IsReady (length tables.old.items)) desks.old.items }
     requires same { All (λ d. d.of ≡ writer.old.ledger.of) desks.old.items }
     requires current { tables.old.items ≡ newest_in writer.old.ledger }
-    requires ready { CanRun asked.now.catalog.now asked.now.correct.now writer.old.ledger asked.now.changes.now asked.now.options }
+    requires ready { CanRun asked.now.catalog.now asked.now.correct.now writer.old.ledger asked.now.changes.now asked.now.budget.now.threads asked.now.page_keys }
     ensures rows { IfSome result.0 (λ rows. rows.items ≡ replicate (length desks.old.items) (rows_of writer.old.ledger.of.opening)) }
-    ensures night { IsRun asked.now.catalog.now asked.now.correct.now.list writer.old.ledger asked.now.changes.now asked.now.options.page_keys result.1 writer.new.ledger }
+    ensures night { IsRun asked.now.catalog.now asked.now.correct.now.list writer.old.ledger asked.now.changes.now asked.now.page_keys result.1 writer.new.ledger }
 {
-    let Asked {
-        alloc,
-        catalog,
-        changes,
-        correct,
-        options,
-        watch,
-    } = *asked;
+    let rt = asked.budget.rt;
+    let alloc = asked.budget.alloc;
+    let watch = asked.gate;
     let views = tables.len();
     join_mut(
         rt,
@@ -113,13 +86,11 @@ fn beside_readers<F: RowTest, G: RowValue, W: Watch + Sync, R: Threads + Wait + 
             read_each(rt, alloc, seated, views, watch)
         },
         &mut || -> Result<Carried, NightFault>
-            requires { CanRun catalog.now correct.now writer.now.ledger changes.now options × (tables.now.items ≡ newest_in writer.now.ledger) }
-            ensures { IsRun catalog.entry.now correct.entry.now.list writer.entry.now.ledger changes.entry.now options.page_keys result writer.exit.now.ledger }
+            requires { CanRun asked.now.catalog.now asked.now.correct.now writer.now.ledger asked.now.changes.now asked.now.budget.now.threads asked.now.page_keys × (tables.now.items ≡ newest_in writer.now.ledger) }
+            ensures { IsRun asked.entry.now.catalog.now asked.entry.now.correct.now.list writer.entry.now.ledger asked.entry.now.changes.now asked.entry.now.page_keys result writer.exit.now.ledger }
         {
             let current = std::mem::replace(tables, Vec::new(alloc));
-            night_from(
-                rt, alloc, writer, catalog, current, changes, correct, options, watch,
-            )
+            night_from(writer, asked, current)
         },
     )
 }
@@ -178,35 +149,25 @@ fn answer_of(
 
 /// A night without readers, over the tables as they lie.
 fn serve_none<F: RowTest, G: RowValue, W: Watch + Sync, R: Threads + Sync>(
-    rt: &R,
-    asked: &Asked<'_, F, G, W>,
+    asked: &Asked<'_, F, G, W, R>,
     tables: Vec<Bag>,
 ) -> Result<Served, CarryFault>
     requires judged { asked.now.correct.now.children ≡ asked.now.catalog.now.views.children }
     requires tables { AreBags asked.now.catalog.now tables.items }
     requires changes { AreBags asked.now.catalog.now asked.now.changes.now }
     requires fit { AreFitTables asked.now.catalog.now tables.items }
-    requires some { 1 ≤ asked.now.options.workers }
-    requires few { asked.now.options.workers ≤ 16 }
+    requires some { 1 ≤ asked.now.budget.now.threads }
+    requires few { asked.now.budget.now.threads ≤ 16 }
     ensures carried { IfOk result (λ s. IsNightCarried asked.now.catalog.now asked.now.correct.now.list tables.items asked.now.changes.now s.tables.items s.report) }
     ensures rows { IfOk result (λ s. s.rows.items ≡ []) }
     ensures refused { IfErr result (λ f. (f.fault ≡ Memory)
         ⊎ ((keys : ℕ) → IsRefusedSo (night_over asked.now.catalog.now asked.now.correct.now.list tables.items asked.now.changes.now keys) (left_of f.started) f.fault)) }
 {
-    let Carried { tables, report } = night_alone(
-        rt,
-        asked.alloc,
-        asked.catalog,
-        tables,
-        asked.changes,
-        asked.correct,
-        asked.options.workers,
-        asked.watch,
-    )?;
+    let Carried { tables, report } = night_alone(asked, tables)?;
     Ok(Served {
         tables,
         report,
-        rows: Vec::new(asked.alloc),
+        rows: Vec::new(asked.budget.alloc),
     })
 }
 
@@ -243,24 +204,25 @@ fn two_stores<R: Threads + Sync>(rt: &R, alloc: Global, tables: &[Bag]) -> Optio
 
 /// A night beside one reader at least, over new stores of these tables.
 fn serve_some<F: RowTest, G: RowValue, W: Watch + Sync, R: Threads + Wait + Sync>(
-    rt: &R,
-    asked: &Asked<'_, F, G, W>,
+    asked: &Asked<'_, F, G, W, R>,
     stores: (Store, Store),
     tables: Vec<Bag>,
     readers: usize,
 ) -> Result<Served, CarryFault>
     requires first { stores.0 ≡ opened tables.items }
     requires second { stores.1 ≡ opened tables.items }
-    requires ready { CanRun asked.now.catalog.now asked.now.correct.now (newly tables.items) asked.now.changes.now asked.now.options }
+    requires ready { CanRun asked.now.catalog.now asked.now.correct.now (newly tables.items) asked.now.changes.now asked.now.budget.now.threads asked.now.page_keys }
     requires least { 1 ≤ readers }
     requires most { readers ≤ 16 }
-    ensures run { IfOk result (IsServed asked.now.catalog.now asked.now.correct.now.list (newly tables.items) asked.now.changes.now asked.now.options.page_keys) }
+    ensures run { IfOk result (IsServed asked.now.catalog.now asked.now.correct.now.list (newly tables.items) asked.now.changes.now asked.now.page_keys) }
     ensures rows { IfOk result (λ s. s.rows.items ≡ replicate readers (rows_of tables.items)) }
     ensures refused { IfErr result (λ f. (f.fault ≡ Memory)
-        ⊎ IsRefusedSo (night_over asked.now.catalog.now asked.now.correct.now.list tables.items asked.now.changes.now asked.now.options.page_keys) (left_of f.started) f.fault) }
+        ⊎ IsRefusedSo (night_over asked.now.catalog.now asked.now.correct.now.list tables.items asked.now.changes.now asked.now.page_keys) (left_of f.started) f.fault) }
 {
+    let rt = asked.budget.rt;
     let (store, copy) = stores;
-    let Ok((mut writer, mut desks)) = open_with_copy(rt, asked.alloc, store, copy, readers) else {
+    let Ok((mut writer, mut desks)) = open_with_copy(rt, asked.budget.alloc, store, copy, readers)
+    else {
         return Err(want_of_memory());
     };
     if !sit_down(&mut desks) {
@@ -268,7 +230,7 @@ fn serve_some<F: RowTest, G: RowValue, W: Watch + Sync, R: Threads + Wait + Sync
         return Err(want_of_memory());
     }
     let mut tables = tables;
-    let (rows, night) = beside_readers(rt, asked, &mut writer, &mut desks, &mut tables);
+    let (rows, night) = beside_readers(asked, &mut writer, &mut desks, &mut tables);
     writer.end(rt);
     answer_of(night, rows)
 }
@@ -277,50 +239,36 @@ fn serve_some<F: RowTest, G: RowValue, W: Watch + Sync, R: Threads + Wait + Sync
 /// the contents of a base are for every night (`are_fit_for` tests it). There is a change for each view; those of derived views are
 /// not read. The strategy was judged over this catalogue's shape (`is_of` tests it).
 ///
-/// Each reader opens its session before the night begins, and reads each view once, in pages of 256 rows. The watch is told before
-/// a reader's first page and after its last, and of each job as a [`crate::Gate`] is; readers for which no thread can be started
-/// read after the night. The night goes wave by wave and is refused as [`crate::night`] refuses it; want of memory is also told
+/// There are 0 to 16 readers. Each opens its session before the night begins, and reads each view once, in pages of 256 rows. The
+/// gate is a [`Watch`]: it is told of each job, and before a reader's first page and after its last; readers for which no thread can
+/// be started read after the night. The night goes wave by wave and is refused as [`crate::night`] refuses it; want of memory is also told
 /// where a reader was not answered. Where there are no readers the tables are changed where they lie, and none is copied.
 pub fn serve_night<F: RowTest, G: RowValue, W: Watch + Sync, R: Threads + Wait + Sync>(
-    rt: &R,
-    alloc: Global,
-    catalog: &Catalog<F, G>,
+    asked: &Asked<'_, F, G, W, R>,
     tables: Vec<Bag>,
-    changes: &[Bag],
-    correct: &Correct,
-    options: Options,
-    readers: Readers<'_, W>,
+    readers: usize,
 ) -> Result<Served, CarryFault>
-    requires judged { correct.now.children ≡ catalog.now.views.children }
-    requires tables { AreBags catalog.now tables.items }
-    requires changes { AreBags catalog.now changes.now }
-    requires fit { AreFitFor catalog.now (bag_at changes.now) correct.now.list (bag_at tables.items) }
-    requires some { 1 ≤ options.workers }
-    requires few { options.workers ≤ 16 }
-    requires least { 1 ≤ options.page_keys }
-    requires most { options.page_keys ≤ 256 }
-    requires readers { readers.count ≤ 16 }
-    ensures carried { IfOk result (λ s. IsNightCarried catalog.now correct.now.list tables.items changes.now s.tables.items s.report) }
-    ensures rows { IfOk result (λ s. s.rows.items ≡ replicate readers.entry.count (rows_of tables.items)) }
+    requires judged { asked.now.correct.now.children ≡ asked.now.catalog.now.views.children }
+    requires tables { AreBags asked.now.catalog.now tables.items }
+    requires changes { AreBags asked.now.catalog.now asked.now.changes.now }
+    requires fit { AreFitFor asked.now.catalog.now (bag_at asked.now.changes.now) asked.now.correct.now.list (bag_at tables.items) }
+    requires some { 1 ≤ asked.now.budget.now.threads }
+    requires few { asked.now.budget.now.threads ≤ 16 }
+    requires least { 1 ≤ asked.now.page_keys }
+    requires most { asked.now.page_keys ≤ 256 }
+    requires readers { readers ≤ 16 }
+    ensures carried { IfOk result (λ s. IsNightCarried asked.now.catalog.now asked.now.correct.now.list tables.items asked.now.changes.now s.tables.items s.report) }
+    ensures rows { IfOk result (λ s. s.rows.items ≡ replicate readers (rows_of tables.items)) }
     ensures refused { IfErr result (λ f. (f.fault ≡ Memory)
-        ⊎ IsRefusedSo (night_over catalog.now correct.now.list tables.items changes.now options.page_keys) (left_of f.started) f.fault) }
+        ⊎ IsRefusedSo (night_over asked.now.catalog.now asked.now.correct.now.list tables.items asked.now.changes.now asked.now.page_keys) (left_of f.started) f.fault) }
 {
     // Makes known that the strategy keeps the rules.
-    let _ = correct.strategy();
-    let Readers { count, watch } = readers;
-    let asked = Asked {
-        alloc,
-        catalog,
-        changes,
-        correct,
-        options,
-        watch,
-    };
-    if count == 0 {
-        return serve_none(rt, &asked, tables);
+    let _ = asked.correct.strategy();
+    if readers == 0 {
+        return serve_none(asked, tables);
     }
-    let Some(stores) = two_stores(rt, alloc, &tables) else {
+    let Some(stores) = two_stores(asked.budget.rt, asked.budget.alloc, &tables) else {
         return Err(want_of_memory());
     };
-    serve_some(rt, &asked, stores, tables, count)
+    serve_some(asked, stores, tables, readers)
 }

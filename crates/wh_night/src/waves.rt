@@ -19,14 +19,13 @@ ghost use Rattle.wh_carry.specs.Night.{state_at};
 ghost use Rattle.wh_carry.specs.Standing.{IsStageIn, is_source};
 ghost use Rattle.wh_carry.specs.Inner.Standing.{IsWaveAt, StandsAt};
 ghost use Rattle.wh_night.specs.Refusals.{IsWaveFault};
-ghost use Rattle.wh_night.specs.declared.waves.WaveFault.TheVariants.{Maint, WorkerLost};
 ghost use Rattle.wh_night.specs.RefusedWaves.{IsRefusedWave};
 ghost use Rattle.wh_night.specs.Inner.RefusedWaves.{IsAddedAt, IsRefusedAt};
 ghost use Rattle.wh_night.specs.Underway.{IsAdded, AreAdded, SourcesAreKnown};
 ghost use Rattle.wh_night.specs.Inner.Underway.{Given, night_given, HasCome, Reports, SourcesFinish};
 
 use crate::gate::Gate;
-use crate::means::{Means, Progress};
+use crate::means::{Asked, Progress};
 use std::alloc::{AllocError, Global};
 use std::thread::Threads;
 use wh_carry::{Job, NightState};
@@ -34,6 +33,7 @@ use wh_dag::Catalog;
 use wh_formula::{RowTest, RowValue};
 use wh_maint::{MaintFault, Pending};
 use wh_strategy::Expression;
+use wh_threads::ThreadBudget;
 use wh_workers::{JobsFault, do_jobs};
 
 /// The views that these jobs are from.
@@ -71,11 +71,9 @@ fn finish_sources<F: RowTest, G: RowValue>(
     state.finish(alloc, catalog, views.as_slice())
 }
 
-/// Computes what a job adds, by so many threads.
+/// Computes what a job adds, by the threads of the budget, and tells the gate of it by its number.
 fn added_by<F: RowTest, G: RowValue, T: Gate, R: Threads + Sync>(
-    rt: &R,
-    threads: usize,
-    alloc: Global,
+    budget: &ThreadBudget<'_, R>,
     catalog: &Catalog<F, G>,
     number: usize,
     job: &Job,
@@ -89,16 +87,21 @@ fn added_by<F: RowTest, G: RowValue, T: Gate, R: Threads + Sync>(
     ensures refused { IfErr result (IsCompFaultIn catalog.now (kept state.now) job.now.view job.now.from) }
 {
     gate.taken(number);
-    let added = state.compute_wide(rt, threads, alloc, catalog, job.view, job.from.as_slice());
+    let added = state.compute_wide(
+        budget.rt,
+        budget.threads,
+        budget.alloc,
+        catalog,
+        job.view,
+        job.from.as_slice(),
+    );
     gate.finished(number);
     added
 }
 
-/// Computes what the job of this number adds, by so many threads.
+/// Computes what the job of this number adds, by the threads of the budget.
 fn added_at<F: RowTest, G: RowValue, T: Gate, R: Threads + Sync>(
-    rt: &R,
-    threads: usize,
-    alloc: Global,
+    budget: &ThreadBudget<'_, R>,
     catalog: &Catalog<F, G>,
     jobs: &[Job],
     number: usize,
@@ -112,36 +115,7 @@ fn added_at<F: RowTest, G: RowValue, T: Gate, R: Threads + Sync>(
     ensures added { IfOk result (IsAddedAt catalog.now (kept state.now) jobs.now number) }
     ensures refused { IfErr result (IsRefusedAt catalog.now (kept state.now) jobs.now number) }
 {
-    added_by(
-        rt,
-        threads,
-        alloc,
-        catalog,
-        number,
-        &jobs[number],
-        state,
-        gate,
-    )
-}
-
-/// Why a wave is refused.
-#[derive(Drop)]
-pub enum WaveFault {
-    /// A job was refused for this, and none of a lower number was refused; or memory was refused.
-    Maint(MaintFault),
-    /// A worker's thread gave no result. It is never answered: a worker whose thread cannot be started draws in the caller's.
-    WorkerLost,
-}
-
-/// Why the jobs of a wave are refused, where no worker is lost.
-fn of_jobs(fault: WaveFault) -> MaintFault
-    requires { fault ≢ WorkerLost }
-    ensures { fault ≡ Maint result }
-{
-    match fault {
-        WaveFault::Maint(fault) => fault,
-        WaveFault::WorkerLost => unreachable!(),
-    }
+    added_by(budget, catalog, number, &jobs[number], state, gate)
 }
 
 /// How many workers draw jobs, and how many threads do one: a job that is alone is done by all of them.
@@ -157,40 +131,42 @@ fn shared_out(jobs: usize, workers: usize) -> (usize, usize)
 }
 
 /// Computes what each job of a wave adds, over the tables and the changes of a night, where those of the jobs' sources are known. The
-/// jobs are drawn by 1 to 16 workers, each in a thread, of which the caller's is one; what they add comes in the order of the jobs.
-/// The gate is told of each job in the worker's thread. A wave of one job is drawn by the caller, and its rows are made by as many
-/// threads as there are workers. All jobs are done, so that the refusal of the lowest number is answered,
-/// whichever came first. A wave of no jobs is not refused.
+/// jobs are drawn by as many workers as the budget has threads, 1 to 16, each in a thread, of which the caller's is one; what they add
+/// comes in the order of the jobs. The gate is told of each job in the worker's thread. A wave of one job is drawn by the caller, and
+/// its rows are made by all threads of the budget. All jobs are done, so that the refusal of the lowest number is answered, whichever
+/// came first; memory may be refused instead. A wave of no jobs is not refused.
 pub fn run_wave<F: RowTest, G: RowValue, T: Gate + Sync, R: Threads + Sync>(
-    rt: &R,
-    alloc: Global,
+    budget: &ThreadBudget<'_, R>,
     catalog: &Catalog<F, G>,
     jobs: &[Job],
     state: &NightState,
-    workers: usize,
     gate: &T,
-) -> Result<Vec<Pending>, WaveFault>
+) -> Result<Vec<Pending>, MaintFault>
     requires parts { HaveParts catalog.now state.now }
     requires jobs { IsStageIn catalog.now (stage.Wave jobs.now) }
     requires known { SourcesAreKnown (kept state.now) jobs.now }
-    requires least { 1 ≤ workers }
-    requires most { workers ≤ 16 }
+    requires least { 1 ≤ budget.now.threads }
+    requires most { budget.now.threads ≤ 16 }
     ensures added { IfOk result (λ added. AreAdded catalog.now (kept state.now) jobs.now added.items) }
     ensures refused { IfErr result (IsRefusedWave catalog.now (kept state.now) jobs.now) }
 {
+    let rt = budget.rt;
+    let alloc = budget.alloc;
     if jobs.is_empty() {
         return Ok(Vec::new(alloc));
     }
-    let (drawing, threads) = shared_out(jobs.len(), workers);
+    let (drawing, threads) = shared_out(jobs.len(), budget.threads);
+    let each = ThreadBudget { rt, alloc, threads };
+    let one = &each;
     let compute = move |number: usize| -> Result<Pending, MaintFault>
         requires { IsSync R.row × (number < length jobs.now) × IsStageIn catalog.now (stage.Wave jobs.now) × SourcesAreKnown (kept state.now) jobs.now × HaveParts catalog.now state.now }
         ensures added { IfOk result (IsAddedAt catalog.entry.now (kept state.entry.now) jobs.entry.now number) }
         ensures refused { IfErr result (IsRefusedAt catalog.entry.now (kept state.entry.now) jobs.entry.now number) }
-    { added_at(rt, threads, alloc, catalog, jobs, number, state, gate) };
+    { added_at(one, catalog, jobs, number, state, gate) };
     match do_jobs(rt, alloc, jobs.len(), drawing, &compute) {
         Ok(added) => Ok(added),
-        Err(JobsFault::Memory) => Err(WaveFault::Maint(MaintFault::Memory)),
-        Err(JobsFault::Refused(_, fault)) => Err(WaveFault::Maint(fault)),
+        Err(JobsFault::Memory) => Err(MaintFault::Memory),
+        Err(JobsFault::Refused(_, fault)) => Err(fault),
     }
 }
 
@@ -269,43 +245,29 @@ fn add_all<F: RowTest, G: RowValue>(
 /// Carries a wave out: finishes the views that its jobs are from, computes what the jobs add, and then adds it. The first
 /// refusal ends it.
 pub(crate) fn wave<F: RowTest, G: RowValue, T: Gate + Sync, R: Threads + Sync>(
-    rt: &R,
-    means: &Means<'_, F, G, T>,
+    asked: &Asked<'_, F, G, T, R>,
     jobs: &[Job],
     progress: &mut Progress,
 ) -> Result<(), MaintFault>
-    requires parts { HaveParts means.now.catalog.now progress.old.state }
-    requires fit { CanFinish means.now.catalog.now (kept progress.old.state) }
-    requires jobs { IsStageIn means.now.catalog.now (stage.Wave jobs.now) }
-    requires least { 1 ≤ means.now.workers }
-    requires most { means.now.workers ≤ 16 }
-    ensures parts { OnOk result (HaveParts means.now.catalog.now progress.new.state) }
-    ensures fit { OnOk result (CanFinish means.now.catalog.now (kept progress.new.state)) }
-    ensures goes { OnOk result ((keys place : ℕ) (t : Given) → IsWaveAt means.now.catalog.now jobs.now (night_given means.now.catalog.now keys t) place → HasCome (night_given means.now.catalog.now keys t) place (kept progress.old.state) progress.old.steps.items
-        → HasCome (night_given means.now.catalog.now keys t) (place + length jobs.now) (kept progress.new.state) progress.new.steps.items) }
-    ensures refused { IfErr result (λ fault. (keys place : ℕ) (t : Given) → IsWaveAt means.now.catalog.now jobs.now (night_given means.now.catalog.now keys t) place → HasCome (night_given means.now.catalog.now keys t) place (kept progress.old.state) progress.old.steps.items
-        → (fault ≡ Memory) ⊎ IsWaveFault (night_given means.now.catalog.now keys t) place jobs.now fault) }
+    requires parts { HaveParts asked.now.catalog.now progress.old.state }
+    requires fit { CanFinish asked.now.catalog.now (kept progress.old.state) }
+    requires jobs { IsStageIn asked.now.catalog.now (stage.Wave jobs.now) }
+    requires least { 1 ≤ asked.now.budget.now.threads }
+    requires most { asked.now.budget.now.threads ≤ 16 }
+    ensures parts { OnOk result (HaveParts asked.now.catalog.now progress.new.state) }
+    ensures fit { OnOk result (CanFinish asked.now.catalog.now (kept progress.new.state)) }
+    ensures goes { OnOk result ((keys place : ℕ) (t : Given) → IsWaveAt asked.now.catalog.now jobs.now (night_given asked.now.catalog.now keys t) place → HasCome (night_given asked.now.catalog.now keys t) place (kept progress.old.state) progress.old.steps.items
+        → HasCome (night_given asked.now.catalog.now keys t) (place + length jobs.now) (kept progress.new.state) progress.new.steps.items) }
+    ensures refused { IfErr result (λ fault. (keys place : ℕ) (t : Given) → IsWaveAt asked.now.catalog.now jobs.now (night_given asked.now.catalog.now keys t) place → HasCome (night_given asked.now.catalog.now keys t) place (kept progress.old.state) progress.old.steps.items
+        → (fault ≡ Memory) ⊎ IsWaveFault (night_given asked.now.catalog.now keys t) place jobs.now fault) }
 {
-    let alloc = means.alloc;
-    let catalog = means.catalog;
-    let workers = means.workers;
+    let alloc = asked.budget.alloc;
+    let catalog = asked.catalog;
     finish_sources(alloc, catalog, jobs, &mut progress.state)?;
     // It is for time alone, so where memory is refused the wave goes on without it.
-    let _ = progress
-        .state
-        .lay_out(alloc, catalog, jobs, workers.min(jobs.len()));
-    let added = match run_wave(
-        rt,
-        alloc,
-        catalog,
-        jobs,
-        &progress.state,
-        workers,
-        means.gate,
-    ) {
-        Ok(added) => added,
-        Err(fault) => return Err(of_jobs(fault)),
-    };
+    let workers = asked.budget.threads.min(jobs.len());
+    let _ = progress.state.lay_out(alloc, catalog, jobs, workers);
+    let added = run_wave(asked.budget, catalog, jobs, &progress.state, asked.gate)?;
     add_all(
         alloc,
         catalog,

@@ -23,7 +23,7 @@ use crate::answer::{Answer, broken_text, cause_text};
 use crate::catalogue::catalog_with;
 use crate::night_options::NightOptions;
 use crate::status::Status;
-use report::{carried_text, refused_text};
+use report::{Printing, carried_text, refused_text};
 use serve::serve;
 use shown::Shown;
 use std::alloc::{AllocError, Global};
@@ -34,9 +34,10 @@ use wh_dag::{Catalog, Shape};
 use wh_formula::{Expr, Native, Pred, RowTest, RowValue};
 use wh_load::{Dict, GivenNight, NightInput, Opening, WrittenView, read_for_night};
 use wh_maint::{MaintFault, opening_contents_wide};
-use wh_night::Served;
+use wh_night::{Asked, NoWatch, Served};
 use wh_row::Hands;
 use wh_strategy::{CheckFault, Rule, check};
+use wh_threads::ThreadBudget;
 
 /// What is decided of a night.
 #[derive(Drop)]
@@ -69,13 +70,13 @@ impl Outcome {
     /// What is printed, with the names of these views.
     fn text<R: Threads + Sync>(
         &self,
-        hands: &Hands<'_, R>,
-        alloc: Global,
+        budget: &ThreadBudget<'_, R>,
         shape: &Shape,
     ) -> Result<Vec<u8>, AllocError>
         requires { IsWhole shape.now self.now }
         ensures { IfOk result (λ text. text.items ≡ text_of shape.now.names self.now) }
     {
+        let alloc = budget.alloc;
         match self {
             Outcome::Broken { rule, place } => broken_text(alloc, *rule, *place),
             Outcome::NoContents(fault) => cause_text(alloc, shape, fault),
@@ -85,7 +86,15 @@ impl Outcome {
                 texts,
                 carried,
                 shown,
-            } => carried_text(hands, alloc, shape, views, texts, carried, shown),
+            } => {
+                let printing = Printing {
+                    budget,
+                    shape,
+                    views,
+                    texts,
+                };
+                carried_text(&printing, carried, shown)
+            }
         }
     }
 
@@ -104,13 +113,13 @@ impl Outcome {
 
 /// What is decided of a night from what it is given, over a catalogue of its views, where it is run so.
 fn decide<F: RowTest, G: RowValue, R: Threads + Wait + Sync>(
-    rt: &R,
-    alloc: Global,
+    budget: &ThreadBudget<'_, R>,
     catalog: &Catalog<F, G>,
     how: NightOptions,
     opening: Opening,
     given: GivenNight,
 ) -> Result<Outcome, AllocError>
+    requires workers { budget.now.threads ≡ how.workers }
     requires shown { catalog.now ≡ catalog_of catalog.now.views (map shown_view opening.views.items) }
     requires tables { AreReadTables catalog.now opening.tables.items }
     requires changes { AreBags catalog.now given.changes.items }
@@ -123,17 +132,25 @@ fn decide<F: RowTest, G: RowValue, R: Threads + Wait + Sync>(
         tables,
     } = opening;
     let GivenNight { changes, strategy } = given;
+    let alloc = budget.alloc;
     let correct = match check(alloc, catalog.shape(), strategy) {
         Ok(correct) => correct,
         Err(CheckFault::Broken { rule, place }) => return Ok(Outcome::Broken { rule, place }),
         Err(CheckFault::Memory) => return Err(AllocError),
     };
-    let tables = match opening_contents_wide(rt, how.workers, alloc, catalog, tables) {
+    let tables = match opening_contents_wide(budget.rt, budget.threads, alloc, catalog, tables) {
         Ok(tables) => tables,
         Err(fault) => return no_contents(fault),
     };
-    let served = serve(rt, alloc, catalog, how, &views, tables, &changes, &correct);
-    match served {
+    let asked = Asked {
+        budget,
+        catalog,
+        changes: &changes,
+        correct: &correct,
+        page_keys: how.page_keys,
+        gate: &NoWatch,
+    };
+    match serve(&asked, how.readers, how.print, &views, tables) {
         Ok((carried, shown)) => Ok(Outcome::Carried {
             views,
             texts,
@@ -173,13 +190,13 @@ fn answer_with<
     V: Fn(Expr) -> G,
     R: Threads + Wait + Sync,
 >(
-    rt: &R,
-    alloc: Global,
+    budget: &ThreadBudget<'_, R>,
     how: NightOptions,
     input: NightInput,
     test: T,
     value: V,
 ) -> Result<Answer, AllocError>
+    requires workers { budget.now.threads ≡ how.workers }
     requires fit { IsFitNight input }
     requires callable_test { T.IsAlwaysCallable test }
     requires callable_value { V.IsAlwaysCallable value }
@@ -192,30 +209,25 @@ fn answer_with<
         opening,
         given,
     } = input;
-    let catalog = catalog_with(alloc, shape, &opening.views, test, value)?;
-    let outcome = decide(rt, alloc, &catalog, how, opening, given)?;
-    let hands = Hands {
-        rt,
-        threads: how.workers,
-    };
-    let text = outcome.text(&hands, alloc, catalog.shape())?;
+    let catalog = catalog_with(budget.alloc, shape, &opening.views, test, value)?;
+    let outcome = decide(budget, &catalog, how, opening, given)?;
+    let text = outcome.text(budget, catalog.shape())?;
     let status = outcome.status();
     Ok(Answer { text, status })
 }
 
 /// What a night makes of what it is given. Each formula of the catalogue is stored with a closure.
 fn answer_of<R: Threads + Wait + Sync>(
-    rt: &R,
-    alloc: Global,
+    budget: &ThreadBudget<'_, R>,
     how: NightOptions,
     input: NightInput,
 ) -> Result<Answer, AllocError>
+    requires workers { budget.now.threads ≡ how.workers }
     requires fit { IsFitNight input }
     ensures { IfOk result (λ a. IsNightTold (shown_night input) how.print how.readers a.text.items (status_number a.status)) }
 {
     answer_with(
-        rt,
-        alloc,
+        budget,
         how,
         input,
         |pred: Pred| {
@@ -244,12 +256,17 @@ pub fn answer<R: Threads + Wait + Sync>(
 ) -> Result<Answer, AllocError>
     ensures { IfOk result (λ a. IsNightOutput how.print how.readers bytes.now a.text.items (status_number a.status)) }
 {
+    let budget = ThreadBudget {
+        rt,
+        alloc,
+        threads: how.workers,
+    };
     let hands = Hands {
         rt,
         threads: how.workers,
     };
     match read_for_night(&hands, alloc, bytes) {
-        Ok(input) => answer_of(rt, alloc, how, input),
+        Ok(input) => answer_of(&budget, how, input),
         Err(fault) => Answer::fault(alloc, &fault),
     }
 }

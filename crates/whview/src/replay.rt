@@ -25,11 +25,11 @@ use crate::status::Status;
 use reply::replies_text;
 use std::alloc::{AllocError, Global};
 use std::thread::Threads;
-use wh_core::{Cause, Core, Event, Reply};
+use wh_core::{Cause, Core, Event, MachineOptions, Reply};
 use wh_dag::{Catalog, Shape};
 use wh_formula::{Expr, Native, Pred, RowTest, RowValue};
 use wh_load::{GivenNight, Opening, ReplayInput, Schedule, ScheduledEvent, read_for_replay};
-use wh_maint::opening_contents;
+use wh_maint::opening_contents_wide;
 use wh_row::{Bag, Hands};
 use wh_strategy::{CheckFault, Correct, check};
 
@@ -121,16 +121,13 @@ fn replies_to<F: RowTest + Drop, G: RowValue + Drop>(
     ensures told { IfOk result (λ replies. list_any is_memory replies.items ≡ false) }
 {
     let events = events_of(alloc, catalog.shape().len(), schedule.events())?;
-    let mut core = Core::new(
-        alloc,
-        catalog,
-        tables,
-        nights,
-        schedule.desks(),
-        schedule.workers(),
-        schedule.keys(),
-        schedule.versions(),
-    )?;
+    let options = MachineOptions {
+        desks: schedule.desks(),
+        workers: schedule.workers(),
+        page_keys: schedule.keys(),
+        versions: schedule.versions(),
+    };
+    let mut core = Core::new(alloc, catalog, tables, nights, options)?;
     let replies = core.run(&events)?;
     if lacks_memory(&replies) {
         return Err(AllocError);
@@ -138,8 +135,10 @@ fn replies_to<F: RowTest + Drop, G: RowValue + Drop>(
     Ok(replies)
 }
 
-/// What a replay makes of what it is given, over a catalogue of its views.
-fn answer_over<F: RowTest + Drop, G: RowValue + Drop>(
+/// What a replay makes of what it is given, over a catalogue of its views. The contents are opened by as many threads as the schedule has
+/// workers.
+fn answer_over<F: RowTest + Drop, G: RowValue + Drop, R: Threads + Sync>(
+    rt: &R,
     alloc: Global,
     catalog: Catalog<F, G>,
     opening: Opening,
@@ -160,7 +159,8 @@ fn answer_over<F: RowTest + Drop, G: RowValue + Drop>(
         }
         Err(CheckFault::Memory) => return Err(AllocError),
     };
-    let tables = match opening_contents(alloc, &catalog, opening.tables) {
+    let threads = schedule.workers();
+    let tables = match opening_contents_wide(rt, threads, alloc, &catalog, opening.tables) {
         Ok(tables) => tables,
         Err(fault) => {
             let text = cause_text(alloc, catalog.shape(), &fault)?;
@@ -176,12 +176,13 @@ fn answer_over<F: RowTest + Drop, G: RowValue + Drop>(
 }
 
 /// What a replay makes of what it is given, where each formula is stored with what these make of it.
-fn answer_with<F: RowTest + Drop, G: RowValue + Drop, T: Fn(Pred) -> F, V: Fn(Expr) -> G>(
-    alloc: Global,
-    input: ReplayInput,
-    test: T,
-    value: V,
-) -> Result<Answer, AllocError>
+fn answer_with<
+    F: RowTest + Drop,
+    G: RowValue + Drop,
+    T: Fn(Pred) -> F,
+    V: Fn(Expr) -> G,
+    R: Threads + Sync,
+>(rt: &R, alloc: Global, input: ReplayInput, test: T, value: V) -> Result<Answer, AllocError>
     requires fit { IsFitReplay input }
     requires callable_test { T.IsAlwaysCallable test }
     requires callable_value { V.IsAlwaysCallable value }
@@ -196,15 +197,20 @@ fn answer_with<F: RowTest + Drop, G: RowValue + Drop, T: Fn(Pred) -> F, V: Fn(Ex
         schedule,
     } = input;
     let catalog = catalog_with(alloc, shape, &opening.views, test, value)?;
-    answer_over(alloc, catalog, opening, nights, &schedule)
+    answer_over(rt, alloc, catalog, opening, nights, &schedule)
 }
 
 /// What a replay makes of what it is given. Each formula of the catalogue is stored with a closure.
-fn answer_of(alloc: Global, input: ReplayInput) -> Result<Answer, AllocError>
+fn answer_of<R: Threads + Sync>(
+    rt: &R,
+    alloc: Global,
+    input: ReplayInput,
+) -> Result<Answer, AllocError>
     requires { IsFitReplay input }
     ensures { IfOk result (λ a. IsReplayTold (shown_replay input) a.text.items (status_number a.status)) }
 {
     answer_with(
+        rt,
         alloc,
         input,
         |pred: Pred| {
@@ -224,13 +230,14 @@ fn answer_of(alloc: Global, input: ReplayInput) -> Result<Answer, AllocError>
     )
 }
 
-/// What `replay` answers for the bytes of a bundle. It starts no thread.
+/// What `replay` answers for the bytes of a bundle. They are read by one thread, since only they say how many workers there are; the
+/// contents are opened by as many threads as the schedule has workers, and the events are answered by one.
 pub fn answer<R: Threads + Sync>(rt: &R, alloc: Global, bytes: &[u8]) -> Result<Answer, AllocError>
     ensures { IfOk result (λ a. IsReplayOutput bytes.now a.text.items (status_number a.status)) }
 {
     let hands = Hands { rt, threads: 1 };
     match read_for_replay(&hands, alloc, bytes) {
-        Ok(input) => answer_of(alloc, input),
+        Ok(input) => answer_of(rt, alloc, input),
         Err(fault) => Answer::fault(alloc, &fault),
     }
 }

@@ -16,7 +16,7 @@ use std::test::Fail;
 use test_given::catalogs::{Cell, Every, over_one};
 use test_given::shapes::shaped;
 use test_given::tables::bags;
-use wh_core::{Core, Event, Reply};
+use wh_core::{Core, Event, MachineOptions, Reply};
 use wh_dag::{Catalog, Definition, Output, Shape};
 use wh_formula::{Combiner, Expr, Filter, Pred};
 use wh_headline::carry_out;
@@ -184,29 +184,20 @@ fn nights(
     Ok(nights)
 }
 
-/// How many desks and workers a machine has, how many rows a page has at most, and of how many versions sessions are read.
-#[derive(Clone, Copy)]
-pub(crate) struct Places {
-    pub(crate) desks: usize,
-    pub(crate) workers: usize,
-    pub(crate) keys: usize,
-    pub(crate) versions: usize,
-}
-
 /// A machine over the contents of this base that has done nothing yet: of a alone, or of a and v.
 pub(crate) fn machine(
     rt: &impl Abort,
     alloc: Global,
     base: Lists<'_>,
     changes: &[Lists<'_>],
-    places: Places,
+    options: MachineOptions,
 ) -> Result<Core<Every, Cell>, Fail>
     ensures { IfOk result (λ core. IsFresh core) }
 {
     let catalog = catalog_over(rt, alloc, base.len())?;
     let nights = nights(rt, alloc, &catalog, changes)?;
     let tables = opened(rt, alloc, &catalog, bags(alloc, base)?)?;
-    core_of(rt, alloc, catalog, tables, nights, places)
+    core_of(rt, alloc, catalog, tables, nights, options)
 }
 
 fn core_of(
@@ -215,7 +206,7 @@ fn core_of(
     catalog: Catalog<Every, Cell>,
     tables: Vec<Bag>,
     nights: Vec<(Vec<Bag>, Correct)>,
-    places: Places,
+    options: MachineOptions,
 ) -> Result<Core<Every, Cell>, Fail>
     requires bags { AreBags catalog tables.items }
     requires contents { AreContents (graph_of catalog) (bag_at tables.items) }
@@ -224,18 +215,9 @@ fn core_of(
     ensures { IfOk result (λ core. IsFresh core) }
 {
     let _shape = catalog.shape();
-    let Places {
-        desks,
-        workers,
-        keys,
-        versions,
-    } = places;
-    assert!(rt; keys >= 1 && keys <= 256);
-    assert!(rt; versions >= 2 && versions <= 4);
-    let core = Core::new(
-        alloc, catalog, tables, nights, desks, workers, keys, versions,
-    )?;
-    Ok(core)
+    assert!(rt; options.page_keys >= 1 && options.page_keys <= 256);
+    assert!(rt; options.versions >= 2 && options.versions <= 4);
+    Ok(Core::new(alloc, catalog, tables, nights, options)?)
 }
 
 /// The replies to these events, by one call, over the contents of this base: of a alone, or of a and v.
@@ -244,13 +226,13 @@ pub(crate) fn carried(
     alloc: Global,
     base: Lists<'_>,
     changes: &[Lists<'_>],
-    places: Places,
+    options: MachineOptions,
     events: &[Event],
 ) -> Result<Vec<Reply>, Fail> {
     let catalog = catalog_over(rt, alloc, base.len())?;
     let nights = nights(rt, alloc, &catalog, changes)?;
     let tables = opened(rt, alloc, &catalog, bags(alloc, base)?)?;
-    replies_to(rt, alloc, catalog, tables, nights, places, events)
+    replies_to(rt, alloc, catalog, tables, nights, options, events)
 }
 
 fn replies_to(
@@ -259,7 +241,7 @@ fn replies_to(
     catalog: Catalog<Every, Cell>,
     tables: Vec<Bag>,
     nights: Vec<(Vec<Bag>, Correct)>,
-    places: Places,
+    options: MachineOptions,
     events: &[Event],
 ) -> Result<Vec<Reply>, Fail>
     requires bags { AreBags catalog tables.items }
@@ -268,16 +250,7 @@ fn replies_to(
     requires judged { AreJudged catalog nights.items }
 {
     let _shape = catalog.shape();
-    let Places {
-        desks,
-        workers,
-        keys,
-        versions,
-    } = places;
-    assert!(rt; keys >= 1 && keys <= 256);
-    assert!(rt; versions >= 2 && versions <= 4);
-    let replies = carry_out(
-        alloc, catalog, tables, nights, desks, workers, keys, versions, events,
-    )?;
-    Ok(replies)
+    assert!(rt; options.page_keys >= 1 && options.page_keys <= 256);
+    assert!(rt; options.versions >= 2 && options.versions <= 4);
+    Ok(carry_out(alloc, catalog, tables, nights, options, events)?)
 }

@@ -2,21 +2,25 @@
 ghost use Rattle.std.specs.Prelude.{IfOk};
 ghost use Rattle.wh_core.specs.Standing.{IsFresh};
 
-use crate::machine::given::{Lists, Places, carried, machine};
+use crate::machine::given::{Lists, carried, machine};
 use crate::machine::schedules::{Said, Schedule, assert_run, assert_said, assert_steps, events_of};
 use std::alloc::Global;
 use std::process::Abort;
 use std::test::Fail;
 use test_given::catalogs::{Cell, Every};
-use wh_core::{Cause, Core, Event};
+use wh_core::{Cause, Core, Event, MachineOptions};
 
 static A_CHANGE_AND_NONE: [Lists<'static>; 2] = [&[&[(&[1], -1), (&[2], 1)], &[]], &[&[], &[]]];
 
 /// a holds (1), and v is a copy of it. The first night brings -(1) +(2), the second nothing.
-fn two_nights(rt: &impl Abort, alloc: Global, places: Places) -> Result<Core<Every, Cell>, Fail>
+fn two_nights(
+    rt: &impl Abort,
+    alloc: Global,
+    options: MachineOptions,
+) -> Result<Core<Every, Cell>, Fail>
     ensures { IfOk result (λ core. IsFresh core) }
 {
-    machine(rt, alloc, &[&[(&[1], 1)], &[]], &A_CHANGE_AND_NONE, places)
+    machine(rt, alloc, &[&[(&[1], 1)], &[]], &A_CHANGE_AND_NONE, options)
 }
 
 static TWO_NIGHTS: [(Event, Said); 13] = [
@@ -40,28 +44,28 @@ static TWO_NIGHTS: [(Event, Said); 13] = [
 
 #[test]
 fn replay_two_nights(rt: HostRuntime) -> Result<(), Fail> {
-    let places = Places {
+    let options = MachineOptions {
         desks: 2,
         workers: 1,
-        keys: 256,
+        page_keys: 256,
         versions: 2,
     };
-    let mut core = two_nights(&rt, rt.alloc(), places)?;
+    let mut core = two_nights(&rt, rt.alloc(), options)?;
     assert_run(&rt, rt.alloc(), &mut core, &TWO_NIGHTS)
 }
 
 #[test]
 fn two_nights_are_carried_out_by_one_call(rt: HostRuntime) -> Result<(), Fail> {
-    let places = Places {
+    let options = MachineOptions {
         desks: 2,
         workers: 1,
-        keys: 256,
+        page_keys: 256,
         versions: 2,
     };
     let alloc = rt.alloc();
     let events = events_of(alloc, &TWO_NIGHTS)?;
     let base: Lists<'_> = &[&[(&[1], 1)], &[]];
-    let replies = carried(&rt, alloc, base, &A_CHANGE_AND_NONE, places, &events)?;
+    let replies = carried(&rt, alloc, base, &A_CHANGE_AND_NONE, options, &events)?;
     assert_said(&rt, &replies, &TWO_NIGHTS);
     Ok(())
 }
@@ -86,14 +90,14 @@ static GIVE_UP: [(Event, Said); 12] = [
 
 #[test]
 fn replay_give_up(rt: HostRuntime) -> Result<(), Fail> {
-    let places = Places {
+    let options = MachineOptions {
         desks: 3,
         workers: 1,
-        keys: 256,
+        page_keys: 256,
         versions: 2,
     };
     let changes: [Lists<'_>; 2] = [&[&[(&[1], -1), (&[2], 1)]], &[&[(&[2], -1), (&[3], 1)]]];
-    let mut core = machine(&rt, rt.alloc(), &[&[(&[1], 1)]], &changes, places)?;
+    let mut core = machine(&rt, rt.alloc(), &[&[(&[1], 1)]], &changes, options)?;
     assert_run(&rt, rt.alloc(), &mut core, &GIVE_UP)
 }
 
@@ -124,10 +128,10 @@ static THREE_VERSIONS: [(Event, Said); 19] = [
 
 #[test]
 fn replay_three_versions(rt: HostRuntime) -> Result<(), Fail> {
-    let places = Places {
+    let options = MachineOptions {
         desks: 3,
         workers: 1,
-        keys: 256,
+        page_keys: 256,
         versions: 3,
     };
     let changes: [Lists<'_>; 3] = [
@@ -135,7 +139,7 @@ fn replay_three_versions(rt: HostRuntime) -> Result<(), Fail> {
         &[&[(&[2], -1), (&[3], 1)]],
         &[&[(&[3], -1), (&[4], 1)]],
     ];
-    let mut core = machine(&rt, rt.alloc(), &[&[(&[1], 1)]], &changes, places)?;
+    let mut core = machine(&rt, rt.alloc(), &[&[(&[1], 1)]], &changes, options)?;
     assert_run(&rt, rt.alloc(), &mut core, &THREE_VERSIONS)
 }
 
@@ -181,13 +185,13 @@ static CHANGES: [Lists<'static>; 4] = [
 /// A night that brings -(1) +(2) is given up; the nights behind it bring +(3), then -(3), and then -(2), which is not there.
 #[test]
 fn nights_go_on_after_one_that_was_given_up(rt: HostRuntime) -> Result<(), Fail> {
-    let places = Places {
+    let options = MachineOptions {
         desks: 4,
         workers: 1,
-        keys: 256,
+        page_keys: 256,
         versions: 4,
     };
-    let mut core = machine(&rt, rt.alloc(), &[&[(&[1], 1)], &[]], &CHANGES, places)?;
+    let mut core = machine(&rt, rt.alloc(), &[&[(&[1], 1)], &[]], &CHANGES, options)?;
     assert_run(&rt, rt.alloc(), &mut core, &AFTER_A_GIVE_UP)
 }
 
@@ -211,10 +215,10 @@ static ONE_KEY_A_PAGE: [(Event, Said); 13] = [
 fn one_night(rt: &impl Abort, alloc: Global) -> Result<Core<Every, Cell>, Fail>
     ensures { IfOk result (λ core. IsFresh core) }
 {
-    let places = Places {
+    let options = MachineOptions {
         desks: 2,
         workers: 1,
-        keys: 1,
+        page_keys: 1,
         versions: 2,
     };
     let changes: [Lists<'_>; 1] = [&[&[(&[2], 1), (&[3], -1), (&[4], 1)]]];
@@ -223,7 +227,7 @@ fn one_night(rt: &impl Abort, alloc: Global) -> Result<Core<Every, Cell>, Fail>
         alloc,
         &[&[(&[1], 1), (&[3], 1), (&[5], 1)]],
         &changes,
-        places,
+        options,
     )
 }
 
@@ -264,12 +268,12 @@ static REFUSALS: [(Event, Said); 19] = [
 
 #[test]
 fn replay_refusals(rt: HostRuntime) -> Result<(), Fail> {
-    let places = Places {
+    let options = MachineOptions {
         desks: 1,
         workers: 1,
-        keys: 256,
+        page_keys: 256,
         versions: 2,
     };
-    let mut core = two_nights(&rt, rt.alloc(), places)?;
+    let mut core = two_nights(&rt, rt.alloc(), options)?;
     assert_run(&rt, rt.alloc(), &mut core, &REFUSALS)
 }

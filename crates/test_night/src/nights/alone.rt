@@ -8,9 +8,10 @@ use std::thread::Threads;
 use test_given::catalogs::{joined, one_way};
 use wh_carry::{Carried, CarryFault, are_fit};
 use wh_maint::{MaintFault, are_bags};
-use wh_night::{NoGate, night_alone};
+use wh_night::{Asked, NoGate, night_alone};
 use wh_row::Bag;
 use wh_strategy::check;
+use wh_threads::ThreadBudget;
 
 /// The night over a(x,y) with (1,10) and (2,10), b(y,z) with (10,5) and v, which joins them, by so many workers; a changes so, and b by
 /// -(10,5) +(10,6).
@@ -35,9 +36,20 @@ fn carried<R: Threads + Sync>(
     if workers == 0 || workers > 16 {
         return Err(Fail::from("1 to 16 workers"));
     }
-    Ok(night_alone(
-        rt, alloc, &catalog, tables, &changes, &correct, workers, &NoGate,
-    ))
+    let budget = ThreadBudget {
+        rt,
+        alloc,
+        threads: workers,
+    };
+    let asked = Asked {
+        budget: &budget,
+        catalog: &catalog,
+        changes: &changes,
+        correct: &correct,
+        page_keys: 256,
+        gate: &NoGate,
+    };
+    Ok(night_alone(&asked, tables))
 }
 
 /// Whether these are the tables of a, b and v, with these rows, once each.

@@ -1,13 +1,13 @@
 //! Nights whose gate is told of each job: once, in its order, and while a desk reads.
 
-ghost use Rattle.std.specs.Prelude.{◌≡◌};
+ghost use Rattle.std.specs.Prelude.{◌≡◌, ◌≤◌};
 ghost use Rattle.wh_maint.specs.Asked.{AreBags};
 ghost use Rattle.wh_maint.specs.Comp.{bag_at};
 ghost use Rattle.wh_carry.specs.Fit.{AreFitFor};
 ghost use Rattle.wh_night.specs.Tonight.{newest_in};
 
 use crate::nights::run::{Answer, ends_with, table_of};
-use crate::nights::warehouse::{changes, night_at, one_worker, opening, warehouse_of};
+use crate::nights::warehouse::{changes, night_at, one_thread, opening, warehouse_of};
 use std::alloc::Global;
 use std::hint::spin_loop;
 use std::process::Abort;
@@ -24,10 +24,9 @@ use wh_dag::{Catalog, Definition, Output};
 use wh_desk::{Desk, Writer};
 use wh_formula::{Filter, Pred};
 use wh_maint::are_bags;
-use wh_night::{Gate, NightFault, night};
-use wh_row::Bag;
+use wh_night::{Asked, Gate, NightFault, night};
 use wh_store::Page;
-use wh_strategy::{Correct, Expression, Sources, Strategy, check};
+use wh_strategy::{Expression, Sources, Strategy, check};
 
 /// Notes each call by a hexadecimal digit: 2 n + 1 where job n is drawn, 2 n + 2 where it is done.
 #[derive(Drop)]
@@ -184,40 +183,29 @@ fn is_before_the_night(page: &Page) -> bool {
 
 /// Carries the night out on this thread, while the desk reads in another.
 fn read_beside<R: Threads + Wait + Sync>(
-    rt: &R,
-    alloc: Global,
+    asked: &Asked<'_, Every, Cell, Keeping, R>,
     writer: &mut Writer,
     desk: &mut Desk,
-    catalog: &Catalog<Every, Cell>,
-    changes: &[Bag],
-    correct: &Correct,
-    gate: &Keeping,
 ) -> (Option<Page>, Result<Report, NightFault>)
-    requires judged { correct.now.children ≡ catalog.now.views.children }
-    requires tables { AreBags catalog.now (newest_in writer.old.ledger) }
-    requires changes { AreBags catalog.now changes.now }
-    requires fit { AreFitFor catalog.now (bag_at changes.now) correct.now.list (bag_at (newest_in writer.old.ledger)) }
+    requires judged { asked.now.correct.now.children ≡ asked.now.catalog.now.views.children }
+    requires tables { AreBags asked.now.catalog.now (newest_in writer.old.ledger) }
+    requires changes { AreBags asked.now.catalog.now asked.now.changes.now }
+    requires fit { AreFitFor asked.now.catalog.now (bag_at asked.now.changes.now) asked.now.correct.now.list (bag_at (newest_in writer.old.ledger)) }
+    requires workers { (1 ≤ asked.now.budget.now.threads) × (asked.now.budget.now.threads ≤ 16) }
+    requires page_keys { (1 ≤ asked.now.page_keys) × (asked.now.page_keys ≤ 256) }
 {
+    let gate = asked.gate;
     thread::join(
-        rt,
+        asked.budget.rt,
         || read_while_kept(desk, gate),
         || -> Result<Report, NightFault>
-            requires judged { correct.now.children ≡ catalog.now.views.children }
-            requires tables { AreBags catalog.now (newest_in writer.now.ledger) }
-            requires changes { AreBags catalog.now changes.now }
-            requires fit { AreFitFor catalog.now (bag_at changes.now) correct.now.list (bag_at (newest_in writer.now.ledger)) }
-        {
-            night(
-                rt,
-                alloc,
-                writer,
-                catalog,
-                changes,
-                correct,
-                one_worker(),
-                gate,
-            )
-        },
+            requires judged { asked.now.correct.now.children ≡ asked.now.catalog.now.views.children }
+            requires tables { AreBags asked.now.catalog.now (newest_in writer.now.ledger) }
+            requires changes { AreBags asked.now.catalog.now asked.now.changes.now }
+            requires fit { AreFitFor asked.now.catalog.now (bag_at asked.now.changes.now) asked.now.correct.now.list (bag_at (newest_in writer.now.ledger)) }
+            requires workers { (1 ≤ asked.now.budget.now.threads) × (asked.now.budget.now.threads ≤ 16) }
+            requires page_keys { (1 ≤ asked.now.page_keys) × (asked.now.page_keys ≤ 256) }
+        { night(writer, asked) },
     )
 }
 
@@ -246,16 +234,16 @@ fn night_that_is_read<R: Threads + Wait + Sync + Abort>(
         writer.end(rt);
         return Ok(None);
     };
-    let (page, night) = read_beside(
-        rt,
-        alloc,
-        &mut writer,
-        &mut desk,
-        &catalog,
-        &changes,
-        &correct,
+    let budget = one_thread(rt, alloc);
+    let asked = Asked {
+        budget: &budget,
+        catalog: &catalog,
+        changes: &changes,
+        correct: &correct,
+        page_keys: 256,
         gate,
-    );
+    };
+    let (page, night) = read_beside(&asked, &mut writer, &mut desk);
     let table = table_of(&writer);
     writer.end(rt);
     Ok(Some((page, Answer { night, table })))

@@ -3,7 +3,7 @@
 use crate::nights::refusing::{Refusals, Refusing};
 use crate::nights::run::has_rows;
 use crate::nights::tested::tested_night;
-use crate::nights::warehouse::{changes, one_worker, opening, store_of};
+use crate::nights::warehouse::{changes, one_thread, opening, store_of};
 use std::alloc::{AllocError, Global};
 use std::process::Abort;
 use std::sync::Wait;
@@ -13,7 +13,7 @@ use test_given::catalogs::{Cell, Every, joined, one_way, summed};
 use wh_carry::Report;
 use wh_dag::Catalog;
 use wh_maint::are_bags;
-use wh_night::{Left, NightFault, NoGate, are_fit_for, night};
+use wh_night::{Asked, Left, NightFault, NoGate, are_fit_for, night};
 use wh_row::Bag;
 use wh_store::{Ended, Op, Publish};
 use wh_strategy::{Correct, check};
@@ -40,7 +40,7 @@ const NIGHT: [Step; 5] = [
 const MEMORY: u8 = 1;
 
 /// The number of the cause that an operation is held.
-const HELD: u8 = 8;
+const HELD: u8 = 7;
 
 fn steps(alloc: Global, published: &[Op]) -> Result<Vec<Step>, AllocError> {
     let mut steps = Vec::new(alloc);
@@ -109,16 +109,16 @@ fn carry_out<R: Threads + Wait + Sync>(
     let Ok(true) = are_fit_for(alloc, catalog, &tables, changes, correct) else {
         return Err(Fail::from("tables that are fit for the night"));
     };
-    Ok(night(
-        rt,
-        alloc,
-        writer,
+    let budget = one_thread(rt, alloc);
+    let asked = Asked {
+        budget: &budget,
         catalog,
         changes,
         correct,
-        one_worker(),
-        &NoGate,
-    ))
+        page_keys: 256,
+        gate: &NoGate,
+    };
+    Ok(night(writer, &asked))
 }
 
 /// The version that the night made; or the number of the cause for which it was refused, and what it left.
@@ -260,9 +260,26 @@ fn a_night_that_is_tested_first(rt: HostRuntime) -> Result<(), Fail> {
     } = &setting;
     let other = summed(alloc)?;
     let writer = &mut writer;
-    let night = tested_night(&rt, alloc, writer, &other, changes, correct, one_worker())?;
+    let budget = one_thread(&rt, alloc);
+    let of_two = Asked {
+        budget: &budget,
+        catalog: &other,
+        changes,
+        correct,
+        page_keys: 256,
+        gate: &NoGate,
+    };
+    let night = tested_night(writer, &of_two)?;
     assert!(rt; night.is_none());
-    let night = tested_night(&rt, alloc, writer, catalog, changes, correct, one_worker())?;
+    let of_three = Asked {
+        budget: &budget,
+        catalog,
+        changes,
+        correct,
+        page_keys: 256,
+        gate: &NoGate,
+    };
+    let night = tested_night(writer, &of_three)?;
     assert!(rt; night.is_some_and(|night| told(&night) == Ok(1)));
     Ok(())
 }

@@ -13,10 +13,11 @@ use wh_carry::{Report, are_fit};
 use wh_dag::Catalog;
 use wh_desk::{Writer, open_warehouse};
 use wh_maint::are_bags;
-use wh_night::{Left, NightFault, Options};
+use wh_night::{Asked, Left, NightFault, NoGate};
 use wh_row::Bag;
 use wh_store::Store;
 use wh_strategy::{Correct, check};
+use wh_threads::ThreadBudget;
 
 /// What a night answered, and the view's table after it, if it has one that nothing waits behind.
 #[derive(Drop)]
@@ -52,11 +53,20 @@ fn over_writer<R: Threads + Wait + Sync>(
     let Ok((mut writer, _desks)) = open_warehouse(rt, alloc, store, 1) else {
         return Ok(None);
     };
-    let options = Options {
-        workers,
-        page_keys: 256,
+    let budget = ThreadBudget {
+        rt,
+        alloc,
+        threads: workers,
     };
-    let night = tested_night(rt, alloc, &mut writer, catalog, changes, correct, options);
+    let asked = Asked {
+        budget: &budget,
+        catalog,
+        changes,
+        correct,
+        page_keys: 256,
+        gate: &NoGate,
+    };
+    let night = tested_night(&mut writer, &asked);
     let table = table_of(&writer);
     writer.end(rt);
     match night? {

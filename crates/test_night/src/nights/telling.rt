@@ -1,6 +1,6 @@
 //! A reader that is told of what a night published.
 
-ghost use Rattle.std.specs.Prelude.{◌≡◌, None, IfSome};
+ghost use Rattle.std.specs.Prelude.{◌≡◌, ◌≤◌, None, IfSome};
 ghost use Rattle.wh_maint.specs.Asked.{AreBags};
 ghost use Rattle.wh_maint.specs.Comp.{bag_at};
 ghost use Rattle.wh_maint.specs.Contents.{AreContents, AreContentsOf};
@@ -11,19 +11,16 @@ ghost use Rattle.wh_store.specs.Pages.{page_of};
 ghost use Rattle.wh_store.specs.Versions.{table_in};
 ghost use Rattle.wh_night.specs.Tonight.{newest_in};
 
-use crate::nights::warehouse::{changes, one_worker, opening, warehouse_of};
-use std::alloc::Global;
+use crate::nights::warehouse::{changes, one_thread, opening, warehouse_of};
 use std::sync::Wait;
 use std::test::Fail;
 use std::thread::Threads;
 use test_given::catalogs::{Cell, Every, joined, one_way};
-use wh_dag::Catalog;
 use wh_desk::{Desk, Writer, seen_versions_stay_law};
 use wh_maint::are_bags;
-use wh_night::{NoGate, night};
-use wh_row::Bag;
+use wh_night::{Asked, NoGate, night};
 use wh_store::Page;
-use wh_strategy::{Correct, check};
+use wh_strategy::check;
 
 /// Tells a desk what is published, has it enter again, and reads the first page of a view in the version that the writer has come to.
 /// None where it is not answered so.
@@ -49,36 +46,25 @@ fn read_told(writer: &Writer, desk: &mut Desk, view: usize) -> Option<Page>
 
 /// What a reader is given of a view before a night and after it. Its first session stays open while the night runs.
 fn read_before_and_after<R: Threads + Wait + Sync>(
-    rt: &R,
-    alloc: Global,
+    asked: &Asked<'_, Every, Cell, NoGate, R>,
     writer: &mut Writer,
     desk: &mut Desk,
-    catalog: &Catalog<Every, Cell>,
-    changes: &[Bag],
-    correct: &Correct,
     view: usize,
 ) -> Option<(Page, Page)>
     requires same { desk.old.book ≡ writer.old.book }
-    requires judged { correct.now.children ≡ catalog.now.views.children }
-    requires tables { AreBags catalog.now (newest_in writer.old.ledger) }
-    requires changes { AreBags catalog.now changes.now }
-    requires fit { AreFitFor catalog.now (bag_at changes.now) correct.now.list (bag_at (newest_in writer.old.ledger)) }
+    requires judged { asked.now.correct.now.children ≡ asked.now.catalog.now.views.children }
+    requires tables { AreBags asked.now.catalog.now (newest_in writer.old.ledger) }
+    requires changes { AreBags asked.now.catalog.now asked.now.changes.now }
+    requires fit { AreFitFor asked.now.catalog.now (bag_at asked.now.changes.now) asked.now.correct.now.list (bag_at (newest_in writer.old.ledger)) }
+    requires workers { (1 ≤ asked.now.budget.now.threads) × (asked.now.budget.now.threads ≤ 16) }
+    requires page_keys { (1 ≤ asked.now.page_keys) × (asked.now.page_keys ≤ 256) }
     ensures before { IfSome result (λ pages. pages.0 ≡ page_of (table_in (newest_in writer.old.ledger) view) None 256) }
     ensures after { IfSome result (λ pages. pages.1 ≡ page_of (table_in (newest_in writer.new.ledger) view) None 256) }
-    ensures contents { IfSome result (λ pages. AreContents (graph_of catalog.now) (bag_at (newest_in writer.old.ledger))
-        → AreContentsOf (graph_of catalog.now) (changed (bag_at (newest_in writer.old.ledger)) (bag_at changes.now)) (bag_at (newest_in writer.new.ledger))) }
+    ensures contents { IfSome result (λ pages. AreContents (graph_of asked.now.catalog.now) (bag_at (newest_in writer.old.ledger))
+        → AreContentsOf (graph_of asked.now.catalog.now) (changed (bag_at (newest_in writer.old.ledger)) (bag_at asked.now.changes.now)) (bag_at (newest_in writer.new.ledger))) }
 {
     let before = read_told(writer, desk, view)?;
-    let Ok(_) = night(
-        rt,
-        alloc,
-        writer,
-        catalog,
-        changes,
-        correct,
-        one_worker(),
-        &NoGate,
-    ) else {
+    let Ok(_) = night(writer, asked) else {
         return None;
     };
     let after = read_told(writer, desk, view)?;
@@ -115,16 +101,16 @@ fn a_reader_is_told_of_a_night(rt: HostRuntime) -> Result<(), Fail> {
         writer.end(&rt);
         return Err(Fail::from("a desk"));
     };
-    let pages = read_before_and_after(
-        &rt,
-        alloc,
-        &mut writer,
-        &mut desk,
-        &catalog,
-        &changes,
-        &correct,
-        2,
-    );
+    let budget = one_thread(&rt, alloc);
+    let asked = Asked {
+        budget: &budget,
+        catalog: &catalog,
+        changes: &changes,
+        correct: &correct,
+        page_keys: 256,
+        gate: &NoGate,
+    };
+    let pages = read_before_and_after(&asked, &mut writer, &mut desk, 2);
     let version = writer.current();
     writer.end(&rt);
     assert_eq!(rt; version, 1);

@@ -18,19 +18,20 @@ use test_given::tables::{bag, two_bags};
 use wh_dag::Catalog;
 use wh_desk::{Desk, Writer, open_warehouse};
 use wh_maint::are_bags;
-use wh_night::{Gate, Options, are_fit_for, night};
+use wh_night::{Asked, Gate, are_fit_for, night};
 use wh_row::Bag;
 use wh_store::Store;
 use wh_strategy::Correct;
+use wh_threads::ThreadBudget;
 
-/// One worker, which publishes 256 rows at a time.
-pub(crate) fn one_worker() -> Options
-    ensures workers { result.workers ≡ 1 }
-    ensures page_keys { result.page_keys ≡ 256 }
+/// Only the caller's thread.
+pub(crate) fn one_thread<R: Threads + Sync>(rt: &R, alloc: Global) -> ThreadBudget<'_, R>
+    ensures { result.threads ≡ 1 }
 {
-    Options {
-        workers: 1,
-        page_keys: 256,
+    ThreadBudget {
+        rt,
+        alloc,
+        threads: 1,
     }
 }
 
@@ -96,16 +97,16 @@ pub(crate) fn night_at<R: Threads + Wait + Sync, T: Gate + Sync>(
     else {
         return Ok(None);
     };
-    let night = night(
-        rt,
-        alloc,
-        &mut writer,
+    let budget = one_thread(rt, alloc);
+    let asked = Asked {
+        budget: &budget,
         catalog,
         changes,
         correct,
-        one_worker(),
+        page_keys: 256,
         gate,
-    );
+    };
+    let night = night(&mut writer, &asked);
     let table = table_of(&writer);
     writer.end(rt);
     Ok(Some(Answer { night, table }))

@@ -15,10 +15,11 @@ use wh_dag::{Catalog, Definition, Output};
 use wh_desk::open_warehouse;
 use wh_formula::{Combiner, Expr, Filter, Pred};
 use wh_maint::are_bags;
-use wh_night::{Gate, Options, are_fit_for, night};
+use wh_night::{Asked, Gate, are_fit_for, night};
 use wh_row::Bag;
 use wh_store::Store;
 use wh_strategy::{Expression, Sources, Strategy, check};
+use wh_threads::ThreadBudget;
 
 /// Keeps the first job 0 until job 1 was taken, for at most 50,000,000 turns.
 #[derive(Drop)]
@@ -135,20 +136,20 @@ fn goes_out<R: Threads + Wait + Sync + Abort>(
     let Ok((mut writer, _desks)) = open_warehouse(rt, alloc, store, 1) else {
         return Ok(false);
     };
-    let options = Options {
-        workers: 2,
-        page_keys: 256,
-    };
-    let night = night(
+    let budget = ThreadBudget {
         rt,
         alloc,
-        &mut writer,
+        threads: 2,
+    };
+    let asked = Asked {
+        budget: &budget,
         catalog,
-        &changes,
-        &correct,
-        options,
+        changes: &changes,
+        correct: &correct,
+        page_keys: 256,
         gate,
-    );
+    };
+    let night = night(&mut writer, &asked);
     writer.end(rt);
     Ok(night.is_ok())
 }

@@ -2,8 +2,6 @@
 //! refuses each in turn. What a refused night leaves is given up; the desk reads version 0 to the end of its pages, and the same
 //! night then goes out. A test that lacks memory twice in the same place says so, and fails.
 
-ghost use Rattle.std.specs.Prelude.{◌≡◌};
-
 use crate::nights::meeting;
 use std::alloc::Global;
 use std::process::Abort;
@@ -17,10 +15,11 @@ use wh_carry::{Report, are_fit};
 use wh_dag::Catalog;
 use wh_desk::{Desk, DeskFault, Writer, open_warehouse};
 use wh_maint::are_bags;
-use wh_night::{Left, NightFault, NoGate, Options, are_fit_for, current_tables, night};
+use wh_night::{Asked, Left, NightFault, NoGate, are_fit_for, current_tables, night};
 use wh_row::{Bag, Row};
 use wh_store::{Ended, Publish, Store};
 use wh_strategy::{Correct, Strategy, check};
+use wh_threads::ThreadBudget;
 
 /// Rows of a view, each with its count.
 type Rows<'a> = &'a [(&'a [i64], i64)];
@@ -54,16 +53,6 @@ enum Found {
 
 fn want_of_memory() -> Fail {
     Fail::from("want of memory")
-}
-
-fn two_workers() -> Options
-    ensures workers { result.workers ≡ 2 }
-    ensures page_keys { result.page_keys ≡ 256 }
-{
-    Options {
-        workers: 2,
-        page_keys: 256,
-    }
 }
 
 /// How often these rows have this one.
@@ -166,27 +155,30 @@ fn carry_out<P: Publish, R: Threads + Wait + Sync>(
     let Ok(true) = are_fit_for(alloc, catalog, &tables, changes, correct) else {
         return Err(want_of_memory());
     };
-    Ok(night(
+    let budget = ThreadBudget {
         rt,
         alloc,
-        writer,
+        threads: 2,
+    };
+    let asked = Asked {
+        budget: &budget,
         catalog,
         changes,
         correct,
-        two_workers(),
-        &NoGate,
-    ))
+        page_keys: 256,
+        gate: &NoGate,
+    };
+    Ok(night(writer, &asked))
 }
 
-/// Asserts that a refused night lacked memory or a thread, and gives up what it has left. The number of the version that the same night
+/// Asserts that a refused night lacked memory, and gives up what it has left. The number of the version that the same night
 /// makes then; None where a commit was held, which has gone out.
 fn give_up<P: Publish, R: Wait + Abort>(
     rt: &R,
     writer: &mut P,
     fault: &NightFault,
 ) -> Result<Option<u64>, Fail> {
-    let number = fault.cause.number();
-    assert!(rt; number == 1 || number == 6, "cause {number}");
+    assert_eq!(rt; fault.cause.number(), 1);
     let mut next = 2;
     match fault.left {
         Left::Untouched => next = 1,

@@ -17,6 +17,7 @@ use wh_maint::{Pending, are_bags};
 use wh_night::{Gate, NoGate, can_run_wave, run_wave};
 use wh_row::Bag;
 use wh_strategy::Sources;
+use wh_threads::ThreadBudget;
 
 /// Counts how often it is told of job 0, and of others.
 #[derive(Drop)]
@@ -79,7 +80,12 @@ pub(crate) fn added<R: Threads + Sync, T: Gate + Sync>(
     if !can_run_wave(catalog, jobs, &state) {
         return Ok(None);
     }
-    Ok(run_wave(rt, alloc, catalog, jobs, &state, workers, gate).ok())
+    let budget = ThreadBudget {
+        rt,
+        alloc,
+        threads: workers,
+    };
+    Ok(run_wave(&budget, catalog, jobs, &state, gate).ok())
 }
 
 /// comp of this view from this one

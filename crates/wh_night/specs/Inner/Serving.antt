@@ -17,7 +17,6 @@ use Rattle.wh_carry.specs.Fit.{AreFitFor}
 use Rattle.wh_carry.specs.declared.report.Carried.{Carried}
 use Rattle.wh_desk.specs.Desks.{Sitting}
 use Rattle.wh_night.specs.declared.left.NightFault.{NightFault}
-use Rattle.wh_night.specs.declared.running.Options.{Options}
 use Rattle.wh_night.specs.Refusals.{IsRefused}
 use Rattle.wh_night.specs.Tonight.{newest_in, tonight}
 use Rattle.wh_night.specs.Published.{IsPublished}
@@ -39,17 +38,17 @@ IsSeated of d = (d.of ≡ of) × (d.session ≡ Some 0)
 abbrev pub IsReady : ℕ → Sitting → Type 0
 IsReady views d = (d.session ≡ Some 0) × (views ≡ length d.of.opening)
 
--- all that a night asks for holds
-pub record CanRun (catalog : CatalogOf) (correct : Judged) (l : Ledger) (changes : List Bag) (options : Options) : Type 0 where
+-- all that a night asks for holds, which is run by so many workers and pages of so many rows
+pub record CanRun (catalog : CatalogOf) (correct : Judged) (l : Ledger) (changes : List Bag) (workers keys : ℕ) : Type 0 where
   pub judged : correct.children ≡ catalog.views.children
   pub free : publish_refusal l Opens ≡ None
   pub wide : AreBags catalog (newest_in l)
   pub wide_changes : AreBags catalog changes
   pub fit : AreFitFor catalog (bag_at changes) correct.list (bag_at (newest_in l))
-  pub some : 1 ≤ options.workers
-  pub few : options.workers ≤ 16
-  pub least : 1 ≤ options.page_keys
-  pub most : options.page_keys ≤ 256
+  pub some : 1 ≤ workers
+  pub few : workers ≤ 16
+  pub least : 1 ≤ keys
+  pub most : keys ≤ 256
 
 -- what a night answers over a published list at which one can begin, and what is published then
 pub record IsRun (catalog : CatalogOf) (list : List Expression) (l : Ledger) (changes : List Bag) (keys : ℕ) (r : Result Carried NightFault) (m : Ledger) : Type 0 where

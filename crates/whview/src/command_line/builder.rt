@@ -22,8 +22,7 @@ pub fn whview_command<'a>(alloc: Global) -> Result<Command<'a>, AllocError>
         "Goes through a schedule of events and prints the reply to each. Reads the catalogue, the data, the changes and the strategy of each night, and the schedule.",
         notes::REPLAY,
     )?;
-    let with_replay = with_night.subcommand(replay)?;
-    Ok(with_replay)
+    with_night.subcommand(replay)
 }
 
 /// The program with its commands that read no data.
@@ -39,14 +38,13 @@ fn planning_command<'a>(alloc: Global) -> Result<Command<'a>, AllocError>
         notes::CHECK,
     )?;
     let with_plan = with_check.subcommand(plan_command(alloc)?)?;
-    let with_certify = with_command(
+    with_command(
         alloc,
         with_plan,
         "certify",
         "Judges a plan by its certificate. Reads the catalogue, the sizes and the plan.",
         notes::CERTIFY,
-    )?;
-    Ok(with_certify)
+    )
 }
 
 /// The program before it has its commands.
@@ -75,8 +73,7 @@ fn with_command<'a>(
     ensures { IfOk result (λ c. app_of c ≡ with_subcommand (app_of whview.entry) (command_app name.entry.now).top) }
 {
     let command = command(alloc, name, about, notes)?;
-    let with_command = whview.subcommand(command)?;
-    Ok(with_command)
+    whview.subcommand(command)
 }
 
 /// A command of this name, with an option for each cost and for the file of the input.
@@ -102,8 +99,7 @@ fn command<'a>(
     let named = Command::new(alloc, name).about(about).after_help(notes);
     let with_comp = named.arg(comp_cost)?;
     let with_inst = with_comp.arg(inst_cost)?;
-    let with_input = with_inst.arg(input_option(alloc))?;
-    Ok(with_input)
+    with_inst.arg(input_option(alloc))
 }
 
 /// The command that plans, with an option for its budget besides.
@@ -117,8 +113,7 @@ fn plan_command<'a>(alloc: Global) -> Result<Command<'a>, AllocError>
         "Plans a strategy of least work and says why none costs less. Reads the catalogue and the sizes.",
         notes::PLAN,
     )?;
-    let with_budget = plan.arg(budget_option(alloc))?;
-    Ok(with_budget)
+    plan.arg(budget_option(alloc))
 }
 
 /// The command that carries a night out, with options for its workers and readers.
@@ -146,8 +141,7 @@ fn seats_command<'a>(alloc: Global) -> Result<Command<'a>, AllocError>
         )
         .after_help(notes::NIGHT);
     let with_workers = named.arg(workers)?;
-    let with_readers = with_workers.arg(readers)?;
-    Ok(with_readers)
+    with_workers.arg(readers)
 }
 
 /// The same, with options for the rows of a page, for what is printed and for the file of the input besides.
@@ -165,8 +159,7 @@ fn night_command<'a>(alloc: Global) -> Result<Command<'a>, AllocError>
     let seats = seats_command(alloc)?;
     let with_page_keys = seats.arg(page_keys)?;
     let with_print = with_page_keys.arg(print_option(alloc))?;
-    let with_input = with_print.arg(input_option(alloc))?;
-    Ok(with_input)
+    with_print.arg(input_option(alloc))
 }
 
 /// A command of this name, with an option for the file of the input alone.
@@ -180,8 +173,7 @@ fn input_command<'a>(
     ensures local { IfOk result (λ c. (out-Command c).has_globals ≡ false) }
 {
     let named = Command::new(alloc, name).about(about).after_help(notes);
-    let with_input = named.arg(input_option(alloc))?;
-    Ok(with_input)
+    named.arg(input_option(alloc))
 }
 
 /// The option for a cost.

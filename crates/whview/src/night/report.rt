@@ -17,6 +17,7 @@ use wh_load::{Dict, Names, WrittenView, write_expression, write_table_wide};
 use wh_night::Served;
 use wh_row::{Bag, Hands};
 use wh_strategy::Expression;
+use wh_threads::ThreadBudget;
 
 /// Appends a line of this text and number.
 fn append_line(
@@ -87,17 +88,28 @@ fn append_report(
     append_line(alloc, out, b"version ", u128::from(report.version))
 }
 
+/// With what the rows of views are printed.
+#[derive(Drop)]
+pub(crate) struct Printing<'p, R: Threads + Sync> {
+    /// Much is written by several threads.
+    pub(crate) budget: &'p ThreadBudget<'p, R>,
+    pub(crate) shape: &'p Shape,
+    /// The views, in the order of their numbers.
+    pub(crate) views: &'p [WrittenView],
+    /// The texts that cells stand for.
+    pub(crate) texts: &'p Dict,
+}
+
 /// Appends these rows of a derived view, written as a table is, under what they are and its name; nothing of a base view.
 fn append_view<R: Threads + Sync>(
-    hands: &Hands<'_, R>,
+    printing: &Printing<'_, R>,
     out: &mut Vec<u8>,
     word: &[u8],
     name: &str,
     view: &WrittenView,
-    texts: &Dict,
     rows: &Bag,
 ) -> Result<(), AllocError>
-    ensures { OnOk result (out.new.items ≡ out.old.items ++ view_text word.now texts.now name.now (shown_view view.now) rows.now) }
+    ensures { OnOk result (out.new.items ≡ out.old.items ++ view_text word.now printing.now.texts.now name.now (shown_view view.now) rows.now) }
 {
     if view.definition.is_none() {
         return Ok(());
@@ -105,31 +117,33 @@ fn append_view<R: Threads + Sync>(
     out.extend_from_slice(word)?;
     out.extend_from_slice(name.as_bytes())?;
     out.push(b'\n')?;
-    write_table_wide(hands, out, &view.columns, rows, texts)
+    let hands = Hands {
+        rt: printing.budget.rt,
+        threads: printing.budget.threads,
+    };
+    write_table_wide(&hands, out, &view.columns, rows, printing.texts)
 }
 
 /// Appends these rows of the derived views, which are their new tables or their changes.
 fn append_views<R: Threads + Sync>(
-    hands: &Hands<'_, R>,
+    printing: &Printing<'_, R>,
     out: &mut Vec<u8>,
     word: &[u8],
-    shape: &Shape,
-    views: &[WrittenView],
-    texts: &Dict,
     rows: &[Bag],
 ) -> Result<(), AllocError>
-    requires views { length views.now ≡ length shape.now.children }
-    requires rows { length rows.now ≡ length shape.now.children }
-    ensures { OnOk result (out.new.items ≡ out.old.items ++ views_text word.now texts.now shape.now.names 0 (map shown_view views.now) (bag_at rows.now)) }
+    requires views { length printing.now.views.now ≡ length printing.now.shape.now.children }
+    requires rows { length rows.now ≡ length printing.now.shape.now.children }
+    ensures { OnOk result (out.new.items ≡ out.old.items ++ views_text word.now printing.now.texts.now printing.now.shape.now.names 0 (map shown_view printing.now.views.now) (bag_at rows.now)) }
 {
+    let shape = printing.shape;
+    let views = printing.views;
     for view in 0..shape.len() {
         append_view(
-            hands,
+            printing,
             out,
             word,
             shape.name(view),
             &views[view],
-            texts,
             &rows[view],
         )?;
     }
@@ -138,24 +152,19 @@ fn append_views<R: Threads + Sync>(
 
 /// Appends what is shown of the derived views.
 fn append_shown<R: Threads + Sync>(
-    hands: &Hands<'_, R>,
+    printing: &Printing<'_, R>,
     out: &mut Vec<u8>,
-    shape: &Shape,
-    views: &[WrittenView],
-    texts: &Dict,
     tables: &[Bag],
     shown: &Shown,
 ) -> Result<(), AllocError>
-    requires views { length views.now ≡ length shape.now.children }
-    requires tables { length tables.now ≡ length shape.now.children }
-    requires changes { IsShownWhole shape.now shown.now }
-    ensures { OnOk result (out.new.items ≡ out.old.items ++ shown_text shown.now texts.now shape.now.names (map shown_view views.now) tables.now) }
+    requires views { length printing.now.views.now ≡ length printing.now.shape.now.children }
+    requires tables { length tables.now ≡ length printing.now.shape.now.children }
+    requires changes { IsShownWhole printing.now.shape.now shown.now }
+    ensures { OnOk result (out.new.items ≡ out.old.items ++ shown_text shown.now printing.now.texts.now printing.now.shape.now.names (map shown_view printing.now.views.now) tables.now) }
 {
     match shown {
-        Shown::NewTables => append_views(hands, out, b"view ", shape, views, texts, tables),
-        Shown::ChangesOf(changes) => {
-            append_views(hands, out, b"changes ", shape, views, texts, changes)
-        }
+        Shown::NewTables => append_views(printing, out, b"view ", tables),
+        Shown::ChangesOf(changes) => append_views(printing, out, b"changes ", changes),
     }
 }
 
@@ -184,33 +193,22 @@ fn append_readers(alloc: Global, out: &mut Vec<u8>, rows: &[usize]) -> Result<()
 
 /// What is printed of a night that was carried out, by several threads where much is.
 pub(crate) fn carried_text<R: Threads + Sync>(
-    hands: &Hands<'_, R>,
-    alloc: Global,
-    shape: &Shape,
-    views: &[WrittenView],
-    texts: &Dict,
+    printing: &Printing<'_, R>,
     carried: &Served,
     shown: &Shown,
 ) -> Result<Vec<u8>, AllocError>
     requires version { carried.now.report.version ≡ 1 }
-    requires views { length views.now ≡ length shape.now.children }
-    requires tables { length carried.now.tables.items ≡ length shape.now.children }
-    requires changes { IsShownWhole shape.now shown.now }
-    ensures { IfOk result (λ text. text.items ≡ (report_text shape.now.names carried.now.report.steps.items
-        ++ shown_text shown.now texts.now shape.now.names (map shown_view views.now) carried.now.tables.items) ++ readers_text 0 carried.now.rows.items) }
+    requires views { length printing.now.views.now ≡ length printing.now.shape.now.children }
+    requires tables { length carried.now.tables.items ≡ length printing.now.shape.now.children }
+    requires changes { IsShownWhole printing.now.shape.now shown.now }
+    ensures { IfOk result (λ text. text.items ≡ (report_text printing.now.shape.now.names carried.now.report.steps.items
+        ++ shown_text shown.now printing.now.texts.now printing.now.shape.now.names (map shown_view printing.now.views.now) carried.now.tables.items) ++ readers_text 0 carried.now.rows.items) }
 {
-    let names = Names::of(alloc, shape)?;
+    let alloc = printing.budget.alloc;
+    let names = Names::of(alloc, printing.shape)?;
     let mut text = Vec::new(alloc);
     append_report(alloc, &mut text, &names, &carried.report)?;
-    append_shown(
-        hands,
-        &mut text,
-        shape,
-        views,
-        texts,
-        &carried.tables,
-        shown,
-    )?;
+    append_shown(printing, &mut text, &carried.tables, shown)?;
     append_readers(alloc, &mut text, &carried.rows)?;
     Ok(text)
 }

@@ -1,6 +1,6 @@
 //! A night that is carried out, with what is shown of its derived views.
 
-ghost use Rattle.std.specs.Prelude.{◌≡◌, ◌⊎◌, length, map, replicate, IfErr, IfOk};
+ghost use Rattle.std.specs.Prelude.{◌≡◌, ◌⊎◌, ◌≤◌, length, map, replicate, IfErr, IfOk};
 ghost use Rattle.wh_carry.specs.CarriedOut.{IsNightCarried};
 ghost use Rattle.wh_carry.specs.Fit.{AreFitFor};
 ghost use Rattle.wh_maint.specs.Asked.{AreBags};
@@ -15,18 +15,15 @@ ghost use Rattle.whview.specs.NightOutput.{AtDerived, IsShownAs, rows_printed};
 ghost use Rattle.whview.specs.declared.night_options.Printed.TheVariants.{Changes};
 
 use super::shown::{Shown, changes, copies};
-use crate::night_options::{NightOptions, Printed};
-use std::alloc::Global;
+use crate::night_options::Printed;
 use std::sync::Wait;
 use std::thread::Threads;
 use wh_carry::CarryFault;
-use wh_dag::Catalog;
 use wh_formula::{RowTest, RowValue};
 use wh_load::WrittenView;
 use wh_maint::MaintFault;
-use wh_night::{NoWatch, Options, Readers, Served, serve_night};
+use wh_night::{Asked, NoWatch, Served, serve_night};
 use wh_row::Bag;
-use wh_strategy::Correct;
 
 /// Want of memory, in a night that has begun or not.
 fn want_of_memory(started: bool) -> CarryFault
@@ -38,103 +35,73 @@ fn want_of_memory(started: bool) -> CarryFault
     }
 }
 
-/// Carries a night out from these tables, beside its readers.
-fn carry_out<F: RowTest, G: RowValue, R: Threads + Wait + Sync>(
-    rt: &R,
-    alloc: Global,
-    catalog: &Catalog<F, G>,
-    how: NightOptions,
-    tables: Vec<Bag>,
-    changes: &[Bag],
-    correct: &Correct,
-) -> Result<Served, CarryFault>
-    requires judged { correct.now.children ≡ catalog.now.views.children }
-    requires tables { AreBags catalog.now tables.items }
-    requires changes { AreBags catalog.now changes.now }
-    requires fit { AreFitFor catalog.now (bag_at changes.now) correct.now.list (bag_at tables.items) }
-    ensures carried { IfOk result (λ s. IsNightCarried catalog.now correct.now.list tables.items changes.now s.tables.items s.report) }
-    ensures rows { IfOk result (λ s. s.rows.items ≡ replicate how.readers (rows_of tables.items)) }
-    ensures refused { IfErr result (λ f. (f.fault ≡ Memory)
-        ⊎ IsRefusedSo (night_over catalog.now correct.now.list tables.items changes.now how.page_keys) (left_of f.started) f.fault) }
-{
-    let options = Options {
-        workers: how.workers,
-        page_keys: how.page_keys,
-    };
-    let readers = Readers {
-        count: how.readers,
-        watch: &NoWatch,
-    };
-    serve_night(
-        rt, alloc, catalog, tables, changes, correct, options, readers,
-    )
-}
-
-/// The same, with the changes of the derived views.
-fn carry_out_with_changes<F: RowTest, G: RowValue, R: Threads + Wait + Sync>(
-    rt: &R,
-    alloc: Global,
-    catalog: &Catalog<F, G>,
-    how: NightOptions,
+/// Carries a night out from these tables, beside so many readers, with the changes of the derived views.
+fn with_changes<F: RowTest, G: RowValue, R: Threads + Wait + Sync>(
+    asked: &Asked<'_, F, G, NoWatch, R>,
+    readers: usize,
     views: &[WrittenView],
     tables: Vec<Bag>,
-    given: &[Bag],
-    correct: &Correct,
 ) -> Result<(Served, Vec<Bag>), CarryFault>
-    requires views { length views.now ≡ length catalog.now.views.children }
-    requires judged { correct.now.children ≡ catalog.now.views.children }
-    requires tables { AreBags catalog.now tables.items }
-    requires changes { AreBags catalog.now given.now }
-    requires fit { AreFitFor catalog.now (bag_at given.now) correct.now.list (bag_at tables.items) }
-    ensures carried { IfOk result (λ s. IsNightCarried catalog.now correct.now.list tables.items given.now s.0.tables.items s.0.report) }
-    ensures rows { IfOk result (λ s. s.0.rows.items ≡ replicate how.readers (rows_of tables.items)) }
+    requires views { length views.now ≡ length asked.now.catalog.now.views.children }
+    requires judged { asked.now.correct.now.children ≡ asked.now.catalog.now.views.children }
+    requires tables { AreBags asked.now.catalog.now tables.items }
+    requires changes { AreBags asked.now.catalog.now asked.now.changes.now }
+    requires fit { AreFitFor asked.now.catalog.now (bag_at asked.now.changes.now) asked.now.correct.now.list (bag_at tables.items) }
+    requires some { 1 ≤ asked.now.budget.now.threads }
+    requires few { asked.now.budget.now.threads ≤ 16 }
+    requires least { 1 ≤ asked.now.page_keys }
+    requires most { asked.now.page_keys ≤ 256 }
+    requires seats { readers ≤ 16 }
+    ensures carried { IfOk result (λ s. IsNightCarried asked.now.catalog.now asked.now.correct.now.list tables.items asked.now.changes.now s.0.tables.items s.0.report) }
+    ensures rows { IfOk result (λ s. s.0.rows.items ≡ replicate readers (rows_of tables.items)) }
     ensures each { IfOk result (λ s. length s.1.items ≡ length views.now) }
     ensures shown { IfOk result (λ s. AtDerived (map shown_view views.now) (λ view. bag_at s.1.items view ≡ rows_printed Changes (bag_at tables.items) (bag_at s.0.tables.items) view)) }
     ensures refused { IfErr result (λ f. (f.fault ≡ Memory)
-        ⊎ IsRefusedSo (night_over catalog.now correct.now.list tables.items given.now how.page_keys) (left_of f.started) f.fault) }
+        ⊎ IsRefusedSo (night_over asked.now.catalog.now asked.now.correct.now.list tables.items asked.now.changes.now asked.now.page_keys) (left_of f.started) f.fault) }
 {
+    let alloc = asked.budget.alloc;
     let Ok(old) = copies(alloc, views, &tables) else {
         return Err(want_of_memory(false));
     };
-    let served = carry_out(rt, alloc, catalog, how, tables, given, correct)?;
+    let served = serve_night(asked, tables, readers)?;
     match changes(alloc, views, &served.tables, &old) {
         Ok(changes) => Ok((served, changes)),
         Err(_) => Err(want_of_memory(true)),
     }
 }
 
-/// Carries a night out from these tables, beside its readers, and makes what is to be shown of it.
+/// Carries a night out from these tables, beside so many readers, and makes what is to be shown of it.
 pub(crate) fn serve<F: RowTest, G: RowValue, R: Threads + Wait + Sync>(
-    rt: &R,
-    alloc: Global,
-    catalog: &Catalog<F, G>,
-    how: NightOptions,
+    asked: &Asked<'_, F, G, NoWatch, R>,
+    readers: usize,
+    print: Printed,
     views: &[WrittenView],
     tables: Vec<Bag>,
-    given: &[Bag],
-    correct: &Correct,
 ) -> Result<(Served, Shown), CarryFault>
-    requires views { length views.now ≡ length catalog.now.views.children }
-    requires judged { correct.now.children ≡ catalog.now.views.children }
-    requires tables { AreBags catalog.now tables.items }
-    requires changes { AreBags catalog.now given.now }
-    requires fit { AreFitFor catalog.now (bag_at given.now) correct.now.list (bag_at tables.items) }
-    ensures carried { IfOk result (λ s. IsNightCarried catalog.now correct.now.list tables.items given.now s.0.tables.items s.0.report) }
-    ensures rows { IfOk result (λ s. s.0.rows.items ≡ replicate how.readers (rows_of tables.items)) }
-    ensures shown { IfOk result (λ s. IsShownAs how.print (map shown_view views.now) (bag_at tables.items) (bag_at s.0.tables.items) s.1) }
-    ensures whole { IfOk result (λ s. IsShownWhole catalog.now.views s.1) }
+    requires views { length views.now ≡ length asked.now.catalog.now.views.children }
+    requires judged { asked.now.correct.now.children ≡ asked.now.catalog.now.views.children }
+    requires tables { AreBags asked.now.catalog.now tables.items }
+    requires changes { AreBags asked.now.catalog.now asked.now.changes.now }
+    requires fit { AreFitFor asked.now.catalog.now (bag_at asked.now.changes.now) asked.now.correct.now.list (bag_at tables.items) }
+    requires some { 1 ≤ asked.now.budget.now.threads }
+    requires few { asked.now.budget.now.threads ≤ 16 }
+    requires least { 1 ≤ asked.now.page_keys }
+    requires most { asked.now.page_keys ≤ 256 }
+    requires seats { readers ≤ 16 }
+    ensures carried { IfOk result (λ s. IsNightCarried asked.now.catalog.now asked.now.correct.now.list tables.items asked.now.changes.now s.0.tables.items s.0.report) }
+    ensures rows { IfOk result (λ s. s.0.rows.items ≡ replicate readers (rows_of tables.items)) }
+    ensures shown { IfOk result (λ s. IsShownAs print (map shown_view views.now) (bag_at tables.items) (bag_at s.0.tables.items) s.1) }
+    ensures whole { IfOk result (λ s. IsShownWhole asked.now.catalog.now.views s.1) }
     ensures refused { IfErr result (λ f. (f.fault ≡ Memory)
-        ⊎ IsRefusedSo (night_over catalog.now correct.now.list tables.items given.now how.page_keys) (left_of f.started) f.fault) }
+        ⊎ IsRefusedSo (night_over asked.now.catalog.now asked.now.correct.now.list tables.items asked.now.changes.now asked.now.page_keys) (left_of f.started) f.fault) }
 {
-    match how.print {
+    match print {
         Printed::Tables => {
-            let served = carry_out(rt, alloc, catalog, how, tables, given, correct)?;
+            let served = serve_night(asked, tables, readers)?;
             Ok((served, Shown::NewTables))
         }
         Printed::Changes => {
-            let (served, changes) = carry_out_with_changes(
-                rt, alloc, catalog, how, views, tables, given, correct,
-            )?;
+            let (served, changes) = with_changes(asked, readers, views, tables)?;
             Ok((served, Shown::ChangesOf(changes)))
         }
     }

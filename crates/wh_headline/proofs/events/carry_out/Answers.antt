@@ -2,7 +2,7 @@ use Rattle.std.proofs.Common.{[]}
 use Rattle.std.specs.Prelude.{Result, Ok, Err, IfOk}
 use Rattle.wh_core.specs.Headline.{ComesTrue}
 use Rattle.wh_core.specs.Laws.{IsSetup}
-use Rattle.wh_core.specs.Nights.{Setup}
+use Rattle.wh_core.specs.Nights.{Setup, setup_of}
 use Rattle.wh_core.specs.Standing.{StandsWith, nights_of}
 use Rattle.wh_headline.proofs.events.carry_out.Goals as goal
 
@@ -12,15 +12,7 @@ if_ok (Err e) P Q p f = tt
 
 pub returns : goal.returns
 returns g c =
-    let setup : Setup = record {
-      catalog = c.args.catalog;
-      desks = c.args.desks;
-      workers = c.args.workers;
-      versions = c.args.versions;
-      keys = c.args.keys;
-      opening = c.args.tables.items;
-      nights = nights_of c.args.nights.items;
-    } in
+    let setup : Setup = setup_of c.args.catalog c.args.options c.args.tables.items (nights_of c.args.nights.items) in
     record {
       comes_true = if_ok c.run.result (λ replies. (s : Setup) → IsSetup s → StandsWith s [] c.in_ok-core.core → ComesTrue s c.args.events.now replies.items)
           (λ replies. ComesTrue setup c.args.events.now replies.items) c.run.ensures.comes_true (λ replies come. come setup c.requires.setup c.in_ok-core.ensures.stands);

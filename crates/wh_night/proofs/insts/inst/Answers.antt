@@ -26,7 +26,7 @@ change-requires-clause-known g c = ap (λ (k : Kept). k.known c.args.view) c.in_
 pub returns-in_err-install-clause-err : goal.returns-in_err-install-clause-err
 returns-in_err-install-clause-err g c =
     let m = g.O.Outlet.kept c.args.writer.now in
-    handed_on (λ fault. IsInstStopped c.args.means.now.catalog.now (g.O.Outlet.keys c.args.outlet.now) c.args.view (kept c.args.progress.now.state) fault m m) c.from_residual.result c.in_err-install.field-0.0 c.from_residual.ensures (is_refused refl c.in_err-install.ensures.refused)
+    handed_on (λ fault. IsInstStopped c.args.asked.now.catalog.now (g.O.Outlet.keys c.args.outlet.now) c.args.view (kept c.args.progress.now.state) fault m m) c.from_residual.result c.in_err-install.field-0.0 c.from_residual.ensures (is_refused refl c.in_err-install.ensures.refused)
 
 -- the pages of the change in the table that has it
 same_pages : (v keys : ℕ) (k installed_now : Kept) (over : Kept) (table change : Bag) → installed_now ≡ installed v over → table ≡ installed_now.tables v → change ≡ installed_now.changes v
@@ -40,7 +40,7 @@ pub returns-in-Ok-clause-out : goal.returns-in-Ok-clause-out
 returns-in-Ok-clause-out g c =
     let v : ℕ = c.args.view in
     let k : Kept = kept c.args.progress.now.state in
-    let over : Kept = finished c.args.means.now.catalog.now (λ u. eqb v u) k in
+    let over : Kept = finished c.args.asked.now.catalog.now (λ u. eqb v u) k in
     subst (λ pages. g.O.Outlet.kept c.put.new.writer ≡ behind (g.O.Outlet.kept c.args.writer.now) (map (Writes v) pages))
     (same_pages v (g.O.Outlet.keys c.args.outlet.now) k (kept c.install.new.progress.state) over c.table.result.now c.change.result.now c.in_ok-install.ensures.done c.table.ensures c.change.ensures)
     c.in-Ok.ensures.out
@@ -49,7 +49,7 @@ pub returns-in-Err-clause-err : goal.returns-in-Err-clause-err
 returns-in-Err-clause-err g c =
     let v : ℕ = c.args.view in
     let k : Kept = kept c.args.progress.now.state in
-    let over : Kept = finished c.args.means.now.catalog.now (λ u. eqb v u) k in
+    let over : Kept = finished c.args.asked.now.catalog.now (λ u. eqb v u) k in
     is_cut refl c.in_ok-install.ensures.passed
     (subst (λ pages. ArePartlyOut (g.O.Outlet.kept c.args.writer.now) (map (Writes v) pages) (g.O.Outlet.kept c.put.new.writer))
     (same_pages v (g.O.Outlet.keys c.args.outlet.now) k (kept c.install.new.progress.state) over c.table.result.now c.change.result.now c.in_ok-install.ensures.done c.table.ensures c.change.ensures)
@@ -65,8 +65,8 @@ pub put-requires-clause-takes : goal.put-requires-clause-takes
 put-requires-clause-takes g c =
     let v : ℕ = c.args.view in
     let k : Kept = kept c.args.progress.now.state in
-    let over : Kept = finished c.args.means.now.catalog.now (λ u. eqb v u) k in
-    takes_rows (g.O.Outlet.kept c.args.writer.now) c.args.means.now.catalog.now (g.O.Outlet.keys c.args.outlet.now) v k _ c.requires.publishes
+    let over : Kept = finished c.args.asked.now.catalog.now (λ u. eqb v u) k in
+    takes_rows (g.O.Outlet.kept c.args.writer.now) c.args.asked.now.catalog.now (g.O.Outlet.keys c.args.outlet.now) v k _ c.requires.publishes
     (λ table. subst (All (λ page. is_page page ≡ true)) (sym (same_pages v (g.O.Outlet.keys c.args.outlet.now) k (kept c.install.new.progress.state) over c.table.result.now c.change.result.now c.in_ok-install.ensures.done c.table.ensures c.change.ensures))
     ((new_counts_make_tables (g.O.Outlet.keys c.args.outlet.now) (over.tables v) (over.changes v) c.requires.some).good c.requires.few table))
     c.in_ok-install.ensures.passed

@@ -19,7 +19,7 @@ pub returns-in_err-install-clause-refused : goal.returns-in_err-install-clause-r
 returns-in_err-install-clause-refused g c =
     let v = c.args.view in
     let fault = c.in_err-install.field-0.0 in
-    handed_on (IsStepFaultIn c.args.means.now.catalog.now (kept c.args.progress.now.state) (Inst v)) c.from_residual-in_err-install.result fault c.from_residual-in_err-install.ensures
+    handed_on (IsStepFaultIn c.args.asked.now.catalog.now (kept c.args.progress.now.state) (Inst v)) c.from_residual-in_err-install.result fault c.from_residual-in_err-install.ensures
     (inr (c.in_ok-finish_one.ensures.passed, subst (λ (k : Kept). IsInstallFault v (k.tables v) (k.changes v) fault) c.in_ok-finish_one.ensures.done c.in_err-install.ensures.refused))
 
 pub returns-in_default-clause-refused : goal.returns-in_default-clause-refused
@@ -32,7 +32,7 @@ returns-clause-done g c = c.in_ok-install.ensures.done ∙ ap (installed c.args.
 
 pub returns-clause-fit : goal.returns-clause-fit
 returns-clause-fit g c =
-    can_finish_installed c.args.means.now.catalog.now (kept c.args.progress.now.state) (kept c.install.new.self) c.args.view c.requires.fit (c.in_ok-install.ensures.done ∙ ap (installed c.args.view) c.in_ok-finish_one.ensures.done)
+    can_finish_installed c.args.asked.now.catalog.now (kept c.args.progress.now.state) (kept c.install.new.self) c.args.view c.requires.fit (c.in_ok-install.ensures.done ∙ ap (installed c.args.view) c.in_ok-finish_one.ensures.done)
 
 pub returns-clause-passed : goal.returns-clause-passed
 returns-clause-passed g c =

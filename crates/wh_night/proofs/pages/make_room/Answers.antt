@@ -14,7 +14,7 @@ returns-in_err-publish_page-clause-err g c =
     let full = c.if-len-keys.true in
     on_err _ c.from_residual.result (λ rest.
     subst (λ pages. IsPartly (g.P.Publish.kept c.args.writer.now) (map (Writes c.args.view) pages) (g.P.Publish.kept c.publish_page.new.writer))
-    (full_page c.args.keys (plain c.args.page.now.items) rest c.requires.some (omega arith)) (c.in_err-publish_page.ensures.err (map (Writes c.args.view) (pages_of c.args.keys rest))))
+    (full_page c.args.pages.now.keys (plain c.args.page.now.items) rest c.requires.some (omega arith)) (c.in_err-publish_page.ensures.err (map (Writes c.args.view) (pages_of c.args.pages.now.keys rest))))
 
 pub returns-in_ok-publish_page-clause-out : goal.returns-in_ok-publish_page-clause-out
 returns-in_ok-publish_page-clause-out g c = record {
@@ -22,6 +22,6 @@ returns-in_ok-publish_page-clause-out g c = record {
   out = c.in_ok-publish_page.ensures.out;
   cut = λ rest.
       let e = plain_length c.args.page.now.items in
-      ap (λ rows. plain c.args.page.now.items ∷ pages_of c.args.keys (plain rows ++ rest)) c.in_ok-publish_page.ensures.empty
-      ∙ full_page c.args.keys (plain c.args.page.now.items) rest c.requires.some (omega arith);
+      ap (λ rows. plain c.args.page.now.items ∷ pages_of c.args.pages.now.keys (plain rows ++ rest)) c.in_ok-publish_page.ensures.empty
+      ∙ full_page c.args.pages.now.keys (plain c.args.page.now.items) rest c.requires.some (omega arith);
 }

@@ -9,7 +9,7 @@ use Rattle.wh_carry.specs.NightList.{pages_of}
 use Rattle.wh_store.specs.Ledgers.{Ledger}
 use Rattle.wh_carry.proofs.Growing.{longer}
 use Rattle.wh_carry.proofs.Lengths.{plain_length}
-use Rattle.wh_night.proofs.Outs.{on_err, out_pages, partly_none, partly_pages}
+use Rattle.wh_night.proofs.Outs.{on_err, on_err_so, on_ok, out_pages, partly_none, partly_pages}
 use Rattle.wh_night.proofs.Taken.{full_good, last_good, takes_more}
 use Rattle.wh_night.proofs.pages.publish_change.Goals as goal
 
@@ -18,7 +18,7 @@ returns-in_err-make_room-clause-err g c =
     let i = c.loop-row.invariant.told in
     let rest : Counted = map {A = List ℤ × ℤ} {B = Row × ℤ} (λ e. (e.0, count c.args.table.now e.0)) c.loop-row.row-iterator in
     on_err _ c.from_residual.result
-    (partly_pages (g.P.Publish.kept c.args.writer.now) (g.P.Publish.kept c.loop-row.writer) (g.P.Publish.kept c.make_room.new.writer) c.args.view i.0 (pages_of c.args.keys (plain c.loop-row.page.items ++ rest)) _ i.1 i.2
+    (partly_pages (g.P.Publish.kept c.args.writer.now) (g.P.Publish.kept c.loop-row.writer) (g.P.Publish.kept c.make_room.new.writer) c.args.view i.0 (pages_of c.args.pages.now.keys (plain c.loop-row.page.items ++ rest)) _ i.1 i.2
     (c.in_err-make_room.ensures.err rest))
 
 pub loop-row-preserved : goal.loop-row-preserved
@@ -45,8 +45,8 @@ loop-row-preserved g c =
       told = (
         i.0 ++ m.pages,
         out_pages (g.P.Publish.kept c.args.writer.now) (g.P.Publish.kept c.loop-row.writer) (g.P.Publish.kept c.make_room.new.writer) c.args.view i.0 m.pages (i.0 ++ m.pages) i.1 refl m.out,
-        append_assoc i.0 m.pages (pages_of c.args.keys (plain c.put_row.new.page.items ++ rest))
-            ∙ ap (λ ps. i.0 ++ ps) (ap (λ rows. m.pages ++ pages_of c.args.keys rows) after ∙ m.cut (map f c.loop-row.row-iterator)) ∙ i.2,
+        append_assoc i.0 m.pages (pages_of c.args.pages.now.keys (plain c.put_row.new.page.items ++ rest))
+            ∙ ap (λ ps. i.0 ++ ps) (ap (λ rows. m.pages ++ pages_of c.args.pages.now.keys rows) after ∙ m.cut (map f c.loop-row.row-iterator)) ∙ i.2,
       );
     }
 
@@ -57,31 +57,34 @@ returns-in_err-put_row-clause-err g c =
     let l : Ledger = g.P.Publish.kept c.args.writer.now in
     let mid : Ledger = g.P.Publish.kept c.make_room.new.writer in
     let rest : Counted = map {A = List ℤ × ℤ} {B = Row × ℤ} (λ e. (e.0, count c.args.table.now e.0)) c.loop-row.row-iterator in
-    let more : List Counted = pages_of c.args.keys (plain c.make_room.new.page.items ++ rest) in
+    let more : List Counted = pages_of c.args.pages.now.keys (plain c.make_room.new.page.items ++ rest) in
     on_err _ c.from_residual-in_err-put_row.result
     (partly_pages l mid mid c.args.view (i.0 ++ m.pages) more _
     (out_pages l (g.P.Publish.kept c.loop-row.writer) mid c.args.view i.0 m.pages (i.0 ++ m.pages) i.1 refl m.out)
     (append_assoc i.0 m.pages more ∙ ap (λ ps. i.0 ++ ps) (m.cut rest) ∙ i.2)
     (partly_none mid (map (Writes c.args.view) more) (ap (λ (x : Ledger). x.held) m.out)))
 
-pub returns-in_err-close_last-clause-err : goal.returns-in_err-close_last-clause-err
-returns-in_err-close_last-clause-err g c =
+pub returns-clause-err : goal.returns-clause-err
+returns-clause-err g c =
     let i = c.loop-row.invariant.told in
     let f : List ℤ × ℤ → Row × ℤ = λ e. (e.0, count c.args.table.now e.0) in
     let none : c.loop-row.row-iterator ≡ [] = search rules in
-    let whole : i.0 ++ pages_of c.args.keys (plain c.loop-row.page.items) ≡ pages_of c.args.keys (map f (written c.args.change.now)) =
-    ap (λ rows. i.0 ++ pages_of c.args.keys rows) (sym (append-nil (plain c.loop-row.page.items)) ∙ ap (λ es. plain c.loop-row.page.items ++ map f es) (sym none)) ∙ i.2 in
-    on_err _ c.from_residual-in_err-close_last.result
-    (partly_pages (g.P.Publish.kept c.args.writer.now) (g.P.Publish.kept c.loop-row.writer) (g.P.Publish.kept c.close_last.new.writer) c.args.view i.0 (pages_of c.args.keys (plain c.loop-row.page.items)) _ i.1 whole c.in_err-close_last.ensures.err)
+    let whole : i.0 ++ pages_of c.args.pages.now.keys (plain c.loop-row.page.items) ≡ pages_of c.args.pages.now.keys (map f (written c.args.change.now)) =
+    ap (λ rows. i.0 ++ pages_of c.args.pages.now.keys rows) (sym (append-nil (plain c.loop-row.page.items)) ∙ ap (λ es. plain c.loop-row.page.items ++ map f es) (sym none)) ∙ i.2 in
+    on_err_so _ _ c.close_last.result
+    (λ partly. partly_pages (g.P.Publish.kept c.args.writer.now) (g.P.Publish.kept c.loop-row.writer) (g.P.Publish.kept c.close_last.new.writer) c.args.view i.0 (pages_of c.args.pages.now.keys (plain c.loop-row.page.items)) _ i.1 whole partly)
+    c.close_last.ensures.err
 
 pub returns-clause-out : goal.returns-clause-out
 returns-clause-out g c =
     let i = c.loop-row.invariant.told in
     let f : List ℤ × ℤ → Row × ℤ = λ e. (e.0, count c.args.table.now e.0) in
     let none : c.loop-row.row-iterator ≡ [] = search rules in
-    let whole : i.0 ++ pages_of c.args.keys (plain c.loop-row.page.items) ≡ pages_of c.args.keys (map f (written c.args.change.now)) =
-    ap (λ rows. i.0 ++ pages_of c.args.keys rows) (sym (append-nil (plain c.loop-row.page.items)) ∙ ap (λ es. plain c.loop-row.page.items ++ map f es) (sym none)) ∙ i.2 in
-    out_pages (g.P.Publish.kept c.args.writer.now) (g.P.Publish.kept c.loop-row.writer) (g.P.Publish.kept c.close_last.new.writer) c.args.view i.0 (pages_of c.args.keys (plain c.loop-row.page.items)) _ i.1 whole c.in_ok-close_last.ensures.out
+    let whole : i.0 ++ pages_of c.args.pages.now.keys (plain c.loop-row.page.items) ≡ pages_of c.args.pages.now.keys (map f (written c.args.change.now)) =
+    ap (λ rows. i.0 ++ pages_of c.args.pages.now.keys rows) (sym (append-nil (plain c.loop-row.page.items)) ∙ ap (λ es. plain c.loop-row.page.items ++ map f es) (sym none)) ∙ i.2 in
+    on_ok _ _ c.close_last.result
+    (λ out. out_pages (g.P.Publish.kept c.args.writer.now) (g.P.Publish.kept c.loop-row.writer) (g.P.Publish.kept c.close_last.new.writer) c.args.view i.0 (pages_of c.args.pages.now.keys (plain c.loop-row.page.items)) _ i.1 whole out)
+    c.close_last.ensures.out
 
 pub make_room-requires-clause-takes : goal.make_room-requires-clause-takes
 make_room-requires-clause-takes g c =
@@ -93,7 +96,7 @@ make_room-requires-clause-good g c = λ full.
     let i = c.loop-row.invariant.told in
     let f : List ℤ × ℤ → Row × ℤ = λ e. (e.0, count c.args.table.now e.0) in
     let l = plain_length c.loop-row.page.items in
-    full_good c.args.keys i.0 (plain c.loop-row.page.items) (map f c.loop-row.row-iterator) (map f (written c.args.change.now)) c.requires.some c.requires.good i.2 (omega (arith, l, full))
+    full_good c.args.pages.now.keys i.0 (plain c.loop-row.page.items) (map f c.loop-row.row-iterator) (map f (written c.args.change.now)) c.requires.some c.requires.good i.2 (omega (arith, l, full))
 
 pub close_last-requires-clause-takes : goal.close_last-requires-clause-takes
 close_last-requires-clause-takes g c =
@@ -107,6 +110,6 @@ close_last-requires-clause-good g c = λ some.
     let none : c.loop-row.row-iterator ≡ [] = search rules in
     let l = plain_length c.loop-row.page.items in
     let few = c.loop-row.invariant.few in
-    let whole : i.0 ++ pages_of c.args.keys (plain c.loop-row.page.items) ≡ pages_of c.args.keys (map f (written c.args.change.now)) =
-    ap (λ rows. i.0 ++ pages_of c.args.keys rows) (sym (append-nil (plain c.loop-row.page.items)) ∙ ap (λ es. plain c.loop-row.page.items ++ map f es) (sym none)) ∙ i.2 in
-    last_good c.args.keys i.0 (plain c.loop-row.page.items) (map f (written c.args.change.now)) c.requires.good whole (omega (arith, l, few)) (λ e. let k = ap length e in omega (arith, k, l, some))
+    let whole : i.0 ++ pages_of c.args.pages.now.keys (plain c.loop-row.page.items) ≡ pages_of c.args.pages.now.keys (map f (written c.args.change.now)) =
+    ap (λ rows. i.0 ++ pages_of c.args.pages.now.keys rows) (sym (append-nil (plain c.loop-row.page.items)) ∙ ap (λ es. plain c.loop-row.page.items ++ map f es) (sym none)) ∙ i.2 in
+    last_good c.args.pages.now.keys i.0 (plain c.loop-row.page.items) (map f (written c.args.change.now)) c.requires.good whole (omega (arith, l, few)) (λ e. let k = ap length e in omega (arith, k, l, some))

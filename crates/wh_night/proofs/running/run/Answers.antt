@@ -37,24 +37,24 @@ through-requires-clause-begun g c κs within =
     record {
       given = r.given;
       fit = r.fit;
-      at = begun_at (night_given c.args.means.now.catalog.now c.args.keys r.given) r.given.before (g.P.Publish.kept c.args.writer.now) (g.P.Publish.kept c.begin.new.writer) (kept c.args.progress.state) c.args.progress.steps.items r.before c.in_ok-begin.ensures.ok r.come;
+      at = begun_at (night_given c.args.asked.now.catalog.now c.args.asked.now.page_keys r.given) r.given.before (g.P.Publish.kept c.args.writer.now) (g.P.Publish.kept c.begin.new.writer) (kept c.args.progress.state) c.args.progress.steps.items r.before c.in_ok-begin.ensures.ok r.come;
     }
 
 pub commit-requires : goal.commit-requires
 commit-requires g c =
-    let cat = c.args.means.now.catalog.now in
+    let cat = c.args.asked.now.catalog.now in
     let r = c.requires.begins in
-    may_commit cat c.args.keys r.given c.args.stages.now r.fit c.requires.some (g.P.Publish.kept c.args.writer.now) (g.P.Publish.kept c.through.new.writer) r.before (length r.given.list) (kept c.through.new.progress.state) c.through.new.progress.steps.items
+    may_commit cat c.args.asked.now.page_keys r.given c.args.stages.now r.fit c.requires.some (g.P.Publish.kept c.args.writer.now) (g.P.Publish.kept c.through.new.writer) r.before (length r.given.list) (kept c.through.new.progress.state) c.through.new.progress.steps.items
     (c.in_default.ensures.goes r.given r.fit.are
-    (begun_at (night_given cat c.args.keys r.given) r.given.before (g.P.Publish.kept c.args.writer.now) (g.P.Publish.kept c.begin.new.writer) (kept c.args.progress.state) c.args.progress.steps.items r.before c.in_ok-begin.ensures.ok r.come))
+    (begun_at (night_given cat c.args.asked.now.page_keys r.given) r.given.before (g.P.Publish.kept c.args.writer.now) (g.P.Publish.kept c.begin.new.writer) (kept c.args.progress.state) c.args.progress.steps.items r.before c.in_ok-begin.ensures.ok r.come))
 
 pub returns-clause-bags : goal.returns-clause-bags
-returns-clause-bags g c = subst (AreBags c.args.means.now.catalog.now) (sym c.into_tables.ensures) c.in_default.ensures.parts.tables
+returns-clause-bags g c = subst (AreBags c.args.asked.now.catalog.now) (sym c.into_tables.ensures) c.in_default.ensures.parts.tables
 
 pub returns-clause-done : goal.returns-clause-done
 returns-clause-done g c = λ t before are come.
     let old = g.P.Publish.kept c.args.writer.now in
-    let n = night_given c.args.means.now.catalog.now c.args.keys t in
+    let n = night_given c.args.asked.now.catalog.now c.args.asked.now.page_keys t in
     let new = c.through.new.progress in
     let at = c.in_default.ensures.goes t are
     (begun_at n t.before (g.P.Publish.kept c.args.writer.now) (g.P.Publish.kept c.begin.new.writer) (kept c.args.progress.state) c.args.progress.steps.items before c.in_ok-begin.ensures.ok come) in
@@ -69,7 +69,7 @@ pub returns-in_err-begin-clause-refused : goal.returns-in_err-begin-clause-refus
 returns-in_err-begin-clause-refused g c =
     let f = c.in_err-begin.field-0.0 in
     handed_on _ c.from_residual.result f c.from_residual.ensures (λ t before are come allowed.
-    let n = night_given c.args.means.now.catalog.now c.args.keys t in (
+    let n = night_given c.args.asked.now.catalog.now c.args.asked.now.page_keys t in (
       c.in_err-begin.ensures.leaves n allowed,
       record { fault = Memory; told = c.in_err-begin.ensures.cause; why = inl refl },
     ))
@@ -77,7 +77,7 @@ returns-in_err-begin-clause-refused g c =
 pub returns-in_err-report-clause-refused : goal.returns-in_err-report-clause-refused
 returns-in_err-report-clause-refused g c =
     handed_on _ c.from_residual-in_err-report.result c.in_err-report.field-0.0 c.from_residual-in_err-report.ensures (λ t before are come allowed.
-    let n = night_given c.args.means.now.catalog.now c.args.keys t in
+    let n = night_given c.args.asked.now.catalog.now c.args.asked.now.page_keys t in
     let at = c.in_default.ensures.goes t are
     (begun_at n t.before (g.P.Publish.kept c.args.writer.now) (g.P.Publish.kept c.begin.new.writer) (kept c.args.progress.state) c.args.progress.steps.items before c.in_ok-begin.ensures.ok come) in
     let old = g.P.Publish.kept c.args.writer.now in
@@ -86,7 +86,7 @@ returns-in_err-report-clause-refused g c =
 
 pub returns-in-Err-clause-refused : goal.returns-in-Err-clause-refused
 returns-in-Err-clause-refused g c = λ t before are come allowed.
-    let n = night_given c.args.means.now.catalog.now c.args.keys t in
+    let n = night_given c.args.asked.now.catalog.now c.args.asked.now.page_keys t in
     let old = g.P.Publish.kept c.args.writer.now in
     let stopped : IsStopped n old c.in-Err.fault (g.P.Publish.kept c.through.new.writer) = subst (λ b. IsHalted n b c.in-Err.fault (Some (g.P.Publish.kept c.through.new.writer))) before (c.in-Err.ensures.stops t are
     (begun_at n t.before (g.P.Publish.kept c.args.writer.now) (g.P.Publish.kept c.begin.new.writer) (kept c.args.progress.state) c.args.progress.steps.items before c.in_ok-begin.ensures.ok come)) in (

@@ -40,12 +40,12 @@ pub beside_readers-rows-requires-clause-ready : goal.beside_readers-rows-require
 beside_readers-rows-requires-clause-ready g c κs within =
     let w : Ledger = c.in-Ok.writer.ledger in
     let same : w ≡ newly c.args.tables.items = c.in-Ok.ensures.writer ∙ (λ i. ledger (record { limit = (c.requires.first i).limit; opening = current (c.requires.first i) }) [] None) in
-    subst (λ (l : Ledger). CanRun c.args.asked.now.catalog.now c.args.asked.now.correct.now l c.args.asked.now.changes.now c.args.asked.now.options) (sym same) c.requires.ready
+    subst (λ (l : Ledger). CanRun c.args.asked.now.catalog.now c.args.asked.now.correct.now l c.args.asked.now.changes.now c.args.asked.now.budget.now.threads c.args.asked.now.page_keys) (sym same) c.requires.ready
 
 pub returns-clause-run : goal.returns-clause-run
 returns-clause-run g c =
     let w : Ledger = c.in-Ok.writer.ledger in
     let same : w ≡ newly c.args.tables.items = c.in-Ok.ensures.writer ∙ (λ i. ledger (record { limit = (c.requires.first i).limit; opening = current (c.requires.first i) }) [] None) in
     let m : Ledger = c.beside_readers-rows.new.writer.ledger in
-    let run = subst (λ (l : Ledger). IsRun c.args.asked.now.catalog.now c.args.asked.now.correct.now.list l c.args.asked.now.changes.now c.args.asked.now.options.page_keys c.beside_readers-rows.result.1 m) same c.beside_readers-rows.ensures.night in
-    served_of c.args.asked.now.catalog.now c.args.asked.now.correct.now.list (newly c.args.tables.items) m c.args.asked.now.changes.now c.args.asked.now.options.page_keys c.answer_of.result c.beside_readers-rows.result.1 c.beside_readers-rows.result.0 c.answer_of.ensures.ok run
+    let run = subst (λ (l : Ledger). IsRun c.args.asked.now.catalog.now c.args.asked.now.correct.now.list l c.args.asked.now.changes.now c.args.asked.now.page_keys c.beside_readers-rows.result.1 m) same c.beside_readers-rows.ensures.night in
+    served_of c.args.asked.now.catalog.now c.args.asked.now.correct.now.list (newly c.args.tables.items) m c.args.asked.now.changes.now c.args.asked.now.page_keys c.answer_of.result c.beside_readers-rows.result.1 c.beside_readers-rows.result.0 c.answer_of.ensures.ok run

@@ -10,13 +10,13 @@ use Rattle.wh_night.proofs.stages.stage_of.Goals as goal
 
 pub wave-requires-clause-jobs : goal.wave-requires-clause-jobs
 wave-requires-clause-jobs g c κs within =
-    subst (λ jobs. IsStageIn c.args.means.now.catalog.now (stage.Wave jobs)) (sym c.as_slice.ensures) (subst (IsStageIn c.args.means.now.catalog.now) c.in-Wave.is c.requires.stage)
+    subst (λ jobs. IsStageIn c.args.asked.now.catalog.now (stage.Wave jobs)) (sym c.as_slice.ensures) (subst (IsStageIn c.args.asked.now.catalog.now) c.in-Wave.is c.requires.stage)
 
 pub returns-in-Wave-clause-goes : goal.returns-in-Wave-clause-goes
 returns-in-Wave-clause-goes g c =
     on_ok _ _ c.wave.result
     (λ goes t before after split here.
-    let n = night_given c.args.means.now.catalog.now (g.O.Outlet.keys c.args.outlet.now) t in
+    let n = night_given c.args.asked.now.catalog.now (g.O.Outlet.keys c.args.outlet.now) t in
     let m = g.O.Outlet.kept c.args.writer.now in
     let is : c.args.stage.now ≡ stage.Wave c.as_slice.result.now = c.in-Wave.is ∙ ap stage.Wave (sym c.as_slice.ensures) in
     let split_so = split ∙ ap (λ x. before ++ x ∷ after) is in
@@ -29,7 +29,7 @@ pub returns-in-Wave-clause-stops : goal.returns-in-Wave-clause-stops
 returns-in-Wave-clause-stops g c =
     if_err _ _ c.wave.result
     (λ fault refused t before after split here.
-    let n = night_given c.args.means.now.catalog.now (g.O.Outlet.keys c.args.outlet.now) t in
+    let n = night_given c.args.asked.now.catalog.now (g.O.Outlet.keys c.args.outlet.now) t in
     let m = g.O.Outlet.kept c.args.writer.now in
     let is : c.args.stage.now ≡ stage.Wave c.as_slice.result.now = c.in-Wave.is ∙ ap stage.Wave (sym c.as_slice.ensures) in
     let split_so = split ∙ ap (λ x. before ++ x ∷ after) is in
@@ -41,7 +41,7 @@ pub returns-in-Inst-clause-goes : goal.returns-in-Inst-clause-goes
 returns-in-Inst-clause-goes g c =
     on_four _ _ _ _ _ c.inst.result
     (λ passed done report out t before after split here.
-    let n = night_given c.args.means.now.catalog.now (g.O.Outlet.keys c.args.outlet.now) t in
+    let n = night_given c.args.asked.now.catalog.now (g.O.Outlet.keys c.args.outlet.now) t in
     let split_so = split ∙ ap (λ x. before ++ x ∷ after) c.in-Inst.is in
     subst (λ x. IsAt n t.before (place_behind (before ++ x ∷ [])) (kept c.inst.new.progress.state) c.inst.new.progress.steps.items (g.O.Outlet.kept c.inst.new.writer)) (sym c.in-Inst.is)
     (inst_goes n t.before (g.O.Outlet.kept c.args.writer.now) before after (kept c.args.progress.now.state) c.args.progress.now.steps.items here c.in-Inst.view split_so (kept c.inst.new.progress.state) c.inst.new.progress.steps.items (g.O.Outlet.kept c.inst.new.writer)
@@ -52,10 +52,10 @@ pub returns-in-Inst-clause-stops : goal.returns-in-Inst-clause-stops
 returns-in-Inst-clause-stops g c =
     if_err _ _ c.inst.result
     (λ fault stopped t before after split here.
-    inst_stops (night_given c.args.means.now.catalog.now (g.O.Outlet.keys c.args.outlet.now) t) t.before (g.O.Outlet.kept c.args.writer.now) before after (kept c.args.progress.now.state) c.args.progress.now.steps.items here c.in-Inst.view
+    inst_stops (night_given c.args.asked.now.catalog.now (g.O.Outlet.keys c.args.outlet.now) t) t.before (g.O.Outlet.kept c.args.writer.now) before after (kept c.args.progress.now.state) c.args.progress.now.steps.items here c.in-Inst.view
     (split ∙ ap (λ x. before ++ x ∷ after) c.in-Inst.is) fault (g.O.Outlet.kept c.inst.new.writer) stopped)
     c.inst.ensures.err
 
 pub inst-requires-clause-publishes : goal.inst-requires-clause-publishes
 inst-requires-clause-publishes g c κs within =
-    subst (λ x. IfSome (g.O.Outlet.kept c.args.writer.now) (CanPublish c.args.means.now.catalog.now x (kept c.args.progress.now.state))) c.in-Inst.is c.requires.publishes
+    subst (λ x. IfSome (g.O.Outlet.kept c.args.writer.now) (CanPublish c.args.asked.now.catalog.now x (kept c.args.progress.now.state))) c.in-Inst.is c.requires.publishes

@@ -35,7 +35,7 @@ stage_of-requires-clause-publishes g c κs within =
     let x : Stage = c.stage-item.result in
     let here : slice_get stages i ≡ Some x = slice_get_read stages (length stages) i x refl (omega arith) c.stage-item.is in
     let r = c.requires.begun in
-    can_publish c.args.means.now.catalog.now (g.O.Outlet.keys c.args.outlet.now) r.given stages r.fit c.requires.some (take i stages) (drop (i + 1) stages) (kept c.loop-stage.progress.state) c.loop-stage.progress.steps.items (g.O.Outlet.kept c.loop-stage.writer)
+    can_publish c.args.asked.now.catalog.now (g.O.Outlet.keys c.args.outlet.now) r.given stages r.fit c.requires.some (take i stages) (drop (i + 1) stages) (kept c.loop-stage.progress.state) c.loop-stage.progress.steps.items (g.O.Outlet.kept c.loop-stage.writer)
     (c.loop-stage.invariant.come r.given r.fit.are r.at) x (split_here stages i x here)
 
 pub loop-stage-preserved : goal.loop-stage-preserved
@@ -49,7 +49,7 @@ loop-stage-preserved g c =
       home = c.in_ok-stage_of.ensures.home ∙ c.loop-stage.invariant.home;
       parts = c.in_ok-stage_of.ensures.parts;
       fit = c.in_ok-stage_of.ensures.fit;
-      come = λ t are at. subst (λ ts. IsAt (night_given c.args.means.now.catalog.now (g.O.Outlet.keys c.args.outlet.now) t) t.before (place_behind ts) (kept c.stage_of.new.progress.state) c.stage_of.new.progress.steps.items (g.O.Outlet.kept c.stage_of.new.writer)) (sym next)
+      come = λ t are at. subst (λ ts. IsAt (night_given c.args.asked.now.catalog.now (g.O.Outlet.keys c.args.outlet.now) t) t.before (place_behind ts) (kept c.stage_of.new.progress.state) c.stage_of.new.progress.steps.items (g.O.Outlet.kept c.stage_of.new.writer)) (sym next)
           (c.in_ok-stage_of.ensures.goes t (take i stages) (drop (i + 1) stages) (sym are ∙ split_here stages i x here) (c.loop-stage.invariant.come t are at));
     }
 
@@ -66,4 +66,4 @@ returns-clause-goes g c = λ t are at.
     let stages : List Stage = c.args.stages.now in
     let all : take c.loop-stage.stage-index stages ≡ stages = take_all c.loop-stage.stage-index stages (omega arith) in
     let whole : place_behind (take c.loop-stage.stage-index stages) ≡ length t.list = ap place_behind (all ∙ are) ∙ ap length (lists_have_one_stages t.list).0.joined in
-    subst (λ p. IsAt (night_given c.args.means.now.catalog.now (g.O.Outlet.keys c.args.outlet.now) t) t.before p (kept c.loop-stage.progress.state) c.loop-stage.progress.steps.items (g.O.Outlet.kept c.loop-stage.writer)) whole (c.loop-stage.invariant.come t are at)
+    subst (λ p. IsAt (night_given c.args.asked.now.catalog.now (g.O.Outlet.keys c.args.outlet.now) t) t.before p (kept c.loop-stage.progress.state) c.loop-stage.progress.steps.items (g.O.Outlet.kept c.loop-stage.writer)) whole (c.loop-stage.invariant.come t are at)

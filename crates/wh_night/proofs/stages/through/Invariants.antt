@@ -9,8 +9,8 @@ abbrev pub invariant-loop-stage : goal.invariant-loop-stage
 invariant-loop-stage g l =
     record {
       home : g.O.Outlet.home l.writer ≡ g.O.Outlet.home l.fn.writer;
-      parts : HaveParts l.means.catalog.now l.progress.state;
-      fit : CanFinish l.means.catalog.now (kept l.progress.state);
-      come : (t : Given) → l.stages ≡ stages_of t.list → IsAt (night_given l.means.catalog.now (g.O.Outlet.keys l.outlet) t) t.before 0 (kept l.fn.progress.state) l.fn.progress.steps.items (g.O.Outlet.kept l.fn.writer)
-          → IsAt (night_given l.means.catalog.now (g.O.Outlet.keys l.outlet) t) t.before (place_behind (take l.stage-index l.stages)) (kept l.progress.state) l.progress.steps.items (g.O.Outlet.kept l.writer);
+      parts : HaveParts l.asked.catalog.now l.progress.state;
+      fit : CanFinish l.asked.catalog.now (kept l.progress.state);
+      come : (t : Given) → l.stages ≡ stages_of t.list → IsAt (night_given l.asked.catalog.now (g.O.Outlet.keys l.outlet) t) t.before 0 (kept l.fn.progress.state) l.fn.progress.steps.items (g.O.Outlet.kept l.fn.writer)
+          → IsAt (night_given l.asked.catalog.now (g.O.Outlet.keys l.outlet) t) t.before (place_behind (take l.stage-index l.stages)) (kept l.progress.state) l.progress.steps.items (g.O.Outlet.kept l.writer);
     }

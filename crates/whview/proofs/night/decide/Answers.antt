@@ -21,17 +21,17 @@ returns-in-Err-clause-decided g c =
 pub returns-in-Err-clause-whole : goal.returns-in-Err-clause-whole
 returns-in-Err-clause-whole g c = if_ok c.no_contents.result _ _ c.no_contents.ensures (λ o h. subst (IsWhole c.args.catalog.now.views) (sym h.0) tt)
 
-pub serve-served-requires-clause-fit : goal.serve-served-requires-clause-fit
-serve-served-requires-clause-fit g c κs within =
+pub serve-requires-clause-fit : goal.serve-requires-clause-fit
+serve-requires-clause-fit g c κs within =
     opened_fit c.args.catalog.now c.shape.ensures.catalog c.args.opening.tables.items c.in-Ok-opening_contents_wide.tables.items c.requires.tables c.in-Ok-opening_contents_wide.ensures.contents
-    c.in-Ok.correct.list (subst (λ list. IsCorrect c.args.catalog.now.views.children list) (sym c.in-Ok.ensures.ok.1) (subst (λ (v : Views). IsCorrect v.children c.args.given.strategy) c.shape.ensures.views c.in-Ok.ensures.ok.2)) (bag_at c.deref-2.result.now)
+    c.in-Ok.correct.list (subst (λ list. IsCorrect c.args.catalog.now.views.children list) (sym c.in-Ok.ensures.ok.1) (subst (λ (v : Views). IsCorrect v.children c.args.given.strategy) c.shape.ensures.views c.in-Ok.ensures.ok.2)) (bag_at c.deref.result.now)
 
-pub returns-in-Ok-served-clause-decided : goal.returns-in-Ok-served-clause-decided
-returns-in-Ok-served-clause-decided g c = (
+pub returns-in-Ok-serve-clause-decided : goal.returns-in-Ok-serve-clause-decided
+returns-in-Ok-serve-clause-decided g c = (
   subst (λ (v : Views). IsCorrect v.children c.args.given.strategy) c.shape.ensures.views c.in-Ok.ensures.ok.2,
   shown_carried (record { shape = c.args.catalog.now.views; opening = shown_opening c.args.opening; given = shown_given c.args.given }) c.args.how.print c.args.how.readers
-      c.in-Ok-opening_contents_wide.tables.items c.in-Ok-served.carried.tables.items c.in-Ok-served.shown c.in-Ok-served.carried.report.steps.items c.in-Ok-served.carried.rows.items
-      c.args.catalog.now c.deref-2.result.now c.in-Ok.correct.list c.requires.shown c.deref-2.ensures.value c.in-Ok.ensures.ok.1
+      c.in-Ok-opening_contents_wide.tables.items c.in-Ok-serve.carried.tables.items c.in-Ok-serve.shown c.in-Ok-serve.carried.report.steps.items c.in-Ok-serve.carried.rows.items
+      c.args.catalog.now c.deref.result.now c.in-Ok.correct.list c.requires.shown c.deref.ensures.value c.in-Ok.ensures.ok.1
       (record {
         is = c.shape.ensures.catalog;
         correct = subst (λ (v : Views). IsCorrect v.children c.args.given.strategy) c.shape.ensures.views c.in-Ok.ensures.ok.2;
@@ -39,28 +39,28 @@ returns-in-Ok-served-clause-decided g c = (
         length_old = c.in-Ok-opening_contents_wide.ensures.bags.each;
         opened = c.in-Ok-opening_contents_wide.ensures.contents;
         valued = c.in-Ok-opening_contents_wide.ensures.valued;
-        allowed = c.in-Ok-served.ensures.carried.allowed;
-        passed = c.in-Ok-served.ensures.carried.passed;
-        carried = c.in-Ok-served.ensures.carried.tables;
-        contents_after = c.in-Ok-served.ensures.carried.contents;
-        reported = c.in-Ok-served.ensures.carried.steps;
+        allowed = c.in-Ok-serve.ensures.carried.allowed;
+        passed = c.in-Ok-serve.ensures.carried.passed;
+        carried = c.in-Ok-serve.ensures.carried.tables;
+        contents_after = c.in-Ok-serve.ensures.carried.contents;
+        reported = c.in-Ok-serve.ensures.carried.steps;
       })
-      (subst (λ (views : List WrittenView). IsShownAs c.args.how.print (map shown_view views) (bag_at c.in-Ok-opening_contents_wide.tables.items) (bag_at c.in-Ok-served.carried.tables.items) c.in-Ok-served.shown)
-      c.deref.ensures.value c.in-Ok-served.ensures.shown)
-      c.in-Ok-served.ensures.rows,
+      (subst (λ (views : List WrittenView). IsShownAs c.args.how.print (map shown_view views) (bag_at c.in-Ok-opening_contents_wide.tables.items) (bag_at c.in-Ok-serve.carried.tables.items) c.in-Ok-serve.shown)
+      c.deref-2.ensures.value c.in-Ok-serve.ensures.shown)
+      c.in-Ok-serve.ensures.rows,
 )
 
-pub returns-in-Err-served-clause-decided : goal.returns-in-Err-served-clause-decided
-returns-in-Err-served-clause-decided g c =
+pub returns-in-Err-serve-clause-decided : goal.returns-in-Err-serve-clause-decided
+returns-in-Err-serve-clause-decided g c =
     if_ok c.refusal.result _ _ c.refusal.ensures
     (λ o h. subst (λ o. IsDecided (record { shape = c.args.catalog.now.views; opening = shown_opening c.args.opening; given = shown_given c.args.given }) c.args.how.print c.args.how.readers o) (sym h.0) (
       subst (λ (v : Views). IsCorrect v.children c.args.given.strategy) c.shape.ensures.views c.in-Ok.ensures.ok.2,
       refused_from (record { shape = c.args.catalog.now.views; opening = shown_opening c.args.opening; given = shown_given c.args.given })
-          c.in-Ok-opening_contents_wide.tables.items c.in-Err-served.refused
-          c.args.catalog.now c.deref-2.result.now c.in-Ok.correct.list c.args.how.page_keys c.requires.shown c.deref-2.ensures.value c.in-Ok.ensures.ok.1
+          c.in-Ok-opening_contents_wide.tables.items c.in-Err-serve.refused
+          c.args.catalog.now c.deref.result.now c.in-Ok.correct.list c.args.how.page_keys c.requires.shown c.deref.ensures.value c.in-Ok.ensures.ok.1
           c.in-Ok-opening_contents_wide.ensures.bags.each c.in-Ok-opening_contents_wide.ensures.contents c.in-Ok-opening_contents_wide.ensures.valued
-          (⊎_elim (λ m. absurd (h.1 m)) (λ so. so) c.in-Err-served.ensures.refused) h.1,
+          (⊎_elim (λ m. absurd (h.1 m)) (λ so. so) c.in-Err-serve.ensures.refused) h.1,
     ))
 
-pub returns-in-Err-served-clause-whole : goal.returns-in-Err-served-clause-whole
-returns-in-Err-served-clause-whole g c = if_ok c.refusal.result _ _ c.refusal.ensures (λ o h. subst (IsWhole c.args.catalog.now.views) (sym h.0) tt)
+pub returns-in-Err-serve-clause-whole : goal.returns-in-Err-serve-clause-whole
+returns-in-Err-serve-clause-whole g c = if_ok c.refusal.result _ _ c.refusal.ensures (λ o h. subst (IsWhole c.args.catalog.now.views) (sym h.0) tt)

@@ -1,7 +1,7 @@
 use Rattle.std.proofs.Common.{arith, sym, ◌∙◌, get_or}
 use Rattle.wh_carry.specs.Kept.{kept}
 use Rattle.wh_night.proofs.Ready.{known_else, known_none, known_past, known_then}
-use Rattle.wh_night.proofs.asked.+are_known.Goals as goal
+use Rattle.wh_night.proofs.tested.+are_known.Goals as goal
 
 pub returns-in-empty : goal.returns-in-empty
 returns-in-empty t c = known_none (kept c.args.state.now) c.args.sources.now c.in-empty.len_below

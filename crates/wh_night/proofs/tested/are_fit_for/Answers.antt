@@ -8,7 +8,7 @@ use Rattle.wh_maint.specs.Finishing.{kind_in}
 use Rattle.wh_maint.specs.Fit.{IsFitTable}
 use Rattle.wh_night.proofs.FitFor.{fit_behind, fit_through, fit_where_refused}
 use Rattle.wh_night.proofs.Outs.{if_ok}
-use Rattle.wh_night.proofs.asked.are_fit_for.Goals as goal
+use Rattle.wh_night.proofs.tested.are_fit_for.Goals as goal
 
 pub returns-clause-fit : goal.returns-clause-fit
 returns-clause-fit g c =

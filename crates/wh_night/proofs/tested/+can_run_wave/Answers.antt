@@ -1,6 +1,6 @@
 use Rattle.wh_carry.specs.Kept.{kept}
 use Rattle.wh_night.proofs.Ready.{ready_else, ready_then}
-use Rattle.wh_night.proofs.asked.+can_run_wave.Goals as goal
+use Rattle.wh_night.proofs.tested.+can_run_wave.Goals as goal
 
 pub returns-then-is_ready : goal.returns-then-is_ready
 returns-then-is_ready g t c =

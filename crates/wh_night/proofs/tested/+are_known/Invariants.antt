@@ -1,5 +1,5 @@
 use Rattle.std.proofs.Common.{length}
-use Rattle.wh_night.proofs.asked.+are_known.Given as goal
+use Rattle.wh_night.proofs.tested.+are_known.Given as goal
 
 abbrev pub decreases-are_known : goal.decreases-are_known
 decreases-are_known l = length l.sources.now
