@@ -1,11 +1,11 @@
 -- Parts of rows that were read in pieces.
-use Rattle.std.proofs.Common.{◌≡◌, ◌∙◌, ◌≤◌, ◌<◌, ◌+◌, ◌-◌, ℕ, ℤ, zero, suc, pos, Bool, true, false, List, [], ◌∷◌, ◌++◌, length, take, drop, get_or, Option, Some, None, Ok, Err, Result, ◌⊎◌, inl, inr, refl, sym, ap, subst, arith, append_assoc, slice_get, map}
+use Rattle.std.proofs.Common.{◌≡◌, ◌∙◌, ◌<◌, ◌+◌, ◌-◌, ℕ, ℤ, zero, suc, pos, Bool, true, false, List, [], ◌∷◌, ◌++◌, length, take, get_or, Option, Some, None, Ok, Err, Result, ◌⊎◌, inl, inr, refl, sym, ap, subst, arith, append_assoc, slice_get, map}
 use Rattle.std.specs.Prelude.{⊤, ◌&&◌, ◌==◌, if◌then◌else◌, IfSome, flat_map, ok_or, option_and_then, option_map}
 use denote.Ref.{Bor}
 use Rattle.std.specs.List.{AllZip, list_all, list_any}
 use Rattle.std.specs.Str.{bytes_eq, is_utf8}
 use Rattle.std.proofs.lemmas.Bool.{cases_Bool}
-use Rattle.std.proofs.lemmas.List.{append-nil, length-map, length-take-le, take_all}
+use Rattle.std.proofs.lemmas.List.{append-nil, length-map, length-take-le}
 use Rattle.std.proofs.Math.Seq.{take-suc}
 use Rattle.std.proofs.lemmas.List.Folds.{list_any-append}
 use Rattle.std.proofs.lemmas.List.Concat.{flat_map-append}
@@ -449,8 +449,7 @@ numbered-grow dict more [] (own ∷ all) begins have are = absurd are
 numbered-grow dict more (piece ∷ pieces) [] begins have are = absurd are
 numbered-grow dict more (piece ∷ pieces) (own ∷ all) begins have are =
     let mine = have-front dict piece.dict (all_texts pieces) have in
-    let theirs = have-back dict piece.dict (all_texts pieces) have in
-    (
+    let theirs = have-back dict piece.dict (all_texts pieces) have in (
       (are.0.0, λ text has. are.0.1 text has ∙ ap (λ n. Some (pos n)) (sym (number-begins dict more text begins (has-of dict piece.dict text mine has)))),
       numbered-grow dict more pieces all begins theirs are.1,
     )
@@ -480,22 +479,6 @@ parts-renumbered kinds dict (piece ∷ pieces) (own ∷ all) (other ∷ others) 
   subst (λ r. IsPartRenumbered kinds dict piece.dict r other) are.0.0 (same.0 dict piece.dict are.0.1),
   parts-renumbered kinds dict pieces all others are.1 same.1,
 )
-
--- ---- a text that is cut into pieces
-
--- a piece more
-pub cut-next : (text rest : List ℕ) (pieces : List (Bor (List ℕ))) (own : Bor (List ℕ)) (others : List ℕ) → records_of text ≡ flat_map (λ piece. records_of piece.now) pieces ++ records_of rest
-    → records_of rest ≡ records_of own.now ++ records_of others → records_of text ≡ flat_map (λ piece. records_of piece.now) (pieces ++ own ∷ []) ++ records_of others
-cut-next text rest pieces own others is cut =
-    let so_far = flat_map (λ (piece : Bor (List ℕ)). records_of piece.now) pieces in
-    is ∙ ap (λ t. so_far ++ t) cut ∙ sym (append_assoc so_far (records_of own.now) (records_of others))
-    ∙ ap (λ t. t ++ records_of others) (sym (flat_map-append (λ (piece : Bor (List ℕ)). records_of piece.now) pieces (own ∷ []) ∙ ap (λ t. so_far ++ t) (append-nil (records_of own.now))))
-
--- the last piece
-pub cut-last : (text rest : List ℕ) (pieces all : List (Bor (List ℕ))) (own : Bor (List ℕ)) → records_of text ≡ flat_map (λ piece. records_of piece.now) pieces ++ records_of rest → own.now ≡ rest → all ≡ pieces ++ own ∷ []
-    → records_of text ≡ flat_map (λ piece. records_of piece.now) all
-cut-last text rest pieces all own is same last =
-    rw last (is ∙ sym (flat_map-append (λ (piece : Bor (List ℕ)). records_of piece.now) pieces (own ∷ []) ∙ ap (λ t. flat_map (λ (piece : Bor (List ℕ)). records_of piece.now) pieces ++ t) (append-nil (records_of own.now) ∙ ap records_of same)))
 
 -- the answer of a part whose header tells this of the records below it
 pub part-read : (content : Content) (columns : List NamedKind) (records : List (List (List ℕ))) (texts dict : List (List ℕ)) (pieces : List RowsRead) (bag : Bag)

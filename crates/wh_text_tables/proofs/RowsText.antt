@@ -1,7 +1,7 @@
 -- Rows that are written, and texts one after another.
 use Rattle.std.proofs.Common.{◌≡◌, ℕ, true, false, List, [], ◌∷◌, ◌++◌, map, refl, sym, ap, ◌∙◌, append_assoc, Ok, Err}
 use Rattle.std.specs.Global.{Vec}
-use Rattle.std.specs.Prelude.{Result, IsOk, IfOk}
+use Rattle.std.specs.Prelude.{Result, IsOk, IfOk, OnOk}
 use Rattle.std.specs.List.{AllZip, flat_map}
 use Rattle.std.proofs.lemmas.List.{map-append}
 use Rattle.std.proofs.lemmas.List.Concat.{flat_map-append}
@@ -36,3 +36,8 @@ texts-each columns texts (part ∷ parts) (result ∷ made) each done =
 -- one row more in the block
 pub block-next : (out block text now_out now_block : List ℕ) → now_out ++ now_block ≡ out ++ (block ++ text) → now_out ++ now_block ≡ (out ++ block) ++ text
 block-next out block text now_out now_block e = e ∙ sym (append_assoc out block text)
+
+-- what follows from two facts of a call that went well
+pub on-both : {T E P Q S : Type 0} (r : Result T E) → OnOk r P → OnOk r Q → (P → Q → S) → OnOk r S
+on-both (Ok x) p q so = so p q
+on-both (Err refused) p q so = tt

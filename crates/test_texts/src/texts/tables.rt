@@ -104,19 +104,12 @@ fn counts(alloc: Global, table: &Bag, delta: &Bag) -> Result<String, AllocError>
 }
 
 /// The counts of a table and a change that are read one after another.
-fn two_table_night<R: Threads + Sync>(
-    budget: &ThreadBudget<'_, R>,
-) -> Result<String, LoadFault> {
+fn two_table_night<R: Threads + Sync>(budget: &ThreadBudget<'_, R>) -> Result<String, LoadFault> {
     let alloc = budget.alloc;
     let columns = columns_of(alloc, "x y")?;
     let mut dict = Dict::new(alloc);
     let table = read_table(budget, &columns, b"x,y\n1,10\n2,10\n", &mut dict)?;
-    let delta = read_changes(
-        budget,
-        &columns,
-        b"#,x,y\n-1,2,10\n1,3,10\n",
-        &mut dict,
-    )?;
+    let delta = read_changes(budget, &columns, b"#,x,y\n-1,2,10\n1,3,10\n", &mut dict)?;
     Ok(counts(alloc, &table, &delta)?)
 }
 

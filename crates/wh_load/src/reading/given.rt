@@ -28,7 +28,8 @@ pub fn tables_of<R: Threads + Sync>(
     ensures err { IfErr result (λ f. (f ≡ LoadFault.Memory) ⊎ (tables_of bundle.now known.now.names.now (map shown_view known.now.views.now) texts.old ≡ Err f)) }
 {
     only_base_parts(budget.alloc, bundle, known)?;
-    tables_in(budget, bundle, known, texts)
+    let tables = tables_in(budget, bundle, known, texts)?;
+    Ok(tables)
 }
 
 /// What is given of the night of this number, which counts from 0: its changes and the strategy that the text says.

@@ -68,7 +68,8 @@ fn night_over<R: Threads + Sync>(
     ensures err { IfErr result (λ f. (f ≡ LoadFault.Memory) ⊎ (night_over bundle.now shape (map shown_view views.items) texts strategy.now ≡ Err f)) }
 {
     let mut texts = texts;
-    let Rows { tables, given } = rows_in(budget, bundle, &shape, &views, &mut texts, strategy)?;
+    let rows = rows_in(budget, bundle, &shape, &views, &mut texts, strategy)?;
+    let Rows { tables, given } = rows;
     Ok(NightInput {
         shape,
         opening: Opening {
@@ -94,8 +95,10 @@ fn night_in<R: Threads + Sync>(
     let strategy = text_of(alloc, bundle, &Heading::Strategy, 0)?;
     let shape = read_shape(alloc, &catalogue)?;
     let mut texts = Dict::new(alloc);
-    let Written { views } = read_definitions(alloc, &catalogue, &shape, &mut texts)?;
-    night_over(budget, bundle, shape, views, texts, &strategy)
+    let written = read_definitions(alloc, &catalogue, &shape, &mut texts)?;
+    let Written { views } = written;
+    let night = night_over(budget, bundle, shape, views, texts, &strategy)?;
+    Ok(night)
 }
 
 /// Reads what a bundle of one night has to be carried out. The fault is the first one: of the headings, from the top, a

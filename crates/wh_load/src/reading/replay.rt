@@ -117,11 +117,12 @@ fn replay_over<R: Threads + Sync>(
         ⊎ (replay_over bundle.now shape (map shown_view views.items) texts (map cow_slice_items replayed.now.strategies.items) (cow_slice_items replayed.now.schedule) ≡ Err f)) }
 {
     let mut texts = texts;
+    let rows = rows_in(budget, bundle, &shape, &views, &mut texts, replayed)?;
     let Rows {
         tables,
         nights,
         schedule,
-    } = rows_in(budget, bundle, &shape, &views, &mut texts, replayed)?;
+    } = rows;
     Ok(ReplayInput {
         shape,
         opening: Opening {
@@ -151,8 +152,10 @@ fn replay_in<R: Threads + Sync>(
     };
     let shape = read_shape(alloc, &catalogue)?;
     let mut texts = Dict::new(alloc);
-    let Written { views } = read_definitions(alloc, &catalogue, &shape, &mut texts)?;
-    replay_over(budget, bundle, shape, views, texts, &replayed)
+    let written = read_definitions(alloc, &catalogue, &shape, &mut texts)?;
+    let Written { views } = written;
+    let replay = replay_over(budget, bundle, shape, views, texts, &replayed)?;
+    Ok(replay)
 }
 
 /// Reads what a bundle of any nights has to be replayed. The fault is the first one: of the headings, from the top, a line that

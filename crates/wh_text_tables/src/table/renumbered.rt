@@ -1,6 +1,6 @@
 //! Rows whose texts were numbered by themselves, with the numbers that their texts have in a dictionary.
 
-ghost use Rattle.std.specs.Prelude.{◌≡◌, ◌<◌, List, ℕ, IfSome, IfOk, OnOk, Some, length, slice_get, false, true};
+ghost use Rattle.std.specs.Prelude.{◌≡◌, ◌<◌, List, ℕ, IfSome, IfOk, OnOk, Some, length, map, slice_get, false, true};
 ghost use Rattle.std.specs.List.{AllZip};
 ghost use Rattle.wh_text.specs.Columns.{kinds_of};
 ghost use Rattle.wh_text.specs.Dict.{with_texts};
@@ -27,9 +27,9 @@ pub(crate) fn number_texts(
     alloc: Global,
     pieces: Vec<RowsRead>,
     dict: &mut Dict,
-) -> Option<Vec<Numbered>>
-    ensures texts { IfSome result (λ all. dict.new ≡ with_texts dict.old (all_texts pieces.items)) }
-    ensures numbers { IfSome result (λ all. AllZip (IsNumbered dict.new) pieces.items all.items) }
+) -> Result<Vec<Numbered>, AllocError>
+    ensures texts { OnOk result (dict.new ≡ with_texts dict.old (all_texts pieces.items)) }
+    ensures numbers { IfOk result (λ all. AllZip (IsNumbered dict.new) pieces.items all.items) }
     ensures begins { BeginsWith dict.old dict.new }
 {
     let mut all = Vec::new(alloc);
@@ -39,10 +39,10 @@ pub(crate) fn number_texts(
             counted: records,
             ..
         } = piece;
-        let numbers = numbers_of(alloc, &texts, dict).ok()?;
-        all.push(Numbered { records, numbers }).ok()?;
+        let numbers = numbers_of(alloc, &texts, dict)?;
+        all.push(Numbered { records, numbers })?;
     }
-    Some(all)
+    Ok(all)
 }
 
 /// The numbers that the texts of one dictionary have in another, which gets those that it lacks.
@@ -77,12 +77,20 @@ pub(crate) fn renumbered_parts<R: Threads + Sync>(
     ensures { IfSome result (λ all. AllZip (IsRenumberedBy (kinds_of columns.now)) parts.items all.items) }
 {
     if have_texts(columns) {
-        return renumbered_beside(budget, columns, &parts);
+        renumbered_beside(budget, columns, &parts)
+    } else {
+        as_read(budget.alloc, parts)
     }
+}
+
+/// The records of all parts as they were read.
+fn as_read(alloc: Global, parts: Vec<Numbered>) -> Option<Vec<Records>>
+    ensures { IfSome result (λ all. all.items ≡ map (λ own. own.records) parts.items) }
+{
     parts
         .into_iter()
         .map(|part| part.records)
-        .collect(budget.alloc)
+        .collect(alloc)
         .ok()
 }
 
@@ -111,7 +119,9 @@ fn renumbered_beside<R: Threads + Sync>(
     let renumber = move |part: &Numbered| -> Option<Records>
         ensures { IfSome result (λ all. IsRenumberedBy (kinds_of columns.entry.now) part.now all) }
     { renumbered(alloc, columns, &part.numbers, &part.records) };
-    let answers = budget.each(parts, renumber).ok()?;
+    let Ok(answers) = budget.each(parts, renumber) else {
+        return None;
+    };
     all_of(alloc, answers)
 }
 

@@ -71,7 +71,9 @@ fn bag_of<R: Threads + Sync>(
     ensures bag { IfSome result (λ bag. IsBagOf (kinds_of columns.now) dict.new pieces.items bag) }
     ensures begins { BeginsWith dict.old dict.new }
 {
-    let numbered = number_texts(budget.alloc, pieces, dict)?;
+    let Ok(numbered) = number_texts(budget.alloc, pieces, dict) else {
+        return None;
+    };
     let parts = renumbered_parts(budget, columns, numbered)?;
     Bag::from_parts(budget, &parts).ok()
 }
@@ -145,7 +147,9 @@ fn read_pieces<R: Threads + Sync>(
         requires { IsWidthOf (entry_scheme reader.now.content reader.now.columns.now) layout.counting layout.width }
         ensures { IfSome result (λ read. IsPieceRead layout.counting (kinds_of reader.entry.now.columns.now) layout.width (records_of text.now.now) read.dict read.counted) }
     { read_piece(alloc, reader, layout, text) };
-    let answers = budget.each(texts, read).ok()?;
+    let Ok(answers) = budget.each(texts, read) else {
+        return None;
+    };
     all_of(alloc, answers)
 }
 

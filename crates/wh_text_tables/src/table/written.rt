@@ -106,10 +106,7 @@ fn text_of(
 }
 
 /// Appends the texts one after another, up to the first that was not written.
-fn append_each(
-    out: &mut Vec<u8>,
-    texts: &[Result<Vec<u8>, AllocError>],
-) -> Result<(), AllocError>
+fn append_each(out: &mut Vec<u8>, texts: &[Result<Vec<u8>, AllocError>]) -> Result<(), AllocError>
     ensures ok { OnOk result (out.new.items ≡ out.old.items ++ whole_text texts.now) }
     ensures done { OnOk result (AreDone texts.now) }
     ensures begins { OnErr result ((more : List ℕ) × (out.new.items ≡ out.old.items ++ more)) }

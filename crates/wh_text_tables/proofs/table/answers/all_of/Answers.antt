@@ -1,5 +1,4 @@
-use Rattle.std.proofs.Common.{rules, ap, sym, map-id, ◌∙◌, ◌∷◌, [], Some, map}
-use Rattle.std.proofs.lemmas.List.{map-append}
+use Rattle.std.proofs.Common.{rules, sym, map-id, ◌∙◌}
 use Rattle.std.proofs.lemmas.Iterator.Adapters.{YieldsList-from_vec}
 use Rattle.std.proofs.lemmas.Iterator.Consumers.{YieldsList-end}
 use Rattle.wh_text_tables.proofs.table.answers.all_of.Goals as goal

@@ -14,10 +14,10 @@ pub returns-in_err-value-clause-err : goal.returns-in_err-value-clause-err
 returns-in_err-value-clause-err c =
     let cells = fields_of c.args.cells.now in
     let place = c.loop-place.place in
-    let column = c.index-columns-place.result in
+    let column = c.column-item.result in
     let columns = c.args.reader.now.columns.now in
     let below : place < length columns = omega (arith, c.loop-place-test.true) in
-    let read = IsReadTo-cons columns cells c.args.from place column c.args.dict.now c.loop-place.dict c.loop-place.row.items c.index-columns-place.is below (omega (arith, c.requires.cells)) c.loop-place.invariant in
+    let read = IsReadTo-cons columns cells c.args.from place column c.args.dict.now c.loop-place.dict c.loop-place.row.items c.column-item.is below (omega (arith, c.requires.cells)) c.loop-place.invariant in
     let p = err_from_is_err_and c.from_residual.result c.from_residual.ensures.1 in
     let bad = rw (c.kind.ensures, c.cell-text.ensures) at c.in_err-value.ensures.err in
     rw (p.1, p.2) (row-refused (kinds_of columns) (kinds_of (drop (place + 1) columns)) column.kind (drop c.args.from cells) (drop (c.args.from + (place + 1)) cells) (cell cells (c.args.from + place)) c.args.dict.now c.loop-place.dict c.loop-place.row.items c.args.number c.in_err-value.field-0.0 read bad)
@@ -30,10 +30,10 @@ pub loop-place-preserved : goal.loop-place-preserved
 loop-place-preserved c =
     let cells = fields_of c.args.cells.now in
     let place = c.loop-place.place in
-    let column = c.index-columns-place.result in
+    let column = c.column-item.result in
     let columns = c.args.reader.now.columns.now in
     let below : place < length columns = omega (arith, c.loop-place-test.true) in
-    let read = IsReadTo-cons columns cells c.args.from place column c.args.dict.now c.loop-place.dict c.loop-place.row.items c.index-columns-place.is below (omega (arith, c.requires.cells)) c.loop-place.invariant in
+    let read = IsReadTo-cons columns cells c.args.from place column c.args.dict.now c.loop-place.dict c.loop-place.row.items c.column-item.is below (omega (arith, c.requires.cells)) c.loop-place.invariant in
     let number = rw (c.kind.ensures, c.cell-text.ensures) at c.in_ok-value.ensures.ok in
     let grown = rw (c.kind.ensures, c.cell-text.ensures) at c.in_ok-value.ensures.texts in
     let fits : FitsSigned w64 c.in_ok-value.value = search rules in

@@ -9,6 +9,6 @@ use Rattle.wh_text_tables.proofs.table.renumbered.renumbered_beside.Goals as goa
 pub returns : goal.returns
 returns g c =
     let kinds = kinds_of c.args.columns.now in
-    let answers = c.in_ok-answers.answers.items in
-    let each = each-answers _ _ (λ part answer. IfSome answer (IsRenumberedBy kinds part)) (λ lent answer met. met) c.args.parts.now answers c.in_ok-answers.ensures in
+    let answers = c.in-Ok.answers.items in
+    let each = each-answers _ _ (λ part answer. IfSome answer (IsRenumberedBy kinds part)) (λ lent answer met. met) c.args.parts.now answers c.in-Ok.ensures.answers in
     IfSome_then c.all_of.result c.all_of.ensures (λ all is. all-there (IsRenumberedBy kinds) c.args.parts.now answers all.items each is)

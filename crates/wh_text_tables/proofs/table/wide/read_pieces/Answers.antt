@@ -12,7 +12,7 @@ returns g c =
     let count = c.args.layout.counting in
     let kinds = kinds_of c.args.reader.now.columns.now in
     let width = c.args.layout.width in
-    let answers = c.in_ok-answers.answers.items in
-    let each = each-answers _ _ (λ text answer. IfSome answer (λ read. IsPieceRead count kinds width (records_of text.now) read.dict read.counted)) (λ lent answer met. met) c.args.texts.now answers c.in_ok-answers.ensures in
+    let answers = c.in-Ok.answers.items in
+    let each = each-answers _ _ (λ text answer. IfSome answer (λ read. IsPieceRead count kinds width (records_of text.now) read.dict read.counted)) (λ lent answer met. met) c.args.texts.now answers c.in-Ok.ensures.answers in
     IfSome_then c.all_of.result c.all_of.ensures (λ all is.
     all-there (λ text read. IsPieceRead count kinds width (records_of text.now) read.dict read.counted) c.args.texts.now answers all.items each is)
