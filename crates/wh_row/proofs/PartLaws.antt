@@ -1,6 +1,8 @@
 -- Records in parts.
-use Rattle.std.proofs.Common.{◌≡◌, refl, sym, ap, subst, ◌∙◌, ℕ, suc, ◌+◌, ◌-◌, ◌*◌, ◌≤◌, ◌<◌, ℤ, pos, ◌+ℤ◌, true, false, cond, List, [], ◌∷◌, ◌++◌, map, length, take, get_or, Option, Some, None, IfSome, IsSome, All, Bor, slice_get, zero, ◌/◌, add-one, arith, length-append, FitsSigned}
-use Rattle.std.specs.List.{flat_map, AllZip}
+use Rattle.std.proofs.Common.{◌≡◌, refl, sym, ap, subst, ◌∙◌, ℕ, suc, ◌+◌, ◌-◌, ◌*◌, ◌≤◌, ◌<◌, ℤ, pos, ◌+ℤ◌, true, false, cond, List, [], ◌∷◌, ◌++◌, map, length, take, get_or, Option, Some, None, IfSome, IsSome, Result, Ok, Err, IfOk, OnOk, All, Bor, slice_get, zero, ◌/◌, add-one, arith, length-append, FitsSigned}
+use Rattle.std.specs.List.{AllZip}
+use Rattle.std.specs.Result.{result_ok}
+use Rattle.std.proofs.lemmas.Option.{same_Some}
 use Rattle.std.specs.Prelude.{unsigned_abs}
 use Rattle.std.proofs.lemmas.Int.{ints}
 use Rattle.std.proofs.lemmas.List.{append-nil, flat_map_more, take_more}
@@ -13,12 +15,34 @@ use Rattle.wh_row.specs.Row.{Row, is_row}
 use Rattle.wh_row.specs.Weigh.{Counted, count_in}
 use Rattle.wh_row.specs.Bag.{Bag, bag_of, sum_of}
 use Rattle.wh_row.specs.Records.{running_sum, FitsAt, EachSumFits, joined}
-use Rattle.wh_row.specs.Inner.Parts.{weight, AreBagsOf}
+use Rattle.wh_row.specs.Inner.Parts.{weight, grouped, AreBagsOf}
 use Rattle.wh_row.proofs.CountLaws.{same_bag, count-bag_of, count-sum_of, count_in-append}
 use Rattle.wh_row.proofs.OrderLaws.{LeaveRoom, fits_light}
 use Rattle.wh_row.proofs.RunningSums.{next_taken}
 
+-- ---- what is told of a result whose value is taken
+
+pub told : {T E : Type 0} {Q : Type 0} (r : Result T E) (x : T) → Some x ≡ result_ok r → OnOk r Q → Q
+told (Ok y) x is q = q
+told (Err e) x is q = absurd (let bad : Some x ≡ None = is in cc)
+
+pub told_of : {T E : Type 0} (P : T → Type 0) (r : Result T E) (x : T) → Some x ≡ result_ok r → IfOk r P → P x
+told_of P (Ok y) x is p = subst P (same_Some y x (sym is)) p
+told_of P (Err e) x is p = absurd (let bad : Some x ≡ None = is in cc)
+
+pub if_ok : {T E : Type 0} (P : T → Type 0) (r : Result T E) (o : Option T) → o ≡ result_ok r → IfOk r P → IfSome o P
+if_ok P (Ok y) o is p = subst (λ o. IfSome o P) (sym is) p
+if_ok P (Err e) o is p = subst (λ o. IfSome o P) (sym is) tt
+
+pub if_some : {T Q : Type 0} (o : Option T) → (IsSome o → Q) → IfSome o (λ _. Q)
+if_some None q = tt
+if_some (Some x) q = q refl
+
 -- ---- bags behind each other
+
+pub none_listed : (lists : List Counted) → AreBagsOf lists [] → lists ≡ []
+none_listed [] are = refl
+none_listed (es ∷ lists) are = absurd are
 
 pub both_parts : (a b : Counted) → sum_of (bag_of a) (bag_of b) ≡ bag_of (a ++ b)
 both_parts a b = same_bag (sum_of (bag_of a) (bag_of b)) (bag_of (a ++ b)) (λ q.
@@ -60,10 +84,10 @@ zip_made made R [] (b ∷ bags) each = absurd each
 zip_made made R (p ∷ parts) [] each = absurd each
 zip_made made R (p ∷ parts) (b ∷ bags) each = (each.0, zip_made made R parts bags each.1)
 
-pub joined_groups : (groups : List (Bor (List Counted))) → joined (map (λ group. joined group.now) groups) ≡ joined (flat_map (λ group. group.now) groups)
+pub joined_groups : (groups : List (Bor (List Counted))) → joined (map (λ (group : Bor (List Counted)). joined group.now) groups) ≡ joined (grouped groups)
 joined_groups [] = refl
 joined_groups (group ∷ groups) =
-    ap (λ (es : Counted). joined group.now ++ es) (joined_groups groups) ∙ sym (joined-append group.now (flat_map (λ (group : Bor (List Counted)). group.now) groups))
+    ap (λ (es : Counted). joined group.now ++ es) (joined_groups groups) ∙ sym (joined-append group.now (grouped groups))
 
 -- one part alone
 pub one_part : (ps : List Counted) (d : Counted) → length ps ≡ 1 → joined ps ≡ get_or ps 0 d
@@ -105,14 +129,14 @@ light-next ps i d room below before here =
 
 -- parts in groups
 pub light_groups : (groups : List (Bor (List Counted))) (bags : List (Option Bag)) (room : ℕ)
-    → AllZip (λ group bag. IfSome bag (λ _. weight (joined group.now) ≤ room * length group.now)) groups bags → All IsSome bags
-    → weight (joined (flat_map (λ group. group.now) groups)) ≤ room * length (flat_map (λ group. group.now) groups)
+    → AllZip (λ (group : Bor (List Counted)) (bag : Option Bag). IfSome bag (λ _. weight (joined group.now) ≤ room * length group.now)) groups bags → All IsSome bags
+    → weight (joined (grouped groups)) ≤ room * length (grouped groups)
 light_groups [] [] room each some = omega arith
 light_groups [] (bag ∷ bags) room each some = absurd each
 light_groups (group ∷ groups) [] room each some = absurd each
 light_groups (group ∷ groups) (None ∷ bags) room each some = absurd (let bad : false ≡ true = some 0 None (omega arith) in cc)
 light_groups (group ∷ groups) (Some bag ∷ bags) room each some =
-    let rest = flat_map (λ (group : Bor (List Counted)). group.now) groups in
+    let rest = grouped groups in
     let later = light_groups groups bags room each.1 (λ k d below. some (suc k) d (omega (arith, below))) in
     let here : weight (joined group.now) ≤ room * length group.now = each.0 in
     let both : weight (joined (group.now ++ rest)) ≡ weight (joined group.now) + weight (joined rest) = ap weight (joined-append group.now rest) ∙ weight-append (joined group.now) (joined rest) in

@@ -4,10 +4,9 @@
 //! so that the bags are moved behind each other. Other records are put in one, and shared out.
 
 ghost use Rattle.std.specs.Prelude.{◌≡◌, ◌≢◌, ℕ, ◌≤◌, ◌*◌, List, [], length, All, IfSome, IsSome, IfOk, OnOk, OnErr, IsTrue};
-ghost use Rattle.std.specs.List.{flat_map};
 ghost use Rattle.wh_row.specs.Bag.{bag_of};
 ghost use Rattle.wh_row.specs.Weigh.{Counted};
-ghost use Rattle.wh_row.specs.Inner.Parts.{weight, AreBagsOf};
+ghost use Rattle.wh_row.specs.Inner.Parts.{weight, grouped, AreBagsOf};
 ghost use Rattle.wh_row.specs.Records.{EachSumFits, IsFirstTooLarge, joined};
 
 use crate::bag::Bag;
@@ -58,14 +57,18 @@ fn from_rising_parts<R: Threads + Sync>(
 {
     // Each part has its share of the room of an i64.
     let room = MOST.checked_div(parts.len() as u64)?;
-    let groups = groups_of(budget.alloc, parts, budget.parts(Work::Records, len_of(parts)))?;
+    let groups = groups_of(
+        budget.alloc,
+        parts,
+        budget.parts(Work::Records, len_of(parts)),
+    )?;
     from_groups(budget, room, groups.as_slice())
 }
 
 /// The parts in so many groups of neighbours at most.
 fn groups_of<'a>(alloc: Global, parts: &'a [Records], most: usize) -> Option<Vec<&'a [Records]>>
     requires { 1 ≤ most }
-    ensures { IfSome result (λ groups. flat_map (λ group. group.now) groups.items ≡ parts.now) }
+    ensures { IfSome result (λ groups. grouped groups.items ≡ parts.now) }
 {
     let size = parts.len().div_ceil(most).max(1);
     parts.chunks(size).collect(alloc).ok()
@@ -77,8 +80,8 @@ fn from_groups<R: Threads + Sync>(
     room: u64,
     groups: &[&[Records]],
 ) -> Option<Bag>
-    ensures bag { IfSome result (λ bag. bag ≡ bag_of (joined (flat_map (λ group. group.now) groups.now))) }
-    ensures light { IfSome result (λ bag. weight (joined (flat_map (λ group. group.now) groups.now)) ≤ room * length (flat_map (λ group. group.now) groups.now)) }
+    ensures bag { IfSome result (λ bag. bag ≡ bag_of (joined (grouped groups.now))) }
+    ensures light { IfSome result (λ bag. weight (joined (grouped groups.now)) ≤ room * length (grouped groups.now)) }
 {
     let alloc = budget.alloc;
     let bags = budget.each(
