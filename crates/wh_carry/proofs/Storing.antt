@@ -13,6 +13,7 @@ use Rattle.wh_maint.specs.Summary.{change_of}
 use Rattle.wh_maint.specs.Definition.{view_of, kind_of}
 use Rattle.wh_maint.specs.Comp.{PendingOf, bag_at, comp, comp_columns, merged, changed_rows, TermsHaveValues}
 use Rattle.wh_maint.specs.Finishing.{kind_in, IsPendingFor}
+use Rattle.wh_maint.specs.Answers.{IsCompAnswer}
 use Rattle.wh_maint.specs.Asked.{AreBags}
 use Rattle.wh_maint.specs.Width.{key_width}
 use Rattle.wh_maint.proofs.BagLemmas.{zero_or_not}
@@ -22,10 +23,11 @@ use Rattle.wh_maint.specs.declared.fault.MaintFault.TheVariants.{Large, Range, M
 use Rattle.wh_maint.specs.Size.{IsTooLarge}
 use Rattle.wh_maint.specs.Fit.{IsFitTable}
 use Rattle.wh_maint.specs.Refused.{AddsNothing, IsMergeFault}
+use Rattle.wh_carry.specs.Answers.{IsComputeAnswer}
 use Rattle.wh_carry.specs.Refused.{CanBeComputed, CanBeFinishedIn, IsUnfinishedIn, IsCompFaultIn}
 use Rattle.wh_carry.specs.Inner.Refused.{IsAddFaultIn}
 use Rattle.wh_carry.specs.Carry.{with_at}
-use Rattle.wh_carry.specs.Kept.{Kept, KeptLists, pending_at, is_known, AreKnown, HaveParts, CanFinish, IsPendingIn, finished, installed, with_added, with_change, with_pending}
+use Rattle.wh_carry.specs.Kept.{Kept, KeptLists, kept, pending_at, is_known, AreKnown, HaveParts, CanFinish, IsPendingIn, finished, installed, with_added, with_change, with_pending}
 use Rattle.wh_carry.specs.Inner.Kept.{computed}
 use lib.IntN.{+ℤ_comm}
 use Rattle.wh_carry.proofs.Agreeing.{length_range, at_zero, past, count-empty}
@@ -275,6 +277,20 @@ comp_refused catalog k v ys (Err (Range w)) large range memory one =
     not_both r e f = cc
 comp_refused catalog k v ys (Err Memory) large range memory one = memory refl
 comp_refused catalog k v ys (Err (Absent w row)) large range memory one = ⊎_elim (λ e. cc) (λ es. ⊎_elim (λ e. cc) (λ e. cc) es) one
+
+-- what a Comp is answered with over these tables and changes, it is answered with over what is kept, which they are
+pub compute_answer : (catalog : CatalogOf) (s : KeptLists) (v : ℕ) (ys : List ℕ) (tables changes : List Bag) (r : Result PendingOf MaintFault) → tables ≡ s.tables → changes ≡ s.changes
+    → IsCompAnswer (view_of (definition_of catalog v)) (children_of catalog.views.children v) ys (bag_at tables) (bag_at changes) v r → IsComputeAnswer catalog (kept s) v ys r
+compute_answer catalog s v ys tables changes r same_tables same_changes is =
+    let own : IsCompAnswer (view_of (definition_of catalog v)) (children_of catalog.views.children v) ys (bag_at s.tables) (bag_at s.changes) v r =
+    subst (λ (ts : List Bag). IsCompAnswer (view_of (definition_of catalog v)) (children_of catalog.views.children v) ys (bag_at ts) (bag_at s.changes) v r) same_tables
+    (subst (λ (ds : List Bag). IsCompAnswer (view_of (definition_of catalog v)) (children_of catalog.views.children v) ys (bag_at tables) (bag_at ds) v r) same_changes is) in
+    record {
+      pending = comp_pending catalog v (children_of catalog.views.children v) ys (bag_at s.tables) (bag_at s.changes) r own.view own.value;
+      value = own.value;
+      passed = comp_passed (view_of (definition_of catalog v)) (children_of catalog.views.children v) ys (bag_at s.tables) (bag_at s.changes) v r own.large.1 own.valued;
+      refused = comp_refused catalog (kept s) v ys r own.large own.range own.memory own.err;
+    }
 
 pub add_refused : (catalog : CatalogOf) (k : Kept) (v : ℕ) (ys : List ℕ) (fault : MaintFault) → IsCompFaultIn catalog k v ys fault → IsAddFaultIn catalog k v ys fault
 add_refused catalog k v ys (Large w) f = (f.0, inl f.1)

@@ -7,6 +7,7 @@ pub mod Steps
 pub mod CarriedOut
 pub mod Waves
 pub mod NightList
+pub mod Answers
 pub mod AnyOrder
 pub mod Stages
 pub mod NightLaws

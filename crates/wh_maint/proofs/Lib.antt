@@ -29,6 +29,7 @@ mod NoRows
 pub mod OldRows
 mod OneRow
 mod OpenedContents
+mod PartByPart
 mod Parts
 pub mod Products
 pub mod RuledOut
@@ -39,5 +40,6 @@ pub mod Summaries
 pub mod Telescope
 mod TermSums
 mod Unchanged
+mod ViewAnswers
 mod ViewsEvaluated
 pub mod Widths

@@ -1,9 +1,9 @@
 pub mod Asked
+pub mod Beside
 pub mod Comp
 pub mod Fault
 pub mod Finishing
 pub mod Fit
-pub mod Hands
 pub mod NewSums
 pub mod Opening
 pub mod Refused

@@ -53,7 +53,7 @@ pub fn finish<F: RowTest, G: RowValue>(
             if !new_counts_fit(pending, sums.len(), table) {
                 return Err(MaintFault::Large(view));
             }
-            match summary_change(alloc, pending, sums.len(), table) {
+            match summary_change(pending, sums.len(), table) {
                 Ok(change) => Ok(change),
                 Err(fault) => Err(fault.of(view)),
             }
@@ -111,12 +111,7 @@ fn summed_fit(pending: &Pending, sums: usize, table: &Bag, number: usize) -> boo
 
 /// The change of a summary whose touched groups' new counts fit i64. A group is dealt with at the first column of the pending accumulators
 /// that has it.
-pub(crate) fn summary_change(
-    alloc: Global,
-    pending: &Pending,
-    sums: usize,
-    table: &Bag,
-) -> Result<Bag, RowFault>
+pub(crate) fn summary_change(pending: &Pending, sums: usize, table: &Bag) -> Result<Bag, RowFault>
     requires columns { length pending.now.columns ≡ suc sums }
     requires fit { IsSummaryTable sums table.now }
     requires counts { NewCountsFit (Summed sums) table.now (bag_at pending.now.columns) }
@@ -125,17 +120,16 @@ pub(crate) fn summary_change(
     ensures range { result ≡ Err RowFault.Range → ¬ (ChangeHasValue (Summed sums) table.now (bag_at pending.now.columns)) }
     ensures memory { result ≡ Err RowFault.Memory → ¬ (AreEmpty pending.now.columns) }
 {
-    let mut change = Bag::new(alloc);
-    add_counted(alloc, pending, sums, table, &mut change)?;
+    let mut change = Bag::new(pending.alloc());
+    add_counted(pending, sums, table, &mut change)?;
     for number in 0..sums {
-        add_summed(alloc, pending, sums, table, number, &mut change)?;
+        add_summed(pending, sums, table, number, &mut change)?;
     }
     Ok(change)
 }
 
 /// Adds the changes of the groups of the pending counts.
 fn add_counted(
-    alloc: Global,
     pending: &Pending,
     sums: usize,
     table: &Bag,
@@ -150,14 +144,13 @@ fn add_counted(
     ensures memory { result ≡ Err RowFault.Memory → ¬ (AreEmpty pending.now.columns) }
 {
     for (group, _) in pending.counts().rows() {
-        add_group(alloc, pending, sums, table, 0, group, change)?;
+        add_group(pending, sums, table, 0, group, change)?;
     }
     Ok(())
 }
 
 /// Adds the changes of the groups of a pending sum, where those of the columns before it have been added.
 fn add_summed(
-    alloc: Global,
     pending: &Pending,
     sums: usize,
     table: &Bag,
@@ -174,7 +167,7 @@ fn add_summed(
     ensures memory { result ≡ Err RowFault.Memory → ¬ (AreEmpty pending.now.columns) }
 {
     for (group, _) in pending.sum_rows(number) {
-        add_group(alloc, pending, sums, table, number + 1, group, change)?;
+        add_group(pending, sums, table, number + 1, group, change)?;
     }
     Ok(())
 }

@@ -15,7 +15,6 @@ ghost use Rattle.wh_maint.specs.Inner.Finishing.{cell_before, cell_after, IsWide
 
 use crate::fault::RowFault;
 use crate::pending::Pending;
-use std::alloc::Global;
 use wh_row::{Bag, BagFault, Row};
 
 /// The group of a summary's row.
@@ -52,7 +51,6 @@ pub(crate) fn count_fits(pending: &Pending, sums: usize, table: &Bag, group: &[i
 /// Adds the change of a group that stands in this column of the pending accumulators, unless it stands in an earlier one: then it has been
 /// added.
 pub(crate) fn add_group(
-    alloc: Global,
     pending: &Pending,
     sums: usize,
     table: &Bag,
@@ -76,7 +74,7 @@ pub(crate) fn add_group(
         return Ok(());
     }
     let old = old_row(table, sums, group);
-    add_change(alloc, pending, sums, old, group, change)
+    add_change(pending, sums, old, group, change)
 }
 
 /// Whether the group stands in one of the first columns of the pending accumulators, so many.
@@ -105,7 +103,6 @@ pub(crate) fn note(seen: &mut Bag, group: &[i64]) -> Result<(), RowFault>
 
 /// Adds the group's new row, and takes its old row out.
 fn add_change(
-    alloc: Global,
     pending: &Pending,
     sums: usize,
     old: Option<&[i64]>,
@@ -125,13 +122,12 @@ fn add_change(
     // Range comes before Memory.
     ensures memory { result ≡ Err RowFault.Memory → AfterFits sums pending.now.columns old.entry group.now }
 {
-    add_new(alloc, pending, sums, old, group, change)?;
+    add_new(pending, sums, old, group, change)?;
     take_old(old, change)
 }
 
 /// Adds the group's new row.
 fn add_new(
-    alloc: Global,
     pending: &Pending,
     sums: usize,
     old: Option<&[i64]>,
@@ -149,7 +145,7 @@ fn add_new(
     // Range comes before Memory.
     ensures memory { result ≡ Err RowFault.Memory → AfterFits sums pending.now.columns old.entry group.now }
 {
-    match new_row(alloc, pending, sums, old, group)? {
+    match new_row(pending, sums, old, group)? {
         Some(row) => add_times(change, row.as_slice(), 1),
         None => Ok(()),
     }
@@ -182,7 +178,6 @@ fn add_times(bag: &mut Bag, row: &[i64], times: i64) -> Result<(), RowFault>
 
 /// The group's new row: its cells, its count and its sums; none where its count is not positive.
 fn new_row(
-    alloc: Global,
     pending: &Pending,
     sums: usize,
     old: Option<&[i64]>,
@@ -204,13 +199,12 @@ fn new_row(
     if count <= 0 {
         return Ok(None);
     }
-    let row = with_cells(alloc, pending, sums, old, group, count)?;
+    let row = with_cells(pending, sums, old, group, count)?;
     Ok(Some(row))
 }
 
 /// The group, its new count and its new sums. Where a sum leaves i64, that is the answer, also where memory is refused.
 fn with_cells(
-    alloc: Global,
     pending: &Pending,
     sums: usize,
     old: Option<&[i64]>,
@@ -224,7 +218,7 @@ fn with_cells(
     ensures sums { OnOk result ((j : ℕ) → j < sums → FitsSigned w64 (cell_after sums pending.now.columns old.entry group.now (suc j))) }
     ensures range { (result ≡ Err RowFault.Range) ↔ ¬ ((j : ℕ) → j < sums → FitsSigned w64 (cell_after sums pending.now.columns old.entry group.now (suc j))) }
 {
-    let Ok(mut row) = Row::from_slice(alloc, group) else {
+    let Ok(mut row) = Row::from_slice(pending.alloc(), group) else {
         return Err(first_fault(pending, sums, old, group));
     };
     let Ok(()) = row.push(count) else {

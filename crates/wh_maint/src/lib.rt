@@ -5,6 +5,7 @@
 //! adds it. [`opening_contents`] works all views out from scratch. What this rests on are laws: functions that do nothing, on whose contracts a proof calls.
 #![tactic(auto)]
 
+mod alone;
 mod asked;
 mod base_change;
 mod beside;
@@ -16,7 +17,6 @@ mod evaluated;
 mod fault;
 mod finished;
 mod group_change;
-mod hands;
 mod installed;
 mod laws;
 mod opening;
@@ -24,12 +24,11 @@ mod pending;
 mod size;
 mod term;
 mod wants;
-mod wide;
 
 pub use asked::{are_bags, are_sources, is_fit};
 pub use base_change::changed;
-pub use comps::comp;
-pub use evaluated::evaluate;
+pub use comps::{comp, comp_wide};
+pub use evaluated::{evaluate, evaluate_wide};
 pub use fault::{MaintFault, NamedRow};
 pub use finished::finish;
 pub use installed::install;
@@ -42,8 +41,7 @@ pub use laws::{
     sizes_multiply, summaries_show_accumulators, tables_have_width, terms_are_within,
     terms_give_values, terms_meet_old_or_new_rows, values_are_fit,
 };
-pub use opening::{opening_contents, opening_contents_wide};
+pub use opening::opening_contents;
 pub use pending::Pending;
 pub use size::operand_rows;
 pub use wants::Wants;
-pub use wide::{comp_wide, evaluate_wide};

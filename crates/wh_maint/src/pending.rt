@@ -51,6 +51,11 @@ impl Pending {
         })
     }
 
+    /// What it takes memory from.
+    pub(crate) fn alloc(&self) -> Global {
+        self.alloc
+    }
+
     /// The view.
     pub fn view(&self) -> usize
         ensures { result ≡ self.now.view }

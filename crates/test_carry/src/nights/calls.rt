@@ -11,6 +11,7 @@ use wh_maint::{
     finish, is_fit, opening_contents, operand_rows,
 };
 use wh_row::Bag;
+use wh_threads::ThreadBudget;
 
 /// What a Comp answers.
 pub(crate) fn comp_of<F: RowTest, G: RowValue>(
@@ -42,7 +43,6 @@ pub(crate) struct Asked<'a> {
 /// Notes what a Comp misses.
 pub(crate) fn note<F: RowTest, G: RowValue>(
     rt: &impl Abort,
-    alloc: Global,
     wants: &mut Wants,
     catalog: &Catalog<F, G>,
     asked: &Asked<'_>,
@@ -58,7 +58,7 @@ pub(crate) fn note<F: RowTest, G: RowValue>(
     assert!(rt; are_sources(catalog, view, sources));
     assert!(rt; are_bags(catalog, tables));
     assert!(rt; are_bags(catalog, changes));
-    wants.note(alloc, catalog, view, sources, tables, changes)
+    wants.note(catalog, view, sources, tables, changes)
 }
 
 /// How many rows a Comp's operands have.
@@ -111,7 +111,8 @@ pub(crate) fn comp_of_threads<R: Threads + Abort + Sync, F: RowTest, G: RowValue
     assert!(rt; are_sources(catalog, view, sources));
     assert!(rt; are_bags(catalog, tables));
     assert!(rt; are_bags(catalog, changes));
-    comp_wide(rt, threads, alloc, catalog, view, sources, tables, changes)
+    let budget = ThreadBudget { rt, alloc, threads };
+    comp_wide(&budget, catalog, view, sources, tables, changes)
 }
 
 /// The value of a view, by so many threads.
@@ -126,18 +127,24 @@ pub(crate) fn value_of_threads<R: Threads + Abort + Sync, F: RowTest, G: RowValu
     assert!(rt; view < catalog.shape().len());
     assert!(rt; !catalog.is_base(view));
     assert!(rt; are_bags(catalog, tables));
-    evaluate_wide(rt, threads, alloc, catalog, view, tables)
+    let budget = ThreadBudget { rt, alloc, threads };
+    evaluate_wide(&budget, catalog, view, tables)
 }
 
 /// The contents of a base.
-pub(crate) fn contents_of<F: RowTest, G: RowValue>(
-    rt: &impl Abort,
+pub(crate) fn contents_of<R: Threads + Abort + Sync, F: RowTest, G: RowValue>(
+    rt: &R,
     alloc: Global,
     catalog: &Catalog<F, G>,
     base: Vec<Bag>,
 ) -> Result<Vec<Bag>, MaintFault> {
     assert!(rt; are_bags(catalog, &base));
-    opening_contents(alloc, catalog, base)
+    let budget = ThreadBudget {
+        rt,
+        alloc,
+        threads: 1,
+    };
+    opening_contents(&budget, catalog, base)
 }
 
 /// The change of a view; its table is fit.

@@ -87,7 +87,7 @@ fn granted(
             tables,
             changes: &changes,
         };
-        note(rt, alloc, wants, &catalog, &asked)?;
+        note(rt, wants, &catalog, &asked)?;
     }
     wants.grant(alloc, tables, 1)?;
     Ok(())
@@ -161,7 +161,7 @@ fn a_table_is_not_laid_out_where_no_comp_asks_for_it_any_more(rt: HostRuntime) -
             tables: &tables,
             changes: &changes,
         };
-        note(&rt, alloc, &mut wants, &catalog, &asked)?;
+        note(&rt, &mut wants, &catalog, &asked)?;
     }
     wants.grant(alloc, &mut tables, 16)?;
     assert!(&rt; !is_laid_out(&tables));

@@ -4,6 +4,7 @@ use crate::nights::calls::contents_of;
 use std::alloc::Global;
 use std::process::Abort;
 use std::test::Fail;
+use std::thread::Threads;
 use test_given::catalogs::{joined, summed};
 use test_given::tables::{bag, two_bags};
 use wh_maint::MaintFault;
@@ -27,7 +28,7 @@ fn a_view_is_opened_over_its_children(rt: HostRuntime) -> Result<(), Fail> {
 
 /// The contents of a sum of this row of a, so often.
 fn summed_up(
-    rt: &impl Abort,
+    rt: &(impl Threads + Abort + Sync),
     alloc: Global,
     row: &[i64],
     count: i64,
