@@ -70,3 +70,11 @@ module _ {E : Type 0} (follow : WindowsFollow) (goes_on : WellFormedGoesOn) (V :
         ),
         (λ i. writing ((m.0 i).front.book) (ledger_in (m.0 i) (same i))),
       )
+
+-- another with the same copy, which waits for the same and goes on alike
+pub same_writer : (w v : Inner) → copy_of v ≡ copy_of w → waiting v ≡ waiting w → v.history ≡ w.history → v.ends ≡ w.ends → IsWriter w → IsWriter v × (writing_of v ≡ writing_of w)
+same_writer w v copy waits history ends is = (
+  subst (λ (t : (Kept × List Publication) × (Known × Option Ended)). IsCopy t.0.0 × Waits t.0.0 t.0.1 t.1.0 × IsStory t.1.0 × (t.1.1 ≡ end_of_held (held_of t.0.1)))
+  (λ i. ((sym copy i, sym waits i), (sym history i, sym ends i))) is,
+  (λ i. writing ((copy i).front.book) (ledger_in (copy i) (waits i))),
+)

@@ -38,21 +38,31 @@ impl Model for Desk {
     ghost invariant = { λ d. IsDesk d.chair };
 }
 
-/// Takes the copy that is shown, where it has all that was seen and told.
-fn look(reader: RawReader, front: Told) -> Result<(RawReading, Told), (RawReader, Told)>
-    requires { Knows (view reader.place) front }
-    ensures { MatchResult result (λ r. IsCopy r.0.part.value × (r.1 ≡ r.0.part.value.front) × Begins front r.1 × (view r.0.place ≡ Some r.1)) (λ r. Knows (view r.0.place) r.1 × (r.1 ≡ front)) }
+/// Takes the copy that is shown, where it has all that was seen and told. Otherwise the desk stays as it is.
+fn look(chair: Chair) -> Result<(RawReading, Told), Chair>
+    requires { IsDesk chair }
+    ensures { MatchResult result (λ r. IsCopy r.0.part.value × (r.1 ≡ r.0.part.value.front) × Begins chair.front r.1 × (view r.0.place ≡ Some r.1)) (λ r. IsDesk r × (sitting_of r ≡ sitting_of chair)) }
 {
-    match enter(reader) {
-        Err(reader) => Err((reader, front)),
+    let Chair {
+        reader,
+        front,
+        session,
+    } = chair;
+    let reader = match enter(reader) {
+        Err(reader) => reader,
         Ok(reading) => {
             let shown = reading.get().front.again();
             if shown.covers(&front) {
                 return Ok((reading, shown));
             }
-            Err((reading.leave(), front))
+            reading.leave()
         }
-    }
+    };
+    Err(Chair {
+        reader,
+        front,
+        session,
+    })
 }
 
 /// Reads a copy, in a session of this version.
@@ -97,32 +107,13 @@ fn current(kept: &Kept) -> u64
 
 /// Opens a session at the version that is shown.
 fn open_at(chair: Chair) -> (Chair, Result<u64, DeskFault>)
-    requires { IsDesk chair }
+    requires desk { IsDesk chair }
+    requires none { chair.session ≡ None }
     ensures desk { IsDesk result.0 }
     ensures answer { MatchResult result.1 (OpensAt (sitting_of chair) (sitting_of result.0)) (NotOpened (sitting_of chair) (sitting_of result.0)) }
 {
-    let Chair {
-        reader,
-        front,
-        session,
-    } = chair;
-    if session.is_some() {
-        let chair = Chair {
-            reader,
-            front,
-            session,
-        };
-        return (chair, Err(DeskFault::SessionOpen));
-    }
-    match look(reader, front) {
-        Err((reader, front)) => {
-            let chair = Chair {
-                reader,
-                front,
-                session,
-            };
-            (chair, Err(DeskFault::Away))
-        }
+    match look(chair) {
+        Err(chair) => (chair, Err(DeskFault::Away)),
         Ok((reading, front)) => {
             let version = current(reading.get());
             let chair = Chair {
@@ -135,48 +126,30 @@ fn open_at(chair: Chair) -> (Chair, Result<u64, DeskFault>)
     }
 }
 
-/// Reads a page in the session that is open.
+/// Reads a page in the session that is open, which is of this version.
 fn page_at(
     chair: Chair,
+    version: u64,
     view: usize,
     after: Option<&[i64]>,
     limit: usize,
 ) -> (Chair, Result<Page, DeskFault>)
     requires desk { IsDesk chair }
+    requires open { chair.session ≡ Some version }
     requires least { 1 ≤ limit }
     requires most { limit ≤ 256 }
     ensures desk { IsDesk result.0 }
     ensures answer { MatchResult result.1 (Reads (sitting_of chair) (sitting_of result.0) view (option_map (λ row. row.now) after.entry) limit) (NotRead (sitting_of chair) (sitting_of result.0) view) }
     ensures memory { result.1 ≡ Err DeskFault.Memory → ShowsRows (sitting_of result.0) view (option_map (λ row. row.now) after.entry) limit }
 {
-    let Chair {
-        reader,
-        front,
-        session,
-    } = chair;
-    let Some(version) = session else {
-        let chair = Chair {
-            reader,
-            front,
-            session,
-        };
-        return (chair, Err(DeskFault::NoSession));
-    };
-    match look(reader, front) {
-        Err((reader, front)) => {
-            let chair = Chair {
-                reader,
-                front,
-                session,
-            };
-            (chair, Err(DeskFault::Away))
-        }
+    match look(chair) {
+        Err(chair) => (chair, Err(DeskFault::Away)),
         Ok((reading, front)) => {
             let answer = read(reading.get(), version, view, after, limit);
             let chair = Chair {
                 reader: reading.leave(),
                 front,
-                session,
+                session: Some(version),
             };
             (chair, answer)
         }
@@ -203,6 +176,9 @@ impl Desk {
         ensures grows { Grows self.old self.new }
         ensures answer { MatchResult result (OpensAt self.old self.new) (NotOpened self.old self.new) }
     {
+        if self.chair.session.is_some() {
+            return Err(DeskFault::SessionOpen);
+        }
         replace_with(&mut self.chair, (), |chair, _| open_at(chair))
     }
 
@@ -223,10 +199,13 @@ impl Desk {
         ensures answer { MatchResult result (Reads self.old self.new view (option_map (λ row. row.now) after.entry) limit) (NotRead self.old self.new view) }
         ensures memory { result ≡ Err DeskFault.Memory → ShowsRows self.new view (option_map (λ row. row.now) after.entry) limit }
     {
+        let Some(version) = self.chair.session else {
+            return Err(DeskFault::NoSession);
+        };
         replace_with(
             &mut self.chair,
-            (view, after, limit),
-            |chair, (view, after, limit)| page_at(chair, view, after, limit),
+            (version, view, after, limit),
+            |chair, (version, view, after, limit)| page_at(chair, version, view, after, limit),
         )
     }
 
