@@ -126,22 +126,23 @@ fn open_at(chair: Chair) -> (Chair, Result<u64, DeskFault>)
     }
 }
 
-/// Reads a page in the session that is open, which is of this version.
+/// Reads a page in the session that is open.
 fn page_at(
     chair: Chair,
-    version: u64,
     view: usize,
     after: Option<&[i64]>,
     limit: usize,
 ) -> (Chair, Result<Page, DeskFault>)
     requires desk { IsDesk chair }
-    requires open { chair.session ≡ Some version }
     requires least { 1 ≤ limit }
     requires most { limit ≤ 256 }
     ensures desk { IsDesk result.0 }
     ensures answer { MatchResult result.1 (Reads (sitting_of chair) (sitting_of result.0) view (option_map (λ row. row.now) after.entry) limit) (NotRead (sitting_of chair) (sitting_of result.0) view) }
     ensures memory { result.1 ≡ Err DeskFault.Memory → ShowsRows (sitting_of result.0) view (option_map (λ row. row.now) after.entry) limit }
 {
+    let Some(version) = chair.session else {
+        return (chair, Err(DeskFault::NoSession));
+    };
     match look(chair) {
         Err(chair) => (chair, Err(DeskFault::Away)),
         Ok((reading, front)) => {
@@ -199,13 +200,10 @@ impl Desk {
         ensures answer { MatchResult result (Reads self.old self.new view (option_map (λ row. row.now) after.entry) limit) (NotRead self.old self.new view) }
         ensures memory { result ≡ Err DeskFault.Memory → ShowsRows self.new view (option_map (λ row. row.now) after.entry) limit }
     {
-        let Some(version) = self.chair.session else {
-            return Err(DeskFault::NoSession);
-        };
         replace_with(
             &mut self.chair,
-            (version, view, after, limit),
-            |chair, (version, view, after, limit)| page_at(chair, version, view, after, limit),
+            (view, after, limit),
+            |chair, (view, after, limit)| page_at(chair, view, after, limit),
         )
     }
 

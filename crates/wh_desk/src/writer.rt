@@ -68,6 +68,16 @@ fn hand_over(inner: &mut Inner) -> Result<(), AllocError>
     Ok(())
 }
 
+/// How what waits still ends the night.
+fn ends_after(done: &Result<(), AllocError>, ends: Option<Ended>) -> Option<Ended>
+    ensures { MatchResult done.now (λ _. result ≡ None) (λ _. result ≡ ends) }
+{
+    match done {
+        Ok(()) => None,
+        Err(_) => ends,
+    }
+}
+
 /// Publishes what waits in the copies.
 fn publish_rest<R: Wait>(inner: &mut Inner, rt: &R) -> Result<(), AllocError>
     requires writer { IsWriter inner.old }
@@ -77,9 +87,9 @@ fn publish_rest<R: Wait>(inner: &mut Inner, rt: &R) -> Result<(), AllocError>
 {
     window_law();
     well_formed_goes_on_law();
-    publish_raw(rt, &mut inner.raw)?;
-    inner.ends = None;
-    Ok(())
+    let done = publish_raw(rt, &mut inner.raw);
+    inner.ends = ends_after(&done, inner.ends);
+    done
 }
 
 /// Publishes what is held.
