@@ -153,13 +153,13 @@ or_swap false true = refl
 or_swap false false = refl
 
 -- a couple of views
-pub couples_in : (ds : List (ℕ × ℕ)) (old new : List Bool) (k : ℕ) (d : ℕ × ℕ) → k < length ds → (a b : ℕ) → related old a b ≡ decides (take k ds) a b → related new a b ≡ ((eqb (get_or ds k d).0 a && eqb (get_or ds k d).1 b) || related old a b) → related new a b ≡ decides (take (k + 1) ds) a b
+pub couples_in : (ds : List (ℕ × ℕ)) (old new : Bool) (k : ℕ) (d : ℕ × ℕ) → k < length ds → (a b : ℕ) → old ≡ decides (take k ds) a b → new ≡ ((eqb (get_or ds k d).0 a && eqb (get_or ds k d).1 b) || old) → new ≡ decides (take (k + 1) ds) a b
 couples_in ds old new k d l a b h g =
     g ∙ ap (λ z. (eqb (get_or ds k d).0 a && eqb (get_or ds k d).1 b) || z) h ∙ or_swap (eqb (get_or ds k d).0 a && eqb (get_or ds k d).1 b) (decides (take k ds) a b) ∙ sym (couples_more ds k d a b l)
 
 -- one of numbers that are not both views'
-pub couples_out : (ds : List (ℕ × ℕ)) (cells : List Bool) (k : ℕ) (d : ℕ × ℕ) → k < length ds → (a b : ℕ) → a < 64 → b < 64 → ((get_or ds k d).0 < 64 → (get_or ds k d).1 < 64 → ⊥) → related cells a b ≡ decides (take k ds) a b → related cells a b ≡ decides (take (k + 1) ds) a b
-couples_out ds cells k d l a b x y n h =
+pub couples_out : (ds : List (ℕ × ℕ)) (old : Bool) (k : ℕ) (d : ℕ × ℕ) → k < length ds → (a b : ℕ) → a < 64 → b < 64 → ((get_or ds k d).0 < 64 → (get_or ds k d).1 < 64 → ⊥) → old ≡ decides (take k ds) a b → old ≡ decides (take (k + 1) ds) a b
+couples_out ds old k d l a b x y n h =
     h ∙ sym (couples_more ds k d a b l ∙ ap (λ z. decides (take k ds) a b || z) none ∙ or_no _)
   where
     none : (eqb (get_or ds k d).0 a && eqb (get_or ds k d).1 b) ≡ false

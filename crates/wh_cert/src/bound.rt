@@ -142,7 +142,7 @@ fn more_rows(children: &ChildLists, first: usize, second: usize, more: u128) -> 
     rows
 }
 
-/// The decided bound under one decision more, that the first view is installed before the second, from the bound without it:
+/// The decided bound under one decision more, that the first view of `next` is installed before the second, from the bound without it:
 /// under each common parent the couple costs what it costs in this order, and no longer its minimum. Takes no memory. Takes O(V C)
 /// for V views of at most C children each.
 pub fn decided_bound_with(
@@ -151,18 +151,18 @@ pub fn decided_bound_with(
     costs: Costs,
     decided: &[(usize, usize)],
     bound: u128,
-    first: usize,
-    second: usize,
+    next: (usize, usize),
 ) -> u128
     requires same { length sizes.now ≡ length shape.now.children }
     requires bound { bound ≡ decided_bound_of shape.now.children (sizes_of sizes.now) (prices_of costs) decided.now }
-    requires first { first < length sizes.now }
-    requires second { second < length sizes.now }
-    requires two { first ≢ second }
-    requires open { decides decided.now first second ≡ false }
-    requires open_too { decides decided.now second first ≡ false }
-    ensures { result ≡ decided_bound_of shape.now.children (sizes_of sizes.now) (prices_of costs) (decided.now ++ (first, second) ∷ []) }
+    requires first { next.0 < length sizes.now }
+    requires second { next.1 < length sizes.now }
+    requires two { next.0 ≢ next.1 }
+    requires open { decides decided.now next.0 next.1 ≡ false }
+    requires open_too { decides decided.now next.1 next.0 ≡ false }
+    ensures { result ≡ decided_bound_of shape.now.children (sizes_of sizes.now) (prices_of costs) (decided.now ++ (next.0, next.1) ∷ []) }
 {
+    let (first, second) = next;
     // The proof needs what was decided, and what the rows of sizes keep to.
     let (_decided, _views) = (decided, sizes.len());
     let more = in_order(sizes, first, second) - pair_min(sizes, first, second);

@@ -1,5 +1,5 @@
 -- What waits in a writer.
-use Rattle.std.proofs.Common.{◌≡◌, true, false, Bool, IsTrue, ◌↔◌, ◌<◌, List, [], ◌∷◌, ◌++◌, fold, drop, length, Option, Some, None, Result, Ok, Err, MatchResult, refl, ap, sym, subst, ◌∙◌, arith}
+use Rattle.std.proofs.Common.{◌≡◌, List, [], ◌∷◌, fold, drop, Option, None, Result, Ok, Err, MatchResult, ap, sym, subst, ◌∙◌}
 use Rattle.wh_store.specs.Laws.{WellFormedGoesOn, WindowsFollow}
 use Rattle.wh_store.specs.Ledgers.{ledger, with_held}
 use Rattle.wh_store.specs.declared.ended.Ended.{Ended}
@@ -12,23 +12,8 @@ use Rattle.wh_desk.specs.Writers.{and_held, copy_of, held_of, ledger_in, waiting
 use Rattle.wh_desk.specs.Inner.Writers.{IsWriter, Waits, end_of_held}
 use Rattle.wh_desk.proofs.Keeps.{copy_next}
 
-pub none_pending : {A : Type 0} (b : Bool) (xs : List A) → IsTrue b ↔ (0 < length xs) → b ≡ false → xs ≡ []
-none_pending b [] is f = refl
-none_pending true (x ∷ xs) is f = absurd (cc f)
-none_pending false (x ∷ xs) is f = absurd (cc (is.1 (omega arith)))
-
 pub nothing_waits : (w : Inner) → w.held ≡ None → drop w.raw.behind w.raw.log.items ≡ [] → waiting w ≡ []
 nothing_waits w nil none = (λ i. and_held (none i) (nil i))
-
-waits_at_most_one : (x : Kept) (h : Known) (ps : List Publication) (p : Publication) → Waits x (ps ++ p ∷ []) h → ps ≡ []
-waits_at_most_one x h [] p is = refl
-waits_at_most_one x h (q ∷ []) p is = absurd is
-waits_at_most_one x h (q ∷ r ∷ ps) p is = absurd is
-
-pub one_held : (w : Inner) (p : Publication) → w.held ≡ Some p → IsWriter w → waiting w ≡ p ∷ []
-one_held w p has is =
-    let all : waiting w ≡ drop w.raw.behind w.raw.log.items ++ p ∷ [] = ap (and_held (drop w.raw.behind w.raw.log.items)) has in
-    all ∙ ap (λ ps. ps ++ p ∷ []) (waits_at_most_one (copy_of w) w.history _ p (subst (λ ps. Waits (copy_of w) ps w.history) all is.1))
 
 -- the history is the published list with what waits
 pub out : (x : Kept) (ps : List Publication) (h : Known) → Waits x ps h
@@ -37,10 +22,14 @@ out x [] h is = ap (λ (k : Known). writing k.book (ledger k.of k.list None)) is
 out x (p ∷ []) h is = ap (λ (k : Known). writing k.book (ledger k.of k.list None)) is.1
 out x (p ∷ q ∷ ps) h is = absurd is
 
+-- with nothing waiting, the history is that of the copy
+pub history_of : (w : Inner) → waiting w ≡ [] → IsWriter w → w.history ≡ (copy_of w).front
+history_of w none is = subst (λ ps. Waits (copy_of w) ps w.history) none is.1
+
 -- with nothing waiting it is the published list
 pub whole : (w : Inner) → waiting w ≡ [] → IsWriter w → writing w.history.book (ledger w.history.of w.history.list None) ≡ writing_of w
 whole w none is =
-    let same : w.history ≡ (copy_of w).front = subst (λ ps. Waits (copy_of w) ps w.history) none is.1 in
+    let same = history_of w none is in
     (λ i. writing (same i).book (ledger (same i).of (same i).list (held_of (sym none i))))
 
 -- a copy that took in what waits shows the whole history

@@ -38,21 +38,31 @@ impl Model for Desk {
     ghost invariant = { λ d. IsDesk d.chair };
 }
 
-/// Takes the copy that is shown, where it has all that was seen and told.
-fn look(reader: RawReader, front: Told) -> Result<(RawReading, Told), (RawReader, Told)>
-    requires { Knows (view reader.place) front }
-    ensures { MatchResult result (λ r. IsCopy r.0.part.value × (r.1 ≡ r.0.part.value.front) × Begins front r.1 × (view r.0.place ≡ Some r.1)) (λ r. Knows (view r.0.place) r.1 × (r.1 ≡ front)) }
+/// Takes the copy that is shown, where it has all that was seen and told. Otherwise the desk stays as it is.
+fn look(chair: Chair) -> Result<(RawReading, Told), Chair>
+    requires { IsDesk chair }
+    ensures { MatchResult result (λ r. IsCopy r.0.part.value × (r.1 ≡ r.0.part.value.front) × Begins chair.front r.1 × (view r.0.place ≡ Some r.1)) (λ r. IsDesk r × (sitting_of r ≡ sitting_of chair)) }
 {
-    match enter(reader) {
-        Err(reader) => Err((reader, front)),
+    let Chair {
+        reader,
+        front,
+        session,
+    } = chair;
+    let reader = match enter(reader) {
+        Err(reader) => reader,
         Ok(reading) => {
             let shown = reading.get().front.again();
             if shown.covers(&front) {
                 return Ok((reading, shown));
             }
-            Err((reading.leave(), front))
+            reading.leave()
         }
-    }
+    };
+    Err(Chair {
+        reader,
+        front,
+        session,
+    })
 }
 
 /// Reads a copy, in a session of this version.
@@ -97,32 +107,13 @@ fn current(kept: &Kept) -> u64
 
 /// Opens a session at the version that is shown.
 fn open_at(chair: Chair) -> (Chair, Result<u64, DeskFault>)
-    requires { IsDesk chair }
+    requires desk { IsDesk chair }
+    requires none { chair.session ≡ None }
     ensures desk { IsDesk result.0 }
     ensures answer { MatchResult result.1 (OpensAt (sitting_of chair) (sitting_of result.0)) (NotOpened (sitting_of chair) (sitting_of result.0)) }
 {
-    let Chair {
-        reader,
-        front,
-        session,
-    } = chair;
-    if session.is_some() {
-        let chair = Chair {
-            reader,
-            front,
-            session,
-        };
-        return (chair, Err(DeskFault::SessionOpen));
-    }
-    match look(reader, front) {
-        Err((reader, front)) => {
-            let chair = Chair {
-                reader,
-                front,
-                session,
-            };
-            (chair, Err(DeskFault::Away))
-        }
+    match look(chair) {
+        Err(chair) => (chair, Err(DeskFault::Away)),
         Ok((reading, front)) => {
             let version = current(reading.get());
             let chair = Chair {
@@ -149,34 +140,17 @@ fn page_at(
     ensures answer { MatchResult result.1 (Reads (sitting_of chair) (sitting_of result.0) view (option_map (λ row. row.now) after.entry) limit) (NotRead (sitting_of chair) (sitting_of result.0) view) }
     ensures memory { result.1 ≡ Err DeskFault.Memory → ShowsRows (sitting_of result.0) view (option_map (λ row. row.now) after.entry) limit }
 {
-    let Chair {
-        reader,
-        front,
-        session,
-    } = chair;
-    let Some(version) = session else {
-        let chair = Chair {
-            reader,
-            front,
-            session,
-        };
+    let Some(version) = chair.session else {
         return (chair, Err(DeskFault::NoSession));
     };
-    match look(reader, front) {
-        Err((reader, front)) => {
-            let chair = Chair {
-                reader,
-                front,
-                session,
-            };
-            (chair, Err(DeskFault::Away))
-        }
+    match look(chair) {
+        Err(chair) => (chair, Err(DeskFault::Away)),
         Ok((reading, front)) => {
             let answer = read(reading.get(), version, view, after, limit);
             let chair = Chair {
                 reader: reading.leave(),
                 front,
-                session,
+                session: Some(version),
             };
             (chair, answer)
         }
@@ -203,6 +177,9 @@ impl Desk {
         ensures grows { Grows self.old self.new }
         ensures answer { MatchResult result (OpensAt self.old self.new) (NotOpened self.old self.new) }
     {
+        if self.chair.session.is_some() {
+            return Err(DeskFault::SessionOpen);
+        }
         replace_with(&mut self.chair, (), |chair, _| open_at(chair))
     }
 

@@ -1,4 +1,4 @@
-//! The steps at the store, each over a writer or a reader by value.
+//! The steps at the store.
 
 ghost use Rattle.std.specs.Prelude.{◌≡◌, [], drop, fold, IfSome, MatchResult, Some};
 ghost use Rattle.left_right.specs.Sides.{view};
@@ -7,6 +7,7 @@ ghost use Rattle.wh_desk.specs.Rules.{Follows, Sees, taken_in};
 use crate::history::Told;
 use crate::kept::{Kept, Publication};
 use crate::rule::{Enters, Published, Puts, Tells};
+use core::mem::replace_with;
 use left_right::reader::{Reader, Reading};
 use left_right::writer::Writer;
 use std::alloc::AllocError;
@@ -19,14 +20,22 @@ pub type RawReader = Reader<Kept, Option<Told>, Published>;
 
 pub type RawReading = Reading<Kept, Option<Told>, Published>;
 
-/// Publishes what waits, where that goes on from what is published.
-pub fn publish_raw<R: Wait>(rt: &R, raw: Raw) -> (Raw, Result<(), AllocError>)
+/// As [`publish_raw`], over a writer by value.
+fn publish_owned<R: Wait>(rt: &R, raw: Raw) -> (Raw, Result<(), AllocError>)
     requires { Follows raw.desk.shown.value (drop raw.behind raw.log.items) }
-    ensures ok { MatchResult result.1 (λ _. (result.0.desk.shown.value ≡ fold taken_in raw.desk.shown.value (drop raw.behind raw.log.items)) × (drop result.0.behind result.0.log.items ≡ []) × (view result.0.desk.place ≡ Some result.0.desk.shown.value.front)) (λ _. (result.0.desk.shown.value ≡ raw.desk.shown.value) × (drop result.0.behind result.0.log.items ≡ drop raw.behind raw.log.items)) }
+    ensures { MatchResult result.1 (λ _. (result.0.desk.shown.value ≡ fold taken_in raw.desk.shown.value (drop raw.behind raw.log.items)) × (drop result.0.behind result.0.log.items ≡ []) × (view result.0.desk.place ≡ Some result.0.desk.shown.value.front)) (λ _. (result.0.desk.shown.value ≡ raw.desk.shown.value) × (drop result.0.behind result.0.log.items ≡ drop raw.behind raw.log.items)) }
 {
     window_law();
     well_formed_goes_on_law();
     raw.publish_as::<Puts, R>(rt)
+}
+
+/// Publishes what waits, where that goes on from what is published.
+pub fn publish_raw<R: Wait>(rt: &R, raw: &mut Raw) -> Result<(), AllocError>
+    requires { Follows raw.old.desk.shown.value (drop raw.old.behind raw.old.log.items) }
+    ensures { MatchResult result (λ _. (raw.new.desk.shown.value ≡ fold taken_in raw.old.desk.shown.value (drop raw.old.behind raw.old.log.items)) × (drop raw.new.behind raw.new.log.items ≡ []) × (view raw.new.desk.place ≡ Some raw.new.desk.shown.value.front)) (λ _. (raw.new.desk.shown.value ≡ raw.old.desk.shown.value) × (drop raw.new.behind raw.new.log.items ≡ drop raw.old.behind raw.old.log.items)) }
+{
+    replace_with(raw, rt, |raw, rt| publish_owned(rt, raw))
 }
 
 /// A new reader, which knows what the writer published last.

@@ -106,11 +106,10 @@ pub fn open_with_copy<R: Wait>(
         store: copy,
         front: history.told(),
     };
-    let Ok(raw) = Raw::new(alloc, first, second, desks) else {
+    let Ok(mut raw) = Raw::new(alloc, first, second, desks) else {
         return Err(OpenFault::Memory);
     };
-    let (mut raw, done) = publish_raw(rt, raw);
-    if done.is_err() {
+    if publish_raw(rt, &mut raw).is_err() {
         raw.take(rt);
         return Err(OpenFault::Memory);
     }

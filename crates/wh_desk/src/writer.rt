@@ -1,22 +1,20 @@
 //! The writer of a warehouse.
 
-ghost use Rattle.std.specs.Prelude.{◌≡◌, ◌≢◌, ◌≤◌, ◌<◌, [], ◌∷◌, ◌++◌, None, Some, Ok, Err, drop, length, is_some, IfOk, IfErr, OnOk, OnErr, IsTrue, MatchOption, MatchResult};
+ghost use Rattle.std.specs.Prelude.{◌≡◌, ◌≢◌, ◌≤◌, ◌<◌, [], ◌∷◌, ◌++◌, None, Some, Ok, Err, length, is_some, if◌then◌else◌, IfOk, IfErr, OnOk, OnErr, IsTrue, MatchOption, MatchResult};
 ghost use Rattle.wh_row.specs.Bag.{empty};
 ghost use Rattle.wh_store.specs.Operations.{operation};
 ghost use Rattle.wh_store.specs.Refusals.{refusal};
 ghost use Rattle.wh_store.specs.Versions.{is_active, is_well_formed, number, table_in};
 ghost use Rattle.wh_store.specs.Faults.{publish_refusal, refused, IsOkUnlessMemory, Ends, EndsLater};
-ghost use Rattle.wh_store.specs.Ledgers.{ledger, gone_out, versions_in, with_held};
-ghost use Rattle.wh_desk.specs.Known.{IsStory, known};
-ghost use Rattle.wh_desk.specs.Rules.{IsCopy};
-ghost use Rattle.wh_desk.specs.Writers.{held_of, ledger_in, writing, writing_of};
-ghost use Rattle.wh_desk.specs.Inner.Writers.{IsWriter, Publishes, Waits, end_of, end_of_held};
+ghost use Rattle.wh_store.specs.Ledgers.{ledger, gone_out, versions_in};
+ghost use Rattle.wh_desk.specs.Known.{known};
+ghost use Rattle.wh_desk.specs.Writers.{waiting, writing, writing_of};
+ghost use Rattle.wh_desk.specs.Inner.Writers.{IsWriter, end_of};
 
-use crate::history::{History, Told};
+use crate::history::Told;
 use crate::inner::Inner;
 use crate::kept::Publication;
-use crate::steps::{Raw, publish_raw};
-use core::mem::replace_with;
+use crate::steps::publish_raw;
 use std::alloc::AllocError;
 use std::marker::Model;
 use std::sync::Wait;
@@ -54,6 +52,22 @@ fn end_of(op: &Op) -> Option<Ended>
     }
 }
 
+/// Hands what is held over to the copies, where it waits.
+fn hand_over(inner: &mut Inner) -> Result<(), AllocError>
+    requires { IsWriter inner.old }
+    ensures writer { IsWriter inner.new }
+    ensures same { writing_of inner.new ≡ writing_of inner.old }
+    ensures over { OnOk result (inner.new.held ≡ None) }
+{
+    if let Some(publication) = inner.held.take() {
+        if let Err(publication) = inner.raw.append(publication) {
+            inner.held = Some(publication);
+            return Err(AllocError);
+        }
+    }
+    Ok(())
+}
+
 /// How what waits still ends the night.
 fn ends_after(done: &Result<(), AllocError>, ends: Option<Ended>) -> Option<Ended>
     ensures { MatchResult done.now (λ _. result ≡ None) (λ _. result ≡ ends) }
@@ -65,195 +79,48 @@ fn ends_after(done: &Result<(), AllocError>, ends: Option<Ended>) -> Option<Ende
 }
 
 /// Publishes what waits in the copies.
-fn publish_rest<R: Wait>(
-    raw: Raw,
-    rt: &R,
-    history: History,
-    ends: Option<Ended>,
-) -> (Inner, Result<(), AllocError>)
-    requires copy { IsCopy raw.desk.shown.value }
-    requires waits { Waits raw.desk.shown.value (drop raw.behind raw.log.items) history }
-    requires ends { ends ≡ end_of_held (held_of (drop raw.behind raw.log.items)) }
-    requires story { IsStory history }
-    ensures writer { IsWriter result.0 }
-    ensures list { MatchResult result.1 (λ _. writing_of result.0 ≡ writing history.book (ledger history.of history.list None)) (λ _. writing_of result.0 ≡ writing raw.desk.shown.value.front.book (ledger_in raw.desk.shown.value (drop raw.behind raw.log.items))) }
+fn publish_rest<R: Wait>(inner: &mut Inner, rt: &R) -> Result<(), AllocError>
+    requires writer { IsWriter inner.old }
+    requires none { inner.old.held ≡ None }
+    ensures writer { IsWriter inner.new }
+    ensures list { MatchResult result (λ _. writing_of inner.new ≡ writing (writing_of inner.old).book (ledger (writing_of inner.old).ledger.of (gone_out (writing_of inner.old).ledger) None)) (λ _. writing_of inner.new ≡ writing_of inner.old) }
 {
     window_law();
     well_formed_goes_on_law();
-    let (raw, done) = publish_raw(rt, raw);
-    let ends = ends_after(&done, ends);
-    let inner = Inner {
-        raw,
-        history,
-        held: None,
-        ends,
-    };
-    (inner, done)
-}
-
-/// Hands a publication over where none waits, and publishes it.
-fn send<R: Wait>(
-    raw: Raw,
-    rt: &R,
-    history: History,
-    publication: Publication,
-) -> (Inner, Result<(), AllocError>)
-    requires copy { IsCopy raw.desk.shown.value }
-    requires none { drop raw.behind raw.log.items ≡ [] }
-    requires next { (publication.front ≡ history) × (history ≡ known raw.desk.shown.value.front.book raw.desk.shown.value.front.of (raw.desk.shown.value.front.list ++ operation publication.op ∷ [])) }
-    requires free { refusal raw.desk.shown.value.store (operation publication.op) ≡ None }
-    requires story { IsStory history }
-    ensures writer { IsWriter result.0 }
-    ensures list { MatchResult result.1 (λ _. writing_of result.0 ≡ writing history.book (ledger history.of history.list None)) (λ _. writing_of result.0 ≡ writing raw.desk.shown.value.front.book (ledger raw.desk.shown.value.front.of raw.desk.shown.value.front.list (Some (operation publication.op)))) }
-{
-    let ends = end_of(&publication.op);
-    let mut raw = raw;
-    if let Err(publication) = raw.append(publication) {
-        let inner = Inner {
-            raw,
-            history,
-            held: Some(publication),
-            ends,
-        };
-        return (inner, Err(AllocError));
-    }
-    publish_rest(raw, rt, history, ends)
-}
-
-/// Publishes an operation where none waits and it is not refused.
-fn publish_free<R: Wait>(
-    raw: Raw,
-    rt: &R,
-    history: History,
-    op: Op,
-) -> (Inner, Result<(), PublishFault>)
-    requires copy { IsCopy raw.desk.shown.value }
-    requires none { drop raw.behind raw.log.items ≡ [] }
-    requires whole { history ≡ raw.desk.shown.value.front }
-    requires free { refusal raw.desk.shown.value.store (operation op) ≡ None }
-    ensures writer { IsWriter result.0 }
-    ensures list { MatchResult result.1 (λ _. writing_of result.0 ≡ writing history.book (ledger history.of (history.list ++ operation op ∷ []) None)) (λ fault. writing_of result.0 ≡ writing history.book (refused (ledger history.of history.list None) (operation op) fault)) }
-    ensures memory { IsOkUnlessMemory result.1 }
-{
-    well_formed_goes_on_law();
-    let mut history = history;
-    if !history.add(&op) {
-        let inner = Inner {
-            raw,
-            history,
-            held: None,
-            ends: None,
-        };
-        return (inner, Err(PublishFault::Memory { held: false }));
-    }
-    let front = history.told();
-    match send(raw, rt, history, Publication { op, front }) {
-        (inner, Ok(())) => (inner, Ok(())),
-        (inner, Err(_)) => (inner, Err(PublishFault::Memory { held: true })),
-    }
-}
-
-/// Publishes an operation where none waits.
-fn publish_next<R: Wait>(
-    raw: Raw,
-    rt: &R,
-    history: History,
-    op: Op,
-) -> (Inner, Result<(), PublishFault>)
-    requires copy { IsCopy raw.desk.shown.value }
-    requires none { drop raw.behind raw.log.items ≡ [] }
-    requires whole { history ≡ raw.desk.shown.value.front }
-    ensures writer { IsWriter result.0 }
-    ensures list { MatchResult result.1 (λ _. writing_of result.0 ≡ writing history.book (ledger history.of (history.list ++ operation op ∷ []) None)) (λ fault. writing_of result.0 ≡ writing history.book (refused (ledger history.of history.list None) (operation op) fault)) }
-    ensures refused { MatchOption (publish_refusal (ledger history.of history.list None) (operation op)) (IsOkUnlessMemory result.1) (λ fault. result.1 ≡ Err fault) }
-{
-    match raw.published().store.refuses(&op) {
-        Some(fault) => {
-            let inner = Inner {
-                raw,
-                history,
-                held: None,
-                ends: None,
-            };
-            (inner, Err(PublishFault::of_store(fault)))
-        }
-        None => publish_free(raw, rt, history, op),
-    }
-}
-
-/// Publishes an operation.
-fn publish_op<R: Wait>(inner: Inner, rt: &R, op: Op) -> (Inner, Result<(), PublishFault>)
-    requires { IsWriter inner }
-    ensures writer { IsWriter result.0 }
-    ensures answer { Publishes (writing_of inner) (operation op) result.1 (writing_of result.0) }
-{
-    let Inner {
-        raw,
-        history,
-        held,
-        ends,
-    } = inner;
-    match held {
-        Some(publication) => {
-            let inner = Inner {
-                raw,
-                history,
-                held: Some(publication),
-                ends,
-            };
-            (inner, Err(PublishFault::Held))
-        }
-        None => {
-            if raw.has_pending_operations() {
-                let inner = Inner {
-                    raw,
-                    history,
-                    held: None,
-                    ends,
-                };
-                return (inner, Err(PublishFault::Held));
-            }
-            publish_next(raw, rt, history, op)
-        }
-    }
+    let done = publish_raw(rt, &mut inner.raw);
+    inner.ends = ends_after(&done, inner.ends);
+    done
 }
 
 /// Publishes what is held.
-fn publish_held<R: Wait>(inner: Inner, rt: &R) -> (Inner, Result<(), AllocError>)
-    requires { IsWriter inner }
-    ensures writer { IsWriter result.0 }
-    ensures list { MatchResult result.1 (λ _. writing_of result.0 ≡ writing (writing_of inner).book (ledger (writing_of inner).ledger.of (gone_out (writing_of inner).ledger) None)) (λ _. writing_of result.0 ≡ writing_of inner) }
+fn publish_held<R: Wait>(inner: &mut Inner, rt: &R) -> Result<(), AllocError>
+    requires { IsWriter inner.old }
+    ensures writer { IsWriter inner.new }
+    ensures list { MatchResult result (λ _. writing_of inner.new ≡ writing (writing_of inner.old).book (ledger (writing_of inner.old).ledger.of (gone_out (writing_of inner.old).ledger) None)) (λ _. writing_of inner.new ≡ writing_of inner.old) }
 {
-    let Inner {
-        raw,
-        history,
-        held,
-        ends,
-    } = inner;
-    match held {
-        Some(publication) => send(raw, rt, history, publication),
-        None => publish_rest(raw, rt, history, ends),
+    hand_over(inner)?;
+    publish_rest(inner, rt)
+}
+
+/// Holds an operation that is not refused, where none is held. Nothing has changed where memory is refused.
+fn hold(inner: &mut Inner, op: Op) -> bool
+    requires writer { IsWriter inner.old }
+    requires none { waiting inner.old ≡ [] }
+    requires free { refusal inner.old.raw.desk.shown.value.store (operation op) ≡ None }
+    ensures writer { IsWriter inner.new }
+    ensures held { writing_of inner.new ≡ writing (writing_of inner.old).book (ledger (writing_of inner.old).ledger.of (writing_of inner.old).ledger.list (if result then Some (operation op) else None)) }
+{
+    well_formed_goes_on_law();
+    if !inner.history.add(&op) {
+        return false;
     }
+    inner.ends = end_of(&op);
+    let front = inner.history.told();
+    inner.held = Some(Publication { op, front });
+    true
 }
 
 impl Writer {
-    /// Publishes what is held.
-    fn send_held<R: Wait>(&mut self, rt: &R) -> Result<(), AllocError>
-        ensures { MatchResult result (λ _. self.new ≡ writing self.old.book (ledger self.old.ledger.of (gone_out self.old.ledger) None)) (λ _. self.new ≡ self.old) }
-    {
-        replace_with(&mut self.inner, rt, |inner, rt| publish_held(inner, rt))
-    }
-
-    fn publish_by<R: Wait>(&mut self, rt: &R, op: Op) -> Result<(), PublishFault>
-        ensures { Publishes self.old (operation op) result self.new }
-    {
-        replace_with(
-            &mut self.inner,
-            (rt, op),
-            |inner, (rt, op)| publish_op(inner, rt, op),
-        )
-    }
-
     /// Publishes an operation. A refusal publishes nothing; the fault is [`PublishFault::Held`] or the first of a store's reasons.
     pub fn publish<R: Wait>(&mut self, rt: &R, op: Op) -> Result<(), PublishFault>
         ensures book { self.new.book ≡ self.old.book }
@@ -261,7 +128,19 @@ impl Writer {
         ensures err { IfErr result (λ fault. self.new.ledger ≡ refused self.old.ledger (operation op) fault) }
         ensures refused { MatchOption (publish_refusal self.old.ledger (operation op)) (IsOkUnlessMemory result) (λ fault. result ≡ Err fault) }
     {
-        self.publish_by(rt, op)
+        if self.held() {
+            return Err(PublishFault::Held);
+        }
+        if let Some(fault) = self.inner.raw.published().store.refuses(&op) {
+            return Err(PublishFault::of_store(fault));
+        }
+        if !hold(&mut self.inner, op) {
+            return Err(PublishFault::Memory { held: false });
+        }
+        match publish_held(&mut self.inner, rt) {
+            Ok(()) => Ok(()),
+            Err(_) => Err(PublishFault::Memory { held: true }),
+        }
     }
 
     /// Publishes what is held, and then gives up the night that is open, if one is. After want of memory, which is met only where there
@@ -275,7 +154,7 @@ impl Writer {
             return Ok(Ended::NoneOpen);
         }
         let ends = self.inner.ends;
-        self.send_held(rt)?;
+        publish_held(&mut self.inner, rt)?;
         if self.active() {
             return match self.publish(rt, Op::GiveUp) {
                 Ok(()) => Ok(Ended::GivenUp),

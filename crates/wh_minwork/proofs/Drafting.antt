@@ -198,7 +198,7 @@ free_bits false false true e g h = refl
 free_bits false false false true g h = refl
 free_bits false false false false g h = refl
 
-and_swap : (x y : Bool) → (x && y) ≡ (y && x)
+pub and_swap : (x y : Bool) → (x && y) ≡ (y && x)
 and_swap true true = refl
 and_swap true false = refl
 and_swap false true = refl
@@ -223,11 +223,11 @@ at_turned : (ds : List (ℕ × ℕ)) (a b u w : ℕ) (x : Bool) → decides ds b
 at_turned ds a b u w x h t = let i = this_is a b w u t in subst (λ z. decides ds z w ≡ x) i.1 (subst (λ z. decides ds b z ≡ x) i.0 h)
 
 -- one decision more
-pub completed_push : (ordered ds : List (ℕ × ℕ)) (before before' : ℕ → ℕ → Bool) (a b : ℕ) → a ≢ b → decides ds a b ≡ false → decides ds b a ≡ false → ((u w : ℕ) → before w u ≡ decides (completed ordered ds) u w) → ((w u : ℕ) → before' w u ≡ ((eqb b w && eqb a u) || (not (eqb a w && eqb b u) && before w u))) → (u w : ℕ) → before' w u ≡ decides (completed ordered (ds ++ (a, b) ∷ [])) u w
-completed_push ordered ds before before' a b n o o' h g u w =
+pub completed_push : (ordered ds : List (ℕ × ℕ)) (before before' : ℕ → ℕ → Bool) (a b : ℕ) → a ≢ b → decides ds a b ≡ false → decides ds b a ≡ false → ((w u : ℕ) → before' w u ≡ ((eqb b w && eqb a u) || (not (eqb a w && eqb b u) && before w u))) → (u w : ℕ) → before w u ≡ decides (completed ordered ds) u w → before' w u ≡ decides (completed ordered (ds ++ (a, b) ∷ [])) u w
+completed_push ordered ds before before' a b n o o' g u w h =
     g w u
     ∙ ap (λ z. z || (not (is_this a b w u) && before w u)) (and_swap (eqb b w) (eqb a u))
-    ∙ ap (λ z. is_this a b u w || (not (is_this a b w u) && z)) (h u w ∙ completed_decides ordered ds u w)
+    ∙ ap (λ z. is_this a b u w || (not (is_this a b w u) && z)) (h ∙ completed_decides ordered ds u w)
     ∙ push_bits (is_this a b u w) (is_this a b w u) (decides ds u w) (decides ds w u) (decides ordered u w) (λ t. (not_turned a b u w n t, at_turned ds a b u w false o' t, at_this ds a b w u false o t))
     ∙ sym (pushed ordered ds a b u w)
   where
@@ -244,20 +244,20 @@ pushed_form ordered ds a b u w =
     ∙ ap (λ z. (decides ds u w || is_this a b u w) || (not ((decides ds u w || is_this a b u w) || z) && decides ordered u w)) (decides_push ds a b w u)
 
 -- the last decision is taken back, which was against the order of all couples
-pub completed_turn : (ordered ds : List (ℕ × ℕ)) (before before' : ℕ → ℕ → Bool) (a b : ℕ) → a ≢ b → decides ds a b ≡ false → decides ds b a ≡ false → decides ordered b a ≡ true → decides ordered a b ≡ false → ((u w : ℕ) → before w u ≡ decides (completed ordered (ds ++ (a, b) ∷ [])) u w) → ((w u : ℕ) → before' w u ≡ ((eqb a w && eqb b u) || (not (eqb b w && eqb a u) && before w u))) → (u w : ℕ) → before' w u ≡ decides (completed ordered ds) u w
-completed_turn ordered ds before before' a b n o o' d d' h g u w =
+pub completed_turn : (ordered ds : List (ℕ × ℕ)) (before before' : ℕ → ℕ → Bool) (a b : ℕ) → a ≢ b → decides ds a b ≡ false → decides ds b a ≡ false → decides ordered b a ≡ true → decides ordered a b ≡ false → ((w u : ℕ) → before' w u ≡ ((eqb a w && eqb b u) || (not (eqb b w && eqb a u) && before w u))) → (u w : ℕ) → before w u ≡ decides (completed ordered (ds ++ (a, b) ∷ [])) u w → before' w u ≡ decides (completed ordered ds) u w
+completed_turn ordered ds before before' a b n o o' d d' g u w h =
     g w u
     ∙ ap (λ z. is_this a b w u || (not z && before w u)) (and_swap (eqb b w) (eqb a u))
-    ∙ ap (λ z. is_this a b w u || (not (is_this a b u w) && z)) (h u w ∙ pushed_form ordered ds a b u w)
+    ∙ ap (λ z. is_this a b w u || (not (is_this a b u w) && z)) (h ∙ pushed_form ordered ds a b u w)
     ∙ turn_bits (is_this a b u w) (is_this a b w u) (decides ds u w) (decides ds w u) (decides ordered u w)
     (λ t. (not_turned a b w u n t, at_this ds a b u w false o t, at_turned ds a b w u false o' t, at_this ordered a b u w false d' t))
     (λ t. (at_turned ds a b u w false o' t, at_this ds a b w u false o t, at_turned ordered a b u w true d t))
     ∙ sym (completed_decides ordered ds u w)
 
 -- and where it was by that order
-pub completed_keep : (ordered ds : List (ℕ × ℕ)) (before : ℕ → ℕ → Bool) (a b : ℕ) → a ≢ b → decides ds a b ≡ false → decides ds b a ≡ false → decides ordered a b ≡ true → decides ordered b a ≡ false → ((u w : ℕ) → before w u ≡ decides (completed ordered (ds ++ (a, b) ∷ [])) u w) → (u w : ℕ) → before w u ≡ decides (completed ordered ds) u w
-completed_keep ordered ds before a b n o o' d d' h u w =
-    h u w ∙ pushed_form ordered ds a b u w
+pub completed_keep : (ordered ds : List (ℕ × ℕ)) (before : ℕ → ℕ → Bool) (a b : ℕ) → a ≢ b → decides ds a b ≡ false → decides ds b a ≡ false → decides ordered a b ≡ true → decides ordered b a ≡ false → (u w : ℕ) → before w u ≡ decides (completed ordered (ds ++ (a, b) ∷ [])) u w → before w u ≡ decides (completed ordered ds) u w
+completed_keep ordered ds before a b n o o' d d' u w h =
+    h ∙ pushed_form ordered ds a b u w
     ∙ keep_bits (is_this a b u w) (is_this a b w u) (decides ds u w) (decides ds w u) (decides ordered u w)
     (λ t. (at_this ds a b u w false o t, at_turned ds a b w u false o' t, at_this ordered a b u w true d t))
     (λ t. (not_turned a b u w n t, at_turned ds a b u w false o' t, at_this ds a b w u false o t, at_turned ordered a b u w false d' t))
@@ -313,14 +313,15 @@ pub sets_turned : (views : ℕ) (over under before before' desired settled settl
 sets_turned views over under before before' desired settled settled' shape ordered ds a b h once d g s =
     let o = last_open ds a b once in
     let couple = h.decided_couples a b (decides_new ds a b) in
-    let back : decides ordered b a ≡ true = sym (h.desired_are b a) ∙ d in
+    let small = couple_small shape a b h.edges.shape_is couple in
+    let back : decides ordered b a ≡ true = sym (h.desired_are b a small.1 small.0) ∙ d in
     record {
-      shape_is = h.shape_is;
       edges = record {
+        shape_is = h.edges.shape_is;
         views_are = h.edges.views_are;
         over_are = h.edges.over_are;
         under_are = h.edges.under_are;
-        before_are = completed_turn ordered ds (λ w u. in_rows before w u) (λ w u. in_rows before' w u) a b couple.0 o.0 o.1 back (h.ordered_once b a back) h.edges.before_are g;
+        before_are = λ u w lu lw. completed_turn ordered ds (λ w u. in_rows before w u) (λ w u. in_rows before' w u) a b couple.0 o.0 o.1 back (h.ordered_once b a back) g u w (h.edges.before_are u w lu lw);
       };
       desired_are = h.desired_are;
       settled_are = settled_pop ds (λ u w. in_rows settled u w) (λ u w. in_rows settled' u w) a b o.0 o.1 h.settled_are s;
@@ -333,14 +334,15 @@ pub sets_kept : (views : ℕ) (over under before desired settled settled' : List
 sets_kept views over under before desired settled settled' shape ordered ds a b h once d s =
     let o = last_open ds a b once in
     let couple = h.decided_couples a b (decides_new ds a b) in
-    let not_back : decides ordered b a ≡ false = sym (h.desired_are b a) ∙ d in
+    let small = couple_small shape a b h.edges.shape_is couple in
+    let not_back : decides ordered b a ≡ false = sym (h.desired_are b a small.1 small.0) ∙ d in
     record {
-      shape_is = h.shape_is;
       edges = record {
+        shape_is = h.edges.shape_is;
         views_are = h.edges.views_are;
         over_are = h.edges.over_are;
         under_are = h.edges.under_are;
-        before_are = completed_keep ordered ds (λ w u. in_rows before w u) a b couple.0 o.0 o.1 (one_order shape ordered a b h.ordered_all couple not_back) not_back h.edges.before_are;
+        before_are = λ u w lu lw. completed_keep ordered ds (λ w u. in_rows before w u) a b couple.0 o.0 o.1 (one_order shape ordered a b h.ordered_all couple not_back) not_back u w (h.edges.before_are u w lu lw);
       };
       desired_are = h.desired_are;
       settled_are = settled_pop ds (λ u w. in_rows settled u w) (λ u w. in_rows settled' u w) a b o.0 o.1 h.settled_are s;
@@ -349,38 +351,20 @@ sets_kept views over under before desired settled settled' shape ordered ds a b 
       decided_couples = couples_pop shape ds a b h.decided_couples;
     }
 
--- the numbers of a listed couple have a place in a set
-pub listed_small : (shape : List (List ℕ)) (ds : List (ℕ × ℕ)) (k : ℕ) (none : ℕ × ℕ) → IsShape shape → DecidesCouples shape ds → k < length ds → ((get_or ds k none).0 < 64) × ((get_or ds k none).1 < 64)
-listed_small shape ds k none sh h l =
-    let x = get_some ds k l in
-    let e : get_or ds k none ≡ x.0 = get_value ds k x.0 none x.1 in
-    subst (λ (z : ℕ × ℕ). (z.0 < 64) × (z.1 < 64)) (sym e) (couple_small shape x.0.0 x.0.1 sh (h x.0.0 x.0.1 (decides_at ds k x.0 x.1)))
-
 -- a child has a place in a set
-pub child_small : (shape : List (List ℕ)) (v k : ℕ) (row : List ℕ) → IsShape shape → v < length shape → row ≡ children_of shape v → k < length row → get_or row k 0 < 64
-unfolding has
-child_small shape v k row sh l own low =
+pub child_view : (shape : List (List ℕ)) (v u : ℕ) → IsShape shape → has (children_of shape v) u ≡ true → u < 64
+child_view shape v u sh h =
     let few : length shape ≤ 64 = sh.few_views in
-    let lower : get_or row k 0 < v = sh.lower v (get_or row k 0) (subst (λ z. has z (get_or row k 0) ≡ true) own (has_listed row k low)) in
+    let below : v < length shape = has_within shape v u h in
+    let lower : u < v = sh.lower v u h in
     omega arith
+
+pub child_small : (shape : List (List ℕ)) (v k : ℕ) (row : List ℕ) → IsShape shape → row ≡ children_of shape v → k < length row → get_or row k 0 < 64
+unfolding has
+child_small shape v k row sh own low =
+    child_view shape v (get_or row k 0) sh (subst (λ z. has z (get_or row k 0) ≡ true) own (has_listed row k low))
   where
     has_listed : (xs : List ℕ) (k : ℕ) → k < length xs → has xs (get_or xs k 0) ≡ true
     has_listed [] k l = absurd (omega arith)
     has_listed (x ∷ xs) zero l = or_left _ _ (eq-eqb x x refl)
     has_listed (x ∷ xs) (suc k) l = or_right _ _ (has_listed xs k (omega arith))
-
--- no couple was gone through yet
-pub ordered_none : (f : ℕ → ℕ → Bool) (ds : List (ℕ × ℕ)) → ((a b : ℕ) → f a b ≡ false) → (u w : ℕ) → f w u ≡ decides (take 0 ds) u w
-unfolding decides
-ordered_none f ds h u w = h w u
-
-pub ordered_more : (f g : ℕ → ℕ → Bool) (ds : List (ℕ × ℕ)) (k : ℕ) (none : ℕ × ℕ) → k < length ds → ((u w : ℕ) → f w u ≡ decides (take k ds) u w) → ((w u : ℕ) → g w u ≡ ((eqb (get_or ds k none).1 w && eqb (get_or ds k none).0 u) || f w u)) → (u w : ℕ) → g w u ≡ decides (take (k + 1) ds) u w
-ordered_more f g ds k none l h n u w =
-    n w u ∙ ap (λ z. z || f w u) (and_swap (eqb (get_or ds k none).1 w) (eqb (get_or ds k none).0 u)) ∙ ap (λ z. (eqb (get_or ds k none).0 u && eqb (get_or ds k none).1 w) || z) (h u w)
-    ∙ or_swap (eqb (get_or ds k none).0 u && eqb (get_or ds k none).1 w) (decides (take k ds) u w) ∙ sym (couples_more ds k none u w l)
-  where
-    or_swap : (x y : Bool) → (x || y) ≡ (y || x)
-    or_swap true true = refl
-    or_swap true false = refl
-    or_swap false true = refl
-    or_swap false false = refl

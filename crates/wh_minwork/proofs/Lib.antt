@@ -6,7 +6,6 @@ pub mod Edges
 pub mod Exact
 pub mod Hinting
 pub mod Inserted
-pub mod Listed
 pub mod Looking
 pub mod OpenAlong
 pub mod Opening
@@ -16,7 +15,4 @@ pub mod Ranks
 pub mod Rounds
 pub mod SiblingViews
 pub mod Sorting
-pub mod Tables
 pub mod Views
-pub mod Waiting
-pub mod Walking

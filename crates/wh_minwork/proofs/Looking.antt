@@ -1,7 +1,7 @@
 -- What the sets of a draft tell of its graph.
-use Rattle.std.proofs.Common.{◌≡◌, ℕ, List, [], ◌<◌, true, false, ◌&&◌, ◌||◌, refl, sym, ap, ◌∙◌, length, map, arith}
+use Rattle.std.proofs.Common.{◌≡◌, Bool, ℕ, List, [], ◌<◌, true, false, ◌&&◌, ◌||◌, refl, sym, ap, ◌∙◌, length, map, arith}
 use Rattle.std.proofs.lemmas.Bool.{lt-ltb, false≢true, true_from_ne_false}
-use Rattle.wh_dag.specs.Shape.{has, children_of, IsShape}
+use Rattle.wh_dag.specs.Shape.{has, children_of}
 use Rattle.wh_strategy.proofs.Found.{has_within}
 use Rattle.wh_cert.specs.Graph.{decides, DecidesAll}
 use Rattle.wh_minwork.specs.Decided.{AreDecisions}
@@ -13,10 +13,10 @@ use Rattle.wh_minwork.specs.Sorted.{IsSorted}
 use Rattle.wh_minwork.specs.declared.node.Node.{Node}
 use Rattle.wh_minwork.specs.declared.node.Node.TheVariants.{Comp, Inst}
 use Rattle.wh_minwork.proofs.Counting.{is_one, is_none}
-use Rattle.wh_minwork.proofs.Drafting.{completed_none, decisions_one_way}
-use Rattle.wh_minwork.proofs.Placing.{part_done}
+use Rattle.wh_minwork.proofs.Drafting.{child_view, completed_none, decisions_one_way}
+use Rattle.wh_minwork.proofs.Placing.{all_sorted}
 use Rattle.wh_minwork.proofs.Rounds.{round_moves}
-use Rattle.wh_minwork.proofs.Views.{node_view, some_view}
+use Rattle.wh_minwork.proofs.Views.{node_view}
 
 pub over_within : (views : ℕ) (over under before : List ℕ) (shape : List (List ℕ)) (decided : List (ℕ × ℕ)) → AreEdges views over under before shape decided → (v u : ℕ) → in_rows over v u ≡ true → in_set views v ≡ true
 over_within views over under before shape decided h v u t =
@@ -36,13 +36,17 @@ edge_same views over under before shape decided h (Inst u) (Inst w) = refl
 edge_same views over under before shape decided h (Inst u) (Comp v w) =
     ap (λ z. z && (in_rows over v w && in_rows before w u)) (h.over_are v u)
     ∙ ap (λ z. has (children_of shape v) u && (z && in_rows before w u)) (h.over_are v w)
-    ∙ ap (λ z. has (children_of shape v) u && (has (children_of shape v) w && z)) (h.before_are u w)
+    ∙ where_both (has (children_of shape v) u) (has (children_of shape v) w) (in_rows before w u) (decides decided u w) (λ x y. h.before_are u w (child_view shape v u h.shape_is x) (child_view shape v w h.shape_is y))
+  where
+    where_both : (x y p q : Bool) → (x ≡ true → y ≡ true → p ≡ q) → (x && (y && p)) ≡ (x && (y && q))
+    where_both true true p q e = e refl refl
+    where_both true false p q e = refl
+    where_both false y p q e = refl
 
 -- where none is left, all are placed
 pub placed_sorted : (views : ℕ) (over under before comps : List ℕ) (insts : ℕ) (shape : List (List ℕ)) (decided : List (ℕ × ℕ)) (placed : List Node) → AreEdges views over under before shape decided → ArePlaced views over before comps insts placed → ((x : Node) → is_left comps insts x ≡ false) → IsSorted shape decided (map expression_of placed)
-unfolding times
 placed_sorted views over under before comps insts shape decided placed h p none =
-    part_done shape decided placed (record {
+    all_sorted shape decided placed (record {
       each = λ e.
           let k = p.each e in
           let z : one_if (is_left comps insts e) ≡ 0 = is_none (is_left comps insts e) _ refl (none e) in
@@ -60,17 +64,8 @@ placed_left views over before comps insts placed p = record {
 }
 
 -- a graph that has a node has a view
-pub node_by_view : (views : ℕ) (over under before : List ℕ) (shape : List (List ℕ)) (decided : List (ℕ × ℕ)) → AreEdges views over under before shape decided → (y : Node) → is_node_by over views y ≡ true → 0 < length shape
-node_by_view views over under before shape decided h y is = node_view shape y (sym (node_same views over under before shape decided h y) ∙ is)
-
-pub placed_by_view : (views : ℕ) (over under before comps : List ℕ) (insts : ℕ) (shape : List (List ℕ)) (decided : List (ℕ × ℕ)) (placed : List Node) → AreEdges views over under before shape decided → ArePlaced views over before comps insts placed → 0 < length placed → 0 < length shape
-placed_by_view views over under before comps insts shape decided placed h p l =
-    some_view shape placed
-    (λ e.
-    let k = p.each e in
-    let s = ap one_if (node_same views over under before shape decided h e) in
-    omega arith)
-    l
+pub node_by_view : (views : ℕ) (over under before : List ℕ) (y : Node) → is_node_by over views y ≡ true → (shape : List (List ℕ)) (decided : List (ℕ × ℕ)) → AreEdges views over under before shape decided → 0 < length shape
+node_by_view views over under before y is shape decided h = node_view shape y (sym (node_same views over under before shape decided h y) ∙ is)
 
 pub round_of : (views : ℕ) (over under before : List ℕ) (shape : List (List ℕ)) (decided : List (ℕ × ℕ)) (walk : List Node) → AreEdges views over under before shape decided → IsRound (leads_by over before) (is_node_by over views) walk → IsRound (leads shape decided) (is_node shape) walk
 round_of views over under before shape decided walk h r =
@@ -78,19 +73,19 @@ round_of views over under before shape decided walk h r =
     (λ x y e. sym (edge_same views over under before shape decided h x y) ∙ e)
     (λ x e. sym (node_same views over under before shape decided h x) ∙ e) walk r
 
-none_decided : (u w : ℕ) → decides [] u w ≡ false
+pub none_decided : (u w : ℕ) → decides [] u w ≡ false
 unfolding decides
 none_decided u w = refl
 
 -- nothing is decided
-pub sets_start : (views : ℕ) (over under before settled : List ℕ) (shape : List (List ℕ)) (ordered : List (ℕ × ℕ)) → IsShape shape → AreEdges views over under before shape ordered → DecidesAll shape ordered → AreDecisions ordered → ((a b : ℕ) → in_rows settled a b ≡ false) → AreDraftSets views over under before before settled shape ordered []
-sets_start views over under before settled shape ordered sh h all once none = record {
-  shape_is = sh;
+pub sets_start : (views : ℕ) (over under before settled : List ℕ) (shape : List (List ℕ)) (ordered : List (ℕ × ℕ)) → AreEdges views over under before shape ordered → DecidesAll shape ordered → AreDecisions ordered → ((a b : ℕ) → in_rows settled a b ≡ false) → AreDraftSets views over under before before settled shape ordered []
+sets_start views over under before settled shape ordered h all once none = record {
   edges = record {
+    shape_is = h.shape_is;
     views_are = h.views_are;
     over_are = h.over_are;
     under_are = h.under_are;
-    before_are = λ u w. h.before_are u w ∙ sym (completed_none ordered u w);
+    before_are = λ u w a b. h.before_are u w a b ∙ sym (completed_none ordered u w);
   };
   desired_are = h.before_are;
   settled_are = λ u w. none u w ∙ sym (ap (λ z. z || decides [] w u) (none_decided u w) ∙ none_decided w u);

@@ -1,18 +1,17 @@
 -- The first couple along a cycle that is not decided.
-use Rattle.std.proofs.Common.{◌≡◌, ◌≢◌, ℕ, ◌<◌, ◌≤◌, ◌⊎◌, List, true, false, not, ◌&&◌, ◌||◌, sym, ap, ◌∙◌, subst, length, ⊎_elim, arith}
+use Rattle.std.proofs.Common.{◌≡◌, ◌≢◌, ℕ, ◌<◌, ◌≤◌, ◌⊎◌, List, true, false, not, ◌&&◌, ◌||◌, sym, ap, ◌∙◌, subst, ⊎_elim, arith}
 use Rattle.std.proofs.lemmas.Bool.{lt-ltb, and_parts, and_from, or_left, or_right, or_cases, both_ways, false≢true, false_from_ne_true}
 use Rattle.wh_dag.specs.Shape.{IsShape}
 use Rattle.wh_dag.specs.Siblings.{have_parent, IsCouple}
 use Rattle.wh_dag.specs.declared.siblings.Couple.{Couple}
 use Rattle.wh_dag.proofs.CommonParents.{both_have_parent}
-use Rattle.wh_strategy.proofs.Found.{has_within}
 use Rattle.wh_cert.specs.Graph.{decides, DecidesAll}
 use Rattle.wh_cert.specs.Search.{IsOpen}
 use Rattle.wh_minwork.specs.Draft.{completed}
 use Rattle.wh_minwork.specs.Inner.Nodes.{leads}
 use Rattle.wh_minwork.specs.declared.node.Node.{Node}
 use Rattle.wh_minwork.specs.declared.node.Node.TheVariants.{Comp, Inst}
-use Rattle.wh_minwork.proofs.Drafting.{completed_decides}
+use Rattle.wh_minwork.proofs.Drafting.{child_view, completed_decides}
 
 abbrev Leads : List (List ℕ) → List (ℕ × ℕ) → List (ℕ × ℕ) → ℕ → ℕ → ℕ → Type 0
 Leads shape ordered ds u v w = leads shape (completed ordered ds) (Inst u) (Comp v w) ≡ true
@@ -22,11 +21,7 @@ pub edge_small : (shape : List (List ℕ)) (ds : List (ℕ × ℕ)) (u v w : ℕ
 edge_small shape ds u v w sh h =
     let a = and_parts _ _ h in
     let b = and_parts _ _ a.1 in
-    let few : length shape ≤ 64 = sh.few_views in
-    let high : v < length shape = has_within shape v u a.0 in
-    let x : u < v = sh.lower v u a.0 in
-    let y : w < v = sh.lower v w b.0 in
-    (omega arith, omega arith)
+    (child_view shape v u sh a.0, child_view shape v w sh b.0)
 
 -- the edge is there by a decision, where its couple is decided
 pub still_leads : (shape : List (List ℕ)) (ordered ds : List (ℕ × ℕ)) (u v w : ℕ) → Leads shape ordered ds u v w → (decides ds u w || decides ds w u) ≡ true → leads shape ds (Inst u) (Comp v w) ≡ true

@@ -3,3 +3,4 @@ pub mod Draft
 pub mod Left
 pub mod Nodes
 pub mod Sets
+pub mod Sorting

@@ -1,55 +1,62 @@
-//! The cycle of a graph that cannot be sorted.
+//! The cycle of a graph that cannot be sorted, from the nodes that are left.
 
-ghost use Rattle.std.specs.Prelude.{◌≡◌, ◌≢◌, ◌<◌, ℕ, length, map, true, false, Some, slice_get, slice_index_or, IfOk, MatchOption, All};
-ghost use Rattle.std.specs.List.{list_any};
-ghost use Rattle.wh_minwork.specs.Inner.Nodes.{leads, expression_of, AreStuck};
-ghost use Rattle.wh_minwork.specs.Sorted.{IsSimpleCycle};
+ghost use Rattle.std.specs.Prelude.{◌≡◌, ◌≢◌, ◌<◌, ◌≤◌, true, length, slice_index_or, All, IfOk, MatchOption};
+ghost use Rattle.wh_minwork.specs.Inner.Left.{AreNodesLeft, AreTurned, IsLed, IsRound, IsWithin, is_left, is_node_by, leads_by};
+ghost use Rattle.wh_minwork.specs.Inner.Nodes.{times};
 ghost use Rattle.wh_minwork.specs.declared.node.Node.{Node};
 
-use crate::graph::Graph;
+use crate::edge_sets::{Edges, Rest};
 use crate::node::Node;
 use std::alloc::{AllocError, Global};
 
-pub(crate) fn place_of(list: &[Node], node: Node) -> Option<usize>
+fn place_of(list: &[Node], node: Node) -> Option<usize>
     ensures { MatchOption result (All (λ e. e ≢ node) list.now) (λ i. (i < length list.now) × (slice_index_or list.now i node ≡ node)) }
 {
     list.iter().position(|e| *e == node)
 }
 
-fn first_before(graph: &Graph, list: &[Node], node: Node) -> Option<usize>
-    ensures { MatchOption result (All (λ x. leads graph.now.children graph.now.decided x node ≡ false) list.now) (λ i. (i < length list.now) × ((x : Node) → x ≡ slice_index_or list.now i x → leads graph.now.children graph.now.decided x node ≡ true)) }
+/// The node that is left and leads to this one.
+fn back(edges: &Edges, stuck: &Rest, node: Node) -> Node
+    requires within { IsWithin node }
+    requires left { is_left stuck.now.comps stuck.now.insts node ≡ true }
+    requires nodes { AreNodesLeft edges.now.views edges.now.over stuck.now.comps stuck.now.insts }
+    requires turned { AreTurned stuck.now.comps stuck.now.reads }
+    requires stuck { (y : Node) → is_left stuck.now.comps stuck.now.insts y ≡ true → IsLed edges.now.over edges.now.before stuck.now.comps stuck.now.insts y }
+    ensures within { IsWithin result }
+    ensures left { is_left stuck.now.comps stuck.now.insts result ≡ true }
+    ensures leads { leads_by edges.now.over edges.now.before result node ≡ true }
 {
-    list.iter().position(|x| graph.leads(*x, node))
-}
-
-/// The first of these nodes that leads to this one.
-fn predecessor(graph: &Graph, stuck: &[Node], node: Node) -> Node
-    requires { list_any (λ x. leads graph.now.children graph.now.decided x node) stuck.now ≡ true }
-    ensures leads { leads graph.now.children graph.now.decided result node ≡ true }
-    ensures among { (k : ℕ) × (slice_get stuck.now k ≡ Some result) }
-{
-    match first_before(graph, stuck, node) {
-        Some(i) => stuck[i],
+    match stuck.leader(edges, node) {
+        Some(before) => before,
         None => unreachable!(),
     }
 }
 
-/// A cycle among nodes to each of which another one leads: from the first node back, each time to the first that leads
-/// there, until one is met again. The walk from there on, turned round, is the cycle.
-pub(crate) fn cycle(alloc: Global, graph: &Graph, stuck: &[Node]) -> Result<Vec<Node>, AllocError>
-    requires some { 0 < length stuck.now }
-    requires stuck { AreStuck graph.now.children graph.now.decided stuck.now }
-    ensures { IfOk result (λ walk. IsSimpleCycle graph.now.children graph.now.decided (map expression_of walk.items)) }
+/// A cycle among the nodes that are left, each of which another one leads to: from this one back, each time to the smallest
+/// that leads there, until one is met again. The walk from there on, turned round, is the cycle.
+pub(crate) fn cycle(
+    alloc: Global,
+    edges: &Edges,
+    stuck: &Rest,
+    start: Node,
+) -> Result<Vec<Node>, AllocError>
+    requires within { IsWithin start }
+    requires left { is_left stuck.now.comps stuck.now.insts start ≡ true }
+    requires nodes { AreNodesLeft edges.now.views edges.now.over stuck.now.comps stuck.now.insts }
+    requires turned { AreTurned stuck.now.comps stuck.now.reads }
+    requires stuck { (y : Node) → is_left stuck.now.comps stuck.now.insts y ≡ true → IsLed edges.now.over edges.now.before stuck.now.comps stuck.now.insts y }
+    ensures round { IfOk result (λ walk. IsRound (leads_by edges.now.over edges.now.before) (is_node_by edges.now.over edges.now.views) walk.items) }
+    ensures once { IfOk result (λ walk. (e : Node) → times e walk.items ≤ 1) }
 {
-    let mut left = stuck.to_vec(alloc)?;
-    let mut last = left.remove(0);
+    let mut fresh = *stuck;
     let mut walk = Vec::new(alloc);
-    walk.push(last)?;
-    let mut next = predecessor(graph, stuck, last);
-    while let Some(i) = place_of(&left, next) {
-        last = left.remove(i);
-        walk.insert(0, last)?;
-        next = predecessor(graph, stuck, last);
+    fresh.take(start);
+    walk.push(start)?;
+    let mut next = back(edges, stuck, start);
+    while fresh.has(next) {
+        fresh.take(next);
+        walk.insert(0, next)?;
+        next = back(edges, stuck, next);
     }
     match place_of(&walk, next) {
         Some(j) => walk.truncate(j + 1),

@@ -9,17 +9,16 @@ ghost use Rattle.wh_cert.specs.Search.{IsOpen};
 ghost use Rattle.wh_minwork.specs.Decided.{AreDecisions};
 ghost use Rattle.wh_minwork.specs.Draft.{completed, DecidesCouples, IsFound};
 ghost use Rattle.wh_minwork.specs.Left.{AreOf};
-ghost use Rattle.wh_minwork.specs.Inner.Left.{AreEdges, AreTurned, IsBetween, IsRound, IsRoundTo};
+ghost use Rattle.wh_minwork.specs.Inner.Left.{IsBetween, IsRound, IsRoundTo};
 ghost use Rattle.wh_minwork.specs.Inner.Nodes.{is_node, leads};
 ghost use Rattle.wh_minwork.specs.Inner.Sets.{in_set, in_rows};
 ghost use Rattle.wh_minwork.specs.declared.node.Node.{Node};
 
 use crate::decided::Decided;
 use crate::edge_sets::Edges;
-use crate::node::{self, Node};
-use crate::ready::place_all;
-use crate::sets::{Rows, add, holds, none, remove, with};
-use crate::walk::cycle;
+use crate::node::{Node, expressions};
+use crate::sets::{Rows, add, holds, none, remove};
+use crate::sort::{Sorting, sort};
 use std::alloc::{AllocError, Global};
 use std::marker::Model;
 use wh_dag::{ChildLists, Couple, Shape};
@@ -62,30 +61,6 @@ pub enum Found {
     Open(Couple),
 }
 
-/// The sets of a shape's views, and of the order of these couples.
-fn edges_of(children: &ChildLists, ordered: &[(usize, usize)]) -> Edges
-    requires { DecidesCouples children.now ordered.now }
-    ensures { AreEdges result.views result.over result.under result.before children.now ordered.now }
-{
-    let mut edges = Edges {
-        views: 0,
-        over: none(),
-        under: none(),
-        before: none(),
-    };
-    for v in 0..children.len() {
-        edges.views = with(edges.views, v);
-        for u in children.of(v) {
-            add(&mut edges.over, v, *u);
-            add(&mut edges.under, *u, v);
-        }
-    }
-    for (u, w) in ordered {
-        add(&mut edges.before, *w, *u);
-    }
-    edges
-}
-
 /// The couple of two views.
 fn couple_of(u: usize, w: usize) -> Couple
     requires { u ≢ w }
@@ -116,7 +91,7 @@ impl<'a> Draft<'a> {
     {
         let children = shape.child_lists();
         let ordered = Decided::by_desired_order(alloc, shape, sizes)?;
-        let edges = edges_of(children, ordered.as_slice());
+        let edges = Edges::of(children, ordered.as_slice());
         Ok(Draft {
             children,
             ordered,
@@ -190,18 +165,12 @@ impl<'a> Draft<'a> {
         // Without a view there is no node, and no memory is taken.
         ensures some { OnErr result (0 < length self.now.children) }
     {
-        let (placed, rest) = place_all(alloc, &self.edges)?;
-        let Some(start) = rest.smallest() else {
-            let list = node::expressions(alloc, &placed)?;
-            return Ok(Found::Sorted(Strategy::new(list)));
-        };
-        let cycle = cycle(alloc, &self.edges, &rest, start)?;
-        match self.first_open(&cycle) {
-            Some(couple) => Ok(Found::Open(couple)),
-            None => {
-                let list = node::expressions(alloc, &cycle)?;
-                Ok(Found::Cycle(Strategy::new(list)))
-            }
+        match sort(alloc, &self.edges)? {
+            Sorting::Order(nodes) => Ok(Found::Sorted(Strategy::new(expressions(alloc, &nodes)?))),
+            Sorting::Round(cycle) => match self.first_open(&cycle) {
+                Some(couple) => Ok(Found::Open(couple)),
+                None => Ok(Found::Cycle(Strategy::new(expressions(alloc, &cycle)?))),
+            },
         }
     }
 

@@ -1,14 +1,15 @@
 //! The edges of a graph as sets of views.
 
 ghost use Rattle.std.specs.Prelude.{◌≡◌, ◌+◌, ◌<◌, ◌==◌, ◌&&◌, ℕ, true, false, not, MatchOption, sum};
-ghost use Rattle.wh_minwork.specs.Inner.Left.{AreTurned, IsWithin, is_left, is_node_by, leads_by};
+ghost use Rattle.wh_cert.specs.Graph.{decides};
+ghost use Rattle.wh_minwork.specs.Inner.Left.{AreEdges, AreTurned, IsWithin, is_left, is_node_by, leads_by};
 ghost use Rattle.wh_minwork.specs.Inner.Nodes.{same_node};
 ghost use Rattle.wh_minwork.specs.Inner.Sets.{in_set, in_rows};
 ghost use Rattle.wh_minwork.specs.declared.node.Node.{Node};
 
 use crate::node::Node;
-use crate::sets::{Rows, first, holds, meet, remove, without};
-use wh_dag::MAX_VIEWS;
+use crate::sets::{Rows, add, first, holds, meet, none, remove, with, without};
+use wh_dag::{ChildLists, MAX_VIEWS};
 
 /// What the edges of a graph are told by.
 #[derive(Drop)]
@@ -32,6 +33,41 @@ pub(crate) struct Rest {
     pub(crate) reads: Rows,
     /// The views whose Insts are left.
     pub(crate) insts: u64,
+}
+
+/// The sets of the couples that are decided: of each view those that are to be installed before it.
+fn before_of(decided: &[(usize, usize)]) -> Rows
+    ensures { (u w : ℕ) → u < 64 → w < 64 → in_rows result w u ≡ decides decided.now u w }
+{
+    let mut before = none();
+    for (u, w) in decided {
+        if *u < MAX_VIEWS && *w < MAX_VIEWS {
+            add(&mut before, *w, *u);
+        }
+    }
+    before
+}
+
+impl Edges {
+    /// The sets of a shape's views, and of what is decided. A decision on what is no view of a shape is left out.
+    pub(crate) fn of(children: &ChildLists, decided: &[(usize, usize)]) -> Edges
+        ensures { AreEdges result.views result.over result.under result.before children.now decided.now }
+    {
+        let mut edges = Edges {
+            views: 0,
+            over: none(),
+            under: none(),
+            before: before_of(decided),
+        };
+        for v in 0..children.len() {
+            edges.views = with(edges.views, v);
+            for u in children.of(v) {
+                add(&mut edges.over, v, *u);
+                add(&mut edges.under, *u, v);
+            }
+        }
+        edges
+    }
 }
 
 impl Rest {

@@ -13,8 +13,7 @@ mod minwork;
 mod node;
 mod ready;
 mod sets;
-mod unplaced;
-mod walk;
+mod sort;
 
 pub use acyclic::trees_and_uniform_shapes_are_acyclic;
 pub use decided::Decided;

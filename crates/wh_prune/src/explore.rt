@@ -80,8 +80,8 @@ fn bounds_below(
     } = task;
     let Couple { lower, higher } = couple;
     (
-        decided_bound_with(shape, sizes, *costs, decided, bound, lower, higher),
-        decided_bound_with(shape, sizes, *costs, decided, bound, higher, lower),
+        decided_bound_with(shape, sizes, *costs, decided, bound, (lower, higher)),
+        decided_bound_with(shape, sizes, *costs, decided, bound, (higher, lower)),
     )
 }
 

@@ -9,6 +9,7 @@ use crate::claim::{Claimer, Fair, Hand, Word, absorb, another, draw, settle};
 use atomic_table::Table;
 use std::alloc::{AllocError, Global};
 use std::thread::{Threads, join};
+use wh_threads::ThreadBudget;
 
 /// What a job gave.
 #[derive(Drop)]
@@ -79,24 +80,23 @@ fn together<X: Drop>(word: &Word, own: Worked<X>, others: Worked<X>) -> Option<W
     Some(Worked { seat, brought })
 }
 
-/// Does the jobs with so many workers, of which the caller's thread is one. None where memory is refused. A worker whose thread
+/// Does the jobs with a worker for each thread of the budget, of which the caller's is one. None where memory is refused. A worker whose thread
 /// cannot be started draws in the caller's.
 #[cycle(workers)]
 fn work<R: Threads + Sync, X: Send + Drop, F: Fn(usize) -> X + Sync>(
-    rt: &R,
-    alloc: Global,
+    budget: &ThreadBudget<'_, R>,
     word: &Word,
     mut seat: Claimer,
     count: usize,
-    workers: usize,
     f: &F,
 ) -> Option<Worked<X>>
     requires callable { (i : ℕ) → i < count → F.pre f.now i }
     requires seat { Knows word.now.table_id word.now.key seat × (word.now.key ≡ count) }
-    requires fresh { (0 < workers) × (workers ≤ seat.me.0.parts) × (seat.me.0 ≡ hand count seat.me.0.parts seat.me.0.parts []) }
+    requires fresh { (0 < budget.now.threads) × (budget.now.threads ≤ seat.me.0.parts) × (seat.me.0 ≡ hand count seat.me.0.parts seat.me.0.parts []) }
     ensures seat { IfSome result (λ w. Knows word.now.table_id word.now.key w.seat × (w.seat.me.0.parts ≡ seat.me.0.parts) × (w.seat.me.0.left < seat.me.0.parts) × (w.seat.me.0.drawn ≡ numbers w.brought.items)) }
     ensures given { IfSome result (λ w. AreGiven F.Fn f.now count w.brought.items) }
 {
+    let (rt, alloc, workers) = (budget.rt, budget.alloc, budget.threads);
     if workers == 1 {
         return draw_all(alloc, word, seat, count, f);
     }
@@ -105,7 +105,14 @@ fn work<R: Threads + Sync, X: Send + Drop, F: Fn(usize) -> X + Sync>(
         requires { IsSync R.row × IsSync F.row × IsSend X.row × (Knows word.now.table_id word.now.key mine × (word.now.key ≡ count) × (1 < workers) × (workers - 1 ≤ mine.me.0.parts) × (mine.me.0 ≡ hand count mine.me.0.parts mine.me.0.parts [])) × ((i : ℕ) → i < count → F.pre f.now i) }
         ensures seat { IfSome result (λ w. Knows word.entry.now.table_id word.entry.now.key w.seat × (w.seat.me.0.parts ≡ mine.me.0.parts) × (w.seat.me.0.left < mine.me.0.parts) × (w.seat.me.0.drawn ≡ numbers w.brought.items)) }
         ensures given { IfSome result (λ w. AreGiven F.Fn f.entry.now count w.brought.items) }
-    { work(rt, alloc, word, mine, count, workers - 1, f) };
+    {
+        let rest = ThreadBudget {
+            rt,
+            alloc,
+            threads: workers - 1,
+        };
+        work(&rest, word, mine, count, f)
+    };
     let own = move || -> Option<Worked<X>>
         requires { Knows word.now.table_id word.now.key seat × (word.now.key ≡ count) × (seat.me.0 ≡ hand count 1 1 []) × ((i : ℕ) → i < count → F.pre f.now i) }
         ensures seat { IfSome result (λ w. Knows word.entry.now.table_id word.entry.now.key w.seat × (w.seat.me.0 ≡ hand count 1 0 (numbers w.brought.items))) }
@@ -138,8 +145,12 @@ pub fn bring<R: Threads + Sync, X: Send + Drop, F: Fn(usize) -> X + Sync>(
         &about,
     )?;
     // No more workers than jobs are of use.
-    let workers = workers.min(count.max(1));
-    let Some(worked) = work(rt, alloc, &table.shared, seat, count, workers, f) else {
+    let budget = ThreadBudget {
+        rt,
+        alloc,
+        threads: workers.min(count.max(1)),
+    };
+    let Some(worked) = work(&budget, &table.shared, seat, count, f) else {
         return Err(AllocError);
     };
     let Worked { mut seat, brought } = worked;

@@ -1,6 +1,6 @@
 -- The nodes that are left while a graph is sorted, with edges that sets of views tell: what only proofs and private contracts use.
 use Rattle.std.specs.Prelude.{◌≡◌, ℕ, ◌+◌, ◌<◌, List, [], ◌∷◌, Bool, true, false, ◌&&◌, ◌||◌, ◌==◌, nat_lt, slice_get, Some, length, ◌⊎◌}
-use Rattle.wh_dag.specs.Shape.{has, children_of}
+use Rattle.wh_dag.specs.Shape.{has, children_of, IsShape}
 use Rattle.wh_dag.specs.declared.siblings.Couple.{Couple}
 use Rattle.wh_cert.specs.Graph.{decides}
 use Rattle.wh_minwork.specs.Inner.Nodes.{one_if, times}
@@ -26,12 +26,18 @@ leads_by over before (Inst u) (Comp v w) = in_rows over v u && (in_rows over v w
 leads_by over before (Comp u x) (Comp v w) = w == u
 leads_by over before (Inst u) (Inst w) = false
 
--- the sets tell of this graph
+-- The sets tell of this graph. Views have numbers below 64, and what is decided of other numbers adds no edge.
 pub record AreEdges (views : ℕ) (over under before : List ℕ) (shape : List (List ℕ)) (decided : List (ℕ × ℕ)) : Type 0 where
+  pub shape_is : IsShape shape
   pub views_are : (v : ℕ) → in_set views v ≡ nat_lt v (length shape)
   pub over_are : (v u : ℕ) → in_rows over v u ≡ has (children_of shape v) u
   pub under_are : (u v : ℕ) → in_rows under u v ≡ has (children_of shape v) u
-  pub before_are : (u w : ℕ) → in_rows before w u ≡ decides decided u w
+  pub before_are : (u w : ℕ) → u < 64 → w < 64 → in_rows before w u ≡ decides decided u w
+
+-- the sets tell of some graph
+abbrev pub AreSomeEdges : ℕ → List ℕ → List ℕ → List ℕ → Type 0
+AreSomeEdges views over under before =
+    (shape : List (List ℕ)) × (decided : List (ℕ × ℕ)) × AreEdges views over under before shape decided
 
 -- the second rows are the first ones read the other way round
 pub record AreTurned (rows others : List ℕ) : Type 0 where

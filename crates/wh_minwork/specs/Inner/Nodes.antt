@@ -44,27 +44,3 @@ one x e = one_if (same_node x e)
 unfoldable pub times : Node → List Node → ℕ
 times e [] = 0
 times e (x ∷ xs) = one x e + times e xs
-
--- the list has each node of the shape once, and nothing else
-pub record AreNodes (shape : List (List ℕ)) (nodes : List Node) : Type 0 where
-  pub each : (e : Node) → times e nodes ≡ one_if (is_node shape e)
-
--- these are nodes, none twice, and each of them is led to by one of them
-pub record AreStuck (shape : List (List ℕ)) (decided : List (ℕ × ℕ)) (stuck : List Node) : Type 0 where
-  pub nodes : (e : Node) → 1 ≤ times e stuck → is_node shape e ≡ true
-  pub few : (e : Node) → times e stuck ≤ 1
-  pub led : (e : Node) → 1 ≤ times e stuck → list_any (λ x. leads shape decided x e) stuck ≡ true
-
--- how many nodes of the list lead to this one
-abbrev pub waits_for : List (List ℕ) → List (ℕ × ℕ) → List Node → Node → ℕ
-waits_for shape decided list y = count_by (λ x. leads shape decided x y) list
-
--- each of these counts is how many of the nodes lead to the node in its place
-pub record AreCounts (shape : List (List ℕ)) (decided : List (ℕ × ℕ)) (nodes : List Node) (counts : List ℕ) : Type 0 where
-  pub long : length counts ≡ length nodes
-  pub each : (k : ℕ) (y : Node) → slice_get nodes k ≡ Some y → slice_index counts k ≡ waits_for shape decided nodes y
-
--- the same, but each count is 1 more where this node leads there too
-pub record AreCountsWith (shape : List (List ℕ)) (decided : List (ℕ × ℕ)) (placed : Node) (nodes : List Node) (counts : List ℕ) : Type 0 where
-  pub long : length counts ≡ length nodes
-  pub each : (k : ℕ) (y : Node) → slice_get nodes k ≡ Some y → slice_index counts k ≡ one_if (leads shape decided placed y) + waits_for shape decided nodes y

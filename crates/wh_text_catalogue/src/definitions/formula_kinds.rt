@@ -63,8 +63,7 @@ fn combined(
     if !is_int(left.kind) || !is_int(right.kind) {
         return Err(header.unfit(alloc));
     }
-    let expr = operation(alloc, sign, left.expr, right.expr)?;
-    Ok(expr)
+    Ok(operation(alloc, sign, left.expr, right.expr)?)
 }
 
 /// A text as an expression: its number.
@@ -123,7 +122,7 @@ pub(crate) fn typed_expr(
         Some(ExprForm::Literal(text)) => literal(alloc, texts, text),
         Some(ExprForm::Reference(text)) => column(alloc, header, text),
         Some(ExprForm::Operation(sign, left, right)) => {
-            typed_operation(alloc, header, texts, sign, left, right, levels - 1)
+            typed_operation(alloc, header, texts, sign, (left, right), levels - 1)
         }
     }
 }
@@ -135,18 +134,17 @@ fn typed_operation(
     header: &Header,
     texts: &mut Dict,
     sign: Sign,
-    left: &Value,
-    right: &Value,
+    sides: (&Value, &Value),
     levels: usize,
 ) -> Result<TypedExpr, LoadFault>
     requires { levels < MAX_DEPTH }
-    ensures ok { IfOk result (λ typed. typed_operation header.now (typed_expr header.now levels) sign (view left.now) (view right.now) texts.old ≡ Ok (typed, texts.new)) }
+    ensures ok { IfOk result (λ typed. typed_operation header.now (typed_expr header.now levels) sign (view sides.entry.0.now) (view sides.entry.1.now) texts.old ≡ Ok (typed, texts.new)) }
     ensures within { IfOk result (λ typed. expr_tree.depth typed.expr ≤ levels + 1) }
-    ensures err { IfErr result (λ f. (f ≡ LoadFault.Memory) ⊎ (typed_operation header.now (typed_expr header.now levels) sign (view left.now) (view right.now) texts.old ≡ Err f)) }
+    ensures err { IfErr result (λ f. (f ≡ LoadFault.Memory) ⊎ (typed_operation header.now (typed_expr header.now levels) sign (view sides.entry.0.now) (view sides.entry.1.now) texts.old ≡ Err f)) }
     ensures grows { Grows texts.old texts.new }
 {
-    let left = typed_expr(alloc, header, texts, left, levels)?;
-    let right = typed_expr(alloc, header, texts, right, levels)?;
+    let left = typed_expr(alloc, header, texts, sides.0, levels)?;
+    let right = typed_expr(alloc, header, texts, sides.1, levels)?;
     let expr = combined(alloc, header, sign, left, right)?;
     Ok(TypedExpr {
         kind: Kind::Int,
@@ -201,20 +199,18 @@ fn typed_comparison(
     header: &Header,
     texts: &mut Dict,
     comparison: Comparison,
-    left: &Value,
-    right: &Value,
+    sides: (&Value, &Value),
     levels: usize,
 ) -> Result<Pred, LoadFault>
     requires { levels < MAX_DEPTH }
-    ensures ok { IfOk result (λ pred. typed_comparison header.now (typed_expr header.now levels) comparison (view left.now) (view right.now) texts.old ≡ Ok (pred, texts.new)) }
+    ensures ok { IfOk result (λ pred. typed_comparison header.now (typed_expr header.now levels) comparison (view sides.entry.0.now) (view sides.entry.1.now) texts.old ≡ Ok (pred, texts.new)) }
     ensures within { IfOk result (λ pred. pred_tree.depth pred ≤ levels + 1) }
-    ensures err { IfErr result (λ f. (f ≡ LoadFault.Memory) ⊎ (typed_comparison header.now (typed_expr header.now levels) comparison (view left.now) (view right.now) texts.old ≡ Err f)) }
+    ensures err { IfErr result (λ f. (f ≡ LoadFault.Memory) ⊎ (typed_comparison header.now (typed_expr header.now levels) comparison (view sides.entry.0.now) (view sides.entry.1.now) texts.old ≡ Err f)) }
     ensures grows { Grows texts.old texts.new }
 {
-    let left = typed_expr(alloc, header, texts, left, levels)?;
-    let right = typed_expr(alloc, header, texts, right, levels)?;
-    let pred = compared(alloc, header, comparison, left, right)?;
-    Ok(pred)
+    let left = typed_expr(alloc, header, texts, sides.0, levels)?;
+    let right = typed_expr(alloc, header, texts, sides.1, levels)?;
+    compared(alloc, header, comparison, left, right)
 }
 
 /// A predicate of at most so many levels; its texts get numbers from left to right.
@@ -239,7 +235,7 @@ pub(crate) fn typed_pred(
         None => Err(header.unfit(alloc)),
         Some(PredForm::Always) => Ok(Pred::always()),
         Some(PredForm::Compare(comparison, left, right)) => {
-            typed_comparison(alloc, header, texts, comparison, left, right, levels - 1)
+            typed_comparison(alloc, header, texts, comparison, (left, right), levels - 1)
         }
         Some(PredForm::All(parts)) => typed_all(alloc, header, texts, parts, levels - 1),
         Some(PredForm::Any(parts)) => typed_any(alloc, header, texts, parts, levels - 1),
@@ -301,8 +297,7 @@ fn typed_not(
     ensures grows { Grows texts.old texts.new }
 {
     let part = typed_pred(alloc, header, texts, value, levels)?;
-    let contrary = Pred::not(alloc, part)?;
-    Ok(contrary)
+    Ok(Pred::not(alloc, part)?)
 }
 
 /// Predicates of at most so many levels, in order.

@@ -1,9 +1,15 @@
-use Rattle.std.proofs.Common.{length}
-use Rattle.wh_minwork.proofs.Walking.{IsSearch}
+use Rattle.std.proofs.Common.{◌≡◌, ◌+◌, true}
+use Rattle.std.specs.Prelude.{sum}
+use Rattle.wh_minwork.specs.Inner.Left.{IsWithin, is_left, is_node_by, leads_by}
+use Rattle.wh_minwork.proofs.Rounds.{IsWalking}
 use Rattle.wh_minwork.proofs.cycle.cycle.Given as goal
 
-abbrev pub invariant-loop-i : goal.invariant-loop-i
-invariant-loop-i l = IsSearch l.graph.children l.graph.decided l.stuck l.next l.walk.items l.left.items
+abbrev pub invariant-loop-fresh : goal.invariant-loop-fresh
+invariant-loop-fresh l = record {
+  within : IsWithin l.next;
+  left : is_left l.stuck.comps l.stuck.insts l.next ≡ true;
+  walking : IsWalking (leads_by l.edges.over l.edges.before) (is_node_by l.edges.over l.edges.views) l.stuck.comps l.stuck.insts l.fresh.comps l.fresh.insts l.next l.walk.items;
+}
 
-abbrev pub decreases-loop-i : goal.decreases-loop-i
-decreases-loop-i l = length l.left.items
+abbrev pub decreases-loop-fresh : goal.decreases-loop-fresh
+decreases-loop-fresh l = sum l.fresh.comps + l.fresh.insts

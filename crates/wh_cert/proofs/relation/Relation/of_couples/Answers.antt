@@ -12,11 +12,11 @@ loop-u-preserved c a b x y =
     let d = get_or c.args.couples.now k (0, 0) in
     elim c.if-u-lt-MAX_VIEWS.branch [
       | then-u-lt-MAX_VIEWS+then-w-lt-MAX_VIEWS w ↦
-          rw w.first-is (couples_in c.args.couples.now c.loop-u.first w.insert.new.self k (0, 0) c.loop-u-test.true a b (c.loop-u.invariant a b x y) (w.insert.ensures a b))
+          rw w.first-is (couples_in c.args.couples.now _ _ k (0, 0) c.loop-u-test.true a b (c.loop-u.invariant a b x y) (w.insert.ensures a b))
       | else-u-lt-MAX_VIEWS w ↦
           rw w.first-is
           (elim w.else-u-lt-MAX_VIEWS.branch [
-            | else-u-lt-MAX_VIEWS-via-then-u-lt-MAX_VIEWS+else-w-lt-MAX_VIEWS v ↦ couples_out c.args.couples.now c.loop-u.first k (0, 0) c.loop-u-test.true a b x y (λ p q. let l = v.if-w-lt-MAX_VIEWS.false in omega arith) (c.loop-u.invariant a b x y)
-            | else-u-lt-MAX_VIEWS-via-else-u-lt-MAX_VIEWS v ↦ couples_out c.args.couples.now c.loop-u.first k (0, 0) c.loop-u-test.true a b x y (λ p q. let l = v.if-u-lt-MAX_VIEWS.false in omega arith) (c.loop-u.invariant a b x y)
+            | else-u-lt-MAX_VIEWS-via-then-u-lt-MAX_VIEWS+else-w-lt-MAX_VIEWS v ↦ couples_out c.args.couples.now _ k (0, 0) c.loop-u-test.true a b x y (λ p q. let l = v.if-w-lt-MAX_VIEWS.false in omega arith) (c.loop-u.invariant a b x y)
+            | else-u-lt-MAX_VIEWS-via-else-u-lt-MAX_VIEWS v ↦ couples_out c.args.couples.now _ k (0, 0) c.loop-u-test.true a b x y (λ p q. let l = v.if-u-lt-MAX_VIEWS.false in omega arith) (c.loop-u.invariant a b x y)
           ])
     ]

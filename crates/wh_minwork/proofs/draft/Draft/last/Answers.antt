@@ -16,7 +16,7 @@ returns-clause-first c =
     let e : ds ≡ c.args.self.now.decided = ap (λ (z : Drafted). z.decided) c.self.view_is in
     let l = ap length e in
     let n : length ds - 1 + 1 ≡ length ds = omega arith in
-    rw c.as_slice-decided.ensures.couples (decision_small c.self.inside.children.now ds (length ds - 1) (0, 0) c.self.invariant.shape_is c.self.invariant.decided_couples n).0
+    rw c.as_slice-decided.ensures.couples (decision_small c.self.inside.children.now ds (length ds - 1) (0, 0) c.self.invariant.edges.shape_is c.self.invariant.decided_couples n).0
 
 pub returns-clause-second : goal.returns-clause-second
 returns-clause-second c =
@@ -24,4 +24,4 @@ returns-clause-second c =
     let e : ds ≡ c.args.self.now.decided = ap (λ (z : Drafted). z.decided) c.self.view_is in
     let l = ap length e in
     let n : length ds - 1 + 1 ≡ length ds = omega arith in
-    rw c.as_slice-decided.ensures.couples (decision_small c.self.inside.children.now ds (length ds - 1) (0, 0) c.self.invariant.shape_is c.self.invariant.decided_couples n).1
+    rw c.as_slice-decided.ensures.couples (decision_small c.self.inside.children.now ds (length ds - 1) (0, 0) c.self.invariant.edges.shape_is c.self.invariant.decided_couples n).1

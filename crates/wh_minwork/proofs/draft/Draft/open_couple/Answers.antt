@@ -7,7 +7,7 @@ pub offset_bounds-self-inside-u : goal.offset_bounds-self-inside-u
 offset_bounds-self-inside-u c =
     let d = c.self.inside in
     let h = rw (← c.self.view_is) at c.requires in
-    let s = edge_small d.children.now (completed d.ordered d.decided) c.args.u c.args.v c.args.w c.self.invariant.shape_is h in
+    let s = edge_small d.children.now (completed d.ordered d.decided) c.args.u c.args.v c.args.w c.self.invariant.edges.shape_is h in
     let l : c.args.u < 64 = s.0 in
     omega arith
 
@@ -15,13 +15,13 @@ pub bounds-self-inside-u : goal.bounds-self-inside-u
 bounds-self-inside-u c =
     let d = c.self.inside in
     let h = rw (← c.self.view_is) at c.requires in
-    (edge_small d.children.now (completed d.ordered d.decided) c.args.u c.args.v c.args.w c.self.invariant.shape_is h).0
+    (edge_small d.children.now (completed d.ordered d.decided) c.args.u c.args.v c.args.w c.self.invariant.edges.shape_is h).0
 
 pub holds-requires : goal.holds-requires
 holds-requires c =
     let d = c.self.inside in
     let h = rw (← c.self.view_is) at c.requires in
-    (edge_small d.children.now (completed d.ordered d.decided) c.args.u c.args.v c.args.w c.self.invariant.shape_is h).1
+    (edge_small d.children.now (completed d.ordered d.decided) c.args.u c.args.v c.args.w c.self.invariant.edges.shape_is h).1
 
 pub couple_of-requires : goal.couple_of-requires
 couple_of-requires c =

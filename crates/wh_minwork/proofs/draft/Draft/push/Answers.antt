@@ -8,15 +8,15 @@ use Rattle.wh_minwork.proofs.draft.Draft.push.Goals as goal
 
 pub add-requires-clause-row : goal.add-requires-clause-row
 add-requires-clause-row c =
-    (couple_small c.self.inside.children.now c.args.first c.args.second c.self.invariant.shape_is (subst (λ (z : Drafted). IsCouple z.children c.args.first c.args.second) (sym c.self.view_is) c.requires.couple)).0
+    (couple_small c.self.inside.children.now c.args.first c.args.second c.self.invariant.edges.shape_is (subst (λ (z : Drafted). IsCouple z.children c.args.first c.args.second) (sym c.self.view_is) c.requires.couple)).0
 
 pub add-requires-clause-view : goal.add-requires-clause-view
 add-requires-clause-view c =
-    (couple_small c.self.inside.children.now c.args.first c.args.second c.self.invariant.shape_is (subst (λ (z : Drafted). IsCouple z.children c.args.first c.args.second) (sym c.self.view_is) c.requires.couple)).1
+    (couple_small c.self.inside.children.now c.args.first c.args.second c.self.invariant.edges.shape_is (subst (λ (z : Drafted). IsCouple z.children c.args.first c.args.second) (sym c.self.view_is) c.requires.couple)).1
 
 pub add-requires-2-clause-row : goal.add-requires-2-clause-row
 add-requires-2-clause-row c =
-    (couple_small c.self.inside.children.now c.args.first c.args.second c.self.invariant.shape_is (subst (λ (z : Drafted). IsCouple z.children c.args.first c.args.second) (sym c.self.view_is) c.requires.couple)).1
+    (couple_small c.self.inside.children.now c.args.first c.args.second c.self.invariant.edges.shape_is (subst (λ (z : Drafted). IsCouple z.children c.args.first c.args.second) (sym c.self.view_is) c.requires.couple)).1
 
 pub invariant_of-self-2 : goal.invariant_of-self-2
 invariant_of-self-2 c =
@@ -29,14 +29,14 @@ invariant_of-self-2 c =
     let o' : decides d.decided b a ≡ false = subst (λ (z : Drafted). decides z.decided b a ≡ false) (sym c.self.view_is) c.requires.open_too in
     rw c.in_ok-push.ensures.ok
     (record {
-      shape_is = i.shape_is;
       edges = record {
+        shape_is = i.edges.shape_is;
         views_are = i.edges.views_are;
         over_are = i.edges.over_are;
         under_are = i.edges.under_are;
-        before_are =
-            completed_push d.ordered d.decided (λ w u. in_rows d.edges.before w u) (λ w u. in_rows c.add-3.new.rows w u) a b couple.0 o o' i.edges.before_are
-            (λ w u. c.add-3.ensures w u ∙ ap (λ z. (eqb b w && eqb a u) || z) (c.remove.ensures.rest w u));
+        before_are = λ u w x y.
+            completed_push d.ordered d.decided (λ w u. in_rows d.edges.before w u) (λ w u. in_rows c.add-3.new.rows w u) a b couple.0 o o'
+            (λ w u. c.add-3.ensures w u ∙ ap (λ z. (eqb b w && eqb a u) || z) (c.remove.ensures.rest w u)) u w (i.edges.before_are u w x y);
       };
       desired_are = i.desired_are;
       settled_are =

@@ -3,15 +3,15 @@ use Rattle.std.proofs.lemmas.Bool.{le-ltb}
 use Rattle.wh_dag.specs.Shape.{has, children_of}
 use Rattle.wh_minwork.specs.Inner.Sets.{in_rows}
 use Rattle.wh_minwork.proofs.Bits.{in_none}
-use Rattle.wh_minwork.proofs.Drafting.{below_more, child_small, fill_more, fill_none, filled_all, listed_small, ordered_more, ordered_none}
-use Rattle.wh_minwork.proofs.draft.edges_of.Goals as goal
+use Rattle.wh_minwork.proofs.Drafting.{below_more, child_small, fill_more, fill_none, filled_all}
+use Rattle.wh_minwork.proofs.edge_sets.Edges.of.Goals as goal
 
 pub loop-v-init : goal.loop-v-init
 loop-v-init c = record {
   views = λ a. in_none a ∙ sym (le-ltb a 0 (omega arith));
   over = λ a b. c.none.ensures a b ∙ sym (ap (λ z. z && has (children_of c.args.children.now a) b) (le-ltb a 0 (omega arith)));
   under = λ a b. c.none-2.ensures b a ∙ sym (ap (λ z. z && has (children_of c.args.children.now a) b) (le-ltb a 0 (omega arith)));
-  before = c.none-3.ensures;
+  before = c.before_of.ensures;
 }
 
 pub loop-u-init : goal.loop-u-init
@@ -28,13 +28,11 @@ loop-u-init c =
 
 pub add-requires-clause-view : goal.add-requires-clause-view
 add-requires-clause-view c =
-    let l : c.loop-v.v < length c.args.children.now = omega arith in
-    child_small c.args.children.now c.loop-v.v c.loop-u.u-index c.of-u-items.result.now c.of-u-items.ensures.shape l c.of-u-items.ensures.children c.loop-u-test.true
+    child_small c.args.children.now c.loop-v.v c.loop-u.u-index c.of-u-items.result.now c.of-u-items.ensures.shape c.of-u-items.ensures.children c.loop-u-test.true
 
 pub add-requires-in-loop-u-clause-row : goal.add-requires-in-loop-u-clause-row
 add-requires-in-loop-u-clause-row c =
-    let l : c.loop-v.v < length c.args.children.now = omega arith in
-    child_small c.args.children.now c.loop-v.v c.loop-u.u-index c.of-u-items.result.now c.of-u-items.ensures.shape l c.of-u-items.ensures.children c.loop-u-test.true
+    child_small c.args.children.now c.loop-v.v c.loop-u.u-index c.of-u-items.result.now c.of-u-items.ensures.shape c.of-u-items.ensures.children c.loop-u-test.true
 
 pub loop-u-preserved : goal.loop-u-preserved
 loop-u-preserved c =
@@ -57,33 +55,16 @@ loop-u-preserved c =
     swapped false true r = refl
     swapped false false r = refl
 
-pub loop-u-2-init : goal.loop-u-2-init
-loop-u-2-init c =
+pub returns : goal.returns
+returns c =
     let shape = c.args.children.now in
     let i = c.loop-v.invariant in
     let n : c.loop-v.v ≡ length shape = omega arith in
     let low : length shape ≤ c.loop-v.v = omega arith in
     record {
-      views = λ a. i.views a ∙ ap (ltb a) n;
-      over = filled_all shape (λ a b. in_rows c.loop-v.edges.over a b) c.loop-v.v low i.over;
-      under = filled_all shape (λ a b. in_rows c.loop-v.edges.under b a) c.loop-v.v low i.under;
-      before = ordered_none (λ a b. in_rows c.loop-v.edges.before a b) [] i.before;
-    }
-
-pub add-requires-in-loop-u-2-clause-row : goal.add-requires-in-loop-u-2-clause-row
-add-requires-in-loop-u-2-clause-row c =
-    (listed_small c.args.children.now c.args.ordered.now c.loop-u-2.u-index (0, 0) c.len-v-end.ensures.shape c.requires c.loop-u-2-test.true).1
-
-pub add-requires-in-loop-u-2-clause-view : goal.add-requires-in-loop-u-2-clause-view
-add-requires-in-loop-u-2-clause-view c =
-    (listed_small c.args.children.now c.args.ordered.now c.loop-u-2.u-index (0, 0) c.len-v-end.ensures.shape c.requires c.loop-u-2-test.true).0
-
-pub loop-u-2-preserved : goal.loop-u-2-preserved
-loop-u-2-preserved c =
-    let i = c.loop-u-2.invariant in
-    record {
-      views = i.views;
-      over = i.over;
-      under = i.under;
-      before = ordered_more (λ a b. in_rows c.loop-u-2.edges.before a b) (λ a b. in_rows c.add-in-loop-u-2.new.rows a b) c.args.ordered.now c.loop-u-2.u-index (0, 0) c.loop-u-2-test.true i.before c.add-in-loop-u-2.ensures;
+      shape_is = c.len-v-end.ensures.shape;
+      views_are = λ a. i.views a ∙ ap (ltb a) n;
+      over_are = filled_all shape (λ a b. in_rows c.loop-v.edges.over a b) c.loop-v.v low i.over;
+      under_are = λ u v. filled_all shape (λ a b. in_rows c.loop-v.edges.under b a) c.loop-v.v low i.under v u;
+      before_are = i.before;
     }
