@@ -87,14 +87,7 @@ fn added_by<F: RowTest, G: RowValue, T: Gate, R: Threads + Sync>(
     ensures refused { IfErr result (IsCompFaultIn catalog.now (kept state.now) job.now.view job.now.from) }
 {
     gate.taken(number);
-    let added = state.compute_wide(
-        budget.rt,
-        budget.threads,
-        budget.alloc,
-        catalog,
-        job.view,
-        job.from.as_slice(),
-    );
+    let added = state.compute_wide(budget, catalog, job.view, job.from.as_slice());
     gate.finished(number);
     added
 }

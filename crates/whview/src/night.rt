@@ -33,9 +33,8 @@ use wh_carry::CarryFault;
 use wh_dag::{Catalog, Shape};
 use wh_formula::{Expr, Native, Pred, RowTest, RowValue};
 use wh_load::{Dict, GivenNight, NightInput, Opening, WrittenView, read_for_night};
-use wh_maint::{MaintFault, opening_contents_wide};
+use wh_maint::{MaintFault, opening_contents};
 use wh_night::{Asked, NoWatch, Served};
-use wh_row::Hands;
 use wh_strategy::{CheckFault, Rule, check};
 use wh_threads::ThreadBudget;
 
@@ -138,7 +137,7 @@ fn decide<F: RowTest, G: RowValue, R: Threads + Wait + Sync>(
         Err(CheckFault::Broken { rule, place }) => return Ok(Outcome::Broken { rule, place }),
         Err(CheckFault::Memory) => return Err(AllocError),
     };
-    let tables = match opening_contents_wide(budget.rt, budget.threads, alloc, catalog, tables) {
+    let tables = match opening_contents(budget, catalog, tables) {
         Ok(tables) => tables,
         Err(fault) => return no_contents(fault),
     };
@@ -261,11 +260,7 @@ pub fn answer<R: Threads + Wait + Sync>(
         alloc,
         threads: how.workers,
     };
-    let hands = Hands {
-        rt,
-        threads: how.workers,
-    };
-    match read_for_night(&hands, alloc, bytes) {
+    match read_for_night(&budget, bytes) {
         Ok(input) => answer_of(&budget, how, input),
         Err(fault) => Answer::fault(alloc, &fault),
     }

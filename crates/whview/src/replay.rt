@@ -29,9 +29,10 @@ use wh_core::{Cause, Core, Event, MachineOptions, Reply};
 use wh_dag::{Catalog, Shape};
 use wh_formula::{Expr, Native, Pred, RowTest, RowValue};
 use wh_load::{GivenNight, Opening, ReplayInput, Schedule, ScheduledEvent, read_for_replay};
-use wh_maint::opening_contents_wide;
-use wh_row::{Bag, Hands};
+use wh_maint::opening_contents;
+use wh_row::Bag;
 use wh_strategy::{CheckFault, Correct, check};
+use wh_threads::ThreadBudget;
 
 /// The nights with their strategies judged over this shape. The fault is that of the first night whose strategy is not correct.
 fn judged(
@@ -138,8 +139,7 @@ fn replies_to<F: RowTest + Drop, G: RowValue + Drop>(
 /// What a replay makes of what it is given, over a catalogue of its views. The contents are opened by as many threads as the schedule has
 /// workers.
 fn answer_over<F: RowTest + Drop, G: RowValue + Drop, R: Threads + Sync>(
-    rt: &R,
-    alloc: Global,
+    budget: &ThreadBudget<'_, R>,
     catalog: Catalog<F, G>,
     opening: Opening,
     nights: Vec<GivenNight>,
@@ -151,6 +151,7 @@ fn answer_over<F: RowTest + Drop, G: RowValue + Drop, R: Threads + Sync>(
     ensures { IfOk result (λ a. IsReplayTold (record { shape = catalog.views; opening = shown_opening opening; nights = map shown_given nights.items; schedule = schedule.now })
         a.text.items (status_number a.status)) }
 {
+    let alloc = budget.alloc;
     let nights = match judged(alloc, catalog.shape(), nights) {
         Ok(nights) => nights,
         Err(CheckFault::Broken { rule, place }) => {
@@ -159,8 +160,12 @@ fn answer_over<F: RowTest + Drop, G: RowValue + Drop, R: Threads + Sync>(
         }
         Err(CheckFault::Memory) => return Err(AllocError),
     };
-    let threads = schedule.workers();
-    let tables = match opening_contents_wide(rt, threads, alloc, &catalog, opening.tables) {
+    let opened_by = ThreadBudget {
+        rt: budget.rt,
+        alloc,
+        threads: schedule.workers(),
+    };
+    let tables = match opening_contents(&opened_by, &catalog, opening.tables) {
         Ok(tables) => tables,
         Err(fault) => {
             let text = cause_text(alloc, catalog.shape(), &fault)?;
@@ -182,7 +187,7 @@ fn answer_with<
     T: Fn(Pred) -> F,
     V: Fn(Expr) -> G,
     R: Threads + Sync,
->(rt: &R, alloc: Global, input: ReplayInput, test: T, value: V) -> Result<Answer, AllocError>
+>(budget: &ThreadBudget<'_, R>, input: ReplayInput, test: T, value: V) -> Result<Answer, AllocError>
     requires fit { IsFitReplay input }
     requires callable_test { T.IsAlwaysCallable test }
     requires callable_value { V.IsAlwaysCallable value }
@@ -196,22 +201,20 @@ fn answer_with<
         nights,
         schedule,
     } = input;
-    let catalog = catalog_with(alloc, shape, &opening.views, test, value)?;
-    answer_over(rt, alloc, catalog, opening, nights, &schedule)
+    let catalog = catalog_with(budget.alloc, shape, &opening.views, test, value)?;
+    answer_over(budget, catalog, opening, nights, &schedule)
 }
 
 /// What a replay makes of what it is given. Each formula of the catalogue is stored with a closure.
 fn answer_of<R: Threads + Sync>(
-    rt: &R,
-    alloc: Global,
+    budget: &ThreadBudget<'_, R>,
     input: ReplayInput,
 ) -> Result<Answer, AllocError>
     requires { IsFitReplay input }
     ensures { IfOk result (λ a. IsReplayTold (shown_replay input) a.text.items (status_number a.status)) }
 {
     answer_with(
-        rt,
-        alloc,
+        budget,
         input,
         |pred: Pred| {
             Native(
@@ -235,9 +238,13 @@ fn answer_of<R: Threads + Sync>(
 pub fn answer<R: Threads + Sync>(rt: &R, alloc: Global, bytes: &[u8]) -> Result<Answer, AllocError>
     ensures { IfOk result (λ a. IsReplayOutput bytes.now a.text.items (status_number a.status)) }
 {
-    let hands = Hands { rt, threads: 1 };
-    match read_for_replay(&hands, alloc, bytes) {
-        Ok(input) => answer_of(rt, alloc, input),
+    let budget = ThreadBudget {
+        rt,
+        alloc,
+        threads: 1,
+    };
+    match read_for_replay(&budget, bytes) {
+        Ok(input) => answer_of(&budget, input),
         Err(fault) => Answer::fault(alloc, &fault),
     }
 }

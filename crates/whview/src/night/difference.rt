@@ -10,7 +10,9 @@ ghost use Rattle.whview.specs.Inner.Difference.{AreNotNegative, IsStep};
 use super::front::Front;
 use std::alloc::{AllocError, Global};
 use std::cmp::Ordering;
+use std::thread::Threads;
 use wh_row::{Bag, Records, RecordsFault};
+use wh_threads::ThreadBudget;
 
 /// Passes over the lowest row that is still to come, in both tables where both have it, and gives it with what it counts more in the
 /// new one, whose rows are coming, than in the old one, whose rows are leaving.
@@ -69,13 +71,17 @@ fn changed_rows<'a>(alloc: Global, new: &'a Bag, old: &'a Bag) -> Result<Records
 
 /// The change that makes a new table of an old one: in it each row counts what it counts in the new one less what it counts in the old
 /// one. Takes O((n + m) w) time for tables of n and m rows of w cells.
-pub(crate) fn difference(alloc: Global, new: &Bag, old: &Bag) -> Result<Bag, AllocError>
+pub(crate) fn difference<R: Threads + Sync>(
+    budget: &ThreadBudget<'_, R>,
+    new: &Bag,
+    old: &Bag,
+) -> Result<Bag, AllocError>
     requires new { IsTable new.now }
     requires old { IsTable old.now }
     ensures { IfOk result (λ change. change ≡ difference_of new.now old.now) }
 {
-    let changed = changed_rows(alloc, new, old)?;
-    match Bag::from_records(alloc, &changed) {
+    let changed = changed_rows(budget.alloc, new, old)?;
+    match Bag::from_records(budget, &changed) {
         Ok(change) => Ok(change),
         Err(RecordsFault::Memory) => Err(AllocError),
         Err(RecordsFault::Large(_)) => unreachable!(),

@@ -13,9 +13,9 @@ use std::alloc::{AllocError, Global};
 use std::thread::Threads;
 use wh_carry::{CarryFault, Report};
 use wh_dag::Shape;
-use wh_load::{Dict, Names, WrittenView, write_expression, write_table_wide};
+use wh_load::{Dict, Names, WrittenView, write_expression, write_table};
 use wh_night::Served;
-use wh_row::{Bag, Hands};
+use wh_row::Bag;
 use wh_strategy::Expression;
 use wh_threads::ThreadBudget;
 
@@ -117,11 +117,7 @@ fn append_view<R: Threads + Sync>(
     out.extend_from_slice(word)?;
     out.extend_from_slice(name.as_bytes())?;
     out.push(b'\n')?;
-    let hands = Hands {
-        rt: printing.budget.rt,
-        threads: printing.budget.threads,
-    };
-    write_table_wide(&hands, out, &view.columns, rows, printing.texts)
+    write_table(printing.budget, out, &view.columns, rows, printing.texts)
 }
 
 /// Appends these rows of the derived views, which are their new tables or their changes.

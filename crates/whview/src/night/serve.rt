@@ -64,7 +64,7 @@ fn with_changes<F: RowTest, G: RowValue, R: Threads + Wait + Sync>(
         return Err(want_of_memory(false));
     };
     let served = serve_night(asked, tables, readers)?;
-    match changes(alloc, views, &served.tables, &old) {
+    match changes(asked.budget, views, &served.tables, &old) {
         Ok(changes) => Ok((served, changes)),
         Err(_) => Err(want_of_memory(true)),
     }

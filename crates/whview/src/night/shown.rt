@@ -8,8 +8,10 @@ ghost use Rattle.whview.specs.NightOutput.{AtDerived};
 
 use super::difference::difference;
 use std::alloc::{AllocError, Global};
+use std::thread::Threads;
 use wh_load::WrittenView;
 use wh_row::Bag;
+use wh_threads::ThreadBudget;
 
 /// What is shown of the derived views.
 #[derive(Drop)]
@@ -52,20 +54,25 @@ pub(crate) fn copies(
 }
 
 /// The change of a derived view from its old table to its new one; of a base view there is none.
-fn change_of(alloc: Global, view: &WrittenView, new: &Bag, old: &Bag) -> Result<Bag, AllocError>
+fn change_of<R: Threads + Sync>(
+    budget: &ThreadBudget<'_, R>,
+    view: &WrittenView,
+    new: &Bag,
+    old: &Bag,
+) -> Result<Bag, AllocError>
     requires new { IsTable new.now }
     requires old { (shown_view view.now).definition ≢ None → IsTable old.now }
     ensures { IfOk result (λ change. (shown_view view.now).definition ≢ None → change ≡ difference_of new.now old.now) }
 {
     if view.definition.is_none() {
-        return Ok(Bag::new(alloc));
+        return Ok(Bag::new(budget.alloc));
     }
-    difference(alloc, new, old)
+    difference(budget, new, old)
 }
 
 /// The changes of the derived views from their old tables to their new ones, in the places of their views.
-pub(crate) fn changes(
-    alloc: Global,
+pub(crate) fn changes<R: Threads + Sync>(
+    budget: &ThreadBudget<'_, R>,
     views: &[WrittenView],
     new: &[Bag],
     old: &[Bag],
@@ -77,9 +84,9 @@ pub(crate) fn changes(
     ensures each { IfOk result (λ changes. length changes.items ≡ length views.now) }
     ensures changes { IfOk result (λ changes. AtDerived (map shown_view views.now) (λ view. bag_at changes.items view ≡ difference_of (bag_at new.now view) (bag_at old.now view))) }
 {
-    let mut changes = Vec::new(alloc);
+    let mut changes = Vec::new(budget.alloc);
     for place in 0..views.len() {
-        let change = change_of(alloc, &views[place], &new[place], &old[place])?;
+        let change = change_of(budget, &views[place], &new[place], &old[place])?;
         changes.push(change)?;
     }
     Ok(changes)

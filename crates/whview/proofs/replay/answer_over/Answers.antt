@@ -30,8 +30,8 @@ returns-in-Err g c =
 
 pub replies_to-requires-clause-ready : goal.replies_to-requires-clause-ready
 replies_to-requires-clause-ready g c κs within =
-    is_ready c.args.catalog c.shape.ensures.catalog c.args.opening.tables.items c.in-Ok-opening_contents_wide.tables.items c.requires.tables
-    c.in-Ok-opening_contents_wide.ensures.bags c.in-Ok-opening_contents_wide.ensures.contents c.in-Ok-opening_contents_wide.ensures.valued
+    is_ready c.args.catalog c.shape.ensures.catalog c.args.opening.tables.items c.in-Ok-opening_contents.tables.items c.requires.tables
+    c.in-Ok-opening_contents.ensures.bags c.in-Ok-opening_contents.ensures.contents c.in-Ok-opening_contents.ensures.valued
     (map shown_given c.args.nights.items)
     (subst (λ (v : Views). AreCorrect v.children (map shown_given c.args.nights.items)) c.shape.ensures.views c.in-Ok.ensures.correct)
     c.requires.changes (nights_of c.in-Ok.nights.items) c.in-Ok.ensures.nights
@@ -43,7 +43,7 @@ replies_to-requires-clause-judged g c κs within =
 pub returns : goal.returns
 returns g c =
     told_replayed c.args.catalog (shown_opening c.args.opening) (map shown_given c.args.nights.items) c.args.schedule.now c.requires.shown
-    c.in-Ok-opening_contents_wide.tables.items (nights_of c.in-Ok.nights.items) c.in_ok-replies.replies.items c.in_ok-text.text.items
+    c.in-Ok-opening_contents.tables.items (nights_of c.in-Ok.nights.items) c.in_ok-replies.replies.items c.in_ok-text.text.items
     (subst (λ (v : Views). AreCorrect v.children (map shown_given c.args.nights.items)) c.shape.ensures.views c.in-Ok.ensures.correct)
-    c.in-Ok-opening_contents_wide.ensures.bags.each c.in-Ok-opening_contents_wide.ensures.contents c.in-Ok-opening_contents_wide.ensures.valued c.in-Ok.ensures.nights
+    c.in-Ok-opening_contents.ensures.bags.each c.in-Ok-opening_contents.ensures.contents c.in-Ok-opening_contents.ensures.valued c.in-Ok.ensures.nights
     c.in_ok-replies.ensures.setup c.in_ok-replies.ensures.legal c.in_ok-replies.ensures.comes_true c.in_ok-replies.ensures.told (c.in_ok-text.ensures ∙ ap replies_text c.deref.ensures.value)

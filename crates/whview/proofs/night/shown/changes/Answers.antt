@@ -8,12 +8,12 @@ use Rattle.whview.proofs.DerivedBags.{all_below, at_place, from_place, item_at, 
 use Rattle.whview.proofs.night.shown.changes.Goals as goal
 
 pub change_of-requires-clause-new : goal.change_of-requires-clause-new
-change_of-requires-clause-new c =
+change_of-requires-clause-new g c =
     subst IsTable (sym (item_at c.args.new.now c.loop-place.place c.index-new-place.result (omega (arith, c.loop-place-test.true, c.requires.each_new)) c.index-new-place.is))
     (c.requires.new c.loop-place.place)
 
 pub change_of-requires-clause-old : goal.change_of-requires-clause-old
-change_of-requires-clause-old c =
+change_of-requires-clause-old g c =
     let views = c.args.views.now in
     let place = c.loop-place.place in
     let view = slice_get_read views (length views) place c.index-views-place.result refl c.loop-place-test.true c.index-views-place.is in
@@ -21,7 +21,7 @@ change_of-requires-clause-old c =
     (from_place shown_view views place c.index-views-place.result (IsTable (bag_at c.args.old.now place)) view (c.requires.old place) derived)
 
 pub loop-place-preserved : goal.loop-place-preserved
-loop-place-preserved c =
+loop-place-preserved g c =
     let views = c.args.views.now in
     let place = c.loop-place.place in
     let within = c.loop-place-test.true in
@@ -39,6 +39,6 @@ loop-place-preserved c =
     }
 
 pub returns-clause-changes : goal.returns-clause-changes
-returns-clause-changes c =
+returns-clause-changes g c =
     all_below c.loop-place.place (map shown_view c.args.views.now) (λ k. bag_at c.loop-place.changes.items k ≡ difference_of (bag_at c.args.new.now k) (bag_at c.args.old.now k))
     (let l = length-map c.args.views.now shown_view in omega (arith, l, c.loop-place-test.false)) c.loop-place.invariant.at_views
