@@ -146,9 +146,11 @@ fn replay_in<R: Threads + Sync>(
 {
     let alloc = budget.alloc;
     let catalogue = text_of(alloc, bundle, &Heading::Catalogue, 0)?;
+    let strategies = strategies_in(alloc, bundle)?;
+    let schedule = text_of(alloc, bundle, &Heading::Schedule, 0)?;
     let replayed = ReplayTexts {
-        strategies: strategies_in(alloc, bundle)?,
-        schedule: text_of(alloc, bundle, &Heading::Schedule, 0)?,
+        strategies,
+        schedule,
     };
     let shape = read_shape(alloc, &catalogue)?;
     let mut texts = Dict::new(alloc);
