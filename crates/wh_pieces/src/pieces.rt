@@ -231,15 +231,8 @@ impl<T: Copy + Drop> Pieces<T> {
                 if self.len >= LARGEST {
                     return Err(AllocError);
                 }
-                put(
-                    self.alloc,
-                    self.most,
-                    &mut self.pieces,
-                    nth,
-                    place,
-                    row,
-                    value,
-                )?;
+                let spot = Spot { nth, place };
+                put(self.alloc, self.most, &mut self.pieces, spot, row, value)?;
                 self.len += 1;
                 Ok(None)
             }
@@ -529,24 +522,31 @@ fn split<T: Copy + Drop>(
     Ok(())
 }
 
+/// Where a row goes: before the row at a place in a piece, or behind its last.
+#[derive(Clone, Copy)]
+struct Spot {
+    nth: usize,
+    place: usize,
+}
+
 /// Puts a row to a place in a piece. Where it does not go there, the piece is cut at the place.
 fn put_at<T: Copy + Drop>(
     alloc: Global,
     most: usize,
     pieces: &mut Vec<Piece<T>>,
-    nth: usize,
-    place: usize,
+    spot: Spot,
     row: &[i64],
     value: T,
 ) -> Result<(), AllocError>
-    requires nth { nth < length pieces.old.items }
-    requires place { place ≤ length (piece_at pieces.old.items nth) }
+    requires nth { spot.nth < length pieces.old.items }
+    requires place { spot.place ≤ length (piece_at pieces.old.items spot.nth) }
     requires some { AreNotEmpty pieces.old.items }
     ensures ok { OnOk result (all_of pieces.new.items
-        ≡ before pieces.old.items nth place ++ (row.now, value) ∷ after pieces.old.items nth place) }
+        ≡ before pieces.old.items spot.nth spot.place ++ (row.now, value) ∷ after pieces.old.items spot.nth spot.place) }
     ensures err { OnErr result (all_of pieces.new.items ≡ all_of pieces.old.items) }
     ensures some { AreNotEmpty pieces.new.items }
 {
+    let Spot { nth, place } = spot;
     if pieces[nth].insert(most, place, row, value)? {
         return Ok(());
     }
@@ -567,32 +567,36 @@ fn put<T: Copy + Drop>(
     alloc: Global,
     most: usize,
     pieces: &mut Vec<Piece<T>>,
-    nth: usize,
-    place: usize,
+    spot: Spot,
     row: &[i64],
     value: T,
 ) -> Result<(), AllocError>
-    requires nth { nth < length pieces.old.items }
-    requires place { place ≤ length (piece_at pieces.old.items nth) }
+    requires nth { spot.nth < length pieces.old.items }
+    requires place { spot.place ≤ length (piece_at pieces.old.items spot.nth) }
     requires some { AreNotEmpty pieces.old.items }
     ensures ok { OnOk result (all_of pieces.new.items
-        ≡ before pieces.old.items nth place ++ (row.now, value) ∷ after pieces.old.items nth place) }
+        ≡ before pieces.old.items spot.nth spot.place ++ (row.now, value) ∷ after pieces.old.items spot.nth spot.place) }
     ensures err { OnErr result (all_of pieces.new.items ≡ all_of pieces.old.items) }
     ensures some { AreNotEmpty pieces.new.items }
 {
+    let Spot { nth, place } = spot;
     let len = pieces[nth].len();
     let half = len / 2;
     if place == len && nth + 1 == pieces.len() {
-        return put_at(alloc, filled(most), pieces, nth, place, row, value);
+        return put_at(alloc, filled(most), pieces, spot, row, value);
     }
     if len < most || half == 0 || place == 0 {
-        return put_at(alloc, most, pieces, nth, place, row, value);
+        return put_at(alloc, most, pieces, spot, row, value);
     }
     split(alloc, pieces, nth, half)?;
     if place <= half {
-        return put_at(alloc, most, pieces, nth, place, row, value);
+        return put_at(alloc, most, pieces, spot, row, value);
     }
-    put_at(alloc, most, pieces, nth + 1, place - half, row, value)
+    let later = Spot {
+        nth: nth + 1,
+        place: place - half,
+    };
+    put_at(alloc, most, pieces, later, row, value)
 }
 
 /// Puts a row behind all rows. Behind a piece that has enough another is begun with room for as many, as more are likely to come.

@@ -10,8 +10,8 @@ use Rattle.wh_pieces.proofs.pieces.put_at.Goals as goal
 pub returns-then-branch-clause-ok : goal.returns-then-branch-clause-ok
 returns-then-branch-clause-ok g c =
     let ls = c.args.pieces.now.items in
-    let nth = c.args.nth in
-    let place = c.args.place in
+    let nth = c.args.spot.nth in
+    let place = c.args.spot.place in
     let e : Row × g.row.T.Denot = (c.args.row.now, c.args.value) in
     let x = piece_at ls nth in
     let y = c.index_mut.result.now in
@@ -26,14 +26,14 @@ returns-then-branch-clause-ok g c =
 pub returns-then-place-len-clause-ok : goal.returns-then-place-len-clause-ok
 returns-then-place-len-clause-ok g c =
     let ls = c.args.pieces.now.items in
-    let nth = c.args.nth in
+    let nth = c.args.spot.nth in
     let e : Row × g.row.T.Denot = (c.args.row.now, c.args.value) in
     let x = piece_at ls nth in
     let y = c.index_mut.result.now in
     let is : y ≡ x = piece_read ls nth y c.requires.nth c.index_mut.ensures.value in
-    let same : set ls nth c.insert.new.self ≡ ls = piece_unchanged ls nth y (insert y c.args.place e) c.insert.new.self c.in_ok-insert.field-0 is c.in_ok-insert.ensures c.if-branch.false in
+    let same : set ls nth c.insert.new.self ≡ ls = piece_unchanged ls nth y (insert y c.args.spot.place e) c.insert.new.self c.in_ok-insert.field-0 is c.in_ok-insert.ensures c.if-branch.false in
     let read = c.index.ensures ∙ ap (λ (ms : List (List (Row × g.row.T.Denot))). get_or ms nth c.index.result.now) same in
-    let end : c.args.place ≡ length x = c.if-place-len.true ∙ c.len.ensures ∙ ap length (piece_read ls nth c.index.result.now c.requires.nth read) in
+    let end : c.args.spot.place ≡ length x = c.if-place-len.true ∙ c.len.ensures ∙ ap length (piece_read ls nth c.index.result.now c.requires.nth read) in
     let step = subst (λ (ms : List (List (Row × g.row.T.Denot))). OnOk c.put_behind.result (all_of c.put_behind.new.pieces.items ≡ all_of (take (suc nth) ms) ++ e ∷ all_of (drop (suc nth) ms))) same c.put_behind.ensures.ok in
     subst (λ (es : List (Row × g.row.T.Denot)). OnOk c.put_behind.result (all_of c.put_behind.new.pieces.items ≡ es))
     (sym (put_at_end ls nth e c.requires.nth) ∙ ap (λ n. before ls nth n ++ e ∷ after ls nth n) (sym end)) step
@@ -41,8 +41,8 @@ returns-then-place-len-clause-ok g c =
 pub returns-clause-ok : goal.returns-clause-ok
 returns-clause-ok g c =
     let ls = c.args.pieces.now.items in
-    let nth = c.args.nth in
-    let place = c.args.place in
+    let nth = c.args.spot.nth in
+    let place = c.args.spot.place in
     let e : Row × g.row.T.Denot = (c.args.row.now, c.args.value) in
     let ms = c.split.new.pieces.items in
     let y = c.index_mut.result.now in
@@ -56,8 +56,8 @@ returns-clause-ok g c =
 pub returns-clause-err : goal.returns-clause-err
 returns-clause-err g c =
     let ls = c.args.pieces.now.items in
-    let nth = c.args.nth in
-    let place = c.args.place in
+    let nth = c.args.spot.nth in
+    let place = c.args.spot.place in
     let e : Row × g.row.T.Denot = (c.args.row.now, c.args.value) in
     let ms = c.split.new.pieces.items in
     let y = c.index_mut.result.now in
