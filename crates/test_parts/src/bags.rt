@@ -3,8 +3,10 @@
 use std::alloc::{AllocError, Global};
 use std::process::Abort;
 use std::test::Fail;
+use std::thread::Threads;
 use test_given::tables::bag as bag_of;
-use wh_row::{Bag, BagFault, Hands, Keyed, Records, RecordsFault};
+use wh_row::{Bag, BagFault, Keyed, Records, RecordsFault};
+use wh_threads::ThreadBudget;
 
 /// Asserts that the bag lists these rows, with these counts, in this order.
 fn assert_lists(rt: &impl Abort, bag: &Bag, wanted: &[(&[i64], i64)]) {
@@ -13,6 +15,15 @@ fn assert_lists(rt: &impl Abort, bag: &Bag, wanted: &[(&[i64], i64)]) {
         assert_eq!(rt; rows.next(), Some((*row, *count)));
     }
     assert!(rt; rows.next().is_none());
+}
+
+/// The caller's thread alone.
+fn alone<R: Threads + Sync>(rt: &R, alloc: Global) -> ThreadBudget<'_, R> {
+    ThreadBudget {
+        rt,
+        alloc,
+        threads: 1,
+    }
 }
 
 #[test]
@@ -74,7 +85,7 @@ fn records_in_any_order_add_up(rt: HostRuntime) -> Result<(), Fail> {
     for (row, count) in [(&[3], 1), (&[1], 2), (&[3], -1), (&[2], 5), (&[1], 4)] {
         records.push(row, count)?;
     }
-    let bag = Bag::from_records(rt.alloc(), &records)?;
+    let bag = Bag::from_records(&alone(&rt, rt.alloc()), &records)?;
     assert_lists(&rt, &bag, &[(&[1], 6), (&[2], 5)]);
     assert!(rt; bag.is_table());
     assert!(rt; bag.is_width(1));
@@ -88,7 +99,7 @@ fn records_are_refused_where_a_running_sum_leaves_i64(rt: HostRuntime) -> Result
     for count in [9223372036854775807, 1, -5] {
         records.push(&[1], count)?;
     }
-    let refused = Bag::from_records(rt.alloc(), &records);
+    let refused = Bag::from_records(&alone(&rt, rt.alloc()), &records);
     assert!(rt; refused.is_err());
     if let Err(fault) = refused {
         assert_eq!(rt; fault, RecordsFault::Large(1));
@@ -116,8 +127,12 @@ fn shuffled(alloc: Global) -> Result<Records, AllocError> {
 fn threads_add_up_records_in_any_order(rt: HostRuntime) -> Result<(), Fail> {
     let records = shuffled(rt.alloc())?;
     for threads in [0, 1, 2, 3, 16] {
-        let hands = Hands { rt: &rt, threads };
-        let bag = Bag::from_records_wide(&hands, rt.alloc(), &records)?;
+        let budget = ThreadBudget {
+            rt: &rt,
+            alloc: rt.alloc(),
+            threads,
+        };
+        let bag = Bag::from_records(&budget, &records)?;
         assert_eq!(&rt; bag.len(), 25_000);
         assert_eq!(&rt; bag.total(), 75_000);
         assert_eq!(&rt; bag.count(&[0, 0]), 3);

@@ -5,7 +5,8 @@ use std::alloc::Global;
 use std::process::Abort;
 use std::test::Fail;
 use std::thread::Threads;
-use wh_row::{Bag, Hands, Records};
+use wh_row::{Bag, Records};
+use wh_threads::ThreadBudget;
 
 /// Asserts that these are the same rows with the same counts.
 fn assert_bag(rt: &impl Abort, found: &Bag, wanted: &Bag) {
@@ -34,10 +35,15 @@ fn assert_parts<R: Abort + Threads + Sync>(
         }
     }
     assert_rows(rt, &all, &singly);
-    let wanted = Bag::from_records(alloc, &all);
+    let alone = ThreadBudget {
+        rt,
+        alloc,
+        threads: 1,
+    };
+    let wanted = Bag::from_records(&alone, &all);
     for threads in 0..5 {
-        let hands = Hands { rt, threads };
-        match (Bag::from_parts_wide(&hands, alloc, parts), &wanted) {
+        let budget = ThreadBudget { rt, alloc, threads };
+        match (Bag::from_parts(&budget, parts), &wanted) {
             (Ok(found), Ok(bag)) => assert_bag(rt, &found, bag),
             (Err(found), Err(fault)) => assert_eq!(rt; found, *fault),
             _ => assert!(rt; false),

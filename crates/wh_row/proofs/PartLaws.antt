@@ -1,8 +1,11 @@
 -- Records in parts.
-use Rattle.std.proofs.Common.{◌≡◌, refl, sym, ap, subst, ◌∙◌, ℕ, suc, ◌+◌, ◌-◌, ◌*◌, ◌≤◌, ◌<◌, ℤ, pos, ◌+ℤ◌, true, false, cond, List, [], ◌∷◌, ◌++◌, length, take, drop, get_or, Option, Some, None, IfSome, slice_get, zero, ◌/◌, add-one, arith, length-append, FitsSigned}
+use Rattle.std.proofs.Common.{◌≡◌, refl, sym, ap, subst, ◌∙◌, ℕ, suc, ◌+◌, ◌-◌, ◌*◌, ◌≤◌, ◌<◌, ℤ, pos, ◌+ℤ◌, true, false, cond, List, [], ◌∷◌, ◌++◌, map, length, take, get_or, Option, Some, None, IfSome, IsSome, Result, Ok, Err, IfOk, OnOk, All, Bor, slice_get, zero, ◌/◌, add-one, arith, length-append, FitsSigned}
+use Rattle.std.specs.List.{AllZip}
+use Rattle.std.specs.Result.{result_ok}
+use Rattle.std.proofs.lemmas.Option.{same_Some}
 use Rattle.std.specs.Prelude.{unsigned_abs}
 use Rattle.std.proofs.lemmas.Int.{ints}
-use Rattle.std.proofs.lemmas.List.{append-nil, flat_map_more, take_more, take-append-drop}
+use Rattle.std.proofs.lemmas.List.{append-nil, flat_map_more, take_more}
 use Rattle.std.proofs.lemmas.List.Concat.{flat_map-append}
 use Rattle.std.proofs.lemmas.List.Sums.{sum_by-cons, sum_by-append, sum_by-take-le}
 use Rattle.std.proofs.lemmas.Nat.{div-add-mod'}
@@ -10,14 +13,36 @@ use mir.Syntax.{w64}
 use Rattle.wh_pieces.proofs.FlatLaws.{mul_add}
 use Rattle.wh_row.specs.Row.{Row, is_row}
 use Rattle.wh_row.specs.Weigh.{Counted, count_in}
-use Rattle.wh_row.specs.Bag.{bag_of, sum_of}
+use Rattle.wh_row.specs.Bag.{Bag, bag_of, sum_of}
 use Rattle.wh_row.specs.Records.{running_sum, FitsAt, EachSumFits, joined}
-use Rattle.wh_row.specs.Inner.Parts.{weight}
+use Rattle.wh_row.specs.Inner.Parts.{weight, grouped, AreBagsOf}
 use Rattle.wh_row.proofs.CountLaws.{same_bag, count-bag_of, count-sum_of, count_in-append}
 use Rattle.wh_row.proofs.OrderLaws.{LeaveRoom, fits_light}
 use Rattle.wh_row.proofs.RunningSums.{next_taken}
 
+-- ---- what is told of a result whose value is taken
+
+pub told : {T E : Type 0} {Q : Type 0} (r : Result T E) (x : T) → Some x ≡ result_ok r → OnOk r Q → Q
+told (Ok y) x is q = q
+told (Err e) x is q = absurd (let bad : Some x ≡ None = is in cc)
+
+pub told_of : {T E : Type 0} (P : T → Type 0) (r : Result T E) (x : T) → Some x ≡ result_ok r → IfOk r P → P x
+told_of P (Ok y) x is p = subst P (same_Some y x (sym is)) p
+told_of P (Err e) x is p = absurd (let bad : Some x ≡ None = is in cc)
+
+pub if_ok : {T E : Type 0} (P : T → Type 0) (r : Result T E) (o : Option T) → o ≡ result_ok r → IfOk r P → IfSome o P
+if_ok P (Ok y) o is p = subst (λ o. IfSome o P) (sym is) p
+if_ok P (Err e) o is p = subst (λ o. IfSome o P) (sym is) tt
+
+pub if_some : {T Q : Type 0} (o : Option T) → (IsSome o → Q) → IfSome o (λ _. Q)
+if_some None q = tt
+if_some (Some x) q = q refl
+
 -- ---- bags behind each other
+
+pub none_listed : (lists : List Counted) → AreBagsOf lists [] → lists ≡ []
+none_listed [] are = refl
+none_listed (es ∷ lists) are = absurd are
 
 pub both_parts : (a b : Counted) → sum_of (bag_of a) (bag_of b) ≡ bag_of (a ++ b)
 both_parts a b = same_bag (sum_of (bag_of a) (bag_of b)) (bag_of (a ++ b)) (λ q.
@@ -29,11 +54,40 @@ both_parts a b = same_bag (sum_of (bag_of a) (bag_of b)) (bag_of (a ++ b)) (λ q
 pub joined-append : (ps qs : List Counted) → joined (ps ++ qs) ≡ joined ps ++ joined qs
 joined-append ps qs = flat_map-append (λ (records : Counted). records) ps qs
 
-pub joined-split : (n : ℕ) (ps : List Counted) → joined (take n ps) ++ joined (drop n ps) ≡ joined ps
-joined-split n ps = sym (joined-append (take n ps) (drop n ps)) ∙ ap joined (take-append-drop n ps)
-
 pub joined-next : (ps : List Counted) (i : ℕ) (d : Counted) → i < length ps → joined (take i ps) ++ get_or ps i d ≡ joined (take (i + 1) ps)
 joined-next ps i d below = flat_map_more (λ (records : Counted). records) [] (take i ps) (get_or ps i d) ∙ ap joined (sym (take_more ps i d below))
+
+-- bags of lists, of which one stands last
+last_bag : (lists : List Counted) (bags : List (Option Bag)) (bag : Bag) → AreBagsOf lists (bags ++ Some bag ∷ [])
+    → (front : List Counted) × (last : Counted) × (lists ≡ front ++ last ∷ []) × AreBagsOf front bags × (bag ≡ bag_of last)
+last_bag [] [] bag are = absurd are
+last_bag (es ∷ []) [] bag are = ([], es, refl, tt, are.0)
+last_bag (es ∷ fs ∷ lists) [] bag are = absurd are.1
+last_bag [] (b ∷ bags) bag are = absurd are
+last_bag (es ∷ lists) (b ∷ bags) bag are =
+    let rest = last_bag lists bags bag are.1 in
+    (es ∷ rest.0, rest.1, ap (λ (ls : List Counted). es ∷ ls) rest.2, (are.0, rest.3), rest.4)
+
+pub bag_next : (bags : List (Option Bag)) (all bag both : Bag) → ((lists : List Counted) → AreBagsOf lists bags → all ≡ bag_of (joined lists)) → both ≡ sum_of all bag
+    → (lists : List Counted) → AreBagsOf lists (bags ++ Some bag ∷ []) → both ≡ bag_of (joined lists)
+bag_next bags all bag both before is lists are =
+    let cut = last_bag lists bags bag are in
+    is
+    ∙ (λ i. sum_of (before cut.0 cut.3 i) (cut.4 i))
+    ∙ both_parts (joined cut.0) cut.1
+    ∙ ap bag_of (ap (λ (es : Counted). joined cut.0 ++ es) (sym (append-nil cut.1)) ∙ sym (joined-append cut.0 (cut.1 ∷ [])) ∙ ap joined (sym cut.2))
+
+-- what holds of each list that is made of a part
+pub zip_made : {P L B : Type 0} (made : P → L) (R : L → B → Type 0) (parts : List P) (bags : List B) → AllZip (λ part bag. R (made part) bag) parts bags → AllZip R (map made parts) bags
+zip_made made R [] [] each = tt
+zip_made made R [] (b ∷ bags) each = absurd each
+zip_made made R (p ∷ parts) [] each = absurd each
+zip_made made R (p ∷ parts) (b ∷ bags) each = (each.0, zip_made made R parts bags each.1)
+
+pub joined_groups : (groups : List (Bor (List Counted))) → joined (map (λ (group : Bor (List Counted)). joined group.now) groups) ≡ joined (grouped groups)
+joined_groups [] = refl
+joined_groups (group ∷ groups) =
+    ap (λ (es : Counted). joined group.now ++ es) (joined_groups groups) ∙ sym (joined-append group.now (grouped groups))
 
 -- one part alone
 pub one_part : (ps : List Counted) (d : Counted) → length ps ≡ 1 → joined ps ≡ get_or ps 0 d
@@ -73,19 +127,21 @@ light-next ps i d room below before here =
     let more = mul_add room i 1 in
     omega (arith, both, before, here, more)
 
--- parts that are cut in two
-pub bag_both : (n : ℕ) (ps a b : List Counted) → a ≡ take n ps → b ≡ drop n ps → sum_of (bag_of (joined a)) (bag_of (joined b)) ≡ bag_of (joined ps)
-bag_both n ps a b front back =
-    both_parts (joined a) (joined b) ∙ ap bag_of ((λ i. joined (front i) ++ joined (back i)) ∙ joined-split n ps)
-
-pub light_both : (n : ℕ) (ps a b : List Counted) (room : ℕ) → a ≡ take n ps → b ≡ drop n ps → weight (joined a) ≤ room * length a → weight (joined b) ≤ room * length b → weight (joined ps) ≤ room * length ps
-light_both n ps a b room front back one other =
-    let is : a ++ b ≡ ps = (λ i. front i ++ back i) ∙ take-append-drop n ps in
-    let both : weight (joined ps) ≡ weight (joined a) + weight (joined b) = sym (ap (λ (qs : List Counted). weight (joined qs)) is) ∙ ap weight (joined-append a b) ∙ weight-append (joined a) (joined b) in
-    let more = mul_add room (length a) (length b) in
-    let all : length a + length b ≡ length ps = sym (length-append a b) ∙ ap length is in
-    let rooms : room * (length a + length b) ≡ room * length ps = ap (λ k. room * k) all in
-    omega (arith, both, one, other, more, rooms)
+-- parts in groups
+pub light_groups : (groups : List (Bor (List Counted))) (bags : List (Option Bag)) (room : ℕ)
+    → AllZip (λ (group : Bor (List Counted)) (bag : Option Bag). IfSome bag (λ _. weight (joined group.now) ≤ room * length group.now)) groups bags → All IsSome bags
+    → weight (joined (grouped groups)) ≤ room * length (grouped groups)
+light_groups [] [] room each some = omega arith
+light_groups [] (bag ∷ bags) room each some = absurd each
+light_groups (group ∷ groups) [] room each some = absurd each
+light_groups (group ∷ groups) (None ∷ bags) room each some = absurd (let bad : false ≡ true = some 0 None (omega arith) in cc)
+light_groups (group ∷ groups) (Some bag ∷ bags) room each some =
+    let rest = grouped groups in
+    let later = light_groups groups bags room each.1 (λ k d below. some (suc k) d (omega (arith, below))) in
+    let here : weight (joined group.now) ≤ room * length group.now = each.0 in
+    let both : weight (joined (group.now ++ rest)) ≡ weight (joined group.now) + weight (joined rest) = ap weight (joined-append group.now rest) ∙ weight-append (joined group.now) (joined rest) in
+    let rooms : room * length (group.now ++ rest) ≡ room * (length group.now + length rest) = ap (λ k. room * k) (length-append group.now rest) in
+    omega (arith, both, here, later, rooms, mul_add room (length group.now) (length rest))
 
 -- all parts have the room that is shared out
 pub shared_room : (all room parts : ℕ) → room ≡ all / parts → room * parts ≤ all

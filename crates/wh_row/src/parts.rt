@@ -3,18 +3,16 @@
 //! Where the rows of each part rise, a thread makes a bag of each. Most often all rows of a part are above those of the part before it,
 //! so that the bags are moved behind each other. Other records are put in one, and shared out.
 
-ghost use Rattle.std.specs.Prelude.{◌≡◌, ◌≢◌, ℕ, ◌≤◌, ◌*◌, [], length, IfSome, IfOk, OnOk, OnErr, IsTrue};
-ghost use Rattle.std.specs.Thread.{IsSync};
+ghost use Rattle.std.specs.Prelude.{◌≡◌, ◌≢◌, ℕ, ◌≤◌, ◌*◌, List, [], length, All, IfSome, IsSome, IfOk, OnOk, OnErr, IsTrue};
 ghost use Rattle.wh_row.specs.Bag.{bag_of};
-ghost use Rattle.wh_row.specs.Inner.Parts.{weight};
+ghost use Rattle.wh_row.specs.Weigh.{Counted};
+ghost use Rattle.wh_row.specs.Inner.Parts.{weight, grouped, AreBagsOf};
 ghost use Rattle.wh_row.specs.Records.{EachSumFits, IsFirstTooLarge, joined};
 
 use crate::bag::Bag;
 use crate::fault::RecordsFault;
 use crate::records::Records;
-use crate::shares::behind;
 use std::alloc::{AllocError, Global};
-use std::thread;
 use std::thread::Threads;
 use wh_threads::{ThreadBudget, Work};
 
@@ -59,40 +57,54 @@ fn from_rising_parts<R: Threads + Sync>(
 {
     // Each part has its share of the room of an i64.
     let room = MOST.checked_div(parts.len() as u64)?;
-    let threads = budget.parts(Work::Records, len_of(parts)).min(parts.len());
-    from_parts(budget.rt, threads, budget.alloc, room, parts)
+    let groups = groups_of(
+        budget.alloc,
+        parts,
+        budget.parts(Work::Records, len_of(parts)),
+    )?;
+    from_groups(budget, room, groups.as_slice())
 }
 
-/// The bag of the records of parts that rise, whose absolute counts are no more than this for each, by so many threads.
-#[cycle(between)]
-fn from_parts<R: Threads + Sync>(
-    rt: &R,
-    threads: usize,
-    alloc: Global,
-    room: u64,
-    parts: &[Records],
-) -> Option<Bag>
-    ensures bag { IfSome result (λ bag. bag ≡ bag_of (joined parts.now)) }
-    ensures light { IfSome result (λ bag. weight (joined parts.now) ≤ room * length parts.now) }
+/// The parts in so many groups of neighbours at most.
+fn groups_of<'a>(alloc: Global, parts: &'a [Records], most: usize) -> Option<Vec<&'a [Records]>>
+    requires { 1 ≤ most }
+    ensures { IfSome result (λ groups. grouped groups.items ≡ parts.now) }
 {
-    if threads < 2 {
-        return parts_alone(alloc, room, parts);
+    let size = parts.len().div_ceil(most).max(1);
+    parts.chunks(size).collect(alloc).ok()
+}
+
+/// The bag of the records of groups of parts that rise, whose absolute counts are no more than this for each part: a group by a thread.
+fn from_groups<R: Threads + Sync>(
+    budget: &ThreadBudget<'_, R>,
+    room: u64,
+    groups: &[&[Records]],
+) -> Option<Bag>
+    ensures bag { IfSome result (λ bag. bag ≡ bag_of (joined (grouped groups.now))) }
+    ensures light { IfSome result (λ bag. weight (joined (grouped groups.now)) ≤ room * length (grouped groups.now)) }
+{
+    let alloc = budget.alloc;
+    let bags = budget.each(
+        groups,
+        move |group: &&[Records]| -> Option<Bag>
+            ensures bag { IfSome result (λ bag. bag ≡ bag_of (joined group.now.now)) }
+            ensures light { IfSome result (λ bag. weight (joined group.now.now) ≤ room * length group.now.now) }
+        { parts_alone(alloc, room, group) },
+    );
+    together(alloc, bags.ok()?)
+}
+
+/// The bag of what several lists of records hold, whose bags these are, if each is there and there is memory for it: the rows of each
+/// behind those of the one before, where they are above them.
+pub(crate) fn together(alloc: Global, bags: Vec<Option<Bag>>) -> Option<Bag>
+    ensures bag { (lists : List Counted) → AreBagsOf lists bags.items → IfSome result (λ bag. bag ≡ bag_of (joined lists)) }
+    ensures all { IsSome result → All IsSome bags.items }
+{
+    let mut all = Bag::new(alloc);
+    for bag in bags {
+        all.take_in(bag?).ok()?;
     }
-    let half = threads / 2;
-    let back = parts.len() / threads * half;
-    let (front, back) = parts.split_at(parts.len() - back);
-    let later = move || -> Option<Bag>
-        requires { IsSync R.row }
-        ensures bag { IfSome result (λ bag. bag ≡ bag_of (joined back.entry.now)) }
-        ensures light { IfSome result (λ bag. weight (joined back.entry.now) ≤ room * length back.entry.now) }
-    { from_parts(rt, half, alloc, room, back) };
-    let sooner = move || -> Option<Bag>
-        requires { IsSync R.row × (half ≤ threads) }
-        ensures bag { IfSome result (λ bag. bag ≡ bag_of (joined front.entry.now)) }
-        ensures light { IfSome result (λ bag. weight (joined front.entry.now) ≤ room * length front.entry.now) }
-    { from_parts(rt, threads - half, alloc, room, front) };
-    let (others, own) = thread::join(rt, later, sooner);
-    behind(own?, others?)
+    Some(all)
 }
 
 /// The bag of the records of these parts, by one thread.
@@ -103,9 +115,7 @@ fn parts_alone(alloc: Global, room: u64, parts: &[Records]) -> Option<Bag>
     let mut all = Bag::new(alloc);
     for records in parts {
         let bag = part_alone(alloc, room, records)?;
-        let Ok(()) = all.take_in(bag) else {
-            return None;
-        };
+        all.take_in(bag).ok()?;
     }
     Some(all)
 }

@@ -3,7 +3,7 @@ use Rattle.wh_row.specs.Weigh.{Counted}
 use Rattle.wh_row.specs.Bag.{bag_of, sum_of}
 use Rattle.wh_row.specs.Records.{joined}
 use Rattle.wh_row.specs.Inner.Parts.{weight}
-use Rattle.wh_row.proofs.PartLaws.{both_parts, joined-next, light-next}
+use Rattle.wh_row.proofs.PartLaws.{told, both_parts, joined-next, light-next}
 use Rattle.wh_row.proofs.parts.parts_alone.Goals as goal
 
 pub loop-records-preserved : goal.loop-records-preserved
@@ -15,7 +15,7 @@ loop-records-preserved c =
     let front = joined (take i parts) in
     let is : item ≡ get_or parts i item = c.records-item.is in
     record {
-      bag = c.in-Ok.ensures.ok
+      bag = told c.take_in.result c.in_ok-ok.field-0 c.in_ok-ok.ensures.value c.take_in.ensures.ok
           ∙ (λ k. sum_of (c.loop-records.invariant.bag k) (c.in_ok-bag.ensures.bag k))
           ∙ both_parts front item
           ∙ ap (λ (es : Counted). bag_of (front ++ es)) is
