@@ -100,7 +100,8 @@ pub fn read_plan(alloc: Global, names: &Names, text: &[u8]) -> Result<Plan, Load
     ensures memory { result ≡ Err LoadFault.Memory → text.now ≢ [] }
 {
     let said = read_lines(alloc, &PlanLines { names }, text)?;
-    Ok(plan_from(alloc, said.into_lines())?)
+    let plan = plan_from(alloc, said.into_lines())?;
+    Ok(plan)
 }
 
 /// Appends the line of a pair, without its LF.

@@ -166,5 +166,6 @@ pub fn read_schedule(alloc: Global, names: &Names, text: &[u8]) -> Result<Schedu
     ensures memory { result ≡ Err LoadFault.Memory → text.now ≢ [] }
 {
     let said = read_lines(alloc, &ScheduleLines { names }, text)?;
-    Ok(schedule_from(alloc, said.into_lines())?)
+    let schedule = schedule_from(alloc, said.into_lines())?;
+    Ok(schedule)
 }
