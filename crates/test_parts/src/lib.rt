@@ -17,4 +17,6 @@ mod plans;
 #[cfg(test)]
 mod record_parts;
 #[cfg(test)]
+mod threads;
+#[cfg(test)]
 mod versions;
