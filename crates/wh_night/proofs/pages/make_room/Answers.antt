@@ -11,7 +11,7 @@ use Rattle.wh_night.proofs.pages.make_room.Goals as goal
 pub returns-in_err-publish_page-clause-err : goal.returns-in_err-publish_page-clause-err
 returns-in_err-publish_page-clause-err g c =
     let e = plain_length c.args.page.now.items in
-    let full = c.if-len-keys.true in
+    let full = c.if-len-pages.true in
     on_err _ c.from_residual.result (λ rest.
     subst (λ pages. IsPartly (g.P.Publish.kept c.args.writer.now) (map (Writes c.args.view) pages) (g.P.Publish.kept c.publish_page.new.writer))
     (full_page c.args.pages.now.keys (plain c.args.page.now.items) rest c.requires.some (omega arith)) (c.in_err-publish_page.ensures.err (map (Writes c.args.view) (pages_of c.args.pages.now.keys rest))))
