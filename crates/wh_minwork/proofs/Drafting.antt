@@ -8,13 +8,12 @@ use Rattle.wh_dag.specs.Shape.{has, children_of, IsShape}
 use Rattle.wh_dag.specs.Siblings.{IsCouple}
 use Rattle.wh_strategy.proofs.Found.{has_within}
 use Rattle.wh_cert.specs.Graph.{decides, DecidesAll}
-use Rattle.wh_cert.proofs.Tables.{has_more, couples_more}
+use Rattle.wh_cert.proofs.Tables.{has_more}
 use Rattle.wh_minwork.specs.Decided.{AreDecisions}
 use Rattle.wh_minwork.specs.Draft.{completed, leaves_open, DecidesCouples}
 use Rattle.wh_minwork.specs.Inner.Draft.{AreDraftSets, DecidesOneWay}
 use Rattle.wh_minwork.specs.Inner.Sets.{in_rows}
-use Rattle.wh_minwork.proofs.Counting.{get_some, get_value}
-use Rattle.wh_minwork.proofs.Decisions.{decides_push, decides_new, decides_was, decides_at}
+use Rattle.wh_minwork.proofs.Decisions.{decides_push, decides_new, decides_was}
 use Rattle.wh_minwork.proofs.Ordering.{couple_within}
 
 -- ---- rows that are filled

@@ -7,7 +7,7 @@ use Rattle.wh_cert.specs.Graph.{decides, DecidesAll}
 use Rattle.wh_minwork.specs.Decided.{AreDecisions}
 use Rattle.wh_minwork.specs.Inner.Draft.{AreDraftSets}
 use Rattle.wh_minwork.specs.Inner.Left.{AreEdges, AreNodesLeft, ArePlaced, AreTurned, IsRound, is_left, is_node_by, leads_by}
-use Rattle.wh_minwork.specs.Inner.Nodes.{expression_of, is_node, leads, one_if, times}
+use Rattle.wh_minwork.specs.Inner.Nodes.{expression_of, is_node, leads, one_if}
 use Rattle.wh_minwork.specs.Inner.Sets.{in_set, in_rows}
 use Rattle.wh_minwork.specs.Sorted.{IsSorted}
 use Rattle.wh_minwork.specs.declared.node.Node.{Node}

@@ -1,5 +1,5 @@
 -- The first couple along a cycle that is not decided.
-use Rattle.std.proofs.Common.{◌≡◌, ◌≢◌, ℕ, ◌<◌, ◌≤◌, ◌⊎◌, List, true, false, not, ◌&&◌, ◌||◌, sym, ap, ◌∙◌, subst, ⊎_elim, arith}
+use Rattle.std.proofs.Common.{◌≡◌, ◌≢◌, ℕ, ◌<◌, ◌⊎◌, List, true, false, not, ◌&&◌, ◌||◌, sym, ap, ◌∙◌, subst, ⊎_elim}
 use Rattle.std.proofs.lemmas.Bool.{lt-ltb, and_parts, and_from, or_left, or_right, or_cases, both_ways, false≢true, false_from_ne_true}
 use Rattle.wh_dag.specs.Shape.{IsShape}
 use Rattle.wh_dag.specs.Siblings.{have_parent, IsCouple}

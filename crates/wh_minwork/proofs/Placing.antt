@@ -1,12 +1,10 @@
 -- A list of all nodes, each after those that lead to it, is sorted.
-use Rattle.std.proofs.Common.{◌≡◌, ℕ, zero, suc, ◌+◌, ◌<◌, ◌≤◌, List, [], ◌∷◌, ◌++◌, true, false, sym, ◌∙◌, subst, length, map, get_or, slice_get, Some, ⊎_elim, arith}
-use Rattle.std.specs.List.{list_any, remove, All}
-use Rattle.std.proofs.lemmas.Option.{none-some}
-use Rattle.std.proofs.lemmas.Bool.{cases_eq, both_ways, true_from_ne_false}
+use Rattle.std.proofs.Common.{◌≡◌, ℕ, ◌<◌, ◌≤◌, List, true, sym, ◌∙◌, subst, map, slice_get, Some, arith}
+use Rattle.std.proofs.lemmas.Bool.{true_from_ne_false}
 use Rattle.wh_cert.specs.Graph.{IsNode, HasEdge}
 use Rattle.wh_minwork.specs.Sorted.{IsSorted}
 use Rattle.wh_minwork.specs.Inner.Nodes.{one_if, expression_of, is_node, leads, times}
-use Rattle.wh_minwork.proofs.Counting.{is_one, is_none, at_most_one, times_push, times_remove, times_get, found, twice, not_any, get_within, get_left, get_pushed, get_mapped, get_map, get_value}
+use Rattle.wh_minwork.proofs.Counting.{is_one, is_none, at_most_one, times_get, found, twice, get_mapped, get_map}
 use Rattle.wh_minwork.proofs.Edges.{expression_same, node_of, node_is, edge_leads}
 use Rattle.wh_minwork.specs.declared.node.Node.{Node}
 

@@ -14,7 +14,6 @@ use Rattle.wh_row.specs.Weigh.{Counted}
 use Rattle.wh_store.specs.Operations.{Writes, operation}
 use Rattle.wh_carry.specs.NightList.{pages_of}
 use Rattle.wh_carry.specs.declared.stages.Stage.{Stage}
-use Rattle.wh_carry.specs.declared.stages.Stage.TheVariants as stage
 use Rattle.wh_carry.specs.declared.course.Course.{Course}
 use Rattle.wh_carry.specs.Course.{AreParts, HasRefusal}
 use Rattle.wh_carry.specs.Legs.{Leg, legs_after}

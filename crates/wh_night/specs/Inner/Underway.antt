@@ -5,7 +5,7 @@ use Rattle.wh_dag.specs.Catalog.{CatalogOf}
 use Rattle.wh_strategy.specs.declared.expression.Expression.{Expression}
 use Rattle.wh_strategy.specs.declared.expression.Expression.TheVariants.{Inst}
 use Rattle.wh_row.specs.Weigh.{Counted}
-use Rattle.wh_row.specs.Bag.{Bag, IsTable, count, sum_of, written}
+use Rattle.wh_row.specs.Bag.{Bag, IsTable, sum_of}
 use Rattle.wh_maint.specs.Definition.{graph_of}
 use Rattle.wh_maint.specs.declared.fault.MaintFault.{MaintFault}
 use Rattle.wh_maint.specs.declared.fault.MaintFault.TheVariants.{Memory}

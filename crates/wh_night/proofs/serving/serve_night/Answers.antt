@@ -1,4 +1,4 @@
-use Rattle.std.proofs.Common.{◌∙◌, List, [], ap, refl, subst, sym}
+use Rattle.std.proofs.Common.{◌∙◌, List, ap, refl, subst, sym}
 use Rattle.wh_row.specs.Bag.{Bag}
 use Rattle.wh_dag.specs.Catalog.{CatalogOf}
 use Rattle.wh_strategy.specs.Rules.{IsCorrect}
@@ -8,7 +8,6 @@ use Rattle.wh_maint.specs.Contents.{AreContentsOf}
 use Rattle.wh_maint.specs.Definition.{graph_of}
 use Rattle.wh_maint.specs.Laws.{changed}
 use Rattle.wh_store.specs.Kept.{AreTables}
-use Rattle.wh_store.specs.Windows.{Shows}
 use Rattle.wh_carry.specs.CarriedOut.{IsNightCarried}
 use Rattle.wh_night.specs.Inner.Serving.{newly}
 use Rattle.wh_night.proofs.Serves.{first_number, fit_are_tables, if_served}
