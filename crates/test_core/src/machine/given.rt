@@ -13,6 +13,7 @@ ghost use Rattle.wh_core.specs.Standing.{AreJudged, IsFresh, given_of, nights_of
 use std::alloc::Global;
 use std::process::Abort;
 use std::test::Fail;
+use std::thread::Threads;
 use test_given::catalogs::{Cell, Every, over_one};
 use test_given::shapes::shaped;
 use test_given::tables::bags;
@@ -23,6 +24,7 @@ use wh_headline::carry_out;
 use wh_maint::{are_bags, opening_contents};
 use wh_row::Bag;
 use wh_strategy::{Correct, Expression, Sources, Strategy, check};
+use wh_threads::ThreadBudget;
 
 /// The rows of each view with their counts.
 pub(crate) type Lists<'a> = &'a [&'a [(&'a [i64], i64)]];
@@ -111,6 +113,7 @@ fn are_tables(tables: &[Bag]) -> bool
 
 /// The contents of this base.
 fn contents_over(
+    rt: &(impl Threads + Sync),
     alloc: Global,
     catalog: &Catalog<Every, Cell>,
     base: Vec<Bag>,
@@ -121,7 +124,12 @@ fn contents_over(
     ensures contents { IfOk result (λ tables. AreContents (graph_of catalog.now) (bag_at tables.items)) }
 {
     let _shape = catalog.shape();
-    match opening_contents(alloc, catalog, base) {
+    let budget = ThreadBudget {
+        rt,
+        alloc,
+        threads: 2,
+    };
+    match opening_contents(&budget, catalog, base) {
         Ok(tables) => Ok(tables),
         Err(_) => Err(Fail::from("contents")),
     }
@@ -129,7 +137,7 @@ fn contents_over(
 
 /// The contents of this base, once it is found to be of tables.
 fn opened(
-    rt: &impl Abort,
+    rt: &(impl Abort + Threads + Sync),
     alloc: Global,
     catalog: &Catalog<Every, Cell>,
     base: Vec<Bag>,
@@ -139,7 +147,7 @@ fn opened(
 {
     assert!(rt; are_bags(catalog, &base));
     assert!(rt; are_tables(&base));
-    contents_over(alloc, catalog, base)
+    contents_over(rt, alloc, catalog, base)
 }
 
 /// A strategy that is correct over this catalogue's shape.
@@ -186,7 +194,7 @@ fn nights(
 
 /// A machine over the contents of this base that has done nothing yet: of a alone, or of a and v.
 pub(crate) fn machine(
-    rt: &impl Abort,
+    rt: &(impl Abort + Threads + Sync),
     alloc: Global,
     base: Lists<'_>,
     changes: &[Lists<'_>],
@@ -222,7 +230,7 @@ fn core_of(
 
 /// The replies to these events, by one call, over the contents of this base: of a alone, or of a and v.
 pub(crate) fn carried(
-    rt: &impl Abort,
+    rt: &(impl Abort + Threads + Sync),
     alloc: Global,
     base: Lists<'_>,
     changes: &[Lists<'_>],

@@ -7,6 +7,7 @@ use crate::machine::schedules::{Said, Schedule, assert_run, assert_said, assert_
 use std::alloc::Global;
 use std::process::Abort;
 use std::test::Fail;
+use std::thread::Threads;
 use test_given::catalogs::{Cell, Every};
 use wh_core::{Cause, Core, Event, MachineOptions};
 
@@ -14,7 +15,7 @@ static A_CHANGE_AND_NONE: [Lists<'static>; 2] = [&[&[(&[1], -1), (&[2], 1)], &[]
 
 /// a holds (1), and v is a copy of it. The first night brings -(1) +(2), the second nothing.
 fn two_nights(
-    rt: &impl Abort,
+    rt: &(impl Abort + Threads + Sync),
     alloc: Global,
     options: MachineOptions,
 ) -> Result<Core<Every, Cell>, Fail>
@@ -212,7 +213,7 @@ static ONE_KEY_A_PAGE: [(Event, Said); 13] = [
 ];
 
 /// a holds (1), (3), (5), and a night brings +(2) -(3) +(4).
-fn one_night(rt: &impl Abort, alloc: Global) -> Result<Core<Every, Cell>, Fail>
+fn one_night(rt: &(impl Abort + Threads + Sync), alloc: Global) -> Result<Core<Every, Cell>, Fail>
     ensures { IfOk result (λ core. IsFresh core) }
 {
     let options = MachineOptions {
