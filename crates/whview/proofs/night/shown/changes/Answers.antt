@@ -8,12 +8,12 @@ use Rattle.whview.proofs.DerivedBags.{all_below, at_place, from_place, item_at, 
 use Rattle.whview.proofs.night.shown.changes.Goals as goal
 
 pub change_of-requires-clause-new : goal.change_of-requires-clause-new
-change_of-requires-clause-new g c =
+change_of-requires-clause-new g c κs within =
     subst IsTable (sym (item_at c.args.new.now c.loop-place.place c.index-new-place.result (omega (arith, c.loop-place-test.true, c.requires.each_new)) c.index-new-place.is))
     (c.requires.new c.loop-place.place)
 
 pub change_of-requires-clause-old : goal.change_of-requires-clause-old
-change_of-requires-clause-old g c =
+change_of-requires-clause-old g c κs within =
     let views = c.args.views.now in
     let place = c.loop-place.place in
     let view = slice_get_read views (length views) place c.index-views-place.result refl c.loop-place-test.true c.index-views-place.is in
