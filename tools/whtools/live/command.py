@@ -26,7 +26,7 @@ def live_script(catalogue, words):
     schema = words.schema or SCHEMA
     if words.engine == "sqlite":
         return LiveScript(catalogue, LiveSQLite(is_timed=words.dry), f"{schema}_")
-    return SwiftScript(catalogue, LivePostgreSQL(schema))
+    return SwiftScript(catalogue, LivePostgreSQL(schema, words.role))
 
 
 def asked(words, dialect):
@@ -117,6 +117,8 @@ def night(words, script):
 
 def written(words):
     """The text that is asked for."""
+    if words.role and (words.engine, words.capture) != ("postgresql", True):
+        raise Unfit("--role goes with --capture and --engine postgresql")
     if words.catalogue:
         return proposed(words)
     catalogue = read(words.path)

@@ -7,6 +7,7 @@ from pathlib import Path
 from typing import NamedTuple
 
 from whtools.live.turned import DIGITS, Told
+from whtools.sql.postgresql import PATH
 from whtools.sql.tokens import END_OF_STATEMENT, Unfit, joined, name, sql, text
 
 
@@ -16,13 +17,14 @@ HEIR = "it inherits from {parent}, through which its rows may change unnoticed: 
 
 
 class Table(NamedTuple):
-    """An ordinary or partitioned table: its columns, its keys without NULLs, the primary one first and then the narrowest, by names, and why
-    it cannot be captured, or None."""
+    """An ordinary or partitioned table: its columns, its keys without NULLs, the primary one first and then the narrowest, by names, why it cannot
+    be captured, or None, and whether it is partitioned."""
 
     name: str
     columns: list
     keys: list
     unfit: str | None = None
+    is_parted: bool = False
 
 
 class PostgreSQLAsked:
@@ -39,7 +41,7 @@ class PostgreSQLAsked:
 
     def run(self, lines):
         """What statements print."""
-        given = "\n".join([*self.dialect.head, "SET client_min_messages = warning;", *self.dialect.written(lines), ""])
+        given = "\n".join([*self.dialect.head, "SET client_min_messages = warning;", f"SET search_path = {PATH};", *self.dialect.written(lines), ""])
         try:
             ran = subprocess.run(self.command(), input=given.encode(), capture_output=True, check=False)
         except OSError as fault:
@@ -69,10 +71,11 @@ class PostgreSQLAsked:
         )  # fmt: skip
         columns, keys = self.rows(self.columns_query(of), self.keys_query(of))
         found = {}
-        for table, parent, column, shown, type_name, modifier, *others in columns:
+        for table, parent, is_parted, column, shown, type_name, modifier, *others in columns:
             digits = (modifier - 4) >> 16 & 0xFFFF if modifier >= 4 else None
             places = modifier - 4 & 0x7FF if modifier >= 4 else None
-            found.setdefault(table, Table(table, [], [], parent and HEIR.format(parent=parent))).columns.append(Told(column, shown, type_name, digits, places, *others))
+            own = found.setdefault(table, Table(table, [], [], parent and HEIR.format(parent=parent), is_parted))
+            own.columns.append(Told(column, shown, type_name, digits, places, *others, modifier))
         for table, key in keys:
             found[table].keys.append(key)
         return found
@@ -83,8 +86,7 @@ class PostgreSQLAsked:
             "SELECT json_build_array(c.relname, pg_get_viewdef(c.oid)) FROM pg_class AS c JOIN pg_namespace AS s ON s.oid = c.relnamespace"
             " WHERE s.nspname = {schema} AND c.relkind IN ({kinds}) ORDER BY c.relname", schema=text(schema), kinds=joined([text("v"), text("m")]),
         )  # fmt: skip
-        nowhere = sql("SET search_path = pg_catalog{end}", end=END_OF_STATEMENT)
-        return dict(self.rows(query, before=[nowhere])[0])
+        return dict(self.rows(query)[0])
 
     def columns_query(self, of):
         """Each column by its base type: an enumeration's is told as such, unless a domain hides whether its values are renamed."""
@@ -93,13 +95,14 @@ class PostgreSQLAsked:
             " NOT a.attnotnull FROM pg_attribute AS a WHERE a.attnum > 0 AND NOT a.attisdropped AND a.attrelid IN (SELECT c.oid FROM {of})"
             " UNION ALL SELECT b.relation, b.place, t.typbasetype, CASE WHEN b.modifier = -1 THEN t.typtypmod ELSE b.modifier END,"
             " b.nothing AND NOT t.typnotnull FROM b JOIN pg_type AS t ON t.oid = b.type AND t.typtype = {domain})"
-            " SELECT json_build_array(c.relname, (SELECT min(i.inhparent::regclass::text) FROM pg_inherits AS i WHERE i.inhrelid = c.oid), a.attname, format_type(a.atttypid, a.atttypmod),"
-            " CASE WHEN t.typtype = {of_enum} AND t.oid = a.atttypid THEN {enum} WHEN n.nspname <> {own} THEN {other} ELSE t.typname END, b.modifier, b.nothing,"
-            " EXISTS (SELECT 1 FROM pg_collation AS l WHERE l.oid = a.attcollation AND NOT l.collisdeterministic))"
+            " SELECT json_build_array(c.relname, (SELECT min(i.inhparent::regclass::text) FROM pg_inherits AS i WHERE i.inhrelid = c.oid), c.relkind = {parted},"
+            " a.attname, format_type(a.atttypid, a.atttypmod), CASE WHEN t.typtype = {of_enum} AND t.oid = a.atttypid THEN {enum} WHEN n.nspname <> {own} THEN {other} ELSE t.typname END, b.modifier, b.nothing,"
+            " EXISTS (SELECT 1 FROM pg_collation AS l WHERE l.oid = a.attcollation AND NOT l.collisdeterministic), t.oid::bigint, t.oid <> a.atttypid)"
             " FROM b JOIN pg_type AS t ON t.oid = b.type JOIN pg_namespace AS n ON n.oid = t.typnamespace"
             " JOIN pg_attribute AS a ON a.attrelid = b.relation AND a.attnum = b.place JOIN pg_class AS c ON c.oid = b.relation"
             " WHERE t.typtype <> {domain} ORDER BY c.relname, a.attnum",
             of=of, domain=text("d"), of_enum=text("e"), enum=text("enum"), own=text("pg_catalog"), other=text(""),
+            parted=text("p"),
         )  # fmt: skip
 
     def keys_query(self, of):

@@ -18,7 +18,8 @@ TOO_WIDE = "whose values need not fit 64 bits: make it numeric(p,s) with p up to
 
 class Told(NamedTuple):
     """What a database says of a column: its name, its type in words and by its bare name, its digits and places, whether it may be NULL, and
-    whether its collation takes unequal texts for equal ones."""
+    whether its collation takes unequal texts for equal ones. PostgreSQL tells the number of its type below all domains, too, whether there is a
+    domain, and what modifies the type."""
 
     name: str
     shown: str
@@ -27,16 +28,21 @@ class Told(NamedTuple):
     places: int | None
     may_be_null: bool
     is_folded: bool = False
+    number: int | None = None
+    is_domain: bool = False
+    modifier: int = -1
 
 
 class Turned(NamedTuple):
-    """How a column is turned: into which kind, from the cell of a row r, whether it may be NULL, and whether unequal values stay unequal."""
+    """How a column is turned: into which kind, from the cell of a row r, whether it may be NULL, and whether unequal values stay unequal; in
+    PostgreSQL also a test of whether a row a of the server's attributes is this column, and still of the type that is turned so."""
 
     name: str
     kind: str
     said: Sql
     may_be_null: bool
     is_apart: bool
+    fits: Sql | None = None
 
 
 class Unturned(NamedTuple):
@@ -94,8 +100,38 @@ NUMBERS = {
 TEXTS = ("text", "varchar", "bpchar", "uuid", "name", "enum")
 
 
+# A domain down to the type below it, whether its values may be NULL, and what modifies the type.
+DOMAIN = (
+    "EXISTS (WITH RECURSIVE d (type, modifier, nothing) AS (SELECT a.atttypid, a.atttypmod, NOT a.attnotnull UNION ALL SELECT y.typbasetype,"
+    " CASE WHEN d.modifier = -1 THEN y.typtypmod ELSE d.modifier END, d.nothing AND NOT y.typnotnull FROM d JOIN pg_type AS y ON y.oid = d.type"
+    " AND y.typtype = {domain}) SELECT 1 FROM d WHERE d.type = {number} AND {modified} AND {filled})"
+)
+
+
+def fits(told):
+    """A test of whether a row a of the server's attributes is this column, of the type that is turned. Types are told by their numbers, which only the
+    server's own have: whoever owns a table may give a column a type of his own, and with it a cast that would be called in the place of the
+    server's. An enumeration's values are written by the server itself, whoever has made it."""
+    of = "d" if told.is_domain else "a"
+    is_numeric, kind = told.type == "numeric", {"d": ("type", "modifier", "nothing"), "a": ("atttypid", "atttypmod", "")}[of]
+    filled = sql("TRUE") if told.may_be_null else sql("NOT d.nothing") if told.is_domain else sql("a.attnotnull")
+    modified = sql(f"{of}.{kind[1]} = {{modifier}}", modifier=number(told.modifier)) if is_numeric else sql("TRUE")
+    parts = {"column": text(told.name), "number": number(told.number), "modified": modified, "filled": filled}
+    if told.is_domain:
+        return sql("a.attname = {column} AND " + DOMAIN, domain=text("d"), **parts)
+    if told.type == "enum":
+        return sql("a.attname = {column} AND {filled} AND EXISTS (SELECT 1 FROM pg_type AS y WHERE y.oid = a.atttypid AND y.typtype = {enum})",
+                   enum=text("e"), **parts)  # fmt: skip
+    return sql("a.attname = {column} AND a.atttypid = {number} AND {modified} AND {filled}", **parts)
+
+
 def of_postgresql(told):
     """How PostgreSQL turns a column, or why it does not."""
+    found = how_of_postgresql(told)
+    return found if isinstance(found, Unturned) or told.number is None else found._replace(fits=fits(told))
+
+
+def how_of_postgresql(told):
     found = NUMBERS.get(told.type)
     if told.type == "numeric":
         most = MOST_DIGITS["postgresql"]
@@ -105,7 +141,8 @@ def of_postgresql(told):
     if told.type in TEXTS:
         if told.is_folded:
             return refused(told, FOLDED)
-        return turned(told, "text", sql("{cell}::text", cell=cell(told)), sql("{said}::text", said=text(NULL["text"])))
+        said = "textin(enum_out({cell}))" if told.type == "enum" else "{cell}::text"
+        return turned(told, "text", sql(said, cell=cell(told)), sql("{said}::text", said=text(NULL["text"])))
     if found is None:
         return refused(told, NEITHER)
     return turned(told, "int", found(cell(told)), whole(NULL["int"]), found is not SECONDS)

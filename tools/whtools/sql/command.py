@@ -32,6 +32,7 @@ def asked(about):
     words.add_argument("--inst-cost")
     words.add_argument("--comp-cost")
     words.add_argument("--schema")
+    words.add_argument("--role")
     words.add_argument("--plain", default="")
     words.add_argument("--counted", default="")
     words.add_argument("--shard", action="append", default=[])
@@ -92,8 +93,8 @@ def written(words):
         if words.engine == "clickhouse":
             raise Unfit(f"{', '.join(f'--{name}' for name in LIVE)} go with --engine postgresql or sqlite")
         return live.written(words)
-    if words.database or words.source or words.measured:
-        raise Unfit(f"--database, --from and --measured go with {', '.join(f'--{name}' for name in LIVE)}")
+    if words.database or words.source or words.measured or words.role:
+        raise Unfit(f"--database, --from, --role and --measured go with {', '.join(f'--{name}' for name in LIVE)}")
     catalogue = read(words.path)
     script, comments = script_of(catalogue, words), Comments(catalogue)
     dialect = script.dialect
