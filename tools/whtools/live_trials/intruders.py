@@ -148,3 +148,8 @@ def supers(live):
     wrong += before.differences(live.database.state())
     told = written("--live", "--role", ROLE, live.path).told
     return wrong + ([] if "--role goes with --capture" in told else [f"--live --role is told {told!r}"])
+
+
+def mistakes(live):
+    """All of these."""
+    return [f"{live.engine}: {text}"[:900] for tried in (cast_mistakes, forged_mistakes, role_mistakes) for text in tried(live)]
