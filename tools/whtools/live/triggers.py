@@ -33,7 +33,17 @@ MERGING = (
     " ELSE NOT starts_with(finding, {copy}) END)"
 )
 BY_ROWS = "current_setting(concat({way}, pg_trigger_depth() - {depth}), TRUE) = {rows}"
+# Whether a table cannot be read without that functions are called that are no superuser's, by a superuser: PostgreSQL works out what is constant in the
+# conditions of indexes and checks of a table whenever it plans a query of it.
+CALLS = (
+    "(EXISTS (SELECT 1 FROM pg_roles AS u WHERE u.rolname = current_user AND u.rolsuper) AND EXISTS (SELECT 1 FROM (SELECT o.classid, o.objid FROM pg_depend AS o"
+    " WHERE o.refclassid = {classes}::regclass AND o.refobjid = {relation} AND o.classid IN ({classes}::regclass, {constraints}::regclass, {statistics}::regclass)"
+    " UNION ALL SELECT {classes}::regclass, {relation}) AS o JOIN pg_depend AS f ON f.classid = o.classid AND f.objid = o.objid LEFT JOIN pg_operator AS x"
+    " ON f.refclassid = {operators}::regclass AND x.oid = f.refobjid JOIN pg_proc AS p ON p.oid = CASE f.refclassid WHEN {functions}::regclass THEN f.refobjid"
+    " ELSE x.oprcode::oid END JOIN pg_roles AS r ON r.oid = p.proowner WHERE NOT r.rolsuper))"
+)
 WHY = {
+    "calls": "it was truncated, and its indexes or checks call a function that is no superuser's",
     "unlike": "rows were written while its columns were not as they were captured",
     "isolation": "it was truncated at another isolation than READ COMMITTED, which does not see all rows that go",
     "hidden": "it was truncated, and its rows are hidden from whoever owns the function of its triggers",
@@ -154,11 +164,15 @@ class Triggers:
         return sql(
             "\n    IF current_setting({isolation}) <> {wanted} THEN {alone}{end}\n    ELSIF row_security_active(TG_RELID) OR NOT"
             " has_table_privilege(TG_RELID, {select}) OR NOT has_schema_privilege((SELECT k.relnamespace FROM pg_class AS k WHERE k.oid = TG_RELID), {usage})"
-            " THEN {hidden}{end}\n    ELSE EXECUTE concat({before}, TG_RELID::regclass, {after}){end}\n    END IF{end}",
+            " THEN {hidden}{end}\n    ELSIF {calls} THEN {called}{end}\n    ELSE EXECUTE concat({before}, TG_RELID::regclass, {after}){end}\n    END IF{end}",
             isolation=text("transaction_isolation"), wanted=text("read committed"), alone=self.torn(v, "isolation"), select=text("SELECT"),
-            usage=text("USAGE"), hidden=self.torn(v, "hidden"), before=text(self.dialect.written([before])[0] + " "),
+            usage=text("USAGE"), hidden=self.torn(v, "hidden"), calls=self.calls(word("TG_RELID")), called=self.torn(v, "calls"), before=text(self.dialect.written([before])[0] + " "),
             after=text(" " + self.dialect.written([after])[0]), end=END_OF_STATEMENT,
         )  # fmt: skip
+
+    def calls(self, relation):
+        classes = {"classes": "class", "constraints": "constraint", "statistics": "statistic_ext", "operators": "operator", "functions": "proc"}
+        return sql(CALLS, relation=relation, **{said: text(f"pg_{each}") for said, each in classes.items()})
 
     def insert(self, v):
         return sql("INSERT INTO {changes} ({columns})", changes=self.script.table(v, "~changes"), columns=joined([*self.script.users(v), COUNT]))

@@ -41,7 +41,7 @@ def cast_mistakes(live):
                             " TRUNCATE lines;" + f"INSERT INTO lines VALUES {value};" + ENDS)  # fmt: skip
         told = [live.database.run(script), live.night()]
         wrong += caught(live, f"a cast to {kind}") + [f"with a column of another type was told {each!r}" for each in told if "lines" not in (each or "")]
-    return [f"what is the seller's: {text}" for text in wrong + of_colour(live) + viewed(live)]
+    return [f"what is the seller's: {text}" for text in wrong + of_colour(live) + viewed(live) + indexed(live)]
 
 
 def of_colour(live):
@@ -62,6 +62,29 @@ def viewed(live):
     live.database.asked(VIEWED + ENDS)
     told = live.database.run(script)
     return wrong + caught(live, "a view in the table's place") + ([] if told else ["a view in the table's place was captured"])
+
+
+INDEXED = (
+    "SET ROLE seller; CREATE FUNCTION notes() RETURNS int LANGUAGE plpgsql AS $f$ BEGIN INSERT INTO public.caught VALUES ('index', current_user); RETURN 1; END $f$;"
+    " CREATE FUNCTION one(int) RETURNS int IMMUTABLE LANGUAGE plpgsql AS $f$ BEGIN RETURN public.notes(); END $f$;"
+    " CREATE OPERATOR === (LEFTARG = int, RIGHTARG = int, FUNCTION = {operate}); CREATE INDEX ON lines (id) WHERE {condition};"
+)
+CONDITIONS = (("int4eq", "one(1) = 1"), ("is_it", "1 === 1"))
+IS_IT = "CREATE FUNCTION is_it(int, int) RETURNS boolean IMMUTABLE LANGUAGE plpgsql AS $f$ BEGIN RETURN public.notes() = 1; END $f$; ALTER FUNCTION is_it OWNER TO seller;"
+
+
+def indexed(live):
+    """An index whose condition calls a function of the seller's when the table is read."""
+    wrong = []
+    for operate, condition in CONDITIONS:
+        wrong += live.fresh(OWNED + IS_IT)
+        live.database.asked(INDEXED.format(operate=operate, condition=condition) + "TRUNCATE lines; INSERT INTO lines VALUES (3, 'product 3', 3);" + ENDS)
+        told = [live.night(), live.capture()]
+        wrong += caught(live, "the condition of an index") + [f"an index that calls is told {each!r}" for each in told if "no superuser's" not in (each or "")]
+        told = live.database.run(live.words("--capture", "--role", ROLE)) or live.night()
+        wrong += [each for each in caught(live, "the condition of an index") if f"by {ROLE}" not in each] + ([told] if told else [])
+        live.database.asked(GONE)
+    return wrong
 
 
 FORGED = (

@@ -75,7 +75,7 @@ def absent_mistakes(live):
 
 
 ON_VIEWS = (
-    "CREATE FUNCTION noted() RETURNS trigger LANGUAGE plpgsql AS $f$ BEGIN INSERT INTO book VALUES (TG_OP); RETURN NEW; END $f$;"
+    "CREATE FUNCTION noted() RETURNS trigger LANGUAGE plpgsql AS $f$ BEGIN INSERT INTO public.book VALUES (TG_OP); RETURN NEW; END $f$;"
     " CREATE TABLE book (told text); CREATE TRIGGER noted {when} UPDATE ON wh.daily FOR EACH ROW EXECUTE FUNCTION noted();"
 )
 
