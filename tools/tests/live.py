@@ -126,11 +126,11 @@ class Parsed(unittest.TestCase):
 class WordsOfADatabase(unittest.TestCase):
     def test_where_no_database_is_read_they_are_refused(self):
         for engine in "postgresql", "sqlite", "clickhouse":
-            for words in ["--database", "live"], ["--from", "there"], ["--measured"]:
+            for words in ["--database", "live"], ["--from", "there"], ["--measured"], ["--role", "keeper"]:
                 asked = [ROOT / "tools/sql", "--night", "--engine", engine, *words, ROOT / "examples/shop"]
                 ran = subprocess.run(asked, capture_output=True, text=True)
                 self.assertEqual((ran.returncode != 0, ran.stdout), (True, ""), words)
-                self.assertRegex(ran.stderr, "^tools/sql: --database, --from and --measured go with ")
+                self.assertRegex(ran.stderr, "^tools/sql: --database, --from, --role and --measured go with ")
 
 
 class KeysThatFollow(unittest.TestCase):
