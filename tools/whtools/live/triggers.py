@@ -30,7 +30,7 @@ JUDGED = (
 MERGING = (
     "(CASE WHEN finding = {none} THEN coalesce(strpos(lower(current_query()), {merge}) > 0 OR strpos(lower(current_query()), {execute}) > 0, TRUE)"
     " WHEN starts_with(finding, {statement}) THEN strpos(lower(finding), {merge}) > 0 OR strpos(lower(finding), {execute}) > 0"
-    " ELSE NOT starts_with(finding, {copy}) END)"
+    " ELSE TRUE END)"
 )
 BY_ROWS = "current_setting(concat({way}, pg_trigger_depth() - {depth}), TRUE) = {rows}"
 # Whether a table cannot be read without that functions are called that are no superuser's, by a superuser: PostgreSQL works out what is constant in the
@@ -83,7 +83,7 @@ class Triggers:
         ]
         if source.is_parted:
             each = sql("FOR EACH ROW WHEN ({test})", test=self.by_rows(0))
-            found.append(Event("way", "BEFORE INSERT OR UPDATE OR DELETE ON ", of_statement(), "way"))
+            found.append(Event("way", "BEFORE UPDATE ON ", of_statement(), "way"))
             found.append(Event("rows", "AFTER INSERT OR UPDATE OR DELETE ON ", each, "rows", True))
         return found
 
@@ -103,11 +103,8 @@ class Triggers:
             of_parts=self.of_parts(v, source), of_applied=self.of_applied(v), truncate=text("TRUNCATE"), truncated=self.truncated(v, source),
             of_statement=self.of_statement(v, source), end=END_OF_STATEMENT,
         )  # fmt: skip
-        made = sql(
-            "CREATE OR REPLACE FUNCTION {function}() RETURNS trigger LANGUAGE plpgsql SECURITY DEFINER SET search_path = " + PATH
-            + " SET row_security = off AS {program}",
-            function=self.function(v), program=body(program),
-        )  # fmt: skip
+        made = sql("CREATE OR REPLACE FUNCTION {function}() RETURNS trigger LANGUAGE plpgsql SECURITY DEFINER SET search_path = " + PATH + " AS {program}",
+                   function=self.function(v), program=body(program))  # fmt: skip
         return [made, sql("REVOKE ALL ON FUNCTION {function}() FROM PUBLIC", function=self.function(v))]
 
     def judged_by(self, v, source):
@@ -132,7 +129,7 @@ class Triggers:
         """Of a table in parts: how the rows of a command are noted, and rows one by one."""
         if not source.is_parted:
             return sql("")
-        texts = {"none": "", "merge": "merge", "execute": "execute", "statement": 'SQL statement "', "copy": "COPY ", "line": "\n", "rows": "rows", "said": "way"}
+        texts = {"none": "", "merge": "merge", "execute": "execute", "statement": 'SQL statement "', "line": "\n", "rows": "rows", "said": "way"}
         parts = {said: text(each) for said, each in texts.items()}
         return sql(
             "ELSIF TG_ARGV[0] = {said} THEN\n    GET DIAGNOSTICS finding = PG_CONTEXT{end}\n    finding := CASE WHEN strpos(finding, {line}) > 0 THEN"
