@@ -97,7 +97,7 @@ class PostgreSQLAsked:
             " b.nothing AND NOT t.typnotnull FROM b JOIN pg_type AS t ON t.oid = b.type AND t.typtype = {domain})"
             " SELECT json_build_array(c.relname, (SELECT min(i.inhparent::regclass::text) FROM pg_inherits AS i WHERE i.inhrelid = c.oid), c.relkind = {parted},"
             " a.attname, format_type(a.atttypid, a.atttypmod), CASE WHEN t.typtype = {of_enum} AND t.oid = a.atttypid THEN {enum} WHEN n.nspname <> {own} THEN {other} ELSE t.typname END, b.modifier, b.nothing,"
-            " EXISTS (SELECT 1 FROM pg_collation AS l WHERE l.oid = a.attcollation AND NOT l.collisdeterministic), t.oid::bigint, t.oid <> a.atttypid)"
+            " EXISTS (SELECT 1 FROM pg_collation AS l WHERE l.oid = a.attcollation AND NOT l.collisdeterministic), t.oid::bigint, a.atttypid::bigint)"
             " FROM b JOIN pg_type AS t ON t.oid = b.type JOIN pg_namespace AS n ON n.oid = t.typnamespace"
             " JOIN pg_attribute AS a ON a.attrelid = b.relation AND a.attnum = b.place JOIN pg_class AS c ON c.oid = b.relation"
             " WHERE t.typtype <> {domain} ORDER BY c.relname, a.attnum",

@@ -45,6 +45,7 @@ CALLS = (
 WHY = {
     "calls": "it was truncated, and its indexes or checks call a function that is no superuser's",
     "unlike": "rows were written while its columns were not as they were captured",
+    "early": "rows were written by a transaction that had begun before it was captured",
     "isolation": "it was truncated at another isolation than READ COMMITTED, which does not see all rows that go",
     "hidden": "it was truncated, and its rows are hidden from whoever owns the function of its triggers",
     "applied": "rows were written by logical replication, for which no statement is captured",
@@ -94,18 +95,31 @@ class Triggers:
     # ---- what a trigger does
 
     def captured_by(self, v, source):
-        """The function of a table's triggers, which nobody else may call."""
+        """The function of a table's triggers, which nobody else may call. Where a transaction is one snapshot, this may be from before what is now: then
+        each cell is turned only if it is of its type, and what fails marks the table as torn."""
+        sure = source._replace(columns=[column._replace(said=column.sure) for column in source.columns])
         program = sql(
             "\n#variable_conflict use_column\nDECLARE finding pg_catalog.text{end}\nBEGIN\n  finding := ({judged}){end}\n  {first}{end}\n"
-            "  IF finding = {unlike} THEN {torn}{end}\n  {of_parts}{of_applied}ELSIF TG_OP = {truncate} THEN {truncated}\n  {of_statement}\n  END IF{end}\n"
-            "  RETURN NULL{end}\nEND{end}",
-            judged=self.judged_by(v, source), first=self.part_unnoted(v), unlike=text("unlike"), torn=self.torn(v, "unlike"),
-            of_parts=self.of_parts(v, source), of_applied=self.of_applied(v), truncate=text("TRUNCATE"), truncated=self.truncated(v, source),
-            of_statement=self.of_statement(v, source), end=END_OF_STATEMENT,
+            "  IF finding = {unlike} THEN {torn}{end}\n  ELSIF {current} THEN{noted}\n  ELSE\n  BEGIN{surely}\n  EXCEPTION WHEN OTHERS THEN {torn}{end}\n"
+            "  END{end}\n  END IF{end}\n  RETURN NULL{end}\nEND{end}",
+            judged=self.judged_by(v, source), first=self.part_unnoted(v), unlike=text("unlike"), torn=self.torn(v, "unlike"), current=self.is_current(),
+            noted=self.noting(v, source), surely=self.noting(v, sure), end=END_OF_STATEMENT,
         )  # fmt: skip
         made = sql("CREATE OR REPLACE FUNCTION {function}() RETURNS trigger LANGUAGE plpgsql SECURITY DEFINER SET search_path = " + PATH + " AS {program}",
                    function=self.function(v), program=body(program))  # fmt: skip
         return [made, sql("REVOKE ALL ON FUNCTION {function}() FROM PUBLIC", function=self.function(v))]
+
+    def is_current(self):
+        """Whether each statement of a trigger sees what is there now."""
+        return sql("current_setting({isolation}) = {wanted}", isolation=text("transaction_isolation"), wanted=text("read committed"))
+
+    def noting(self, v, source):
+        """What is noted, by what a trigger was fired for."""
+        return sql(
+            "\n  IF TG_ARGV[0] = {applied} THEN {of_applied}\n  {of_parts}ELSIF TG_OP = {truncate} THEN {truncated}\n  {of_statement}\n  END IF{end}",
+            applied=text("applied"), of_applied=self.of_applied(v), of_parts=self.of_parts(v, source), truncate=text("TRUNCATE"),
+            truncated=self.truncated(v, source), of_statement=self.of_statement(v, source), end=END_OF_STATEMENT,
+        )  # fmt: skip
 
     def judged_by(self, v, source):
         fits = joined([sql("({fits})", fits=column.fits) for column in source.columns], "OR")
@@ -120,9 +134,9 @@ class Triggers:
         """What a trigger does first: for a table that is none of the source's nothing, and where a table has parts or heirs one that nobody noted is,
         so that it is missed also where it is gone before the next night, and with it rows that came through the table."""
         return self.query(
-            v, "IF finding = {strange} THEN RETURN NULL{end} ELSIF finding = {parent} THEN IF EXISTS (SELECT 1 FROM " + BELOW + " WHERE {unnoted})"
-            " THEN {made}{end} END IF{end} END IF", strange=text("strange"), parent=text("parent"), unnoted=self.unnoted(v), made=self.parts_noted(v),
-            end=END_OF_STATEMENT,
+            v, "IF finding = {strange} THEN IF NOT {current} THEN {early}{end} END IF{end} RETURN NULL{end} ELSIF finding = {parent} THEN IF EXISTS (SELECT 1 FROM "
+            + BELOW + " WHERE {unnoted}) THEN {made}{end} END IF{end} END IF", strange=text("strange"), current=self.is_current(), early=self.torn(v, "early"),
+            parent=text("parent"), unnoted=self.unnoted(v), made=self.parts_noted(v), end=END_OF_STATEMENT,
         )  # fmt: skip
 
     def of_parts(self, v, source):
@@ -152,17 +166,16 @@ class Triggers:
     def of_applied(self, v):
         """Rows that come in the role of a replica. What an SQL statement writes is noted by the triggers of statements; where there is no statement
         they are not fired, and the table is torn."""
-        return sql("ELSIF TG_ARGV[0] = {applied} THEN IF current_query() IS NULL THEN {torn}{end} END IF{end}\n  ", applied=text("applied"),
-                   torn=self.torn(v, "applied"), end=END_OF_STATEMENT)  # fmt: skip
+        return sql("IF current_query() IS NULL THEN {torn}{end} END IF{end}", torn=self.torn(v, "applied"), end=END_OF_STATEMENT)
 
     def truncated(self, v, source):
         """The rows of a table that is emptied, where all of them can be seen."""
         before, after = sql("{insert} SELECT {shown}, -1 FROM ONLY", insert=self.insert(v), shown=source.shown), sql("AS r")
         return sql(
-            "\n    IF current_setting({isolation}) <> {wanted} THEN {alone}{end}\n    ELSIF row_security_active(TG_RELID) OR NOT"
+            "\n    IF NOT {current} THEN {alone}{end}\n    ELSIF row_security_active(TG_RELID) OR NOT"
             " has_table_privilege(TG_RELID, {select}) OR NOT has_schema_privilege((SELECT k.relnamespace FROM pg_class AS k WHERE k.oid = TG_RELID), {usage})"
             " THEN {hidden}{end}\n    ELSIF {calls} THEN {called}{end}\n    ELSE EXECUTE concat({before}, TG_RELID::regclass, {after}){end}\n    END IF{end}",
-            isolation=text("transaction_isolation"), wanted=text("read committed"), alone=self.torn(v, "isolation"), select=text("SELECT"),
+            current=self.is_current(), alone=self.torn(v, "isolation"), select=text("SELECT"),
             usage=text("USAGE"), hidden=self.torn(v, "hidden"), calls=self.calls(word("TG_RELID")), called=self.torn(v, "calls"), before=text(self.dialect.written([before])[0] + " "),
             after=text(" " + self.dialect.written([after])[0]), end=END_OF_STATEMENT,
         )  # fmt: skip
@@ -175,14 +188,11 @@ class Triggers:
         return sql("INSERT INTO {changes} ({columns})", changes=self.script.table(v, "~changes"), columns=joined([*self.script.users(v), COUNT]))
 
     def of_statement(self, v, source):
-        """The rows of a statement. What an UPDATE leaves as it was, for the catalogue, is no change."""
+        """The rows of a statement. What an UPDATE leaves as it was leaves and comes: nights add it up, and writers do not wait for that."""
         insert = self.insert(v)
         come, gone = (sql("SELECT {shown}, {sign} FROM {rows} AS r", shown=source.shown, sign=number(sign), rows=word(rows))
                       for rows, sign in (("come", 1), ("gone", -1)))  # fmt: skip
-        both = sql(
-            "SELECT {cells}, sum(g.n) FROM ({gone} UNION ALL {come}) AS g ({cells}, n) GROUP BY {cells} HAVING sum(g.n) <> 0",
-            gone=gone, come=come, cells=joined(self.script.cells(v)),
-        )  # fmt: skip
+        both = sql("{gone} UNION ALL {come}", gone=gone, come=come)
         parts = {f"{said}_rows": sql("{insert} {rows}", insert=insert, rows=rows) for said, rows in (("insert", come), ("delete", gone), ("update", both))}
         words = {said.lower(): text(said) for said in ("INSERT", "DELETE", "UPDATE")}
         return sql("ELSIF TG_OP = {insert} THEN {insert_rows}{end}\n  ELSIF TG_OP = {delete} THEN {delete_rows}{end}\n"

@@ -18,8 +18,8 @@ TOO_WIDE = "whose values need not fit 64 bits: make it numeric(p,s) with p up to
 
 class Told(NamedTuple):
     """What a database says of a column: its name, its type in words and by its bare name, its digits and places, whether it may be NULL, and
-    whether its collation takes unequal texts for equal ones. PostgreSQL tells the number of its type below all domains, too, whether there is a
-    domain, and what modifies the type."""
+    whether its collation takes unequal texts for equal ones. PostgreSQL tells the number of its type below all domains, too, that of the domain, if
+    it is one, and what modifies the type."""
 
     name: str
     shown: str
@@ -29,13 +29,18 @@ class Told(NamedTuple):
     may_be_null: bool
     is_folded: bool = False
     number: int | None = None
-    is_domain: bool = False
+    own_number: int | None = None
     modifier: int = -1
+
+    @property
+    def is_domain(self):
+        return self.number != self.own_number
 
 
 class Turned(NamedTuple):
     """How a column is turned: into which kind, from the cell of a row r, whether it may be NULL, and whether unequal values stay unequal; in
-    PostgreSQL also a test of whether a row a of the server's attributes is this column, and still of the type that is turned so."""
+    PostgreSQL also a test of whether a row a of the server's attributes is this column, and still of the type that is turned so; and how it is turned
+    where it may be of another type by now, and then is nothing."""
 
     name: str
     kind: str
@@ -43,6 +48,7 @@ class Turned(NamedTuple):
     may_be_null: bool
     is_apart: bool
     fits: Sql | None = None
+    sure: Sql | None = None
 
 
 class Unturned(NamedTuple):
@@ -128,7 +134,10 @@ def fits(told):
 def of_postgresql(told):
     """How PostgreSQL turns a column, or why it does not."""
     found = how_of_postgresql(told)
-    return found if isinstance(found, Unturned) or told.number is None else found._replace(fits=fits(told))
+    if isinstance(found, Unturned) or told.number is None:
+        return found
+    sure = sql("CASE WHEN pg_typeof({cell}) = {own}::regtype THEN {said} END", cell=cell(told), own=text(str(told.own_number)), said=found.said)
+    return found._replace(fits=fits(told), sure=sure)
 
 
 def how_of_postgresql(told):

@@ -49,6 +49,55 @@ def rewritten_mistakes(live):
     return [f"a source that is written anew: {text}" for text in wrong]
 
 
+# What comes after the snapshot of a transaction that writes then, and what it writes.
+LATER = {
+    "ALTER TABLE lines RENAME pieces TO amount;": ("INSERT INTO lines VALUES (3, 'product 3', 3);", "ALTER TABLE lines RENAME amount TO pieces;"),
+    "ALTER TABLE lines ALTER pieces DROP NOT NULL;": ("INSERT INTO lines VALUES (3, 'product 3', NULL);", "UPDATE lines SET pieces = 1 WHERE pieces IS NULL;"),
+    "ALTER TABLE products ALTER price TYPE numeric;": ("UPDATE products SET price = 10::numeric ^ 30;", "UPDATE products SET price = 2; ALTER TABLE products ALTER price TYPE"
+                                                       " numeric(10,2);"),
+    "ALTER TABLE lines DROP COLUMN pieces;": ("INSERT INTO lines VALUES (3, 'product 3');", "ALTER TABLE lines ADD COLUMN pieces smallint NOT NULL DEFAULT 2;"),
+}  # fmt: skip
+ISOLATIONS = ("REPEATABLE READ", "SERIALIZABLE")
+
+
+def begun(live, isolation):
+    """A session whose transaction is a snapshot of now."""
+    found = Session(live.database.server, live.database.name)
+    found.asked(f"BEGIN ISOLATION LEVEL {isolation}; SELECT 1;")
+    return found
+
+
+def late_mistakes(live):
+    """Transactions by a snapshot from before a table was altered, or captured, that write afterwards: no writer fails, and no row is lost without a word."""
+    wrong = []
+    for (altered, (written_then, back)), isolation in zip(LATER.items(), ISOLATIONS * 2):
+        wrong += live.fresh()
+        session = begun(live, isolation)
+        live.database.asked(altered)
+        session.asked(f"{written_then} COMMIT;")
+        session.close()
+        told = live.night()
+        wrong += [] if "is not captured as it was" in (told or "") else [f"after {altered} the night was told {told!r}"]
+        live.database.asked(back)
+        told = live.capture() or live.night()
+        wrong += [told] if told else live.mistakes()
+    return [f"a transaction by an older snapshot: {text}" for text in wrong + early(live)]
+
+
+def early(live):
+    """A transaction that has begun before a table is captured at all."""
+    wrong = live.fresh() + [told for told in [live.database.run(live.words("--uncapture"))] if told]
+    session = begun(live, "REPEATABLE READ")
+    told = live.capture() or live.database.run(live.words("--live", "--open"))
+    session.asked("INSERT INTO lines VALUES (3, 'product 3', 3); DELETE FROM lines WHERE id = 5; COMMIT;")
+    session.close()
+    wrong += [told] if told else []
+    told = live.night()
+    wrong += [] if told is None and not live.mistakes() or "begun before it was captured" in (told or "") else [f"the night was told {told!r}, {live.mistakes()}"[:500]]
+    told = live.capture() or live.night()
+    return wrong + ([told] if told else live.mistakes())
+
+
 # ---- a catalogue that has less
 
 LESS = CATALOGUE.partition("[[view]]\nname = \"sales\"")[0].replace('"product:text", "pieces"]', '"product:text"]') + """
@@ -217,5 +266,5 @@ def subscribed_mistakes(live):
 
 def mistakes(live):
     """All of these."""
-    each_of = (rewritten_mistakes, left_out_mistakes, half_mistakes, published_mistakes, setting_mistakes, subscribed_mistakes)
+    each_of = (rewritten_mistakes, late_mistakes, left_out_mistakes, half_mistakes, published_mistakes, setting_mistakes, subscribed_mistakes)
     return [f"{live.engine}: {text}"[:900] for tried in each_of for text in tried(live)]

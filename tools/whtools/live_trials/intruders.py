@@ -1,6 +1,6 @@
 """Whoever owns or may write one captured table, or may see the schema of the nights: he gains nothing by it. And what the role of captures may."""
 
-from whtools.databases.engines import Broken
+from whtools.databases.engines import Broken, Session
 from whtools.databases.nights import written
 from whtools.live_trials.altered import COLOURS
 
@@ -41,7 +41,7 @@ def cast_mistakes(live):
                             " TRUNCATE lines;" + f"INSERT INTO lines VALUES {value};" + ENDS)  # fmt: skip
         told = [live.database.run(script), live.night()]
         wrong += caught(live, f"a cast to {kind}") + [f"with a column of another type was told {each!r}" for each in told if "lines" not in (each or "")]
-    return [f"what is the seller's: {text}" for text in wrong + of_colour(live) + viewed(live) + indexed(live)]
+    return [f"what is the seller's: {text}" for text in wrong + of_colour(live) + viewed(live) + of_before(live) + indexed(live)]
 
 
 def of_colour(live):
@@ -62,6 +62,20 @@ def viewed(live):
     live.database.asked(VIEWED + ENDS)
     told = live.database.run(script)
     return wrong + caught(live, "a view in the table's place") + ([] if told else ["a view in the table's place was captured"])
+
+
+def of_before(live):
+    """A type of the seller's that comes after the snapshot of a transaction of his, which then writes."""
+    wrong = live.fresh(OWNED)
+    stale = Session(live.database.server, live.database.name)
+    stale.asked("SET ROLE seller; BEGIN ISOLATION LEVEL REPEATABLE READ; SELECT 1;")
+    live.database.asked(MINE.format(kind="bigint", column="pieces") + ENDS)
+    try:
+        stale.asked("INSERT INTO lines VALUES (3, 'product 3', ROW(1)::mine); COMMIT;")
+    except Broken as told:
+        wrong.append(f"a writer by an older snapshot was told {str(told)[:300]}")
+    stale.close()
+    return wrong + caught(live, "a cast of a later type")
 
 
 INDEXED = (
