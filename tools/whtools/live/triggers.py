@@ -99,15 +99,38 @@ class Triggers:
         each cell is turned only if it is of its type, and what fails marks the table as torn."""
         sure = source._replace(columns=[column._replace(said=column.sure) for column in source.columns])
         program = sql(
-            "\n#variable_conflict use_column\nDECLARE finding pg_catalog.text{end}\nBEGIN\n  finding := ({judged}){end}\n  {first}{end}\n"
+            "\n#variable_conflict use_column\nDECLARE finding pg_catalog.text{end}\nBEGIN\n  {as_ever}finding := ({judged}){end}\n  {first}{end}\n"
             "  IF finding = {unlike} THEN {torn}{end}\n  ELSIF {current} THEN{noted}\n  ELSE\n  BEGIN{surely}\n  EXCEPTION WHEN OTHERS THEN {torn}{end}\n"
             "  END{end}\n  END IF{end}\n  RETURN NULL{end}\nEND{end}",
-            judged=self.judged_by(v, source), first=self.part_unnoted(v), unlike=text("unlike"), torn=self.torn(v, "unlike"), current=self.is_current(),
+            as_ever=self.as_ever(v, source), judged=self.judged_by(v, source), first=self.part_unnoted(v), unlike=text("unlike"), torn=self.torn(v, "unlike"), current=self.is_current(),
             noted=self.noting(v, source), surely=self.noting(v, sure), end=END_OF_STATEMENT,
         )  # fmt: skip
         made = sql("CREATE OR REPLACE FUNCTION {function}() RETURNS trigger LANGUAGE plpgsql SECURITY DEFINER SET search_path = " + PATH + " AS {program}",
                    function=self.function(v), program=body(program))  # fmt: skip
         return [made, sql("REVOKE ALL ON FUNCTION {function}() FROM PUBLIC", function=self.function(v))]
+
+    def as_ever(self, v, source):
+        """What nearly all statements need: where the table is called as it was, its columns too, and rows have the types that they had, they are noted
+        at once. None of this is asked of tables of the server's catalogue, which is slow, and by a snapshot that may be old. A table in parts, and
+        a domain, which may allow NULL by now, want a closer look."""
+        if source.is_parted or any(column.told.is_domain for column in source.columns):
+            return sql("")
+        known = [sql("pg_describe_object(1259, TG_RELID, {place}) = {described}", place=number(column.told.place), described=text(column.told.described))
+                 for column in source.columns]  # fmt: skip
+        filled = source._replace(columns=[column._replace(said=column.filled) for column in source.columns])
+        return sql(
+            "IF TG_NARGS = 0 AND TG_OP <> {truncate} AND {known} THEN\n  IF TG_OP = {delete} THEN finding := ({gone}){end} ELSE finding := ({come}){end} END IF{end}\n"
+            "  IF finding IS NULL THEN RETURN NULL{end} END IF{end}\n  IF finding = {types} THEN\n  {noted}\n  END IF{end}\n  RETURN NULL{end}\n  END IF{end}\n"
+            "  END IF{end}\n  ", truncate=text("TRUNCATE"), known=joined(known, "AND"), delete=text("DELETE"), gone=self.types_of(source, "gone"),
+            come=self.types_of(source, "come"), types=text(",".join(str(column.told.own_number) for column in source.columns)),
+            noted=sql("IF FALSE THEN NULL{end}\n  {noted}", noted=self.of_statement(v, filled), end=END_OF_STATEMENT), end=END_OF_STATEMENT,
+        )  # fmt: skip
+
+    def types_of(self, source, rows):
+        """The numbers of the types of a statement's rows, and whether others inherit from the table; NULL where there are no rows."""
+        types = joined([sql("pg_typeof(r.{column})::oid", column=name(column.name)) for column in source.columns])
+        return sql("SELECT concat_ws({comma}, {types}, CASE WHEN EXISTS (SELECT 1 FROM pg_inherits AS i WHERE i.inhparent = TG_RELID) THEN {parent} END)"
+                   " FROM {rows} AS r LIMIT 1", comma=text(","), types=types, parent=text("parent"), rows=word(rows))  # fmt: skip
 
     def is_current(self):
         """Whether each statement of a trigger sees what is there now."""

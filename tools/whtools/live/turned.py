@@ -19,7 +19,7 @@ TOO_WIDE = "whose values need not fit 64 bits: make it numeric(p,s) with p up to
 class Told(NamedTuple):
     """What a database says of a column: its name, its type in words and by its bare name, its digits and places, whether it may be NULL, and
     whether its collation takes unequal texts for equal ones. PostgreSQL tells the number of its type below all domains, too, that of the domain, if
-    it is one, and what modifies the type."""
+    it is one, its place, how the server describes it, and what modifies the type."""
 
     name: str
     shown: str
@@ -30,6 +30,8 @@ class Told(NamedTuple):
     is_folded: bool = False
     number: int | None = None
     own_number: int | None = None
+    place: int = 0
+    described: str = ""
     modifier: int = -1
 
     @property
@@ -39,8 +41,8 @@ class Told(NamedTuple):
 
 class Turned(NamedTuple):
     """How a column is turned: into which kind, from the cell of a row r, whether it may be NULL, and whether unequal values stay unequal; in
-    PostgreSQL also a test of whether a row a of the server's attributes is this column, and still of the type that is turned so; and how it is turned
-    where it may be of another type by now, and then is nothing."""
+    PostgreSQL also a test of whether a row a of the server's attributes is this column, and still of the type that is turned so; how it is turned
+    where it may be of another type by now, and then is nothing; the same where it may be NULL by now; and what the database says of it."""
 
     name: str
     kind: str
@@ -49,6 +51,8 @@ class Turned(NamedTuple):
     is_apart: bool
     fits: Sql | None = None
     sure: Sql | None = None
+    filled: Sql | None = None
+    told: Told | None = None
 
 
 class Unturned(NamedTuple):
@@ -90,10 +94,10 @@ def calendar(template):
     return lambda cell: sql(wanted, cell=cell, day=text("1970-01-01"), last=whole(LAST), first=whole(FIRST))
 
 
-def units(places):
-    """A numeric of so many places, which may be no number."""
-    wanted = "CASE WHEN {cell} = {nan}::numeric THEN {last} ELSE ({cell} * {unit}::numeric)::bigint END"
-    return lambda cell: sql(wanted, cell=cell, nan=text("NaN"), last=whole(LAST), unit=text(str(10**places)))
+def units(digits, places):
+    """A numeric of so many digits and places; what is none of them, as one of a wider column would be, comes after all others."""
+    wanted = ("CASE WHEN {cell} BETWEEN - {most}::numeric AND {most}::numeric THEN ({cell} * {unit}::numeric)::bigint WHEN {cell} IS NOT NULL THEN {last} END")
+    return lambda cell: sql(wanted, cell=cell, most=text(str(10 ** (digits - places))), last=whole(LAST), unit=text(str(10**places)))
 
 
 SECONDS = calendar("floor(extract(epoch FROM {cell}))::bigint")
@@ -137,7 +141,9 @@ def of_postgresql(told):
     if isinstance(found, Unturned) or told.number is None:
         return found
     sure = sql("CASE WHEN pg_typeof({cell}) = {own}::regtype THEN {said} END", cell=cell(told), own=text(str(told.own_number)), said=found.said)
-    return found._replace(fits=fits(told), sure=sure)
+    null = whole(NULL["int"]) if found.kind == "int" else sql("{said}::text", said=text(NULL["text"]))
+    filled = found.said if told.may_be_null else sql("coalesce({said}, {null})", said=found.said, null=null)
+    return found._replace(fits=fits(told), sure=sure, filled=filled, told=told)
 
 
 def how_of_postgresql(told):
@@ -146,7 +152,7 @@ def how_of_postgresql(told):
         most = MOST_DIGITS["postgresql"]
         if told.digits is None or not 0 <= told.places <= told.digits <= most:
             return refused(told, TOO_WIDE.format(most=most))
-        found = units(told.places)
+        found = units(told.digits, told.places)
     if told.type in TEXTS:
         if told.is_folded:
             return refused(told, FOLDED)

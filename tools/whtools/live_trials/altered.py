@@ -35,7 +35,7 @@ COLUMNS = {
     ),
     "a column that is NULL for a while": Case(
         "ALTER TABLE lines ALTER pieces DROP NOT NULL;" + WRITES.format(three="NULL") + "DELETE FROM lines WHERE pieces IS NULL; ALTER TABLE lines ALTER pieces"
-        " SET NOT NULL;", refused="while its columns were not as they were captured",
+        " SET NOT NULL;",
     ),
     "a column that is made wider": Case(
         "ALTER TABLE products ALTER price TYPE numeric(30,2); UPDATE products SET price = 1234567890123456789012345.5 WHERE product = 'product 3';"
