@@ -96,14 +96,15 @@ class PostgreSQLAsked:
             " UNION ALL SELECT b.relation, b.place, t.typbasetype, CASE WHEN b.modifier = -1 THEN t.typtypmod ELSE b.modifier END,"
             " b.nothing AND NOT t.typnotnull FROM b JOIN pg_type AS t ON t.oid = b.type AND t.typtype = {domain})"
             " SELECT json_build_array(c.relname, (SELECT min(i.inhparent::regclass::text) FROM pg_inherits AS i WHERE i.inhrelid = c.oid), c.relkind = {parted},"
-            " a.attname, format_type(a.atttypid, a.atttypmod), CASE WHEN t.typtype = {of_enum} AND t.oid = a.atttypid THEN {enum} WHEN n.nspname <> {own} THEN {other} ELSE t.typname END, b.modifier, b.nothing,"
+            " a.attname, format_type(a.atttypid, a.atttypmod), CASE WHEN t.typtype = {of_enum} AND t.oid = a.atttypid THEN {enum}"
+            " WHEN n.nspname <> {own} THEN {other} ELSE t.typname END, b.modifier, b.nothing,"
             " EXISTS (SELECT 1 FROM pg_collation AS l WHERE l.oid = a.attcollation AND NOT l.collisdeterministic), t.oid::bigint, a.atttypid::bigint,"
             " a.attnum, pg_describe_object({classes}::regclass, a.attrelid, a.attnum))"
             " FROM b JOIN pg_type AS t ON t.oid = b.type JOIN pg_namespace AS n ON n.oid = t.typnamespace"
             " JOIN pg_attribute AS a ON a.attrelid = b.relation AND a.attnum = b.place JOIN pg_class AS c ON c.oid = b.relation"
             " WHERE t.typtype <> {domain} ORDER BY c.relname, a.attnum",
-            of=of, domain=text("d"), of_enum=text("e"), enum=text("enum"), own=text("pg_catalog"), other=text(""),
-            parted=text("p"), classes=text("pg_class"),
+            of=of, domain=text("d"), of_enum=text("e"), enum=text("enum"), own=text("pg_catalog"), other=text(""), parted=text("p"),
+            classes=text("pg_class"),
         )  # fmt: skip
 
     def keys_query(self, of):

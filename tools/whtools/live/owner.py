@@ -50,12 +50,13 @@ class Owner:
         role, said = name(self.role), text(self.role)
         known = "SELECT 1 FROM pg_roles AS r WHERE r.rolname = {said}"
         is_missing = sql("to_regnamespace({schema}) IS NULL", schema=self.schema())
-        unfit = sql("SELECT format({told}, r.rolname) FROM pg_roles AS r WHERE r.rolname = {said} AND (r.rolsuper OR r.rolbypassrls)", told=text(SUPER), said=said)
+        unfit = sql("SELECT format({told}, r.rolname) FROM pg_roles AS r WHERE r.rolname = {said} AND (r.rolsuper OR r.rolbypassrls)",
+                    told=text(SUPER), said=said)  # fmt: skip
         create = sql("CREATE ROLE {role} NOLOGIN NOSUPERUSER NOCREATEDB NOCREATEROLE NOREPLICATION NOBYPASSRLS", role=role)
         owned = [
             sql("CREATE SCHEMA {schema} AUTHORIZATION {role}", schema=name(self.dialect.schema), role=role),
-            *self.given("SELECT format({alter}, n.nspname, {said}) FROM pg_namespace AS n WHERE n.oid = to_regnamespace({schema}) AND n.nspowner <> {number}",
-                        "ALTER SCHEMA %I OWNER TO %I"),
+            *self.given("SELECT format({alter}, n.nspname, {said}) FROM pg_namespace AS n WHERE n.oid = to_regnamespace({schema})"
+                        " AND n.nspowner <> {number}", "ALTER SCHEMA %I OWNER TO %I"),
             *self.given("SELECT format({alter}, k.oid::regclass, {said}) FROM pg_class AS k WHERE k.relnamespace = to_regnamespace({schema})"
                         " AND k.relname IN ({names}) AND k.relowner <> {number}", "ALTER TABLE %s OWNER TO %I", tables),
             *self.given("SELECT format({alter}, p.oid::regprocedure, {said}) FROM pg_proc AS p WHERE p.pronamespace = to_regnamespace({schema})"
@@ -71,15 +72,18 @@ class Owner:
     def given(self, query, alter, names=()):
         """What is somebody else's is given to the role."""
         number = sql("(SELECT r.oid FROM pg_roles AS r WHERE r.rolname = {said})", said=text(self.role))
-        return [self.each(sql(query, alter=text(alter), said=text(self.role), schema=self.schema(), number=number, names=joined(list(map(text, names)))))]
+        listed = joined(list(map(text, names)))
+        return [self.each(sql(query, alter=text(alter), said=text(self.role), schema=self.schema(), number=number, names=listed))]
 
     def granted(self, sources):
         """The rights of the owner on what is not its own, where it has not all rights in any case."""
-        queries = [sql("SELECT format({grant}, current_database(), {owner})", grant=text("GRANT TEMPORARY ON DATABASE %I TO %I"), owner=self.other())]
+        owner = self.other()
+        database, usage, reading = map(text, ("GRANT TEMPORARY ON DATABASE %I TO %I", "GRANT USAGE ON SCHEMA %I TO %I", "GRANT SELECT ON %s TO %I"))
+        queries = [sql("SELECT format({grant}, current_database(), {owner})", grant=database, owner=owner)]
         for schema in sorted({source.schema for source in sources.values()}):
-            queries.append(sql("SELECT format({grant}, {schema}::name, {owner})", grant=text("GRANT USAGE ON SCHEMA %I TO %I"), schema=text(schema), owner=self.other()))
+            queries.append(sql("SELECT format({grant}, {schema}::name, {owner})", grant=usage, schema=text(schema), owner=owner))
         for source in sources.values():
             below = sql(BELOW_SOURCE, source=self.written(source.said))
-            queries.append(sql("SELECT format({grant}, b.relation, {owner}) FROM {below}", grant=text("GRANT SELECT ON %s TO %I"), owner=self.other(), below=below))
+            queries.append(sql("SELECT format({grant}, b.relation, {owner}) FROM {below}", grant=reading, owner=owner, below=below))
         has_other = sql("{other} IS NOT NULL", other=self.other())
         return [sql("IF {test} THEN {made} END IF", test=has_other, made=statements(list(map(self.each, queries)), 2))]

@@ -133,11 +133,13 @@ class Captures(Triggers, Standing):
         """A refusal of a source that is another thing than it was, or has columns of other types: what is read of it calls nothing of others'."""
         fits = joined([sql("({fits})", fits=column.fits) for column in source.columns], "OR")
         below = sql(BELOW_SOURCE, source=self.written(source.said))
-        called = sql("SELECT format({told}, b.relation) FROM {below} WHERE {calls} LIMIT 1", told=text(CALLED), below=below, calls=self.calls(sql("b.relation")))
+        called = sql("SELECT format({told}, b.relation) FROM {below} WHERE {calls} LIMIT 1", told=text(CALLED), below=below,
+                     calls=self.calls(sql("b.relation")))  # fmt: skip
         return self.dialect.refuse_with(sql(
-            "SELECT format({told}, {source}::text) WHERE NOT EXISTS (SELECT 1 FROM pg_class AS k WHERE k.oid = {source}::regclass AND k.relkind = {kind})"
-            " OR (SELECT count(*) FROM pg_attribute AS a WHERE a.attrelid = {source}::regclass AND a.attnum > 0 AND ({fits})) <> {many}",
-            told=text(OTHERWISE), source=self.written(source.said), kind=text("p" if source.is_parted else "r"), fits=fits, many=number(len(source.columns)),
+            "SELECT format({told}, {source}::text) WHERE NOT EXISTS (SELECT 1 FROM pg_class AS k WHERE k.oid = {source}::regclass"
+            " AND k.relkind = {kind}) OR (SELECT count(*) FROM pg_attribute AS a WHERE a.attrelid = {source}::regclass AND a.attnum > 0 AND ({fits}))"
+            " <> {many}", told=text(OTHERWISE), source=self.written(source.said), kind=text("p" if source.is_parted else "r"), fits=fits,
+            many=number(len(source.columns)),
         )) + self.dialect.refuse_with(called)  # fmt: skip
 
     def tables_made(self, sources):
@@ -152,7 +154,8 @@ class Captures(Triggers, Standing):
             *((self.script.own(said), columns, []) for said, columns in self.script.history.tables()),
         ]  # fmt: skip
         made = [each for table in tables for each in self.table_made(*table)]
-        added = [sql("ALTER TABLE {columns} ADD {said} boolean NOT NULL DEFAULT FALSE", columns=self.columns, said=word(said)) for said in ("is_filled", "is_key")]
+        added = [sql("ALTER TABLE {columns} ADD {said} boolean NOT NULL DEFAULT FALSE", columns=self.columns, said=word(said))
+                 for said in ("is_filled", "is_key")]  # fmt: skip
         known = sql("NOT EXISTS (SELECT 1 FROM pg_attribute AS a WHERE a.attrelid = to_regclass({columns}) AND a.attname = {said})",
                     columns=self.written(self.columns), said=text("is_key"))  # fmt: skip
         made += self.dialect.only_where(known, added)
@@ -191,17 +194,18 @@ class Captures(Triggers, Standing):
 
     def is_otherwise(self, expected):
         kinds, table = {"text": 25}, self.written(self.dialect.table(expected.said))
-        own = joined([sql("(a.attname = {said} AND a.atttypid = {kind})", said=text(said), kind=number(kinds.get(kind, 20))) for said, kind in expected.columns], "OR")
+        own = [sql("(a.attname = {said} AND a.atttypid = {kind})", said=text(said), kind=number(kinds.get(kind, 20))) for said, kind in expected.columns]
         there = "FROM pg_attribute AS a WHERE a.attrelid = to_regclass({table}) AND a.attnum > 0 AND NOT a.attisdropped AND "
         return sql(
             "to_regclass({table}) IS NOT NULL AND ((SELECT count(*) " + there + "({own})) <> {many} OR EXISTS (SELECT 1 " + there
             + "a.attnotnull AND NOT a.atthasdef AND a.attidentity = {none} AND NOT ({own})))",
-            table=table, own=own, many=number(len(expected.columns)), none=text(""),
+            table=table, own=joined(own, "OR"), many=number(len(expected.columns)), none=text(""),
         )  # fmt: skip
 
     def alone(self, source):
         """A source is locked at a moment when nobody is writing to it."""
-        busy = self.dialect.where(sql("touched > {most}", most=number(TRIES)), self.dialect.raised(sql("format({busy}, {said}::text)", busy=text(BUSY), said=self.written(source.said))))
+        told = self.dialect.raised(sql("format({busy}, {said}::text)", busy=text(BUSY), said=self.written(source.said)))
+        busy = self.dialect.where(sql("touched > {most}", most=number(TRIES)), told)
         return sql(
             "touched := 0{end} LOOP BEGIN LOCK TABLE {source} IN SHARE ROW EXCLUSIVE MODE NOWAIT{end} EXIT{end} EXCEPTION WHEN lock_not_available THEN"
             " touched := touched + 1{end} {busy}{end} PERFORM pg_sleep({pause} / 1000.0){end} END{end} END LOOP",

@@ -102,8 +102,8 @@ class Triggers:
             "\n#variable_conflict use_column\nDECLARE finding pg_catalog.text{end}\nBEGIN\n  {as_ever}finding := ({judged}){end}\n  {first}{end}\n"
             "  IF finding = {unlike} THEN {torn}{end}\n  ELSIF {current} THEN{noted}\n  ELSE\n  BEGIN{surely}\n  EXCEPTION WHEN OTHERS THEN {torn}{end}\n"
             "  END{end}\n  END IF{end}\n  RETURN NULL{end}\nEND{end}",
-            as_ever=self.as_ever(v, source), judged=self.judged_by(v, source), first=self.part_unnoted(v), unlike=text("unlike"), torn=self.torn(v, "unlike"), current=self.is_current(),
-            noted=self.noting(v, source), surely=self.noting(v, sure), end=END_OF_STATEMENT,
+            as_ever=self.as_ever(v, source), judged=self.judged_by(v, source), first=self.part_unnoted(v), unlike=text("unlike"),
+            torn=self.torn(v, "unlike"), current=self.is_current(), noted=self.noting(v, source), surely=self.noting(v, sure), end=END_OF_STATEMENT,
         )  # fmt: skip
         made = sql("CREATE OR REPLACE FUNCTION {function}() RETURNS trigger LANGUAGE plpgsql SECURITY DEFINER SET search_path = " + PATH + " AS {program}",
                    function=self.function(v), program=body(program))  # fmt: skip
@@ -119,8 +119,8 @@ class Triggers:
                  for column in source.columns]  # fmt: skip
         filled = source._replace(columns=[column._replace(said=column.filled) for column in source.columns])
         return sql(
-            "IF TG_NARGS = 0 AND TG_OP <> {truncate} AND {known} THEN\n  IF TG_OP = {delete} THEN finding := ({gone}){end} ELSE finding := ({come}){end} END IF{end}\n"
-            "  IF finding IS NULL THEN RETURN NULL{end} END IF{end}\n  IF finding = {types} THEN\n  {noted}\n  END IF{end}\n  RETURN NULL{end}\n  END IF{end}\n"
+            "IF TG_NARGS = 0 AND TG_OP <> {truncate} AND {known} THEN\n  IF TG_OP = {delete} THEN finding := ({gone}){end} ELSE finding := ({come}){end}"
+            " END IF{end}\n  IF finding IS NULL THEN RETURN NULL{end} END IF{end}\n  IF finding = {types} THEN\n  {noted}\n  END IF{end}\n  RETURN NULL{end}\n  END IF{end}\n"
             "  END IF{end}\n  ", truncate=text("TRUNCATE"), known=joined(known, "AND"), delete=text("DELETE"), gone=self.types_of(source, "gone"),
             come=self.types_of(source, "come"), types=text(",".join(str(column.told.own_number) for column in source.columns)),
             noted=sql("IF FALSE THEN NULL{end}\n  {noted}", noted=self.of_statement(v, filled), end=END_OF_STATEMENT), end=END_OF_STATEMENT,
@@ -199,8 +199,8 @@ class Triggers:
             " has_table_privilege(TG_RELID, {select}) OR NOT has_schema_privilege((SELECT k.relnamespace FROM pg_class AS k WHERE k.oid = TG_RELID), {usage})"
             " THEN {hidden}{end}\n    ELSIF {calls} THEN {called}{end}\n    ELSE EXECUTE concat({before}, TG_RELID::regclass, {after}){end}\n    END IF{end}",
             current=self.is_current(), alone=self.torn(v, "isolation"), select=text("SELECT"),
-            usage=text("USAGE"), hidden=self.torn(v, "hidden"), calls=self.calls(word("TG_RELID")), called=self.torn(v, "calls"), before=text(self.dialect.written([before])[0] + " "),
-            after=text(" " + self.dialect.written([after])[0]), end=END_OF_STATEMENT,
+            usage=text("USAGE"), hidden=self.torn(v, "hidden"), calls=self.calls(word("TG_RELID")), called=self.torn(v, "calls"),
+            before=text(self.dialect.written([before])[0] + " "), after=text(" " + self.dialect.written([after])[0]), end=END_OF_STATEMENT,
         )  # fmt: skip
 
     def calls(self, relation):

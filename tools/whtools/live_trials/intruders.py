@@ -33,6 +33,12 @@ def caught(live, told):
 
 def cast_mistakes(live):
     """Types of the seller's in a captured column, with casts that tell by whom they are called: by a writer, a capture or a night."""
+    wrong = of_later(live) + of_colour(live) + viewed(live) + of_before(live) + indexed(live)
+    return [f"what is the seller's: {text}" for text in wrong]
+
+
+def of_later(live):
+    """A type that a column gets once it is captured."""
     wrong = []
     for kind, column, value in (("bigint", "pieces", "(3, 'product 3', ROW(1)::mine)"), ("text", "product", "(3, ROW(1)::mine, 1)")):
         wrong += live.fresh(OWNED)
@@ -41,7 +47,7 @@ def cast_mistakes(live):
                             " TRUNCATE lines;" + f"INSERT INTO lines VALUES {value};" + ENDS)  # fmt: skip
         told = [live.database.run(script), live.night()]
         wrong += caught(live, f"a cast to {kind}") + [f"with a column of another type was told {each!r}" for each in told if "lines" not in (each or "")]
-    return [f"what is the seller's: {text}" for text in wrong + of_colour(live) + viewed(live) + of_before(live) + indexed(live)]
+    return wrong
 
 
 def of_colour(live):
