@@ -79,6 +79,17 @@ class Turned(unittest.TestCase):
             self.assertEqual(found if turned is not None else found[:7], "beyond " if turned is None else turned)
 
 
+    def test_types_of_postgresql_are_told_by_their_numbers(self):
+        price = of_postgresql(Told("price", "numeric(10,2)", "numeric", 10, 2, False, False, 1700, 1700, 3, "column price of table public.t", 655366))
+        colour = of_postgresql(Told("colour", "colour", "enum", None, None, False, False, 16400, 16400, 4, "column colour of table public.t"))
+        many = of_postgresql(Told("many", "many", "int4", None, None, False, False, 23, 16401, 5, "column many of table public.t"))
+        said, fits = (LivePostgreSQL().written([getattr(column, part) for column in (price, colour, many)]) for part in ("said", "fits"))
+        for wanted, found in (("a.atttypid = 1700", fits[0]), ("a.atttypmod = 655366", fits[0]), ("y.typtype = 'e'", fits[1]), ("d.type = 23", fits[2])):
+            self.assertIn(wanted, found)
+        self.assertIn("enum_out", said[1])
+        self.assertEqual([column.told.is_domain for column in (price, colour, many)], [False, False, True])
+
+
 class Parsed(unittest.TestCase):
     def test_what_is_not_taken_is_told(self):
         for text, word in {
