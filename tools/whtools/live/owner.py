@@ -3,6 +3,7 @@ captured, if --role names it."""
 
 from whtools.sql.tokens import END_OF_STATEMENT, joined, name, sql, statements, text
 
+OWNED = "the schema %s is owned by %s, who would get what is captured: name another schema by --schema, or this role by --role"
 SUPER = "the role %s is a superuser, or passes by row-level security: name by --role one that is made for this alone"
 # Whoever owns the night's schema, where it is another role than this one and no superuser.
 OTHER = (
@@ -43,8 +44,13 @@ class Owner:
     # ---- what somebody with more rights does before
 
     def made(self, tables, functions, sources):
-        """The role and its schema, what was another's before, and what the role may: to read what is captured, and to make tables for a night."""
-        return [*(self.own_role(tables, functions) if self.role else []), *self.granted(sources)]
+        """The role and its schema, what was another's before, and what the role may: to read what is captured, and to make tables for a night. A schema
+        that somebody else has made is not taken."""
+        mine = sql("AND r.rolname <> {role}", role=text(self.role)) if self.role else sql("")
+        strange = sql("SELECT format({told}, n.nspname, r.rolname) FROM pg_namespace AS n JOIN pg_roles AS r ON r.oid = n.nspowner WHERE n.oid ="
+                      " to_regnamespace({schema}) AND NOT r.rolsuper AND r.rolname <> current_user {mine}", told=text(OWNED), schema=self.schema(),
+                      mine=mine)  # fmt: skip
+        return [*self.dialect.refuse_with(strange), *(self.own_role(tables, functions) if self.role else []), *self.granted(sources)]
 
     def own_role(self, tables, functions):
         role, said = name(self.role), text(self.role)

@@ -131,6 +131,17 @@ def forged_mistakes(live):
     return [f"forged rows: {text}" for text in wrong + ([told] if told else live.mistakes())]
 
 
+def schema_mistakes(live):
+    """A schema that the seller has made by the name of the night's: nothing is captured into it, and he gets no right by it."""
+    wrong = live.fresh() + [told for told in [live.database.run(live.words("--uncapture"))] if told]
+    live.database.asked("CREATE SCHEMA wh AUTHORIZATION seller;")
+    before = live.database.state()
+    for words in ((), ("--role", ROLE)):
+        told = live.database.run(live.words("--capture", *words))
+        wrong += [] if "is owned by seller" in (told or "") else [f"a capture into the seller's schema is told {told!r}"]
+    return [f"a schema of the seller's: {text}" for text in wrong + before.differences(live.database.state())]
+
+
 ROLE = "keeper"
 # As whom the functions of a view's triggers are called, which whoever carries a night out has.
 ON_VIEW = (
@@ -174,8 +185,10 @@ def role_mistakes(live):
         told = live.night()
         wrong += [f"a superuser's night: {told}"] if told else live.mistakes() + otherwise(live)
     live.database.asked("UPDATE lines SET pieces = pieces + 1;")
-    told = live.database.run("SET ROLE keeper;\n" + live.script) or live.capture()
+    told = live.database.run("SET ROLE keeper;\n" + live.script) or live.database.run(live.words("--capture", "--role", ROLE))
     wrong += [f"the role's own night: {told}"] if told else live.mistakes() + otherwise(live)
+    told = live.capture()
+    wrong += [] if "is owned by keeper" in (told or "") else [f"a capture that does not name the role is told {told!r}"]
     told = live.database.run(live.words("--uncapture"))
     wrong += [f"--uncapture: {told}"] if told else [f"{each} is left" for each in live.database.asked("SELECT relname FROM pg_class WHERE relowner = 'keeper'::regrole;")]
     live.database.asked(GONE)
@@ -195,4 +208,4 @@ def supers(live):
 
 def mistakes(live):
     """All of these."""
-    return [f"{live.engine}: {text}"[:900] for tried in (cast_mistakes, forged_mistakes, role_mistakes) for text in tried(live)]
+    return [f"{live.engine}: {text}"[:900] for tried in (cast_mistakes, forged_mistakes, schema_mistakes, role_mistakes) for text in tried(live)]
