@@ -2,9 +2,12 @@
 
 import sys
 
+from whtools.live.check import checked as check
+from whtools.live.checks import Checks
 from whtools.live.database import ASKED
 from whtools.live.dry import Dry
 from whtools.live.measured import measured, steps_of
+from whtools.live.monitored import told_history
 from whtools.live.planned import planned, sizes_text
 from whtools.live.postgresql import LivePostgreSQL
 from whtools.live.proposed import Proposed
@@ -15,7 +18,7 @@ from whtools.live.sqlite import LiveSQLite
 from whtools.live.swift import SwiftScript
 from whtools.sql.catalogue import read
 from whtools.sql.comments import Comments
-from whtools.sql.tokens import Unfit
+from whtools.sql.tokens import Unfit, sql
 
 SCHEMA = "wh"
 DIALECTS = {"postgresql": LivePostgreSQL, "sqlite": LiveSQLite}
@@ -102,6 +105,41 @@ def of_database(words, script, database):
         found = sizes_before(script, database) if words.sizes else sizes_after(script, database)
         return sizes_text(script.views, found).splitlines()
     return costs_text(script, costs_of(script, database)) if words.costs else []
+
+
+def chosen(words, script):
+    """The numbers of the views that are named, or of all."""
+    if unknown := [said for said in words.names if said not in script.catalogue.names]:
+        raise Unfit(f"there is no table or view {unknown[0]!r} in the catalogue")
+    return [script.catalogue.names[said] for said in dict.fromkeys(words.names)] or list(range(len(script.views)))
+
+
+def checked(words, script, database):
+    """A check of what is named, or of what was checked the longest ago."""
+    views = Checks(script).in_turn(database, chosen(words, script)) if words.in_turn else chosen(words, script)
+    base = [v for v in views if not script.views[v].over]
+    found = sources(script, database, words.source or schema_of(script, database), base) if base else {}
+    return check(script, database, found, views, words.repair)
+
+
+def schema_of(script, database):
+    """The schema of the tables that are captured."""
+    if not script.dialect.takes:
+        return database.own_schema
+    query = (
+        "SELECT to_json(s.nspname) FROM {state} AS c JOIN pg_class AS k ON k.oid = c.source JOIN pg_namespace AS s ON s.oid = k.relnamespace"
+        " ORDER BY c.view LIMIT 1"
+    )
+    return next(iter(database.rows(sql(query, state=script.captures.state))[0]), database.own_schema)
+
+
+def answered(words):
+    """What is told of a database, and the status."""
+    if words.engine not in DIALECTS:
+        raise Unfit("--check and --history go with --engine postgresql or sqlite")
+    script = live_script(read(words.path), words)
+    database = asked(words, script.dialect)
+    return checked(words, script, database) if words.check else (told_history(script, database, words.line), 0)
 
 
 def night(words, script):

@@ -49,6 +49,10 @@ class PostgreSQLAsked:
             raise Unfit(f"the database says: {' '.join(told)[:600]}")
         return ran.stdout.decode()
 
+    def put(self, lines):
+        """Statements that write."""
+        self.run(lines)
+
     def rows(self, *queries, before=(), after=()):
         """The rows of each query, whose columns are listed in it as an array of JSON, between other statements."""
         marked = [sql("{each}{end}", each=each, end=END_OF_STATEMENT) for query in queries for each in (query, sql("SELECT {mark}", mark=text("--")))]
@@ -118,7 +122,7 @@ class PostgreSQLAsked:
 
 
 class SQLiteAsked:
-    """A file of SQLite, which is read and not written."""
+    """A file of SQLite, which is read, and written where that is said."""
 
     own_schema = "main"
 
@@ -135,6 +139,17 @@ class SQLiteAsked:
             raise Unfit(f"{self.address}: {fault}") from fault
         finally:
             found.close()
+
+    def put(self, lines):
+        """Statements that write, in a transaction of their own."""
+        database = sqlite3.connect(self.address, isolation_level=None, timeout=60)
+        try:
+            for line in self.dialect.written(lines):
+                database.execute(line)
+        except sqlite3.Error as fault:
+            raise Unfit(f"{self.address}: {fault}") from fault
+        finally:
+            database.close()
 
     def tables(self, _, names=None):
         """The tables of the file, by their names."""

@@ -1,5 +1,6 @@
 """What each night leaves of itself: when it ran, the rows of each view before and after it and of its change, and how long each step took."""
 
+from whtools.live.checks import CHECKS, columns
 from whtools.sql.dialect import COUNT
 from whtools.sql.tokens import joined, number, sql, text, word
 
@@ -28,6 +29,7 @@ class History:
                         " PRIMARY KEY (night, view)", **parts)),
             (STEPS, sql("night {whole} NOT NULL, step {whole} NOT NULL, told {text} NOT NULL, work {whole}, seconds {seconds},"
                         " PRIMARY KEY (night, step)", **parts)),
+            (CHECKS, columns(self.dialect)),
         ]  # fmt: skip
 
     def table(self, said):

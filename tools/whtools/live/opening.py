@@ -1,5 +1,6 @@
 """Opening in PostgreSQL: derived views from scratch, with keys and indexes made when the rows are there."""
 
+from whtools.live.noted import Noted
 from whtools.sql.dialect import COUNT
 from whtools.sql.tokens import END_OF_STATEMENT, joined, name, number, sql, statements, text, word
 
@@ -11,7 +12,7 @@ class Opening:
         derived = self.steps.derived()
         made = [each for v in derived for each in self.filled(v)]
         sizes = [self.history.opened(v, self.counted_rows(v)) for v in range(len(self.views))]
-        ended = [*sizes, *self.captures.noted_as_opened(), self.history.closed(), *self.captures.looked_at(), *self.captures.noted_as_judged()]
+        ended = [*sizes, *Noted(self).as_filled(derived), self.history.closed(), *self.captures.looked_at(), *self.captures.noted_as_judged()]
         return self.whole([*self.history.opening_began(), *made], [], ended, comment)
 
     def counted_rows(self, v):

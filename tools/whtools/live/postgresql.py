@@ -478,14 +478,6 @@ class Captures:
 
     # ---- by what definitions the views were filled: in the table of columns each stands by no name
 
-    def noted_as_opened(self):
-        """The views are filled as the catalogue has them."""
-        found = []
-        for v, said in self.script.definitions().items():
-            found.append(self.query(v, "DELETE FROM {columns} WHERE view = {view} AND name = {none}"))
-            found.append(self.query(v, "INSERT INTO {columns} VALUES ({view}, {none}, {print})", print=text(said)))
-        return found
-
     def opened(self):
         """A refusal of a view that was never filled, or by another definition."""
         listed = [sql("({view}, {print})", view=self.view(v), print=text(said)) for v, said in self.script.definitions().items()]

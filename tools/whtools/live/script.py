@@ -3,6 +3,7 @@
 from hashlib import sha256
 
 from whtools.live.history import History
+from whtools.live.noted import Noted
 from whtools.sql.comments import Comments
 from whtools.sql.names import Names
 from whtools.sql.catalogued import WIDEST_INDEX
@@ -19,6 +20,7 @@ class LiveScript(Script):
         self.prefixed = Names(dialect, [prefix + view.name for view in catalogue.views])
         super().__init__(catalogue, dialect)
         self.catalogue, self.history, self.captures = catalogue, History(self), dialect.captures(self)
+        self.instead = {}
         self.name_all()
 
     cure = ": put it right in the table that is captured, and run tools/sql --capture"
@@ -27,6 +29,10 @@ class LiveScript(Script):
 
     def said(self, v, suffix=""):
         return self.prefixed.of(self.prefix + self.views[v].name, suffix)
+
+    def table(self, v, suffix=""):
+        """The table of a view or of its changes; or what stands for one that is not as it should be, where a check says so."""
+        return self.instead[v] if v in self.instead and not suffix else super().table(v, suffix)
 
     def name_all(self):
         """Names that are cut are told apart in the order in which they are asked for first: whatever is written, that of the views."""
@@ -78,7 +84,7 @@ class LiveScript(Script):
         cleared = [each for v in reversed(derived) for each in self.cleared(v)]
         ended = self.dialect.settled() + [each for v in derived for each in self.verified(v)]
         sizes = [self.history.opened(v) for v in range(len(self.views))]
-        ended = [*ended, *sizes, *self.captures.noted_as_opened(), self.history.closed()]
+        ended = [*ended, *sizes, *Noted(self).as_filled(derived), self.history.closed()]
         return self.whole([*self.history.began(), *cleared], self.steps.opening(), ended, comment)
 
     def whole(self, before, steps, after, comment):

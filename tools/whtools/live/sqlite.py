@@ -220,14 +220,6 @@ class Captures:
 
     # ---- by what definitions the views were filled
 
-    def noted_as_opened(self):
-        """The views are filled as the catalogue has them."""
-        state = self.dialect.target(f"{self.script.prefix}{CAPTURED}")
-        return [
-            sql("INSERT OR REPLACE INTO {state} VALUES ({view}, {print}, 0)", state=state, view=text(self.script.views[v].name), print=text(said))
-            for v, said in self.script.definitions().items()
-        ]  # fmt: skip
-
     def opened(self):
         """Refusals of views that were never filled, or by another definition."""
         found = []
