@@ -5,7 +5,7 @@ import sqlite3
 import subprocess
 import tempfile
 
-from whtools.sql.tokens import END_OF_STATEMENT, Unfit, sql, text
+from whtools.sql.tokens import END_OF_STATEMENT, Unfit, sql
 
 # A table that somebody alters is waited for so long, and no longer.
 PATIENCE = "60s"
@@ -66,7 +66,8 @@ class PostgreSQLSession:
 
     def run(self, lines):
         """What statements print, line by line."""
-        for line in self.dialect.written([*lines, sql("SELECT {mark}{end}", mark=text(MARK), end=END_OF_STATEMENT)]):
+        # A query would tell where the answer ends, and take the snapshot before all tables are locked.
+        for line in [*self.dialect.written(lines), rf"\echo {MARK}"]:
             self.given(line)
         found = []
         for line in self.client.stdout:
