@@ -6,15 +6,20 @@ from whtools.live.check import checked as check
 from whtools.live.checks import Checks
 from whtools.live.database import ASKED
 from whtools.live.dry import Dry
+from whtools.live.left_out import LeftOut
 from whtools.live.measured import measured, steps_of
 from whtools.live.monitored import told_history
 from whtools.live.planned import planned, sizes_text
 from whtools.live.postgresql import LivePostgreSQL
 from whtools.live.proposed import Proposed
+from whtools.live.reshaped import Reshaped
+from whtools.live.reshaped_sqlite import Reshaped as ReshapedSQLite
 from whtools.live.script import LiveScript
+from whtools.live.session import SESSIONS
 from whtools.live.sizes import Sizes
 from whtools.live.sources import sources
 from whtools.live.sqlite import LiveSQLite
+from whtools.live.standing import Standing
 from whtools.live.swift import SwiftScript
 from whtools.sql.catalogue import read
 from whtools.sql.comments import Comments
@@ -96,6 +101,52 @@ def with_plan(words, script, database):
     return live_script(planned(words, text, costs), words)
 
 
+# ---- what is captured and filled
+
+
+def captured(words, script, database):
+    """The statements that capture what the catalogue has: tables that stand with other columns get theirs first, and keep what they have."""
+    standing = Standing(script, database)
+    schema = words.source or (schema_of(script, database) if standing.is_captured else database.own_schema)
+    mirrors, derived, marked = standing.mirrors(), standing.derived(), standing.marked()
+    base = sorted({*standing.new(), *mirrors, *marked, *named(words, script)} if words.changed or words.names else script.steps.base())
+    base = [v for v in base if not script.views[v].over]
+    found, left_out = sources(script, database, schema, base), standing.strangers()
+    gone = LeftOut(script, lambda catalogue: live_script(catalogue, words), *left_out).statements() if words.drop else []
+    if any(left_out) and not words.drop:
+        names = ", ".join(name for names in left_out for name in names)
+        print(f"tools/sql: {names}: captured or filled, and not in the catalogue; --capture --drop lets it go", file=sys.stderr)
+    if not script.dialect.takes:
+        reshaped = ReshapedSQLite(script, found, mirrors, derived) if mirrors or derived else None
+        return [*gone, *script.captures.capture(found, database, reshaped)]
+    made = Reshaped(script, found, mirrors, derived, marked).statements()
+    return [*gone, *made, *(script.captures.capture(found, database) if found else script.captures.made(found))]
+
+
+def opened(words, script):
+    """The statements that fill the derived views, or those that are named, or what is new or defined otherwise than it was filled."""
+    if not words.open:
+        return []
+    chosen = named(words, script) if words.names else None
+    if words.changed:
+        database = asked(words, script.dialect)
+        chosen = {*(chosen or ()), *changed(script, database)}
+    return script.open(Comments(script.catalogue).short, chosen) if chosen is None or script.filled_anew(chosen) else []
+
+
+def changed(script, database):
+    """The derived views that are new, or were filled by another definition, or have other columns."""
+    standing = Standing(script, database)
+    if not standing.is_captured:
+        return script.steps.derived()
+    with SESSIONS[script.dialect.engine](database, False) as session:
+        return {*standing.unlike(session), *standing.derived()}
+
+
+def named(words, script):
+    return chosen(words, script) if words.names else []
+
+
 # ---- what is asked for
 
 
@@ -164,13 +215,11 @@ def written(words):
         return of_database(words, script, asked(words, dialect))
     if words.uncapture:
         return dialect.head + dialect.written(script.captures.uncapture(asked(words, dialect)))
-    found = []
+    if not words.capture and not words.open:
+        return night(words, script)
     for warning in catalogue.warnings if words.capture else ():
         print(f"tools/sql: {warning}", file=sys.stderr)
-    if words.capture:
-        database = asked(words, dialect)
-        found += script.captures.capture(sources(script, database, words.source or database.own_schema), database)
-    found += script.open(Comments(catalogue).short) if words.open else []
-    if found:
-        return dialect.head + dialect.written(found)
-    return night(words, script)
+    found = captured(words, script, asked(words, dialect)) if words.capture else []
+    found += opened(words, script)
+    # A script without anything to do says that all is done.
+    return dialect.head + dialect.written(found or dialect.creation([]))

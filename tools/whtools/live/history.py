@@ -76,10 +76,10 @@ class History:
         return sql(added, target=self.target(SIZES), night=self.number(), view=text(self.script.views[v].name), more=more, change=change,
                    last=last, now=now)  # fmt: skip
 
-    def opened(self, v, counted=None):
-        """The rows of a view that was just filled, where they were counted, or as they are; of a mirror as they were told last."""
+    def opened(self, v, is_filled=True, counted=None):
+        """The rows of a view that was just filled, where they were counted, or as they are; of another one as they were told last."""
         last, now = self.before(v)
-        now = now if self.script.views[v].over else sql("coalesce({last}, {now})", last=last, now=now)
+        now = now if is_filled and self.script.views[v].over else sql("coalesce({last}, {now})", last=last, now=now)
         added = "INSERT INTO {target} (night, view, pre, post, change) SELECT {night}, {view}, g.many, g.many, 0 FROM (SELECT {now} AS many) AS g"
         return sql(added, target=self.target(SIZES), night=self.number(), view=text(self.script.views[v].name), now=counted or now)
 

@@ -8,10 +8,10 @@ from whtools.sql.tokens import END_OF_STATEMENT, joined, name, number, sql, stat
 class Opening:
     """The statements that fill the derived views."""
 
-    def open(self, comment):
-        derived = self.steps.derived()
+    def open(self, comment, chosen=None):
+        derived = self.filled_anew(chosen)
         made = [each for v in derived for each in self.filled(v)]
-        sizes = [self.history.opened(v, self.counted_rows(v)) for v in range(len(self.views))]
+        sizes = [self.history.opened(v, v in derived, self.counted_rows(v) if v in derived else None) for v in range(len(self.views))]
         ended = [*sizes, *Noted(self).as_filled(derived), self.history.closed(), *self.captures.looked_at(), *self.captures.noted_as_judged()]
         return self.whole([*self.history.opening_began(), *made], [], ended, comment)
 

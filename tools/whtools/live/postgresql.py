@@ -26,7 +26,7 @@ TYPE = (
 # How full, in hundredths, a page is filled at first: a row that changes finds room beside itself then, and its indexes stay as they are. Of
 # rows some change in a night, of groups most.
 FILLED = {"rows": 90, "summary": 60}
-CAPTURED, COLUMNS, PARTS, JUDGED = "~captured", "~columns", "~parts", "~judged"
+CAPTURED, COLUMNS, PARTS, JUDGED, RESHAPED = "~captured", "~columns", "~parts", "~judged", "~reshaped"
 # A source, its partitions and its heirs, as b. Whatever has no rows of its own is not truncated by itself.
 BELOW = (
     "(WITH RECURSIVE below (root, relation) AS (SELECT c.source::oid, c.source::oid FROM {state} AS c WHERE c.view = {view} UNION SELECT b.root,"
@@ -396,12 +396,13 @@ class Captures:
         """All tables that --capture makes."""
         own = [self.script.own(said) for said in (JUDGED, *(said for said, _ in self.script.history.tables()))]
         changes = [self.script.table(v, "~changes") for v in self.script.steps.base()]
+        own.append(self.script.own(RESHAPED))
         return [*(self.script.table(v) for v in range(len(self.script.views))), *changes, self.state, self.columns, self.parts, *own]
 
-    def no_readers(self):
+    def no_readers(self, tables=None):
         """A refusal where something else depends on a table that would go, or on its type, such as a view that reads it or a foreign key to it; what
         is a table's own, such as a trigger of it, goes with it."""
-        tables = joined([sql("to_regclass({table})::oid", table=self.written(table)) for table in self.tables()])
+        tables = joined([sql("to_regclass({table})::oid", table=self.written(table)) for table in tables or self.tables()])
         return self.dialect.refuse_with(
             sql(
                 "SELECT format({told}, pg_describe_object(d.classid, d.objid, 0), k.relation::regclass) FROM pg_depend AS d LEFT JOIN pg_type AS t"

@@ -78,14 +78,24 @@ class LiveScript(Script):
         """The numbers of the derived views, each with a digest of its definition."""
         return {v: sha256("\n".join(self.words.definition(v)).encode()).hexdigest() for v in self.steps.derived()}
 
-    def open(self, comment):
-        """The derived views are filled from the mirrors; what is in the tables of changes stays there."""
-        derived = self.steps.derived()
+    def filled_anew(self, chosen=None):
+        """The derived views that are filled where these are, or all: these themselves, and those over them."""
+        if chosen is None:
+            return self.steps.derived()
+        found = set(chosen)
+        for v in self.steps.derived():
+            found |= {v} if found.intersection(self.views[v].over) else set()
+        return sorted(found.intersection(self.steps.derived()))
+
+    def open(self, comment, chosen=None):
+        """The derived views are filled from the mirrors, or these of them and those over them; what is in the tables of changes stays there."""
+        derived = self.filled_anew(chosen)
         cleared = [each for v in reversed(derived) for each in self.cleared(v)]
         ended = self.dialect.settled() + [each for v in derived for each in self.verified(v)]
-        sizes = [self.history.opened(v) for v in range(len(self.views))]
+        sizes = [self.history.opened(v, v in derived) for v in range(len(self.views))]
+        steps = [step for step in self.steps.opening() if step.view in derived]
         ended = [*ended, *sizes, *Noted(self).as_filled(derived), self.history.closed()]
-        return self.whole([*self.history.began(), *cleared], self.steps.opening(), ended, comment)
+        return self.whole([*self.history.began(), *cleared], steps, ended, comment)
 
     def whole(self, before, steps, after, comment):
         """A transaction of all this, which locks the mirrors and the views alone."""

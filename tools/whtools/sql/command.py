@@ -19,7 +19,7 @@ ENGINES = {"postgresql": PostgreSQL, "sqlite": SQLite, "clickhouse": ClickHouse}
 # What is said of tables that applications write to.
 LIVE = ("live", "capture", "uncapture", "catalogue", "sizes", "sizes-after", "plan", "dry", "costs", "check", "history")
 # What goes with these, and not alone.
-BESIDE = {"measured": ("plan", "dry"), "repair": ("check",), "in-turn": ("check",), "line": ("history",)}
+BESIDE = {"measured": ("plan", "dry"), "repair": ("check",), "in-turn": ("check",), "line": ("history",), "changed": ("capture", "open"), "drop": ("capture",)}
 
 
 class Words(argparse.ArgumentParser):
@@ -67,7 +67,7 @@ def asked(about):
     for name, others in BESIDE.items():
         if is_said(found, name) and name != "measured" and not any(is_said(found, other) for other in others):
             words.error(f"--{name} goes with {' or '.join(f'--{other}' for other in others)}")
-    if found.names and not (found.check or found.live and found.open):
+    if found.names and not (found.check or found.capture or found.live and found.open):
         words.error(f"unrecognized arguments: {' '.join(found.names)}")
     return found
 
