@@ -18,16 +18,15 @@ class Reshaped:
         self.marks = script.own(RESHAPED)
 
     def statements(self):
-        """Each mirror at a moment when nobody is writing to its table, then the contents of all, and then the views."""
-        found, filled = [], sorted({*self.mirrors, *self.marked})
+        """The views, each mirror at a moment when nobody is writing to its table, and then the contents of all."""
+        views = [each for v, reshaped in self.derived.items() for each in self.view(v, reshaped)]
+        found, filled = self.dialect.creation(views) if views else [], sorted({*self.mirrors, *self.marked})
         if self.mirrors:
             is_missing = sql("to_regclass({marks}) IS NULL", marks=self.captures.written(self.marks))
             made = sql("CREATE TABLE {marks} (view text PRIMARY KEY)", marks=self.marks)
             found += self.dialect.creation(self.dialect.only_where(is_missing, [made]))
             found += [self.alone(v) for v in self.mirrors]
-        found += self.contents(filled) if filled else []
-        views = [each for v, reshaped in self.derived.items() for each in self.view(v, reshaped)]
-        return found + (self.dialect.creation(views) if views else [])
+        return found + (self.contents(filled) if filled else [])
 
     # ---- columns
 

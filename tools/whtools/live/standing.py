@@ -102,7 +102,7 @@ class Standing:
             return [], []
         known = {view.name for view in self.script.views}
         if self.dialect.takes:
-            listed = self.rows("k.view", "FROM {columns} AS k WHERE k.name = {none}", columns=self.script.captures.columns, none=text(""))
+            listed = self.rows("k.view", "FROM {noted} AS k WHERE k.name = {none}", noted=self.script.captures.columns, none=text(""))
         else:
             rest = "FROM {state} AS c JOIN {sizes} AS s ON s.view = c.view WHERE c.filled = 0"
             listed = self.rows("DISTINCT c.view", rest, state=self.script.captures.state, sizes=self.script.own(SIZES))
