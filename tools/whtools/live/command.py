@@ -116,6 +116,8 @@ def captured(words, script, database):
     if any(left_out) and not words.drop:
         names = ", ".join(name for names in left_out for name in names)
         print(f"tools/sql: {names}: captured or filled, and not in the catalogue; --capture --drop lets it go", file=sys.stderr)
+    unindexed = [each for v in standing.unindexed() if v not in mirrors and v not in derived for each in script.indexed(v)]
+    gone += script.dialect.creation(unindexed) if unindexed else []
     if not script.dialect.takes:
         reshaped = ReshapedSQLite(script, found, mirrors, derived) if mirrors or derived else None
         return [*gone, *script.captures.capture(found, database, reshaped)]

@@ -96,7 +96,7 @@ class Reshaped:
             *self.merged(v),
             sql("ALTER TABLE {table} DROP CONSTRAINT IF EXISTS {key}", table=table, key=name(self.script.said(v, "~key"))),
             *([sql("ALTER TABLE {table} ADD {key}", table=table, key=key)] if key else []),
-            *self.indexed(v),
+            *self.script.indexed(v),
             sql("DELETE FROM {changes}", changes=self.script.table(v, "~changes")),
             self.captures.difference(v, self.sources[v]),
             self.captures.query(v, "UPDATE {state} SET filled = TRUE WHERE view = {view}"),
@@ -141,11 +141,6 @@ class Reshaped:
             sql("INSERT INTO {table} ({columns}) SELECT {cells}, d.n FROM {kept} AS d", table=table, columns=joined([*self.script.users(v), COUNT]),
                 cells=joined(cells), kept=kept),
         ]  # fmt: skip
-
-    def indexed(self, v):
-        gone = [sql("DROP INDEX IF EXISTS {index}", index=self.dialect.table(self.script.said(v, f"~{at}")))
-                for at in range(1, len(self.script.asked_for()[v]) + 1)]  # fmt: skip
-        return [*gone, *self.script.indexes_of(v)]
 
     # ---- views
 

@@ -97,6 +97,11 @@ class LiveScript(Script):
         ended = [*ended, *sizes, *Noted(self).as_filled(derived), self.history.closed()]
         return self.whole([*self.history.began(), *cleared], steps, ended, comment)
 
+    def indexed(self, v):
+        """The indexes of a table are made anew, by the columns by which views are joined with it."""
+        gone = [sql("DROP INDEX IF EXISTS {index}", index=self.dialect.table(self.said(v, f"~{at}"))) for at in range(1, len(self.asked_for()[v]) + 1)]
+        return [*gone, *self.indexes_of(v)]
+
     def whole(self, before, steps, after, comment):
         """A transaction of all this, which locks the mirrors and the views alone."""
         locked = [self.table(v) for v in range(len(self.views))]

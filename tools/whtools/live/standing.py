@@ -58,7 +58,39 @@ class Standing:
             found.setdefault(table, {})[column] = KINDS.get(kind.lower(), kind)
         return found
 
+    def standing_indexes(self):
+        """The columns of each index of the night's tables, by the indexes' names."""
+        tables = joined([text(self.script.said(v)) for v in range(len(self.script.views))])
+        if self.dialect.takes:
+            rest = (
+                "FROM pg_index AS i JOIN pg_class AS k ON k.oid = i.indrelid JOIN pg_class AS x ON x.oid = i.indexrelid JOIN pg_attribute AS a"
+                " ON a.attrelid = i.indexrelid WHERE k.relnamespace = to_regnamespace({schema}) AND k.relname IN ({tables}) ORDER BY a.attnum"
+            )
+            schema = text(self.dialect.written([name(self.dialect.schema)])[0])
+            listed = self.rows("x.relname, pg_get_indexdef(i.indexrelid, a.attnum, FALSE)", rest, schema=schema, tables=tables)
+        else:
+            rest = (
+                "FROM {schema}.sqlite_master AS s JOIN pragma_index_info(s.name) AS x WHERE s.type = {index} AND s.tbl_name IN ({tables}) ORDER BY x.seqno"
+            )
+            listed = self.rows("s.name, x.name", rest, schema=name(self.dialect.schema), index=text("index"), tables=tables)
+        found = {}
+        for index, column in listed:
+            found.setdefault(index, []).append(column.strip('"').replace('""', '"') if self.dialect.takes else column)
+        return found
+
     # ---- how it differs
+
+    def unindexed(self):
+        """The views that other views are joined with by other columns than before, so that their tables want other indexes."""
+        there, found = self.standing_indexes() if self.is_captured else {}, []
+        for v, listed in enumerate(self.script.asked_for()):
+            wanted = {
+                self.script.said(v, f"~{at}"): [self.script.users(v)[place].tokens[0].said for place in columns]
+                for at, columns in enumerate(listed, 1) if columns != self.script.key_places(v)
+            }  # fmt: skip
+            is_there = self.columns.get(self.script.said(v)) is not None
+            found += [v] if is_there and any(there.get(index) != columns for index, columns in wanted.items()) else []
+        return found
 
     def reshaped(self, v, suffix=""):
         """The columns of a table of a view's that come and go, or None where it stands as it is wanted, or not at all."""

@@ -179,7 +179,9 @@ def changed_mistakes(live, changed):
     kept = catalogue.rows(changed.kept)
     wrong += [f"the script was told {told}" for told in [catalogue.run(*ALL_OF_IT)] if told]
     wrong += [f"{name} did not keep its rows" for name in kept if catalogue.rows([name])[name] != kept[name]]
-    wrong += checked(catalogue, "after it")
+    wrong += checked(catalogue, "after it") + index_mistakes(catalogue)
+    if "note" in catalogue.views.get("orders", []) and live.pending() > 20:
+        wrong.append(f"{live.pending()} changes wait, where 9 rows of orders and lines changed")
     for said_then in ("", THEN):
         if said_then:
             database.asked(said_then)
@@ -187,6 +189,14 @@ def changed_mistakes(live, changed):
         wrong += [f"a night: {told}"] if told else catalogue.mistakes()
     wrong += checked(catalogue, "after the nights") + gone_mistakes(catalogue)
     return wrong + again_mistakes(catalogue)
+
+
+def index_mistakes(catalogue):
+    """A table that a view is joined with and that has no index or key which begins with the column, of tables whose views came or changed."""
+    if catalogue.live.engine == "sqlite" or "by_day" not in catalogue.views or "codes" in catalogue.views:
+        return []
+    asked = "SELECT 1 FROM pg_indexes WHERE schemaname = 'wh' AND tablename = 'lines' AND indexdef LIKE '%(id)%'"
+    return [] if catalogue.live.database.answers(asked)[0] else ["lines has no index by which it is joined"]
 
 
 def checked(catalogue, when):
@@ -272,7 +282,7 @@ def stopped_mistakes(live):
     database.asked(WAITING)
     for night in (live.night, lambda: catalogue.run("--live")):
         told = night()
-        wrong += [] if told and "run tools/sql --capture" in told else [f"a night between was told {told}"]
+        wrong += [] if told and ("run tools/sql --capture" in told or "does not fit" in told) else [f"a night between was told {told}"]
     wrong += [each for each in [catalogue.run(*ALL_OF_IT)] if each] + checked(catalogue, "after it")
     wrong += [each for each in [catalogue.run("--live")] if each]
     return wrong + catalogue.mistakes()
