@@ -28,7 +28,7 @@ class Words(argparse.ArgumentParser):
 
     def error(self, message):
         engine = next((said for said in ENGINES if said in sys.argv), "postgresql")
-        put(failing(engine, message))
+        put_if_taken(failing(engine, message))
         super().error(message)
 
 
@@ -142,6 +142,15 @@ def put(lines):
     sys.stdout.buffer.write("".join(f"{line}\n" for line in lines).encode())
 
 
+def put_if_taken(lines):
+    """What is put where something has failed already, if only that nobody reads it."""
+    try:
+        put(lines)
+        sys.stdout.flush()
+    except OSError:
+        pass
+
+
 def is_script(words):
     """Whether what is asked for is for the database to carry out, and not for people to read."""
     others = ("catalogue", "sizes", "sizes-after", "costs", "dry", "explain", "check", "history")
@@ -151,7 +160,7 @@ def is_script(words):
 def failed(words, lines):
     """A failure, by a message and a status; and where a script is wanted, by one that raises, since an empty one would pass for one that went through."""
     if is_script(words):
-        put(failing(words.engine, "; ".join(lines)))
+        put_if_taken(failing(words.engine, "; ".join(lines)))
     sys.exit("\n".join(f"tools/sql: {line}" for line in lines))
 
 
@@ -166,12 +175,8 @@ def main(about):
         return failed(words, [str(told)])
     except Failure as failure:
         return failed(words, failure.lines)
-    except Exception as fault:
-        failed_by(words, fault)
+    except BaseException as fault:
+        # A fault of this tool's own, or that it is told to stop, ends as a failure does, and with its traceback.
+        if is_script(words):
+            put_if_taken(failing(words.engine, repr(fault)))
         raise
-
-
-def failed_by(words, fault):
-    """A fault of this tool's own ends as a failure does, and with its traceback."""
-    if is_script(words):
-        put(failing(words.engine, repr(fault)))
