@@ -1,8 +1,11 @@
 """Tests of what is made of an application's tables without a database: columns that are turned, views that are read, keys that follow."""
 
+import json
 import sqlite3
 import subprocess
 import unittest
+from pathlib import Path
+from tempfile import TemporaryDirectory
 from types import SimpleNamespace
 
 from whtools.live.compared import Digest
@@ -162,6 +165,30 @@ class ScriptsThatCannotBeWritten(unittest.TestCase):
     def test_words_that_go_with_others(self):
         for words in ["--repair"], ["--in-turn"], ["--line"], ["--changed"], ["--drop"], ["--live"]:
             self.assertIn("go" if words != ["--live"] else "unrecognized", self.asked(*words, ROOT / "examples/live", *(["lines"] if words == ["--live"] else [])).stderr)
+
+
+class DeepFormulas(unittest.TestCase):
+    """A formula that is as deep as the formats let it be is checked in SQLite, whose parser has a hundred places."""
+
+    def sql(self, folder, *words):
+        return subprocess.run([ROOT / "tools/sql", "--engine", "sqlite", "--database", folder / "own.db", *words, folder], capture_output=True, text=True)
+
+    def test_both_where_it_agrees_and_where_it_does_not(self):
+        formula = "t.b"
+        for at in range(31):
+            formula = ["+", 1, ["*", "t.b", formula]] if at % 2 else ["-", ["+", formula, 1], "t.b"]
+        of_t = f'over = ["t"]\ngroup = [["a", "t.a"]]\ncount = "n"\nsum = [["e", {json.dumps(formula)}]]'
+        with TemporaryDirectory() as name:
+            folder = Path(name)
+            (folder / "catalogue.toml").write_text(f'[[view]]\nname = "t"\ncolumns = ["a", "b"]\n[[view]]\nname = "v"\n{of_t}\n')
+            database = sqlite3.connect(folder / "own.db", isolation_level=None)
+            database.executescript("CREATE TABLE t (a INT NOT NULL, b INT NOT NULL); INSERT INTO t VALUES (1, 1), (1, 0), (2, 1);")
+            database.executescript(self.sql(folder, "--capture", "--live", "--open").stdout)
+            found = [self.sql(folder, "--check")]
+            database.execute("UPDATE wh_v SET e = e + 1 WHERE a = 1")
+            found.append(self.sql(folder, "--check"))
+            database.close()
+        self.assertEqual([(ran.returncode, ran.stdout.splitlines()[-1]) for ran in found], [(0, "all 2 agree"), (1, "1 of 2 differ")])
 
 
 class Digests(unittest.TestCase):

@@ -93,13 +93,17 @@ class Check:
         return session.rows(columns, rest, **parts)[0]
 
     def differing(self, session, v):
+        """The keys that differ, whose rows are put right where that is said. A transaction of PostgreSQL's that only reads makes no table."""
+        if self.dialect.takes and not self.is_repairing:
+            return self.keys(session, v, sql("({difference}) AS d", difference=self.compared.difference(v)))
+        if not self.dialect.takes:
+            session.carried_out(self.compared.keep_wanted(v))
+        repair = Repair(self.script, self.sources)
+        session.carried_out(repair.kept(self.compared.difference(v)))
+        found = self.keys(session, v, Repair.kept_rows(self.dialect))
         if self.is_repairing:
-            repair = Repair(self.script, self.sources)
-            session.carried_out(repair.kept(v, self.compared.difference(v)))
-            found = self.keys(session, v, Repair.kept_rows(self.dialect))
             self.is_waiting |= repair.put_right(session, v)
-            return found
-        return self.keys(session, v, sql("({difference}) AS d", difference=self.compared.difference(v)))
+        return found
 
     # ---- keys
 

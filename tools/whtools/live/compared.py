@@ -11,7 +11,7 @@ class Compared:
     """The relations that are compared, by the numbers of views; `instead` has those that stand for tables which are not as they should be."""
 
     def __init__(self, script, sources):
-        self.script, self.dialect, self.sources = script, script.dialect, sources
+        self.script, self.dialect, self.sources, self.kept_wanted = script, script.dialect, sources, {}
 
     # ---- what there is, and what there ought to be
 
@@ -32,18 +32,27 @@ class Compared:
 
     def wanted(self, v):
         """The rows of a table as the application's tables or the tables below it give them."""
+        if v in self.kept_wanted:
+            return self.listed(v, self.script.cells(v, "k"), sql("k.n"), sql("{table} AS k", table=self.kept_wanted[v]))
         if v in self.sources:
             source = self.sources[v]
             return self.listed(v, [column.said for column in source.columns], number(1), sql("{source} AS r", source=source.said))
         (term,) = self.script.steps.whole(v)
         combined = sql("({term}) AS r", term=self.script.term(v, term))
         if not self.script.shape.is_summary(v):
-            return self.listed(v, self.kept(v, self.script.cells(v, "r")), sql("r.n"), combined)
+            return self.listed(v, self.typed(v, self.script.cells(v, "r")), sql("r.n"), combined)
         cells = self.script.cells(v, "r")[: self.script.shape.groups(v)]
         grouped = sql("GROUP BY {cells}", cells=joined(cells)) if cells else sql("")
-        rows = self.listed(v, self.kept(v, [*cells, *self.sums(v)]), number(1), combined)
+        rows = self.listed(v, self.typed(v, [*cells, *self.sums(v)]), number(1), combined)
         # Over no rows there is no group, also where nothing is grouped by.
         return sql("{rows} {grouped} HAVING count(*) > 0", rows=rows, grouped=grouped)
+
+    def keep_wanted(self, v):
+        """What there ought to be is a table of this transaction from here on, in SQLite, whose parser has no room for a formula deep within others."""
+        kept = self.dialect.working(f"night~wanted{v}")
+        made = sql("CREATE TABLE {kept} AS {rows}", kept=kept, rows=self.wanted(v))
+        self.kept_wanted[v] = kept
+        return [made]
 
     def sums(self, v):
         """The count and the sums of a group of combined rows."""
@@ -51,7 +60,7 @@ class Compared:
         halves += [self.dialect.times(sql("r.n"), sql("r.{sum}", sum=word("s", place))) for place in range(2, self.script.shape.sums(v) + 1)]
         return [self.dialect.whole_of(summed(each)) for each in halves]
 
-    def kept(self, v, cells):
+    def typed(self, v, cells):
         """Cells as they stand in a table."""
         kinds = self.script.kinds(v)
         return [sql("({cell})::{kind}", cell=cell, kind=self.dialect.kinds[kind]) for cell, kind in zip(cells, kinds)] if self.dialect.takes else cells
@@ -88,13 +97,13 @@ class Compared:
 
     # ---- row by row
 
-    def difference(self, v, wanted=None):
+    def difference(self, v):
         """The rows that are there another number of times than they should be: how many more there should be, and how many in all, and how many
         the table itself has."""
         cells = self.script.cells(v, "g")
         # In SQLite a number and a text, or a whole number and a real, are not the same cell, also where they compare as equal.
         apart = joined([*cells, *([] if self.dialect.takes else [sql("typeof({cell})", cell=cell) for cell in cells])])
-        sides = [("w.n, w.n AS wanted, 0 AS held", "w", wanted or self.wanted(v)), ("- h.n, 0, h.n", "h", self.held(v))]
+        sides = [("w.n, w.n AS wanted, 0 AS held", "w", self.wanted(v)), ("- h.n, 0, h.n", "h", self.held(v))]
         sides += [] if self.script.views[v].over else [("- l.n, 0, 0", "l", self.held(v, "~changes"))]
         both = joined([sql("SELECT {cells}, " + numbers + " FROM {rows}", cells=joined(self.script.cells(v, of)), rows=self.named(v, rows, of))
                        for numbers, of, rows in sides], "UNION ALL")  # fmt: skip

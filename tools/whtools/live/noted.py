@@ -32,7 +32,7 @@ class Noted:
             sql("DELETE FROM {noted} WHERE view = {view} AND name = {own}", noted=noted, view=view, own=own),
             # Which names have their schemas in the text goes by the path.
             sql("path := current_setting({key})", key=text("search_path")),
-            sql("PERFORM set_config({key}, {own}, TRUE)", key=text("search_path"), own=text("pg_catalog")),
+            sql("PERFORM set_config({key}, {own}, TRUE)", key=text("search_path"), own=text("pg_catalog, pg_temp")),
             sql("INSERT INTO {noted} SELECT q.view, {own}, q.own FROM ({made}) AS q", noted=noted, own=own, made=made),
             sql("PERFORM set_config({key}, path, TRUE)", key=text("search_path")),
         ]  # fmt: skip

@@ -18,7 +18,7 @@ class Repair:
     def kept_rows(dialect, of="d"):
         return sql("{drift} AS {of}", drift=dialect.working(DRIFT), of=word(of))
 
-    def kept(self, v, difference):
+    def kept(self, difference):
         """The rows that differ, as a table of this transaction."""
         drift = self.dialect.working(DRIFT)
         gone = sql("DROP TABLE IF EXISTS {drift}", drift=drift)
