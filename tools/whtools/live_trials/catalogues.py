@@ -113,14 +113,14 @@ def said(engine, query):
 class Catalogue:
     """A changed catalogue in a folder of its own, with what its views have to be."""
 
-    def __init__(self, live, changed):
+    def __init__(self, live, changed, name="changed"):
         self.live, text = live, CATALOGUE
         for old, new in changed.edits:
             found = re.subn(old if isinstance(old, re.Pattern) else re.escape(old), lambda _: new, text)  # noqa: B023
             if not found[1]:
                 raise ValueError(f"{old!r} is not in the catalogue")
             text = found[0]
-        self.path = Path(live.path) / "changed"
+        self.path = Path(live.path) / name
         self.path.mkdir(exist_ok=True)
         views = Warehouse(views_of(text))
         (self.path / "catalogue.toml").write_text(text)
