@@ -8,7 +8,7 @@ from whtools.live.compared import Compared, Digest
 from whtools.live.noted import Noted
 from whtools.live.repair import Repair
 from whtools.live.session import SESSIONS
-from whtools.sql.tokens import joined, number, sql, word
+from whtools.sql.tokens import Unfit, joined, number, sql, word
 
 # So many keys are told of a table that differs.
 SHOWN = 20
@@ -166,7 +166,12 @@ def told(found, repaired):
 def checked(script, database, sources, chosen, is_repairing):
     """A check, and that it is noted: the lines, and the status."""
     check = Check(script, database, sources, is_repairing)
-    found = check.of(chosen)
+    try:
+        found = check.of(chosen)
+    except Unfit as fault:
+        # A table that is not captured as it was keeps the check from its end, which the history says too.
+        Checks(script).noted(database, [Found(script.views[v].name, 0, 0, [str(fault)], []) for v in chosen])
+        raise
     waiting = "; what changes lacked waits with them for the next night" if check.is_waiting else ""
     lines, all_agree = told(found, f", and rows were put right{waiting}" if is_repairing else "")
     Checks(script).noted(database, found)

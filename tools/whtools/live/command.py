@@ -9,6 +9,7 @@ from whtools.live.dry import Dry
 from whtools.live.left_out import LeftOut
 from whtools.live.measured import measured, steps_of
 from whtools.live.monitored import told_history
+from whtools.live.opening import QUIETLY
 from whtools.live.planned import planned, sizes_text
 from whtools.live.postgresql import LivePostgreSQL
 from whtools.live.proposed import Proposed
@@ -117,7 +118,7 @@ def captured(words, script, database):
         names = ", ".join(name for names in left_out for name in names)
         print(f"tools/sql: {names}: captured or filled, and not in the catalogue; --capture --drop lets it go", file=sys.stderr)
     unindexed = [each for v in standing.unindexed() if v not in mirrors and v not in derived for each in script.indexed(v)]
-    gone += script.dialect.creation(unindexed) if unindexed else []
+    gone += script.dialect.creation([*([QUIETLY] if script.dialect.takes else []), *unindexed]) if unindexed else []
     if not script.dialect.takes:
         reshaped = ReshapedSQLite(script, found, mirrors, derived) if mirrors or derived else None
         return [*gone, *script.captures.capture(found, database, reshaped)]

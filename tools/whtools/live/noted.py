@@ -67,7 +67,8 @@ class Noted:
                 " (SELECT min(s.relnamespace) FROM {state} AS a JOIN pg_class AS s ON s.oid = a.source))",
                 state=self.captures.state, view=text("v"), kept=text("m"),
             )  # fmt: skip
-        return sql("(SELECT s.sql FROM {schema}.sqlite_master AS s WHERE s.type = {kind} AND s.name = k.view)", schema=name(self.dialect.schema), kind=text("view"))
+        now = "(SELECT s.sql FROM {schema}.sqlite_master AS s WHERE s.type = {kind} AND s.name = k.view)"
+        return sql(now, schema=name(self.dialect.schema), kind=text("view"))
 
     def read(self, session):
         """Of each view that was filled the print of its definition, what its CREATE VIEW was, and what it is."""

@@ -56,8 +56,9 @@ class Repair:
     def changed(self, v, test):
         """What changes lack, or have too much, is added to them for the next night."""
         columns = joined([*self.script.users(v), COUNT])
-        return sql("INSERT INTO {changes} ({columns}) SELECT {cells}, d.n FROM {drift} WHERE {test}", test=test, changes=self.script.table(v, "~changes"), columns=columns,
-                   cells=joined(self.script.cells(v, "d")), drift=self.kept_rows(self.dialect))  # fmt: skip
+        added = "INSERT INTO {changes} ({columns}) SELECT {cells}, d.n FROM {drift} WHERE {test}"
+        return sql(added, test=test, changes=self.script.table(v, "~changes"), columns=columns, cells=joined(self.script.cells(v, "d")),
+                   drift=self.kept_rows(self.dialect))  # fmt: skip
 
     def rows_put_right(self, v):
         """The rows that differ leave, and come as often as they should."""
@@ -70,7 +71,8 @@ class Repair:
         if self.dialect.takes:
             gone = sql("DELETE FROM {table} AS t USING {drift} WHERE {same}", table=table, drift=drift, same=same)
         else:
-            gone = sql("DELETE FROM {table} WHERE _rowid_ IN (SELECT t._rowid_ FROM {table} AS t JOIN {drift} ON {same})", table=table, drift=drift, same=same)
+            gone = "DELETE FROM {table} WHERE _rowid_ IN (SELECT t._rowid_ FROM {table} AS t JOIN {drift} ON {same})"
+            gone = sql(gone, table=table, drift=drift, same=same)
         return [gone, come, self.sized(v)]
 
     def sized(self, v):

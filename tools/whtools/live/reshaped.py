@@ -2,6 +2,7 @@
 over it stay what they are; what its table has now beside these is in its changes, for the next night."""
 
 from whtools.live.postgresql import BUSY, PAUSE, RESHAPED, TRIES
+from whtools.live.opening import QUIETLY
 from whtools.sql.dialect import COUNT
 from whtools.sql.tokens import END_OF_STATEMENT, body, joined, name, number, sql, statements, text
 
@@ -20,7 +21,7 @@ class Reshaped:
     def statements(self):
         """The views, each mirror at a moment when nobody is writing to its table, and then the contents of all."""
         views = [each for v, reshaped in self.derived.items() for each in self.view(v, reshaped)]
-        found, filled = self.dialect.creation(views) if views else [], sorted({*self.mirrors, *self.marked})
+        found, filled = self.dialect.creation([QUIETLY, *views]) if views else [], sorted({*self.mirrors, *self.marked})
         if self.mirrors:
             is_missing = sql("to_regclass({marks}) IS NULL", marks=self.captures.written(self.marks))
             made = sql("CREATE TABLE {marks} (view text PRIMARY KEY)", marks=self.marks)
@@ -65,10 +66,10 @@ class Reshaped:
         ]  # fmt: skip
         busy = self.dialect.where(sql("tries > {most}", most=number(TRIES)), self.dialect.raised(text(BUSY % script.views[v].name)))
         program = sql(
-            "\nDECLARE tries int{end}\nBEGIN\nPERFORM set_config({key}, {path}, TRUE){end}\ntries := 0{end}\nLOOP\nBEGIN{made}\n"
+            "\nDECLARE tries int{end}\nBEGIN\nPERFORM set_config({key}, {path}, TRUE){end}\n{quietly}{end}\ntries := 0{end}\nLOOP\nBEGIN{made}\n"
             "EXCEPTION WHEN lock_not_available THEN\ntries := tries + 1{end}\n{busy}{end}\nPERFORM pg_sleep({pause} / 1000.0){end}\nEND{end}\n"
             "END LOOP{end}\nEND{end}", key=text("search_path"), path=text("pg_catalog, pg_temp"), made=statements(made, 2), busy=busy,
-            pause=number(PAUSE), end=END_OF_STATEMENT,
+            pause=number(PAUSE), quietly=QUIETLY, end=END_OF_STATEMENT,
         )  # fmt: skip
         return sql("DO {program}{end}", program=body(program), end=END_OF_STATEMENT)
 
@@ -81,7 +82,7 @@ class Reshaped:
         return [
             sql("BEGIN ISOLATION LEVEL REPEATABLE READ READ WRITE{end}", end=END_OF_STATEMENT),
             sql("LOCK TABLE {mirrors} IN EXCLUSIVE MODE{end}", mirrors=mirrors, end=END_OF_STATEMENT),
-            self.dialect.block(made),
+            self.dialect.block([QUIETLY, *made]),
             sql("COMMIT{end}", end=END_OF_STATEMENT),
         ]
 

@@ -49,7 +49,9 @@ def without(*names):
 
 
 CASES = {
-    "a view comes": Changed(((MOMENTS, MOMENTS + BY_DAY),), {"by_day": "SELECT {days:o.day}, count(*) FROM orders AS o JOIN lines AS l ON l.id = o.id GROUP BY o.day"}, ALL),
+    "a view comes": Changed(
+        ((MOMENTS, MOMENTS + BY_DAY),), {"by_day": "SELECT {days:o.day}, count(*) FROM orders AS o JOIN lines AS l ON l.id = o.id GROUP BY o.day"}, ALL,
+    ),
     "a view goes": Changed(((MOMENTS, ""),), {}, without("moments")),
     "a view is defined anew": Changed(
         ((PLACED, PLACED.replace("where = ", "where = ['all', ['>', 'orders.id', 9], ").replace("}]\n", "}]]\n")),),
@@ -70,11 +72,13 @@ CASES = {
     "a column comes into a mirror": Changed(
         (('"paid", "region:text"]', '"paid", "region:text", "note:text"]'), ('nulls = ["at", "region"]', 'nulls = ["at", "region", "note"]'),
          (', ["double", ["*", "orders.paid", 2]]]', ', ["note", "orders.note"]]')),
-        {"orders": "SELECT id, {days:day}, {seconds:at}, CAST(paid AS int), coalesce(region, '\\N'), coalesce(note, '\\N') FROM orders", "placed": "SELECT region, id, coalesce(note, '\\N') FROM orders WHERE region IS NOT NULL"},
+        {"orders": "SELECT id, {days:day}, {seconds:at}, CAST(paid AS int), coalesce(region, '\\N'), coalesce(note, '\\N') FROM orders",
+         "placed": "SELECT region, id, coalesce(note, '\\N') FROM orders WHERE region IS NOT NULL"},
         without("placed"), before="UPDATE orders SET note = 'note ' || id WHERE id % 3 = 0;",
     ),
     "a column comes into a mirror without a key": Changed(
-        (('name = "lines"\ncolumns = ["id", "product:text", "pieces"]', 'name = "lines"\ncolumns = ["id", "colour:text", "product:text", "pieces"]\nnulls = ["colour"]'),),
+        (('name = "lines"\ncolumns = ["id", "product:text", "pieces"]',
+          'name = "lines"\ncolumns = ["id", "colour:text", "product:text", "pieces"]\nnulls = ["colour"]'),),
         {"lines": "SELECT id, coalesce(colour, '\\N'), product, pieces FROM lines"}, ALL,
         before="ALTER TABLE lines ADD COLUMN colour varchar(9); UPDATE lines SET colour = 'red' WHERE pieces > 4;"
         " INSERT INTO lines (id, product, pieces, colour) SELECT id, product, pieces, 'blue' FROM lines WHERE pieces = 2;",
@@ -87,10 +91,12 @@ CASES = {
          "daily": "SELECT {days:o.day}, o.region, count(*), sum({cents:p.price}), sum(CAST(o.paid AS int))" + SALES + " GROUP BY o.day, o.region"},
         ("placed", "moments"),
     ),
-    "a table comes": Changed(((MOMENTS, MOMENTS + '[[view]]\nname = "codes"\ncolumns = ["a", "b:text"]\n' + BY_DAY.replace('["orders", "lines"]', '["orders", "codes"]')
-                               .replace('"lines.id"', '"codes.a"')),),
-                             {"codes": "SELECT a, b FROM codes", "by_day": "SELECT {days:o.day}, count(*) FROM orders AS o JOIN codes AS c ON c.a = o.id GROUP BY o.day"},
-                             ALL, before="CREATE TABLE codes (a int NOT NULL, b varchar(9) NOT NULL); INSERT INTO codes VALUES (3, 'x'), (4, 'y'), (3, 'x');"),
+    "a table comes": Changed(
+        ((MOMENTS, MOMENTS + '[[view]]\nname = "codes"\ncolumns = ["a", "b:text"]\n' + BY_DAY.replace('["orders", "lines"]', '["orders", "codes"]')
+          .replace('"lines.id"', '"codes.a"')),),
+        {"codes": "SELECT a, b FROM codes", "by_day": "SELECT {days:o.day}, count(*) FROM orders AS o JOIN codes AS c ON c.a = o.id GROUP BY o.day"},
+        ALL, before="CREATE TABLE codes (a int NOT NULL, b varchar(9) NOT NULL); INSERT INTO codes VALUES (3, 'x'), (4, 'y'), (3, 'x');",
+    ),
     "a table goes": Changed(
         ((re.compile(r'\[\[view\]\]\nname = "products".*?(?=\[\[view\]\]\nname = "placed")', re.DOTALL), ""),),
         {}, ("placed", "moments"),
@@ -163,7 +169,8 @@ class Catalogue:
         return found
 
     def rows(self, names):
-        return dict(zip(names, map(Counter, self.live.database.answers(*(f"SELECT * FROM {self.live.database.table(name)}" for name in names))))) if names else {}
+        queries = [f"SELECT * FROM {self.live.database.table(name)}" for name in names]
+        return dict(zip(names, map(Counter, self.live.database.answers(*queries)))) if names else {}
 
 
 ALL_OF_IT = ("--capture", "--drop", "--live", "--open", "--changed")

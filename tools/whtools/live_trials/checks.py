@@ -32,13 +32,19 @@ BOTH = {
     "a row of a mirror comes": Drift("""INSERT INTO {wh}lines (id, product, pieces, "#") VALUES (1, 'nothing', 7, 3);""", {"lines": 1},
                                      told=('id 1, product "nothing", pieces 7: there 3 times and should be 0',)),
     "a row of a mirror counts twice": Drift("""UPDATE {wh}orders SET "#" = 2 WHERE id = 9;""", {"orders": 1}, told=("id 9: there 2 times and should be 1",)),
-    "a sum of a view is altered": Drift("UPDATE {wh}moments SET orders = orders + 1 WHERE places = (SELECT min(m.places) FROM {wh}moments AS m WHERE m.places > 0);",
-                                        {"moments": 1}, told=("moments differs by 1 key", "orders is ")),
+    "a sum of a view is altered": Drift(
+        "UPDATE {wh}moments SET orders = orders + 1 WHERE places = (SELECT min(m.places) FROM {wh}moments AS m WHERE m.places > 0);",
+        {"moments": 1}, told=("moments differs by 1 key", "orders is "),
+    ),
     "a group of a view goes": Drift("DELETE FROM {wh}moments WHERE places = (SELECT min(m.places) FROM {wh}moments AS m WHERE m.places > 0);", {"moments": 1}),
-    "what stands below a view goes": Drift("DELETE FROM {wh}placed WHERE id = 6; DELETE FROM {wh}sales WHERE product = 'product 3' AND cost = 0;", {"placed": 1, "sales": 1},
-                                           told=("id 6", 'product "product 3", cost 0: there 0 times and should be 1')),
+    "what stands below a view goes": Drift(
+        "DELETE FROM {wh}placed WHERE id = 6; DELETE FROM {wh}sales WHERE product = 'product 3' AND cost = 0;", {"placed": 1, "sales": 1},
+        told=("id 6", 'product "product 3", cost 0: there 0 times and should be 1'),
+    ),
     "all of a view goes": Drift("DELETE FROM {wh}placed;", {"placed": 30}, told=(".. and 10 more",)),
-    "a change that waits is altered": Drift("""DELETE FROM {wh}"orders~changes" WHERE id = 900;""", {"orders": 1, "placed": 1, "moments": 1}, told=("id 900: there 0 times and should be 1",)),
+    "a change that waits is altered": Drift(
+        """DELETE FROM {wh}"orders~changes" WHERE id = 900;""", {"orders": 1, "placed": 1, "moments": 1}, told=("id 900: there 0 times and should be 1",),
+    ),
 }  # fmt: skip
 OF_POSTGRESQL = {
     "a view is defined anew": Drift(
@@ -92,7 +98,8 @@ def mistakes_of(live, drift):
     told = live.database.by_shell(said, SHELL) if drift.is_unseen else live.database.asked(said) and None
     found = check(live)
     wrong += [f"the application was told {told}"] if told else []
-    wrong += [] if (keys_told(found), found.status) == (drift.keys, int(bool(drift.keys))) else [f"with status {found.status} was told {found.text}{found.told}"]
+    is_right = (keys_told(found), found.status) == (drift.keys, int(bool(drift.keys)))
+    wrong += [] if is_right else [f"with status {found.status} was told {found.text}{found.told}"]
     wrong += [f"{word!r} is not told: {found.text}" for word in drift.told if word not in found.text]
     # One alone is compared over the tables below it as they stand.
     for view, many in () if {"orders", "lines"} & drift.keys.keys() and len(drift.keys) > 1 else drift.keys.items():
@@ -144,6 +151,7 @@ def rewritten_mistakes(live):
     thread.join()
     writer.close()
     (found,) = told
+    wrong += [] if any("columns of lines were written anew" in line for line in history(live)) else [f"the history says {history(live)}"]
     right = found.status == 1 and "columns of lines were written anew" in found.told and "differs" not in found.text
     return wrong + ([] if right else [f"a check beside ALTER TABLE was told {found.text}{found.told}"])
 

@@ -42,6 +42,8 @@ def later_mistakes(folder, planned, server):
     wrong += [] if not ran.returncode and "all 1 agree" in ran.stdout else [f"a check by cron: {ran.stdout}{ran.stderr}"]
     ran = run(changes["sh"][0] + "tools/sql --check --database live live by_product", folder, server)
     wrong += [] if not ran.returncode and ran.stdout.startswith("by_product agrees: 3 rows\n") else [f"a view more: {ran.stdout}{ran.stderr}"]
+    ran = run(planned, folder, server)
+    wrong += [] if not ran.returncode and not ran.stdout else [f"a night of a view more: {ran.stdout}{ran.stderr}"]
     ran = run("rm live/catalogue.toml; tools/sql --plan --database live live > live/night.sql || psql -q -f live/night.sql live", folder, server)
     return wrong + ([] if ran.returncode == 3 and "wrote no script" in ran.stderr else [f"a script that cannot be written: {ran.returncode} {ran.stderr}"])
 
