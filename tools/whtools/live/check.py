@@ -58,10 +58,8 @@ class Check:
 
     def refusals(self, chosen):
         """Refusals of tables that are not captured as they were; SQLite would also drop notes there, which a check does not."""
-        if not any(v in self.sources for v in chosen):
-            return []
-        select = word("SELECT").tokens[0]
-        return [each for each in self.script.captures.whole() if self.dialect.takes or each.tokens[0] == select]
+        base, select = [v for v in chosen if v in self.sources], word("SELECT").tokens[0]
+        return [each for each in (self.script.captures.whole(base) if base else []) if self.dialect.takes or each.tokens[0] == select]
 
     def looked_at(self, session, v, noted):
         told = noted.told(v) if self.script.views[v].over else []

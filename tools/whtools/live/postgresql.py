@@ -490,9 +490,9 @@ class Captures:
         told = sql("SELECT replace({told}, {hole}, u.view) FROM ({unlike}) AS u", told=text(self.script.told_unopened("%s")), hole=text("%s"), unlike=unlike)
         return self.dialect.refuse_with(told) if listed else []
 
-    def whole(self):
-        """A refusal of a source that is not captured as it was."""
-        base = self.script.steps.base()
+    def whole(self, base=None):
+        """A refusal of a source that is not captured as it was, of all or of those of these views."""
+        base = self.script.steps.base() if base is None else base
         functions = [self.written(sql("{function}()", function=self.function(v))) for v in base]
         rows = [sql("({view}::text, {made}::regprocedure::oid)", view=self.view(v), made=made) for v, made in zip(base, functions)]
         told = text("table %s is not captured as it was: %s; run tools/sql --capture")

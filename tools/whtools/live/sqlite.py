@@ -236,10 +236,10 @@ class Captures:
 
     # ---- a night's look at them
 
-    def whole(self):
+    def whole(self, base=None):
         """Refusals of a table whose triggers are gone, as they are where a table was made anew; and notes of what stayed are dropped."""
         found = []
-        for v in self.script.steps.base():
+        for v in self.script.steps.base() if base is None else base:
             view, names = self.script.views[v].name, self.trigger_names(v)
             told = f"table {view} is not captured as it was: its triggers are gone; run tools/sql --capture"
             query = sql(
