@@ -18,6 +18,8 @@ from whtools.warehouse.finding import Failure
 ENGINES = {"postgresql": PostgreSQL, "sqlite": SQLite, "clickhouse": ClickHouse}
 # What is said of tables that applications write to.
 LIVE = ("live", "capture", "uncapture", "catalogue", "sizes", "sizes-after", "plan", "dry", "costs", "check", "history")
+# So many letters of a message stand in a script that raises it.
+MOST_TOLD = 600
 # What goes with these, and not alone.
 BESIDE = {"measured": ("plan", "dry"), "repair": ("check",), "in-turn": ("check",), "line": ("history",), "changed": ("capture", "open"), "drop": ("capture",)}
 
@@ -38,7 +40,7 @@ def failing(engine, told):
         return []
     dialect = ENGINES[engine]()
     told = re.sub(r"[\x00-\x1f\x7f\ud800-\udfff]", "?", " ".join(f"tools/sql wrote no script: {told}".split()))
-    return dialect.head + dialect.written(dialect.failing(told))
+    return dialect.head + dialect.written(dialect.failing(told[:MOST_TOLD]))
 
 
 def asked(about):
