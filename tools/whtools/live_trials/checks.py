@@ -116,7 +116,17 @@ def repair_mistakes(live, left):
     told = live.night()
     wrong += [f"the night after a repair: {told}"] if told else live.mistakes()
     found = check(live)
-    return wrong + ([] if keys_told(found) == left else [f"after the night was told {found.text}{found.told}"])
+    wrong += [] if keys_told(found) == left else [f"after the night was told {found.text}{found.told}"]
+    return wrong + (opened_mistakes(live, left) if left else [])
+
+
+def opened_mistakes(live, left):
+    """A view that is filled by its name is filled by the definition that there is now; others are not touched."""
+    made = written("--engine", live.engine, "--live", "--open", live.path, *left)
+    told = made.told if made.status else live.database.run(made.text)
+    found = check(live)
+    wrong = [told] if told else live.mistakes()
+    return wrong + ([f"after it was filled was told {found.text}{found.told}"] if found.status else [])
 
 
 # ---- a snapshot beside writers, and what is noted
