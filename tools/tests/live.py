@@ -1,10 +1,14 @@
 """Tests of what is made of an application's tables without a database: columns that are turned, views that are read, keys that follow."""
 
+import json
 import sqlite3
 import subprocess
 import unittest
+from pathlib import Path
+from tempfile import TemporaryDirectory
 from types import SimpleNamespace
 
+from whtools.live.compared import Digest
 from whtools.live.database import Table
 from whtools.live.measured import Step, fitted, measured, steps_of
 from whtools.live.parsed import NotTaken, parsed
@@ -140,8 +144,77 @@ class WordsOfADatabase(unittest.TestCase):
             for words in ["--database", "live"], ["--from", "there"], ["--measured"], ["--role", "keeper"]:
                 asked = [ROOT / "tools/sql", "--night", "--engine", engine, *words, ROOT / "examples/shop"]
                 ran = subprocess.run(asked, capture_output=True, text=True)
-                self.assertEqual((ran.returncode != 0, ran.stdout), (True, ""), words)
+                self.assertTrue(ran.returncode, words)
                 self.assertRegex(ran.stderr, "^tools/sql: --database, --from, --role and --measured go with ")
+
+
+class ScriptsThatCannotBeWritten(unittest.TestCase):
+    """An empty file would pass for a night that went well."""
+
+    def asked(self, *words):
+        ran = subprocess.run([ROOT / "tools/sql", *words], capture_output=True, text=True)
+        self.assertTrue(ran.returncode, words)
+        return ran
+
+    def test_the_script_in_its_place_raises_in_sqlite(self):
+        for words in ["--live", "no folder"], ["--night", "no folder"], ["--lvie", ROOT / "examples/live"], ["--capture", ROOT / "examples/live"]:
+            ran = self.asked("--engine", "sqlite", *words)
+            with self.assertRaisesRegex(sqlite3.Error, "tools/sql wrote no script: ") as told:
+                sqlite3.connect(":memory:").executescript(ran.stdout)
+            self.assertIn(str(told.exception).partition(": ")[2][:20], ran.stderr)
+
+    def test_and_in_postgresql(self):
+        for words in ["--live", "no folder"], ["--night", "it's"], ["--lvie", ROOT / "examples/live"]:
+            lines = self.asked(*words).stdout.splitlines()
+            self.assertEqual((lines[0], lines[3:5]), (r"\set ON_ERROR_STOP on", ["DO $night$", "BEGIN"]))
+            self.assertRegex(lines[5], "^  RAISE EXCEPTION USING MESSAGE = '([^']|'')*';$")
+
+    def test_what_people_read_stays_empty(self):
+        for words in ["--catalogue", "--engine", "sqlite"], ["--sizes", "no folder"], ["--check", "no folder"], ["--history", "no folder"], ["--explain", "no folder"]:
+            self.assertEqual(self.asked(*words).stdout, "", words)
+
+    def test_words_that_go_with_others(self):
+        for words in ["--repair"], ["--in-turn"], ["--line"], ["--changed"], ["--drop"], ["--live"]:
+            self.assertIn("go" if words != ["--live"] else "unrecognized", self.asked(*words, ROOT / "examples/live", *(["lines"] if words == ["--live"] else [])).stderr)
+
+
+class DeepFormulas(unittest.TestCase):
+    """A formula that is as deep as the formats let it be is checked in SQLite, whose parser has a hundred places."""
+
+    def sql(self, folder, *words):
+        return subprocess.run([ROOT / "tools/sql", "--engine", "sqlite", "--database", folder / "own.db", *words, folder], capture_output=True, text=True)
+
+    def test_both_where_it_agrees_and_where_it_does_not(self):
+        formula = "t.b"
+        for at in range(31):
+            formula = ["+", 1, ["*", "t.b", formula]] if at % 2 else ["-", ["+", formula, 1], "t.b"]
+        of_t = f'over = ["t"]\ngroup = [["a", "t.a"]]\ncount = "n"\nsum = [["e", {json.dumps(formula)}]]'
+        with TemporaryDirectory() as name:
+            folder = Path(name)
+            (folder / "catalogue.toml").write_text(f'[[view]]\nname = "t"\ncolumns = ["a", "b"]\n[[view]]\nname = "v"\n{of_t}\n')
+            database = sqlite3.connect(folder / "own.db", isolation_level=None)
+            database.executescript("CREATE TABLE t (a INT NOT NULL, b INT NOT NULL); INSERT INTO t VALUES (1, 1), (1, 0), (2, 1);")
+            database.executescript(self.sql(folder, "--capture", "--live", "--open").stdout)
+            found = [self.sql(folder, "--check")]
+            database.execute("UPDATE wh_v SET e = e + 1 WHERE a = 1")
+            found.append(self.sql(folder, "--check"))
+            database.close()
+        self.assertEqual([(ran.returncode, ran.stdout.splitlines()[-1]) for ran in found], [(0, "all 2 agree"), (1, "1 of 2 differ")])
+
+
+class Digests(unittest.TestCase):
+    def digest(self, rows):
+        found = Digest()
+        for row in rows:
+            found.step(*row)
+        return found.finalize()
+
+    def test_order_is_nothing_and_counts_are_much(self):
+        rows = [(1, 3, "a"), (2, -1, "b"), (1, -2, "b")]
+        self.assertEqual(self.digest(rows), self.digest([*rows[::-1], (0, 7, "c")]))
+        self.assertEqual(self.digest(rows), self.digest([(1, -1, "b"), *rows, (-1, -1, "b")]))
+        for other in [rows[1:], [(1, 3, "a"), (3, -1, "b")], [(1, 3, "a"), (1, -1, "b"), (2, -2, "b")], [(1, 3.0, "a"), *rows[1:]], [(1, "3", "a"), *rows[1:]]]:
+            self.assertNotEqual(self.digest(rows), self.digest(other))
 
 
 class KeysThatFollow(unittest.TestCase):

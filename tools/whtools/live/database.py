@@ -41,7 +41,8 @@ class PostgreSQLAsked:
 
     def run(self, lines):
         """What statements print."""
-        given = "\n".join([*self.dialect.head, "SET client_min_messages = warning;", f"SET search_path = {PATH};", *self.dialect.written(lines), ""])
+        set_before = ["SET client_min_messages = warning;", f"SET search_path = {PATH};", *self.dialect.owner.session()]
+        given = "\n".join([*self.dialect.head, *set_before, *self.dialect.written(lines), ""])
         try:
             ran = subprocess.run(self.command(), input=given.encode(), capture_output=True, check=False)
         except OSError as fault:
@@ -50,6 +51,10 @@ class PostgreSQLAsked:
             told = ran.stderr.decode(errors="replace").strip().split("\n")
             raise Unfit(f"the database says: {' '.join(told)[:600]}")
         return ran.stdout.decode()
+
+    def put(self, lines):
+        """Statements that write."""
+        self.run(lines)
 
     def rows(self, *queries, before=(), after=()):
         """The rows of each query, whose columns are listed in it as an array of JSON, between other statements."""
@@ -123,7 +128,7 @@ class PostgreSQLAsked:
 
 
 class SQLiteAsked:
-    """A file of SQLite, which is read and not written."""
+    """A file of SQLite, which is read, and written where that is said."""
 
     own_schema = "main"
 
@@ -140,6 +145,17 @@ class SQLiteAsked:
             raise Unfit(f"{self.address}: {fault}") from fault
         finally:
             found.close()
+
+    def put(self, lines):
+        """Statements that write, in a transaction of their own."""
+        database = sqlite3.connect(self.address, isolation_level=None, timeout=60)
+        try:
+            for line in self.dialect.written(lines):
+                database.execute(line)
+        except sqlite3.Error as fault:
+            raise Unfit(f"{self.address}: {fault}") from fault
+        finally:
+            database.close()
 
     def tables(self, _, names=None):
         """The tables of the file, by their names."""

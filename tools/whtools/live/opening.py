@@ -1,18 +1,23 @@
 """Opening in PostgreSQL: derived views from scratch, with keys and indexes made when the rows are there."""
 
+from whtools.live.noted import Noted
 from whtools.sql.dialect import COUNT
 from whtools.sql.tokens import END_OF_STATEMENT, joined, name, number, sql, statements, text, word
+
+
+# That something is not there which is dropped only if it is there need not be told.
+QUIETLY = sql("SET LOCAL client_min_messages = warning")
 
 
 class Opening:
     """The statements that fill the derived views."""
 
-    def open(self, comment):
-        derived = self.steps.derived()
+    def open(self, comment, chosen=None):
+        derived = self.filled_anew(chosen)
         made = [each for v in derived for each in self.filled(v)]
-        sizes = [self.history.opened(v, self.counted_rows(v)) for v in range(len(self.views))]
-        ended = [*sizes, *self.captures.noted_as_opened(), self.history.closed(), *self.captures.looked_at(), *self.captures.noted_as_judged()]
-        return self.whole([*self.history.opening_began(), *made], [], ended, comment)
+        sizes = [self.history.opened(v, v in derived, self.counted_rows(v) if v in derived else None) for v in range(len(self.views))]
+        ended = [*sizes, *Noted(self).as_filled(derived), self.history.closed(), *self.captures.looked_at(), *self.captures.noted_as_judged()]
+        return self.whole([QUIETLY, *self.history.opening_began(), *made], [], ended, comment)
 
     def counted_rows(self, v):
         """How many rows were put into a view each of which counts once, if it is such a view."""

@@ -1,7 +1,7 @@
 """The role that owns what --capture makes in PostgreSQL, and as which nights run: one without rights but those on its own tables and to read what is
 captured, if --role names it."""
 
-from whtools.sql.tokens import END_OF_STATEMENT, joined, name, sql, statements, text
+from whtools.sql.tokens import END_OF_STATEMENT, joined, name, sql, statements, text, word
 
 OWNED = "the schema %s is owned by %s, who would get what is captured: name another schema by --schema, or this role by --role"
 SUPER = "the role %s is a superuser, or passes by row-level security: name by --role one that is made for this alone"
@@ -35,11 +35,16 @@ class Owner:
     def other(self):
         return sql(OTHER, schema=self.schema())
 
-    def taken_on(self):
-        """From here on a program is carried out as whoever owns the schema, where that may be: a superuser's night is none of a superuser."""
+    def taken_on(self, is_kept=False):
+        """From here on a program is carried out as whoever owns the schema, where that may be: a superuser's night is none of a superuser. It may be
+        kept for all of a session."""
         member = sql("finding IS NOT NULL AND pg_has_role(session_user, finding::name, {member})", member=text("MEMBER"))
         return [sql("finding := {other}", other=self.other()),
-                self.dialect.where(member, sql("PERFORM set_config({role}, finding, TRUE)", role=text("role")))]  # fmt: skip
+                self.dialect.where(member, sql("PERFORM set_config({role}, finding, {local})", role=text("role"), local=word("FALSE" if is_kept else "TRUE")))]  # fmt: skip
+
+    def session(self):
+        """The lines by which a session asks as whoever owns the schema: what somebody has put in the place of its tables is then called as that one."""
+        return self.dialect.written([self.dialect.block_of_another(self.taken_on(True))])
 
     # ---- what somebody with more rights does before
 

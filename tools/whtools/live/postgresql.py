@@ -1,9 +1,8 @@
 """PostgreSQL as tables are captured there: by statement triggers with transition tables, beside writers that do not wait."""
 
-from whtools.live.history import SIZES
 from whtools.live.owner import BELOW_SOURCE, Owner
 from whtools.live.standing import ATTRIBUTES, FILE, JUDGED, TRIGGERS, TYPE, UNFIT, Standing
-from whtools.live.triggers import BELOW, BUSY, PAUSE, TRIES, Triggers
+from whtools.live.triggers import BELOW, Triggers
 from whtools.live.turned import NULL
 from whtools.sql.dialect import COUNT
 from whtools.sql.postgresql import UNREAD, PostgreSQL
@@ -12,7 +11,7 @@ from whtools.sql.tokens import END_OF_STATEMENT, body, joined, name, number, sql
 # How full, in hundredths, a page is filled at first: a row that changes finds room beside itself then, and its indexes stay as they are. Of
 # rows some change in a night, of groups most.
 FILLED = {"rows": 90, "summary": 60}
-CAPTURED, COLUMNS, PARTS, TORN = "~captured", "~columns", "~parts", "~torn"
+CAPTURED, COLUMNS, PARTS, TORN, RESHAPED = "~captured", "~columns", "~parts", "~torn", "~reshaped"
 # How long a lock is waited for that others' changes of a table hold.
 WAITED = "60s"
 STRANGE = "there is a table %s already, which is none of --capture's: name another schema by --schema"
@@ -120,9 +119,22 @@ class Captures(Triggers, Standing):
             sql("COMMIT{end}", end=END_OF_STATEMENT),
         ]
 
+    def judged_before(self, sources):
+        """The same judgement for itself, before anything that stands is given other columns."""
+        first = [each for v, source in sources.items() for each in [*self.fitting(source), *self.unlike_null(v, source), *self.unfit(v)]]
+        return [
+            sql("BEGIN ISOLATION LEVEL READ COMMITTED READ WRITE{end}", end=END_OF_STATEMENT),
+            *self.held(sources),
+            self.dialect.block_of_another(self.no_strangers()),
+            self.dialect.block(first),
+            sql("COMMIT{end}", end=END_OF_STATEMENT),
+        ]
+
     def held(self, sources):
         """Nobody changes a source from here on, and no rows are left out that a change of one has just written anew: a snapshot from before that does
         not have them. Locks are taken in one order."""
+        if not sources:
+            return []
         said = [source.said for source in sorted(sources.values(), key=lambda source: (source.schema, source.table))]
         return [
             sql("SET LOCAL lock_timeout = {waited}{end}", waited=text(WAITED), end=END_OF_STATEMENT),
@@ -143,7 +155,7 @@ class Captures(Triggers, Standing):
         )) + self.dialect.refuse_with(called)  # fmt: skip
 
     def tables_made(self, sources):
-        """The tables that are not there yet, each with its columns; of former ones what has become otherwise."""
+        """The tables that are not there yet, each with its columns, and the keys of former ones."""
         tables = [
             (self.state, sql("view text PRIMARY KEY, source regclass NOT NULL, filled boolean NOT NULL"), []),
             (self.columns, sql("view text NOT NULL, name text NOT NULL, type text NOT NULL, PRIMARY KEY (view, name)"), []),
@@ -159,9 +171,8 @@ class Captures(Triggers, Standing):
         known = sql("NOT EXISTS (SELECT 1 FROM pg_attribute AS a WHERE a.attrelid = to_regclass({columns}) AND a.attname = {said})",
                     columns=self.written(self.columns), said=text("is_key"))  # fmt: skip
         made += self.dialect.only_where(known, added)
-        gone = [each for v in reversed(range(len(self.script.views))) for each in self.reshaped(v, sources)]
         own = [each for v in range(len(self.script.views)) for table in self.view_tables(v, sources) for each in self.table_made(*table)]
-        return [*made, *gone, *(each for v in sources for each in self.keyed_anew(v, sources[v])), *own]
+        return [*made, *(each for v in sources for each in self.keyed_anew(v, sources[v])), *own]
 
     def table_made(self, table, columns, more):
         is_missing = sql("to_regclass({table}) IS NULL", table=self.written(table))
@@ -176,41 +187,7 @@ class Captures(Triggers, Standing):
             names=joined(list(map(text, self.table_names()))), default=text("d"),
         ))  # fmt: skip
 
-    # ---- tables that the catalogue has otherwise now
-
-    def reshaped(self, v, sources):
-        """A table that lacks a column of its view, or has one more that wants a value, goes, and is made and filled anew; so are all views, as they were
-        filled from what it had. No writer is at work on the source then, since its triggers write to the table."""
-        views = self.script.expected()
-        mine = [each for each in views if each.told in (self.script.views[v].name, f"{self.script.views[v].name}~changes")]
-        test = joined([self.is_otherwise(each) for each in mine], "OR")
-        gone = [sql("DROP TABLE IF EXISTS {table}", table=self.dialect.table(each.said)) for each in mine]
-        if v in sources:
-            unfilled = self.query(v, "UPDATE {state} SET filled = FALSE WHERE view = {view}")
-            sizes = self.query(v, "DELETE FROM {sizes} WHERE view = {view}", sizes=self.script.own(SIZES))
-            gone = [self.alone(sources[v]), *gone, unfilled, sizes]
-        gone.append(sql("UPDATE {columns} SET type = {none} WHERE name = {none}", columns=self.columns, none=text("")))
-        return self.dialect.only_where(test, gone)
-
-    def is_otherwise(self, expected):
-        kinds, table = {"text": 25}, self.written(self.dialect.table(expected.said))
-        own = [sql("(a.attname = {said} AND a.atttypid = {kind})", said=text(said), kind=number(kinds.get(kind, 20))) for said, kind in expected.columns]
-        there = "FROM pg_attribute AS a WHERE a.attrelid = to_regclass({table}) AND a.attnum > 0 AND NOT a.attisdropped AND "
-        return sql(
-            "to_regclass({table}) IS NOT NULL AND ((SELECT count(*) " + there + "({own})) <> {many} OR EXISTS (SELECT 1 " + there
-            + "a.attnotnull AND NOT a.atthasdef AND a.attidentity = {none} AND NOT ({own})))",
-            table=table, own=joined(own, "OR"), many=number(len(expected.columns)), none=text(""),
-        )  # fmt: skip
-
-    def alone(self, source):
-        """A source is locked at a moment when nobody is writing to it."""
-        told = self.dialect.raised(sql("format({busy}, {said}::text)", busy=text(BUSY), said=self.written(source.said)))
-        busy = self.dialect.where(sql("touched > {most}", most=number(TRIES)), told)
-        return sql(
-            "touched := 0{end} LOOP BEGIN LOCK TABLE {source} IN SHARE ROW EXCLUSIVE MODE NOWAIT{end} EXIT{end} EXCEPTION WHEN lock_not_available THEN"
-            " touched := touched + 1{end} {busy}{end} PERFORM pg_sleep({pause} / 1000.0){end} END{end} END LOOP",
-            source=source.said, busy=busy, pause=number(PAUSE), end=END_OF_STATEMENT,
-        )  # fmt: skip
+    # ---- tables of views
 
     def keyed_anew(self, v, source):
         """A mirror whose table has another key than the one by which it was captured: rows that this one kept apart may stand there twice now."""
@@ -243,12 +220,11 @@ class Captures(Triggers, Standing):
             " AND c.source <> {source}::regclass AND k.relname = {view}",
             told=text("%s is captured as %s already: let it go first by --uncapture"), source=self.written(source.said),
         )  # fmt: skip
-        unfit = [self.query(v, "SELECT format({told}, b.relation::regclass) FROM " + BELOW + " " + test + " LIMIT 1", told=text(told)) for test, told in UNFIT]
         return [
             *self.dialect.refuse_with(other),
             self.query(v, "INSERT INTO {state} VALUES ({view}, {source}::regclass, FALSE) ON CONFLICT (view) DO UPDATE SET source = excluded.source",
                        source=self.written(source.said)),
-            *(each for query in unfit for each in self.dialect.refuse_with(query)),
+            *self.unfit(v),
             self.query(v, "DELETE FROM {columns} WHERE view = {view}"),
             self.query(v, "INSERT INTO {columns} (view, name, type, is_filled, is_key) SELECT {view}, a.attname, " + TYPE + ", a.attname = ANY ({filled}),"
                           " a.attname = ANY ({key}) FROM pg_attribute AS a WHERE a.attrelid = {source}::regclass AND a.attname = ANY ({all})",
@@ -257,6 +233,11 @@ class Captures(Triggers, Standing):
             self.parts_noted(v),
             *self.captured_by(v, source),
         ]  # fmt: skip
+
+    def unfit(self, v):
+        """A refusal of a source whose rows may change while no trigger is fired."""
+        queries = [self.query(v, "SELECT format({told}, b.relation::regclass) FROM " + BELOW + " " + test + " LIMIT 1", told=text(told)) for test, told in UNFIT]
+        return [each for query in queries for each in self.dialect.refuse_with(query)]
 
     def unnoted(self, v):
         """A test of a part b that nobody noted."""
@@ -357,17 +338,17 @@ class Captures(Triggers, Standing):
 
     def table_names(self):
         """All tables that --capture makes."""
-        own = [self.script.prefix + said for said in (CAPTURED, COLUMNS, PARTS, TORN, JUDGED, *(said for said, _ in self.script.history.tables()))]
+        own = [self.script.prefix + said for said in (CAPTURED, COLUMNS, PARTS, TORN, JUDGED, RESHAPED, *(said for said, _ in self.script.history.tables()))]
         changes = [self.script.said(v, "~changes") for v in self.script.steps.base()]
         return [*(self.script.said(v) for v in range(len(self.script.views))), *changes, *own]
 
     def tables(self):
         return list(map(self.dialect.table, self.table_names()))
 
-    def no_readers(self):
+    def no_readers(self, tables=None):
         """A refusal where something else depends on a table that would go, or on its type, such as a view that reads it or a foreign key to it; what
         is a table's own, such as a trigger of it, goes with it."""
-        tables = joined([sql("to_regclass({table})::oid", table=self.written(table)) for table in self.tables()])
+        tables = joined([sql("to_regclass({table})::oid", table=self.written(table)) for table in tables or self.tables()])
         return self.dialect.refuse_with(
             sql(
                 "SELECT format({told}, pg_describe_object(d.classid, d.objid, 0), k.relation::regclass) FROM pg_depend AS d LEFT JOIN pg_type AS t"

@@ -60,9 +60,9 @@ def source(engine, view, schema, table, wanted=()):
     return Source(schema, table.name, columns, keys[0] if keys else [], table.is_parted)
 
 
-def sources(script, asked, schema):
-    """The tables of the base views, by the views' numbers."""
-    base = script.steps.base()
+def sources(script, asked, schema, base=None):
+    """The tables of the base views, or of these of them, by the views' numbers."""
+    base = script.steps.base() if base is None else base
     tables = asked.tables(schema, [script.views[v].name for v in base])
     found = {}
     for v in base:

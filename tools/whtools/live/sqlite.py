@@ -183,17 +183,19 @@ class Captures:
 
     # ---- scripts
 
-    def capture(self, sources, database):
-        there, made = self.judge(sources, database), []
+    def capture(self, sources, database, reshaped=None):
+        there, made, filled = self.judge(sources, database), [], []
+        if reshaped:
+            there, made, filled = there - {said.lower() for said in reshaped.gone()}, reshaped.before(), reshaped.after()
         for said, (columns, more) in self.tables(sources).items():
             if said.lower() not in there:
                 made += [sql("CREATE TABLE {table} ({columns})", table=self.named(said), columns=columns), *more]
-        made += self.without_triggers()
+        made += self.without_triggers(sources)
         made += [each for v, source in sources.items() for each in self.fired(v, source, database)]
-        return self.dialect.creation([*made, *(each for v, source in sources.items() for each in self.filled(v, source))])
+        return self.dialect.creation([*made, *filled, *(each for v, source in sources.items() for each in self.filled(v, source))])
 
-    def without_triggers(self):
-        said = [said for v in self.script.steps.base() for said in self.trigger_names(v)]
+    def without_triggers(self, base=None):
+        said = [said for v in (self.script.steps.base() if base is None else base) for said in self.trigger_names(v)]
         return [sql("DROP TRIGGER IF EXISTS {said}", said=self.named(each)) for each in said]
 
     def uncapture(self, database):
@@ -220,14 +222,6 @@ class Captures:
 
     # ---- by what definitions the views were filled
 
-    def noted_as_opened(self):
-        """The views are filled as the catalogue has them."""
-        state = self.dialect.target(f"{self.script.prefix}{CAPTURED}")
-        return [
-            sql("INSERT OR REPLACE INTO {state} VALUES ({view}, {print}, 0)", state=state, view=text(self.script.views[v].name), print=text(said))
-            for v, said in self.script.definitions().items()
-        ]  # fmt: skip
-
     def opened(self):
         """Refusals of views that were never filled, or by another definition."""
         found = []
@@ -242,10 +236,10 @@ class Captures:
 
     # ---- a night's look at them
 
-    def whole(self):
+    def whole(self, base=None):
         """Refusals of a table whose triggers are gone, as they are where a table was made anew; and notes of what stayed are dropped."""
         found = []
-        for v in self.script.steps.base():
+        for v in self.script.steps.base() if base is None else base:
             view, names = self.script.views[v].name, self.trigger_names(v)
             told = f"table {view} is not captured as it was: its triggers are gone; run tools/sql --capture"
             query = sql(

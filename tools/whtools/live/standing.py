@@ -139,14 +139,6 @@ class Standing:
 
     # ---- by what definitions the views were filled: in the table of columns each stands by no name
 
-    def noted_as_opened(self):
-        """The views are filled as the catalogue has them."""
-        found = []
-        for v, said in self.script.definitions().items():
-            found.append(self.query(v, "DELETE FROM {columns} WHERE view = {view} AND name = {none}"))
-            found.append(self.query(v, "INSERT INTO {columns} (view, name, type) VALUES ({view}, {none}, {print})", print=text(said)))
-        return found
-
     def opened(self):
         """A refusal of a view that was never filled, or by another definition."""
         listed = [sql("({view}, {print})", view=self.view(v), print=text(said)) for v, said in self.script.definitions().items()]
@@ -158,9 +150,9 @@ class Standing:
         told = sql("SELECT replace({told}, {hole}, u.view) FROM ({unlike}) AS u", told=text(self.script.told_unopened("%s")), hole=text("%s"), unlike=unlike)
         return self.dialect.refuse_with(told) if listed else []
 
-    def whole(self):
-        """A refusal of a source that is not captured as it was."""
-        base = self.script.steps.base()
+    def whole(self, base=None):
+        """A refusal of a source that is not captured as it was, of all or of those of these views."""
+        base = self.script.steps.base() if base is None else base
         functions = [self.written(sql("{function}()", function=self.function(v))) for v in base]
         rows = [sql("({view}::text, {made}::regprocedure::oid)", view=self.view(v), made=made) for v, made in zip(base, functions)]
         told = text("table %s is not captured as it was: %s; run tools/sql --capture")

@@ -4,7 +4,7 @@ import random
 from collections import Counter
 
 from whtools.live.history import History
-from whtools.live.postgresql import COLUMNS, JUDGED, PARTS, TORN, LivePostgreSQL
+from whtools.live.postgresql import CAPTURED, COLUMNS, JUDGED, PARTS, TORN, LivePostgreSQL
 from whtools.live.swift import SwiftScript
 from whtools.sql.nights import Carried, Night
 from whtools.sql.server import SCHEMA
@@ -23,6 +23,7 @@ class DrawnScript(SwiftScript):
         *made, committed = super().create()
         tables = [*History(self).tables(), (JUDGED, sql("print text NOT NULL")), (PARTS, sql("part oid")), (TORN, sql("view text, why text")),
                   (COLUMNS, sql("view text, name text, type text"))]  # fmt: skip
+        tables.append((CAPTURED, sql("view text, source regclass")))
         own = [sql("CREATE TABLE {table} ({columns}){end}", table=self.own(said), columns=columns, end=END_OF_STATEMENT) for said, columns in tables]
         return [*made, *own, committed]
 

@@ -216,6 +216,11 @@ class PostgreSQL(Dialect):
         begin = sql("BEGIN ISOLATION LEVEL READ COMMITTED READ WRITE{end}", end=END_OF_STATEMENT)
         return [begin, UNREAD, block, sql("COMMIT{end}", end=END_OF_STATEMENT)]
 
+    def failing(self, told):
+        """A script that raises, and nothing else."""
+        raised = sql("\nBEGIN\n  {raised}{end}\nEND{end}", raised=self.raised(text(told)), end=END_OF_STATEMENT)
+        return [sql("DO {raised}{end}", raised=body(raised), end=END_OF_STATEMENT)]
+
     def creation(self, made):
         """A transaction that makes tables and indexes."""
         return [sql("BEGIN READ WRITE{end}", end=END_OF_STATEMENT), self.block(made), sql("COMMIT{end}", end=END_OF_STATEMENT)]

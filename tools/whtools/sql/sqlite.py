@@ -214,6 +214,11 @@ class SQLite(Dialect):
     def dropped(self, kind, said):
         return sql("DROP {kind} IF EXISTS {said}{end}", kind=word(kind), said=said, end=END_OF_STATEMENT)
 
+    def failing(self, told):
+        """A script that raises, and nothing else."""
+        made = sql("CREATE TABLE {table} (begun){end}", table=self.working(NIGHT), end=END_OF_STATEMENT)
+        return [made, *self.fired(NIGHT, [sql("SELECT RAISE(ROLLBACK, {told})", told=text(told))])]
+
     def creation(self, made):
         """A transaction that makes tables and indexes."""
         lines = [sql("{made}{end}", made=each, end=END_OF_STATEMENT) for each in made]
