@@ -5,15 +5,16 @@ import re
 from datetime import date, datetime, timezone
 from typing import NamedTuple
 
+from whtools.live.bounded import ANY, TURNED_ROUND, Bounds, bounds_of, without_fraction
 from whtools.live.parsed import NotTaken, parsed
 from whtools.live.sources import turned_by
-from whtools.live.turned import NULL, Unturned, literal_apart
+from whtools.live.turned import MOST_DIGITS, NULL, Unturned, literal_apart
 from whtools.sql.dialect import LEAST, MOST
 
 NAME = re.compile(r"[A-Za-z_][A-Za-z0-9_]{0,63}")
 MOST_COLUMNS, MOST_VIEWS, MOST_CHILDREN = 64, 64, 6
 OPPOSITE = {"=": "<>", "<>": "=", "<": ">=", ">=": "<", ">": "<=", "<=": ">"}
-TURNED_ROUND = {"=": "=", "<>": "<>", "<": ">", ">": "<", "<=": ">=", ">=": "<="}
+
 WHOLE, TEXT, DAY, MOMENT, ZONED = "number", "text", "day", "moment", "moment with a zone"
 MOMENTS = (MOMENT, ZONED)
 CASTS = {
@@ -28,12 +29,15 @@ OF_LITERALS = ("bpchar", "uuid")
 
 
 class Column(NamedTuple):
-    """A column of a view that is taken: its name, what it holds, of numbers how many places, and whether a sentinel may stand there."""
+    """A column of a view that is taken: its name, what it holds, of numbers how many places, whether a sentinel may stand there, its least and
+    largest number, and whether the database has it to the last digit."""
 
     name: str
     holds: str
     places: int = 0
     may_be_null: bool = False
+    bounds: tuple = ANY
+    is_exact: bool = True
 
     @property
     def kind(self):
@@ -41,13 +45,15 @@ class Column(NamedTuple):
 
 
 class Value(NamedTuple):
-    """An expression as a catalogue has it, what it holds and how many places; the references in it that may be NULL; whether it is one."""
+    """An expression as a catalogue has it, what it holds and how many places; the references in it that may be NULL; whether it is one; and
+    whether the database computes it to the last digit."""
 
     formula: object
     holds: str
     places: int = 0
     nulls: frozenset = frozenset()
     is_reference: bool = False
+    is_exact: bool = True
 
 
 def holds(told):
@@ -98,6 +104,14 @@ def scaled(value, places):
     return value.formula * unit if isinstance(value.formula, int) else ["*", value.formula, unit]
 
 
+def shown(formula):
+    """An expression in words."""
+    if isinstance(formula, list):
+        sign, *sides = formula
+        return f" {sign} ".join(f"({shown(side)})" if isinstance(side, list) and (sign, side[0]) != ("*", "*") else shown(side) for side in sides)
+    return str(formula)
+
+
 def is_wide(value):
     """Whether a formula has a number that leaves 64 bits."""
     if isinstance(value, (list, tuple)):
@@ -115,10 +129,10 @@ def toml(value):
 
 
 class Reader:
-    """Reads one view's SELECT over views that are taken already."""
+    """Reads one view's SELECT over views that are taken already. `without` has columns of them that cannot be had, each with the reason."""
 
-    def __init__(self, select, known, schema=None):
-        self.select, self.known = select, known
+    def __init__(self, select, known, schema=None, engine="postgresql", without=None):
+        self.select, self.known, self.engine, self.without = select, known, engine, without or {}
         self.children = {}
         for other, name, alias in select.tables:
             if other not in (None, schema):
@@ -130,7 +144,7 @@ class Reader:
             self.children[alias] = name
         if len(self.children) > MOST_CHILDREN:
             raise NotTaken(f"it is over more than {MOST_CHILDREN} tables: make a view of some of them")
-        self.join, self.tests, self.filled = [], [], set()
+        self.join, self.tests, self.filled, self.bounds = [], [], set(), Bounds(self.bounds_of)
 
     # ---- expressions
 
@@ -141,13 +155,30 @@ class Reader:
         among = [alias] if alias is not None else list(self.children)
         found = [(each, column) for each in among for column in self.known[self.children[each]] if column.name == said]
         if not found:
-            raise NotTaken(f"its column {said} cannot be had: it is of a type that is not turned, or is not there")
+            raise NotTaken(self.not_had(said, among))
         if len(found) > 1 and (said not in self.merged() or alias is not None):
             raise NotTaken(f"the column {said} is in several of its tables: say which")
         alias, column = found[0]
         reference = f"{self.children[alias]}.{column.name}"
         nulls = frozenset([reference]) if column.may_be_null else frozenset()
-        return Value(reference, column.holds, column.places, nulls, True)
+        return Value(reference, column.holds, column.places, nulls, True, column.is_exact)
+
+    def not_had(self, said, among):
+        """Why there is no column of this name in these children."""
+        reasons = [self.without[self.children[each], said] for each in among if (self.children[each], said) in self.without]
+        return reasons[0] if reasons else f"its column {said} cannot be had: it is not there, or was left out of the views that this one is over"
+
+    def bounds_of(self, reference):
+        """The least and the largest number of a column."""
+        child, _, said = reference.partition(".")
+        return next(column.bounds for column in self.known[child] if column.name == said)
+
+    def bounds_of_value(self, value):
+        """Those of an expression that is kept: where it leaves 64 bits, the night is refused."""
+        if value.holds != WHOLE:
+            return ANY
+        least, most = self.bounds.interval(value.formula)
+        return max(least, LEAST), min(most, MOST)
 
     def merged(self):
         """The columns that USING made one of."""
@@ -181,13 +212,13 @@ class Reader:
     def computed(self, sign, left, right):
         if (left.holds, right.holds) != (WHOLE, WHOLE):
             raise NotTaken(f"it computes with a {left.holds if left.holds != WHOLE else right.holds}")
-        nulls = left.nulls | right.nulls
+        nulls, is_exact = left.nulls | right.nulls, self.engine != "sqlite" or not (left.places or right.places)
         if sign == "*":
-            return Value(["*", left.formula, right.formula], WHOLE, left.places + right.places, nulls)
+            return Value(["*", left.formula, right.formula], WHOLE, left.places + right.places, nulls, False, is_exact)
         if sign == "-" and left.formula == 0 and isinstance(right.formula, int):
             return Value(-right.formula, WHOLE, right.places)
         places = max(left.places, right.places)
-        return Value([sign, scaled(left, places), scaled(right, places)], WHOLE, places, nulls)
+        return Value([sign, scaled(left, places), scaled(right, places)], WHOLE, places, nulls, False, is_exact)
 
     # ---- conditions, each said so that it holds where SQL's is true, and not where it is unknown
 
@@ -239,8 +270,37 @@ class Reader:
             first = isinstance(left.formula, int)
             if left.is_reference == right.is_reference or (TURNED_ROUND[sign] if first else sign) not in (">=", "<"):
                 raise NotTaken("it compares moments otherwise than by >= and < with a whole second, and whole seconds are kept")
+        for value in (left, right):
+            self.judge_exact(value, "compares")
+        return self.guarded(self.scaled_alike(sign, left, right), left.nulls | right.nulls)
+
+    def judge_exact(self, value, does):
+        """Refuses what SQLite has to some fifteen digits: it may be a little more or less there than what is compared with it."""
+        if not value.is_exact:
+            raise NotTaken(f"it {does} {shown(value.formula)}, which SQLite computes in floating point: it can be had of columns and whole numbers")
+        digits = len(str(abs(value.formula))) if isinstance(value.formula, int) and value.places else 0
+        if self.engine == "sqlite" and digits > MOST_DIGITS["sqlite"]:
+            raise NotTaken(f"it {does} a number of {digits} digits, of which SQLite keeps {MOST_DIGITS['sqlite']}")
+
+    def scaled_alike(self, sign, left, right):
+        """A comparison of numbers that may have other places; a number that is written is brought to the places of what it is compared with."""
+        if isinstance(left.formula, int) and not isinstance(right.formula, int):
+            return self.scaled_alike(TURNED_ROUND[sign], right, left)
         places = max(left.places, right.places)
-        return self.guarded([sign, scaled(left, places), scaled(right, places)], left.nulls | right.nulls)
+        if isinstance(right.formula, int) and right.places > left.places:
+            found = without_fraction(sign, right.formula, 10 ** (places - left.places))
+            if isinstance(found, list):
+                return found
+            sides = [found[0], left.formula, found[1]]
+        else:
+            sides = [sign, scaled(left, places), scaled(right, places)]
+        if is_wide(sides):
+            raise NotTaken(f"it compares {shown(left.formula)} by a number that leaves 64 bits, in units of 10^-{places}: declare columns of fewer digits")
+        found = self.bounds.compared(*sides)
+        if found is None:
+            raise NotTaken(f"it compares {shown(left.formula)} with {shown(right.formula)} where 64 bits may not hold what is compared:"
+                           f" make a view that keeps {shown(left.formula if isinstance(left.formula, list) else right.formula)}, and compare that")  # fmt: skip
+        return found
 
     # ---- joins
 
@@ -286,6 +346,8 @@ class Reader:
         pair = [left.formula, right.formula]
         if len({reference.partition(".")[0] for reference in pair}) < 2 or (left.holds, left.places) != (right.holds, right.places) or left.holds in MOMENTS:
             return False
+        for value in (left, right):
+            self.judge_exact(value, "joins by")
         self.join.append(pair)
         nulls = left.nulls | right.nulls
         self.filled |= nulls
@@ -324,7 +386,7 @@ class Reader:
             if not value.is_reference:
                 self.filled_in(value, "it computes with")
             kept.append([self.named(columns, said), value.formula])
-            columns.append(Column(said, value.holds, value.places, bool(value.nulls - self.filled)))
+            columns.append(Column(said, value.holds, value.places, bool(value.nulls - self.filled), self.bounds_of_value(value), value.is_exact))
         return {"keep": kept}, columns, []
 
     def summary(self):
@@ -334,7 +396,7 @@ class Reader:
         for value in asked:
             said = next((said for each, said in shown if each.formula == value.formula), value.formula.partition(".")[2])
             groups.append([self.named(columns, said), value.formula])
-            columns.append(Column(said, value.holds, value.places, bool(value.nulls - self.filled)))
+            columns.append(Column(said, value.holds, value.places, bool(value.nulls - self.filled), self.bounds_of_value(value)))
         if extra := [said for value, said in shown if value.formula not in [each.formula for each in asked]]:
             raise NotTaken(f"its column {extra[0]} is neither a group nor a count or a sum")
         if twice := [said for _, said in shown if said not in {column.name for column in columns}]:
@@ -345,9 +407,9 @@ class Reader:
         count = next((said for said in counts if said), None) or self.free(columns, sums)
         if not counts:
             notes.append(f"{count} counts the rows of a group, which has to be known")
-        columns.append(Column(self.named(columns, count), WHOLE))
+        columns.append(Column(self.named(columns, count), WHOLE, bounds=(0, MOST)))
         for said, value, note in sums:
-            columns.append(Column(self.named(columns, said), WHOLE, value.places))
+            columns.append(Column(self.named(columns, said), WHOLE, value.places, is_exact=self.engine != "sqlite" or not value.places))
             notes += [note] if note else []
         summed = {"sum": [[said, value.formula] for said, value, _ in sums]} if sums else {}
         return {"group": groups, "count": count, **summed}, columns, notes
@@ -362,6 +424,7 @@ class Reader:
             raise NotTaken("it groups by an expression: make a view that keeps it, and group that")
         if value.holds in MOMENTS:
             raise NotTaken(f"it groups by the moment {value.formula}, of which whole seconds are kept")
+        self.judge_exact(value, "groups by")
         return value
 
     def aggregates(self):
@@ -388,9 +451,9 @@ class Proposed:
     """The catalogue of a database: the views that are taken, in their order, and what is not taken, each with the reason."""
 
     def __init__(self, engine, tables, views, schema=None):
-        self.known, self.lines, self.left, self.schema = {}, [], [], schema
+        self.known, self.lines, self.left, self.schema, self.engine, self.without = {}, [], [], schema, engine, {}
         for table in tables.values():
-            self.attempt(table.name, lambda table=table: self.add_table(engine, table))
+            self.attempt(table.name, lambda table=table: self.add_table(table))
         waiting = dict(views)
         while ready := [name for name in waiting if not self.over(waiting[name]) & set(waiting)]:
             for name in ready:
@@ -416,19 +479,21 @@ class Proposed:
             reason = why if isinstance(why, NotTaken) else "its expressions lie too deep within each other"
             self.left.append(f"{name} is not taken: {reason}")
 
-    def add_table(self, engine, table):
+    def add_table(self, table):
         if table.unfit:
             raise NotTaken(table.unfit)
         told = {each.name: each for each in table.columns}
         columns, without = [], []
-        for said, found in turned_by(engine, table).items():
+        for said, found in turned_by(self.engine, table).items():
             if isinstance(found, Unturned):
                 without.append(f"{table.name} is taken without {said}: {found.why}")
+                self.without[table.name, said] = f"its column {said} cannot be had: {found.why}"
             elif not NAME.fullmatch(said):
                 without.append(f"{table.name} is taken without {said}: its name has other letters than A to Z and digits, or more than 64")
             else:
                 kind = TEXT if found.kind == "text" else holds(told[said]) or WHOLE
-                columns.append(Column(said, kind, told[said].places or 0 if kind == WHOLE else 0, found.may_be_null))
+                places, bounds = (told[said].places or 0, bounds_of(self.engine, told[said])) if kind == WHOLE else (0, ANY)
+                columns.append(Column(said, kind, places, found.may_be_null, bounds))
         if not columns:
             raise NotTaken("none of its columns can be turned")
         self.left += without
@@ -445,7 +510,7 @@ class Proposed:
         self.lines += ["[[view]]", f"name = {toml(table.name)}", f"columns = {listed}", *more, ""]
 
     def add_view(self, name, text):
-        found, columns, notes = Reader(parsed(text), self.known, self.schema).table(name)
+        found, columns, notes = Reader(parsed(text), self.known, self.schema, self.engine, self.without).table(name)
         if len(columns) > MOST_COLUMNS:
             raise NotTaken(f"it has more than {MOST_COLUMNS} columns")
         if any(map(is_wide, found.values())):
