@@ -68,7 +68,7 @@ class Bounds:
 
     def compared(self, sign, left, right):
         """A predicate that holds where a comparison of these two does, or None where the tests of a catalogue cannot tell."""
-        if not isinstance(left, (int, str, list)) or (self.is_sure(left) and self.is_sure(right)):
+        if self.is_sure(left) and self.is_sure(right):
             return [sign, left, right]
         if self.is_sure(left):
             return self.compared(TURNED_ROUND[sign], right, left)

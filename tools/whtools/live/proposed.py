@@ -7,6 +7,7 @@ from typing import NamedTuple
 
 from whtools.live.bounded import ANY, TURNED_ROUND, Bounds, bounds_of, without_fraction
 from whtools.live.parsed import NotTaken, parsed
+from whtools.live.reasons import FILL, of_cast
 from whtools.live.sources import turned_by
 from whtools.live.turned import MOST_DIGITS, NULL, Unturned, literal_apart
 from whtools.sql.dialect import LEAST, MOST
@@ -192,6 +193,8 @@ class Reader:
                 return Value(said, WHOLE, places)
             case ("text", said):
                 return Value({"text": literal_apart(said)}, TEXT)
+            case ("cast", to, ("aggregate", kind, inner)):
+                raise NotTaken(of_cast(to, f"{kind.lower()}({'..' if inner else '*'})"))
             case ("cast", to, inner):
                 return self.cast(to, self.value(inner))
             case (("+" | "-" | "*") as sign, left, right):
@@ -206,12 +209,12 @@ class Reader:
             return Value({"text": value.formula["text"].rstrip(" ")}, TEXT)
         is_cut = to not in ("numeric", "decimal") and value.holds == WHOLE and value.places
         if wanted is None or wanted != value.holds or is_cut or (to in OF_LITERALS and not isinstance(value.formula, dict)):
-            raise NotTaken(f"it casts to {to}")
+            raise NotTaken(of_cast(to))
         return value
 
     def computed(self, sign, left, right):
         if (left.holds, right.holds) != (WHOLE, WHOLE):
-            raise NotTaken(f"it computes with a {left.holds if left.holds != WHOLE else right.holds}")
+            raise NotTaken(f"it computes with a {left.holds if left.holds != WHOLE else right.holds}: {FILL}")
         nulls, is_exact = left.nulls | right.nulls, self.engine != "sqlite" or not (left.places or right.places)
         if sign == "*":
             return Value(["*", left.formula, right.formula], WHOLE, left.places + right.places, nulls, False, is_exact)
@@ -243,6 +246,8 @@ class Reader:
                 return self.is_null(self.value(member), wanted)
             case ("compared", sign, left, right):
                 return self.compared(sign if wanted else OPPOSITE[sign], *self.sides(left, right))
+            case ("distinct", left, right):
+                return self.distinct("<>" if wanted else "=", *self.sides(left, right))
         raise NotTaken(f"it has {given[0]} as a condition")
 
     def is_null(self, value, wanted):
@@ -251,6 +256,13 @@ class Reader:
         if not value.nulls:
             return ["any"] if wanted else ["all"]
         return ["=" if wanted else "<>", value.formula, self.null(value.formula)]
+
+    def distinct(self, sign, left, right):
+        """A comparison in which NULL is a value: what stands for it equals itself alone."""
+        is_alike = left.places == right.places or isinstance(left.formula, int) or isinstance(right.formula, int)
+        if left.nulls | right.nulls and not (is_alike and all(value.is_reference or not value.nulls for value in (left, right))):
+            raise NotTaken("it asks IS DISTINCT FROM of what may be NULL and is no column of as many places: write the comparison, and IS NULL beside it")
+        return self.compared(sign, left._replace(nulls=frozenset()), right._replace(nulls=frozenset()))
 
     def sides(self, left, right):
         """Both sides of a comparison, of which a text is what the other one is."""
@@ -284,6 +296,8 @@ class Reader:
 
     def scaled_alike(self, sign, left, right):
         """A comparison of numbers that may have other places; a number that is written is brought to the places of what it is compared with."""
+        if left.holds != WHOLE:
+            return [sign, left.formula, right.formula]
         if isinstance(left.formula, int) and not isinstance(right.formula, int):
             return self.scaled_alike(TURNED_ROUND[sign], right, left)
         places = max(left.places, right.places)
@@ -487,7 +501,7 @@ class Proposed:
         for said, found in turned_by(self.engine, table).items():
             if isinstance(found, Unturned):
                 without.append(f"{table.name} is taken without {said}: {found.why}")
-                self.without[table.name, said] = f"its column {said} cannot be had: {found.why}"
+                self.without[table.name, said] = f"it cannot be had with {said}: {found.why}"
             elif not NAME.fullmatch(said):
                 without.append(f"{table.name} is taken without {said}: its name has other letters than A to Z and digits, or more than 64")
             else:

@@ -12,6 +12,7 @@ LAST, FIRST = MOST - 1, LEAST + 1
 # So many digits fit 64 bits, or a REAL of SQLite.
 MOST_DIGITS = {"postgresql": 18, "sqlite": 15}
 NEITHER = "which is neither a whole number nor a text to the byte: make it numeric(p,s), or leave the column out"
+OTHER = "which is neither a whole number nor a text to the byte: fill a column of a text or a number with what you want of it, or leave the column out"
 FOLDED = "whose collation takes unequal texts for equal ones, as a night does not: leave the column out"
 TOO_WIDE = "whose values need not fit 64 bits: make it numeric(p,s) with p up to {most}, or leave the column out"
 
@@ -107,7 +108,7 @@ def of_postgresql(told):
             return refused(told, FOLDED)
         return turned(told, "text", sql("{cell}::text", cell=cell(told)), sql("{said}::text", said=text(NULL["text"])))
     if found is None:
-        return refused(told, NEITHER)
+        return refused(told, NEITHER if told.type in ("float4", "float8", "numeric", "money") else OTHER)
     return turned(told, "int", found(cell(told)), whole(NULL["int"]), found is not SECONDS)
 
 

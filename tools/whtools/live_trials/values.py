@@ -6,12 +6,12 @@ from whtools.live_trials import planning
 TABLES = {
     "postgresql": [
         "CREATE TABLE rates (id int PRIMARY KEY, amount numeric(18,6) NOT NULL, rate numeric(18,6) NOT NULL, large bigint NOT NULL,"
-        " units numeric(18,0) NOT NULL, few int NOT NULL, price numeric(10,2));",
+        " units numeric(18,0) NOT NULL, few int NOT NULL, price numeric(10,2), is_cheap boolean GENERATED ALWAYS AS (price < 5) STORED);",
         "CREATE TABLE others (id int PRIMARY KEY, amount numeric(18,6) NOT NULL, units numeric(18,0));",
     ],
     "sqlite": [
         "CREATE TABLE rates (id INTEGER PRIMARY KEY, amount DECIMAL(15,6) NOT NULL, rate DECIMAL(15,6) NOT NULL, large BIGINT NOT NULL,"
-        " units NUMERIC(15,0) NOT NULL, few INT NOT NULL, price DECIMAL(10,2));",
+        " units NUMERIC(15,0) NOT NULL, few INT NOT NULL, price DECIMAL(10,2), is_cheap BOOLEAN GENERATED ALWAYS AS (price < 5) STORED);",
         "CREATE TABLE others (id INTEGER PRIMARY KEY, amount DECIMAL(15,6) NOT NULL, units NUMERIC(15,0));",
     ],
 }  # fmt: skip
@@ -38,6 +38,9 @@ BOTH = {
     "finer": ("SELECT r.id FROM rates AS r WHERE r.price > 4.9876 AND r.price <= 99999999.98999", ""),
     "finer_or_null": ("SELECT r.id FROM rates AS r WHERE NOT r.price <> 4.990001 OR r.price <> 7.500001", ""),
     "among": ("SELECT r.id FROM rates AS r WHERE r.large BETWEEN -0.5 AND 3.5 AND r.few NOT IN (1.5, 2)", ""),
+    "unlike": ("SELECT r.id FROM rates AS r WHERE r.price IS DISTINCT FROM 1.5 AND r.price IS DISTINCT FROM 4.999", ""),
+    "alike": ("SELECT r.id, o.id AS other FROM rates AS r, others AS o WHERE r.units IS NOT DISTINCT FROM o.units OR NOT r.price IS DISTINCT FROM 7.5", ""),
+    "generated": ("SELECT r.id FROM rates AS r WHERE r.is_cheap", ""),
     "scales": ("SELECT r.id FROM rates AS r WHERE r.units > r.amount", ""),
     "scales_equal": ("SELECT r.id FROM rates AS r WHERE r.units = r.amount OR r.amount <= r.large", ""),
     "scales_not": ("SELECT r.id FROM rates AS r WHERE NOT r.large > r.amount AND r.units <> r.amount", ""),
@@ -70,6 +73,59 @@ OWN = {
 }  # fmt: skip
 
 
+# What is said of views that are not taken, by the word of it.
+NAMED_TABLES = {
+    "postgresql": ["CREATE TABLE kinds (id int PRIMARY KEY, day date NOT NULL, at timestamp NOT NULL, name text NOT NULL, data jsonb, ip inet, tags text[],"
+                   " price numeric(10,2), flag boolean NOT NULL, share float8); CREATE TABLE heir () INHERITS (kinds);"],
+    "sqlite": ["CREATE TABLE kinds (id INTEGER PRIMARY KEY, day DATE NOT NULL, at DATETIME NOT NULL, name TEXT NOT NULL, data TEXT, price DECIMAL(10,2),"
+               " flag BOOLEAN NOT NULL, share REAL);"],
+}  # fmt: skip
+NAMED_BOTH = {
+    "liked": ("SELECT k.id FROM kinds AS k WHERE k.name LIKE 'a%'", "it has LIKE: let the application fill a column"),
+    "not_liked": ("SELECT k.id FROM kinds AS k WHERE k.name NOT LIKE 'a%'", "LIKE: let the application fill a column"),
+    "distinct_of_sum": ("SELECT k.id FROM kinds AS k WHERE k.price + 1 IS DISTINCT FROM k.id", "it asks IS DISTINCT FROM of what may be NULL"),
+    "today": ("SELECT k.id FROM kinds AS k WHERE k.day >= CURRENT_DATE", "it has CURRENT_DATE, which changes while no row does"),
+    "in_json": ("SELECT k.id FROM kinds AS k WHERE k.data ->> 'x' = 'y'", "it has the operator ->>, which looks into JSON"),
+    "shares": ("SELECT k.id, k.share FROM kinds AS k", "share is of the type "),
+    "parts": ("SELECT k.id, k.id / 2 AS half FROM kinds AS k", "it has the operator /: let the application fill a column"),
+}  # fmt: skip
+NAMED = {
+    "postgresql": {
+        **NAMED_BOTH,
+        "in_case": ("SELECT k.id FROM kinds AS k WHERE k.name ILIKE 'a%'", "it has ILIKE"),
+        "patterns": ("SELECT k.id FROM kinds AS k WHERE k.name !~ '^a'", "the operator !~, which looks for a pattern"),
+        "json_kept": ("SELECT k.id, k.data FROM kinds AS k", "its column data is of the type jsonb"),
+        "json_held": ("SELECT k.id FROM kinds AS k WHERE k.data @> '{}'", "it has the operator @>"),
+        "of_net": ("SELECT k.id FROM kinds AS k WHERE k.ip << '10.0.0.0/8'", "it has the operator <<"),
+        "of_address": ("SELECT k.id FROM kinds AS k WHERE k.ip = '10.0.0.1'", "its column ip is of the type inet"),
+        "any_tag": ("SELECT k.id FROM kinds AS k WHERE 'x' = ANY (k.tags)", "the members of an array that is no list of values"),
+        "first_tag": ("SELECT k.id, k.tags[1] AS tag FROM kinds AS k", "it takes a part of an array"),
+        "array_made": ("SELECT k.id, ARRAY[k.id, 2] AS both FROM kinds AS k", "it makes an array"),
+        "only_itself": ("SELECT k.id FROM ONLY kinds AS k", "it is over ONLY kinds"),
+        "count_cast": ("SELECT k.flag, count(*)::int AS many FROM kinds AS k GROUP BY k.flag", "it casts count(*) to integer: leave the cast out"),
+        "all_cast": ("SELECT sum(k.id)::int AS many FROM kinds AS k", "it casts sum(..) to integer: leave the cast out"),
+        "whole_second": ("SELECT k.id, k.at::timestamp(0) AS at FROM kinds AS k", "it casts to timestamp(0) without time zone"),
+        "of_zone": ("SELECT k.id, k.at AT TIME ZONE 'UTC' AS at FROM kinds AS k", "it has AT TIME ZONE"),
+        "is_true": ("SELECT k.id FROM kinds AS k WHERE k.flag IS TRUE", "it has IS TRUE"),
+        "collated": ("""SELECT k.id FROM kinds AS k WHERE k.name COLLATE "C" = 'x'""", "it has COLLATE"),
+        "next_day": ("SELECT k.id, k.at + INTERVAL '1 day' AS at FROM kinds AS k", "it has an INTERVAL"),
+        "rolled_up": ("SELECT k.flag, count(*) AS many FROM kinds AS k GROUP BY ROLLUP (k.flag)", "it groups by ROLLUP"),
+        "locked": ("SELECT k.id FROM kinds AS k FOR UPDATE", "it locks what it reads by FOR"),
+    },
+    "sqlite": {
+        **NAMED_BOTH,
+        "globbed": ("SELECT k.id FROM kinds AS k WHERE k.name GLOB 'a*'", "it has the operator GLOB"),
+        "is_three": ("SELECT k.id FROM kinds AS k WHERE k.price IS 3", "it has IS 3"),
+        "cast_count": ("SELECT k.flag, CAST(count(*) AS INT) AS many FROM kinds AS k GROUP BY k.flag", "it has CAST"),
+    },
+}  # fmt: skip
+
+
+def named_mistakes(live):
+    """Reasons that name what stands in a view."""
+    return tried(live, NAMED_TABLES, [], NAMED[live.engine], [])
+
+
 def compared_mistakes(live):
     """Comparisons and products past 64 bits."""
     return tried(live, TABLES, [text.format(**largest(live)) for text in ROWS], {**BOTH, **OWN[live.engine]}, [text.format(**largest(live)) for text in LATER])
@@ -92,9 +148,9 @@ def tried(live, tables, rows, views, later):
     path = live.path / f"values of {live.engine}"
     path.mkdir(exist_ok=True)
     (path / "catalogue.toml").write_text(found.text)
-    return wrong or planning.same_views(live, path, views, later)
+    return wrong if wrong or not later else planning.same_views(live, path, views, later)
 
 
 def mistakes(live):
     """All of these."""
-    return [f"{live.engine}: values: {text}"[:900] for text in compared_mistakes(live)]
+    return [f"{live.engine}: values: {text}"[:900] for text in named_mistakes(live) + compared_mistakes(live)]
