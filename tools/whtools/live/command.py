@@ -104,11 +104,22 @@ def of_database(words, script, database):
     return costs_text(script, costs_of(script, database)) if words.costs else []
 
 
+def compared(words, script):
+    """A script of SQLite compares tables with their mirrors where the schema has changed, if it is known how they are turned."""
+    try:
+        database = asked(words, script.dialect)
+        script.captures.sources = sources(script, database, words.source or database.own_schema)
+    except Unfit as why:
+        print(f"tools/sql: the night does not compare tables where the schema changes: {why}", file=sys.stderr)
+
+
 def night(words, script):
     """A night, or what came of it where it is a dry one."""
     database = asked(words, script.dialect) if words.plan or words.dry else None
     if words.plan:
         script = with_plan(words, script, database)
+    if words.engine == "sqlite" and words.database:
+        compared(words, script)
     comment = Comments(script.catalogue).short
     if words.dry:
         return Dry(script, database, comment).told()

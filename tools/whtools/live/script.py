@@ -59,7 +59,8 @@ class LiveScript(Script):
         listed = [(works.expression(step), works.predicted(step)) for step in steps]
         ended = [] if self.dialect.takes else self.emptied()
         ended += self.dialect.settled() + [each for v in range(len(self.views)) for each in [*self.verified(v), *self.untouched(v)]]
-        return self.whole([*self.looked_at(), *self.history.began()], steps, [*ended, *self.history.ended(*zip(*listed))], comment)
+        before = [*self.looked_at(), *self.history.began()]
+        return self.whole(before, steps, [*ended, *self.history.ended(*zip(*listed))], comment, self.captures)
 
     def looked_at(self):
         """A refusal of tables that are not captured as they were, and of views that are not filled as the catalogue has them."""
@@ -81,12 +82,13 @@ class LiveScript(Script):
         ended = [*ended, *sizes, *self.captures.noted_as_opened(), self.history.closed()]
         return self.whole([*self.history.began(), *cleared], self.steps.opening(), ended, comment)
 
-    def whole(self, before, steps, after, comment):
-        """A transaction of all this, which locks the mirrors and the views alone."""
+    def whole(self, before, steps, after, comment, captures=None):
+        """A transaction of all this, which locks the mirrors and the views alone; a night looks at what is captured before all else."""
         locked = [self.table(v) for v in range(len(self.views))]
         working = self.checked.working_tables() + self.working_tables()
         made = before + self.carried(steps, comment) + after
-        return self.dialect.program(self.checked.statements(locked), working, made, self.checked.watchers())
+        looked, shown = (captures.stands(), captures.refused_rows()) if captures else ((), ())
+        return self.dialect.program(self.checked.statements(locked), working, made, self.checked.watchers(), looked, shown)
 
     # ---- tables
 

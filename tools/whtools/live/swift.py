@@ -257,7 +257,7 @@ class SwiftScript(SwiftGroups, Opening, LeanComps, LiveScript):
         tests = [sql("EXISTS (SELECT 1 FROM {changes} AS d)", changes=self.table(v, "~changes")) for v in base]
         return [*OF_NIGHTS, sql("SELECT {tests} INTO {there}", tests=joined(tests), there=joined([self.counter("there", v) for v in base]))]
 
-    def whole(self, before, steps, after, comment):
+    def whole(self, before, steps, after, comment, _=None):
         """The tables are judged where they are not as they were when they last passed: nothing else than the night makes use of them. A night
         wants views that are filled as the catalogue has them, too."""
         tables = [self.table(v) for v in range(len(self.views))]

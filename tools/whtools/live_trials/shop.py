@@ -135,6 +135,8 @@ class Live:
         self.database.fresh()
         self.database.make([TABLES[self.engine].replace("{rows}", str(self.rows)), *more])
         told = self.capture() or self.database.run(self.words("--live", "--open"))
+        # By a script that is made with the tables at hand, these are compared where the schema changes.
+        self.script = self.words("--live") if self.engine == "sqlite" else self.script
         return [f"capture: {told}"] if told else self.mistakes()
 
     def night(self):
