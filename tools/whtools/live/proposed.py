@@ -9,7 +9,7 @@ from whtools.live.bounded import ANY, TURNED_ROUND, Bounds, bounds_of, without_f
 from whtools.live.parsed import NotTaken, parsed
 from whtools.live.reasons import FILL, of_cast
 from whtools.live.sources import turned_by
-from whtools.live.turned import MOST_DIGITS, NULL, Unturned, literal_apart
+from whtools.live.turned import MOMENT_FORM, MOST_DIGITS, NULL, NUMBER_FORM, Unturned, literal_apart
 from whtools.sql.dialect import LEAST, MOST
 
 NAME = re.compile(r"[A-Za-z_][A-Za-z0-9_]{0,63}")
@@ -18,6 +18,8 @@ OPPOSITE = {"=": "<>", "<>": "=", "<": ">=", ">=": "<", ">": "<=", "<=": ">"}
 
 WHOLE, TEXT, DAY, MOMENT, ZONED = "number", "text", "day", "moment", "moment with a zone"
 MOMENTS = (MOMENT, ZONED)
+# A moment of SQLite that is written otherwise than there by itself.
+WRITTEN = f"{MOMENT} written as "
 CASTS = {
     **dict.fromkeys(("smallint", "integer", "bigint", "int", "int2", "int4", "int8", "numeric", "decimal"), WHOLE),
     **dict.fromkeys(("text", "character varying", "varchar", "bpchar", "uuid"), TEXT),
@@ -59,10 +61,22 @@ class Value(NamedTuple):
 
 def holds(told):
     """What a column of the application's holds, once it is turned."""
-    said = told.type.lower()
+    said, form = told.type.lower(), told.form or ""
+    if form == NUMBER_FORM:
+        return None
     if "timestamp" in said or "datetime" in said:
-        return ZONED if said == "timestamptz" else MOMENT
-    return DAY if said == "date" else None
+        is_other = MOMENT_FORM.fullmatch(form) and ("T" in form or "Z" in form)
+        return ZONED if said == "timestamptz" else WRITTEN + (form if "Z" in form else form[:19]) if is_other else MOMENT
+    return DAY if "date" in said else None
+
+
+def is_moment(held):
+    return held in MOMENTS or held.startswith(WRITTEN)
+
+
+def form_wanted(held):
+    """How a text has to be written that is compared with what a column holds, or None."""
+    return re.compile(re.escape(held.removeprefix(WRITTEN)).replace("0", r"\d")) if held.startswith(WRITTEN) else FORMS.get(held)
 
 
 def days(said):
@@ -85,11 +99,12 @@ FORMS = {DAY: re.compile(r"\d{4}-\d\d-\d\d"), MOMENT: re.compile(TIME), ZONED: r
 def literal(said, wanted):
     """A text as what it is compared with."""
     try:
-        if wanted in FORMS and not FORMS[wanted].fullmatch(said):
+        form = form_wanted(wanted)
+        if form and not form.fullmatch(said):
             raise NotTaken(f"it compares with {said!r}, which is not written as a {wanted}")
         if wanted == DAY:
             return Value(days(said), DAY)
-        if wanted in MOMENTS:
+        if is_moment(wanted):
             return Value(seconds(said), wanted)
         whole, _, places = said.strip().partition(".")
         return Value(int(whole + places), WHOLE, len(places))
@@ -278,7 +293,7 @@ class Reader:
     def compared(self, sign, left, right):
         if left.holds == TEXT and sign not in ("=", "<>"):
             raise NotTaken(f"it compares texts by {sign}")
-        if left.holds in MOMENTS:
+        if is_moment(left.holds):
             first = isinstance(left.formula, int)
             if left.is_reference == right.is_reference or (TURNED_ROUND[sign] if first else sign) not in (">=", "<"):
                 raise NotTaken("it compares moments otherwise than by >= and < with a whole second, and whole seconds are kept")
@@ -358,7 +373,7 @@ class Reader:
             return False
         left, right = self.value(left), self.value(right)
         pair = [left.formula, right.formula]
-        if len({reference.partition(".")[0] for reference in pair}) < 2 or (left.holds, left.places) != (right.holds, right.places) or left.holds in MOMENTS:
+        if len({reference.partition(".")[0] for reference in pair}) < 2 or (left.holds, left.places) != (right.holds, right.places) or is_moment(left.holds):
             return False
         for value in (left, right):
             self.judge_exact(value, "joins by")
@@ -436,7 +451,7 @@ class Reader:
         value = self.value(given)
         if not value.is_reference:
             raise NotTaken("it groups by an expression: make a view that keeps it, and group that")
-        if value.holds in MOMENTS:
+        if is_moment(value.holds):
             raise NotTaken(f"it groups by the moment {value.formula}, of which whole seconds are kept")
         self.judge_exact(value, "groups by")
         return value
@@ -518,7 +533,7 @@ class Proposed:
         listed = toml([f"{column.name}:text" if column.kind == "text" else column.name for column in columns])
         nulls = [column.name for column in columns if column.may_be_null]
         more = [f"nulls = {toml(nulls)}"] if nulls else []
-        sure = {column.name for column in columns if not column.may_be_null and column.holds not in MOMENTS}
+        sure = {column.name for column in columns if not column.may_be_null and not is_moment(column.holds)}
         keys = [key for key in table.keys if sure.issuperset(key) and len(key) < len(columns)]
         more += [f"key = {toml(keys[0])}"] if keys else []
         self.lines += ["[[view]]", f"name = {toml(table.name)}", f"columns = {listed}", *more, ""]

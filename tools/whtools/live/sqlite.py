@@ -73,8 +73,9 @@ class Captures(Triggers, Seen):
         if column.kind == "int":
             reasons.append((f"{NULL['int']}, which stands for NULL", sql("{cell} = {null}", cell=cell, null=number(NULL["int"]))))
         for why, test in reasons:
-            if database.rows(sql("SELECT 1 FROM {source} AS r WHERE {test} LIMIT 1", source=name(source.table), test=test))[0]:
-                raise Unfit(f"{self.script.views[v].name} cannot be captured: in its column {column.name} stands {why}")
+            query = sql("SELECT r._rowid_, quote({cell}) FROM {source} AS r WHERE {test} LIMIT 1", cell=cell, source=name(source.table), test=test)
+            for place, found in database.rows(query)[0]:
+                raise Unfit(f"{self.script.views[v].name} cannot be captured: in its column {column.name} stands {why}: {found}, in the row of rowid {place}")
 
     # ---- contents
 

@@ -127,6 +127,10 @@ class Live:
             raise ValueError(made.told)
         return made.text
 
+    def alone(self, *words):
+        """What tools/sql writes without a database at hand."""
+        return written("--engine", self.engine, *words, self.path).text
+
     def capture(self):
         return self.database.run(self.words("--capture"))
 

@@ -121,6 +121,34 @@ NAMED = {
 }  # fmt: skip
 
 
+# Days and moments of SQLite, each column in a form of its own, compared as the texts that they are.
+EVENTS = {"sqlite": ["CREATE TABLE events (id INTEGER PRIMARY KEY, at DATETIME NOT NULL, zoned TIMESTAMP NOT NULL, parted DATETIME, fine DATETIME, counted DATETIME,"
+                     " day DATE NOT NULL);"]}  # fmt: skip
+EVENT = "INSERT INTO events VALUES ({id}, '2026-01-01 00:00:{s}', '2026-01-01T00:00:{s}Z', '2026-01-01T00:00:{s}', '2026-01-01T00:00:{s}.250Z', 1767225600 + {s}, '2026-01-{s}');"
+EVENT_ROWS = tuple(EVENT.format(id=number, s=f"{number:02}") for number in range(1, 13))
+EVENT_LATER = (
+    "UPDATE events SET at = '2026-01-01 00:00:05.5', parted = NULL WHERE id = 4; UPDATE events SET zoned = '2025-12-31T23:59:59Z', day = '2025-12-31' WHERE id = 9;"
+    " UPDATE events SET fine = '2026-01-01T00:00:05.000Z', counted = counted + 5 WHERE id < 4; DELETE FROM events WHERE id = 12;",
+)
+OF_EVENTS = {
+    "from_five": ("SELECT e.id FROM events AS e WHERE e.at >= '2026-01-01 00:00:05'", ""),
+    "before_five": ("SELECT e.id FROM events AS e WHERE e.at < '2026-01-01 00:00:05' AND e.parted >= '2026-01-01T00:00:02'", ""),
+    "zoned_from": ("SELECT e.id FROM events AS e WHERE e.zoned >= '2026-01-01T00:00:05Z'", ""),
+    "fine_from": ("SELECT e.id FROM events AS e WHERE e.fine >= '2026-01-01T00:00:05.000Z' OR e.day < '2026-01-04'", ""),
+    "counted_from": ("SELECT e.id FROM events AS e WHERE e.counted > 1767225605", ""),
+    "counted_groups": ("SELECT e.counted, count(*) AS many FROM events AS e WHERE e.counted IS NOT NULL GROUP BY e.counted", ""),
+    "other_form": ("SELECT e.id FROM events AS e WHERE e.zoned >= '2026-01-01 00:00:05'", "not written as a moment written as 0000-00-00T00:00:00Z"),
+    "day_of_moment": ("SELECT e.id FROM events AS e WHERE e.at >= '2026-01-01'", "is not written as a moment"),
+    "two_forms": ("SELECT e.id FROM events AS e WHERE e.zoned >= e.at", "it compares a moment"),
+    "counted_day": ("SELECT e.id FROM events AS e WHERE e.counted >= '2026-01-01 00:00:05'", "which is no number"),
+}  # fmt: skip
+
+
+def event_mistakes(live):
+    """Days and moments in the forms that SQLite lets them have."""
+    return tried(live, EVENTS, EVENT_ROWS, OF_EVENTS, EVENT_LATER) if live.engine == "sqlite" else []
+
+
 def named_mistakes(live):
     """Reasons that name what stands in a view."""
     return tried(live, NAMED_TABLES, [], NAMED[live.engine], [])
@@ -145,7 +173,7 @@ def tried(live, tables, rows, views, later):
         lines = [line for line in found.told.splitlines() if f" {name} is not taken" in line]
         if bool(lines) != bool(reason) or (reason and reason not in lines[0]):
             wrong.append(f"of {name} is told {lines}, and not {reason!r}")
-    path = live.path / f"values of {live.engine}"
+    path = live.path / f"{next(iter(views))} of {live.engine}"
     path.mkdir(exist_ok=True)
     (path / "catalogue.toml").write_text(found.text)
     return wrong if wrong or not later else planning.same_views(live, path, views, later)
@@ -153,4 +181,4 @@ def tried(live, tables, rows, views, later):
 
 def mistakes(live):
     """All of these."""
-    return [f"{live.engine}: values: {text}"[:900] for text in named_mistakes(live) + compared_mistakes(live)]
+    return [f"{live.engine}: values: {text}"[:900] for each in (named_mistakes, event_mistakes, compared_mistakes) for text in each(live)]

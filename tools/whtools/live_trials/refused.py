@@ -1,0 +1,143 @@
+"""Rows of an application's that a night cannot take: it is refused with a word and the row, and goes on once the row is put right; and what SQLite
+lets happen to triggers between nights."""
+
+import sqlite3
+import subprocess
+from contextlib import closing
+from typing import NamedTuple
+
+
+class Row(NamedTuple):
+    """What makes a row that is refused, what is told of it besides the night's refusal, and what puts it right."""
+
+    said: str
+    told: str
+    mended: str
+
+
+MENDED_DAY, MENDED_PRICE = "UPDATE orders SET day = '2026-01-02' WHERE id = 3;", "UPDATE products SET price = 5 WHERE product = 'product 4';"
+OF_SQLITE = {
+    "a day with a time": Row("UPDATE orders SET day = '2026-01-02 10:00:00' WHERE id = 3;", "refused row of orders: id 3, day 'not written 0000-00-00: 2026-01-02 10:00:00'",
+                             MENDED_DAY),
+    "a day with a zone": Row("UPDATE orders SET day = '2026-01-02Z' WHERE id = 3;", "2026-01-02Z", MENDED_DAY),
+    "a day that is none": Row("UPDATE orders SET day = '2026-02-31' WHERE id = 3;", "2026-02-31", MENDED_DAY),
+    "a day that is told as a number": Row("UPDATE orders SET day = 20514 WHERE id = 3;", "20514", MENDED_DAY),
+    "a moment with a T": Row("UPDATE orders SET at = '2026-01-02T10:00:00' WHERE id = 3;", "at 'not written 0000-00-00 00:00:00: 2026-01-02T10:00:00'",
+                             "UPDATE orders SET at = '2026-01-02 10:00:00.25' WHERE id = 3;"),
+    "a moment with a zone": Row("UPDATE orders SET at = '2026-01-02 10:00:00Z' WHERE id = 3;", "10:00:00Z", "UPDATE orders SET at = NULL WHERE id = 3;"),
+    "a moment with an offset": Row("UPDATE orders SET at = '2026-01-02 10:00:00+02:00' WHERE id = 3;", "+02:00", "DELETE FROM orders WHERE id = 3;"),
+    "a moment without seconds": Row("INSERT INTO orders (id, day, at) VALUES (700, '2026-01-02', '2026-01-02 10:00');", "10:00'", "DELETE FROM orders WHERE id = 700;"),
+    "a price of three places": Row("UPDATE products SET price = 4.999 WHERE product = 'product 4';",
+                                   "refused row of products: product 'product 4', price 'not of 2 places: 4.999'", MENDED_PRICE),
+    "a price that is computed": Row("UPDATE products SET price = 0.1 + 0.2 WHERE product = 'product 4';", "not of 2 places", MENDED_PRICE),
+    "a price beyond all digits": Row("UPDATE products SET price = 1e300 WHERE product = 'product 4';", "beyond 1.0e+300", MENDED_PRICE),
+}  # fmt: skip
+
+
+def printed(live):
+    """What SQLite's own shell prints of a night, and says of it."""
+    ran = subprocess.run(["sqlite3", "-bail", live.database.path], input=live.script, capture_output=True, text=True, timeout=60, check=False)
+    return ran.stdout, ran.stderr
+
+
+def row_mistakes(live):
+    """Rows that are refused."""
+    wrong = []
+    for name, row in OF_SQLITE.items():
+        faults = live.fresh()
+        live.database.asked(row.said)
+        out, told = printed(live)
+        faults += [] if row.told in out and "of another kind" in told else [f"the night prints {out!r} and says {told!r}"]
+        told = captured_anew(live)
+        faults += [] if "cannot be captured" in told else [f"a capture of such a row is told {told!r}"]
+        live.database.asked(row.mended)
+        told = live.capture() or live.night()
+        wrong += [f"{name}: {text}" for text in faults + ([told] if told else live.mistakes())]
+    return wrong
+
+
+def captured_anew(live):
+    """What is told where tables are captured with such a row in them."""
+    try:
+        live.words("--capture")
+    except ValueError as told:
+        return str(told)
+    return "nothing"
+
+
+# ---- triggers of SQLite between nights
+
+
+def triggers_anew(live, meanwhile):
+    """The triggers of the lines are dropped, and made again as they were."""
+    with closing(live.database.opened()) as database:
+        made = database.execute("SELECT name, sql FROM sqlite_master WHERE type = 'trigger' AND tbl_name = 'lines'").fetchall()
+        for name, _ in made:
+            database.execute(f'DROP TRIGGER "{name}"')
+        database.executescript(meanwhile)
+        for _, text in made:
+            database.execute(text)
+
+
+def anew_mistakes(live):
+    """Triggers that are dropped and made anew: the night tells where rows changed meanwhile, and only there."""
+    wrong = []
+    for meanwhile, word in (("", None), ("DELETE FROM lines WHERE id = 5;", "changed unnoticed"), ("UPDATE lines SET pieces = 77 WHERE id = 5;", "changed unnoticed")):
+        wrong += live.fresh()
+        live.database.asked("UPDATE lines SET pieces = pieces + 1 WHERE id < 4;")
+        triggers_anew(live, meanwhile)
+        told = live.night()
+        wrong += [] if (word or "None") in str(told) else [f"{meanwhile!r} between triggers: the night was told {told!r}"]
+        told = live.capture() or live.night()
+        wrong += [told] if told else live.mistakes()
+    return wrong
+
+
+def without_database_mistakes(live):
+    """A script that is made without a look at the tables refuses to go on where the schema changed, until they are captured once more."""
+    wrong, words = live.fresh(), live.words("--live")
+    live.script = live.alone("--live")
+    live.database.asked("DELETE FROM lines WHERE id = 6;")
+    wrong += [told for told in [live.night()] if told]
+    live.database.asked("CREATE TABLE elsewhere (x INT); DELETE FROM lines WHERE id = 7;")
+    told = live.night()
+    wrong += [] if "made without --database" in (told or "") else [f"a night after a table has come was told {told!r}"]
+    wrong += [told for told in [live.capture() or live.night()] if told] or live.mistakes()
+    live.script = words
+    return wrong
+
+
+CONFLICTS = (
+    "INSERT OR IGNORE INTO products (product, price) VALUES ('product 1', 7); UPDATE OR ABORT products SET price = 8 WHERE product = 'product 1';"
+    " INSERT OR FAIL INTO products (product, price) VALUES ('new', 1); UPDATE OR ROLLBACK lines SET pieces = 5 WHERE id < 9;"
+    " UPDATE OR FAIL lines SET pieces = 5 WHERE id = 7; UPDATE OR IGNORE lines SET pieces = 5, id = id WHERE id < 9; DELETE FROM lines WHERE id = 7;"
+    " INSERT INTO lines (rowid, id, product, pieces) VALUES (9001, 9, 'product 9', 1); UPDATE OR FAIL lines SET rowid = 9002 WHERE rowid = 9001;"
+    " UPDATE OR ABORT lines SET rowid = 9001, pieces = 5 WHERE rowid = 9002; REPLACE INTO lines (rowid, id, product, pieces) VALUES (9001, 9, 'product 8', 2);"
+)
+BEFORE = (
+    "CREATE TRIGGER a BEFORE UPDATE ON lines WHEN new.pieces = 5 BEGIN UPDATE lines SET pieces = old.pieces + 9, product = 'product 9' WHERE rowid = old.rowid; END;"
+    " CREATE TRIGGER b BEFORE INSERT ON products BEGIN UPDATE products SET price = 77.25 WHERE product = new.product; END;"
+    " CREATE TRIGGER c AFTER DELETE ON lines BEGIN UPDATE lines SET pieces = pieces + 1 WHERE id = old.id; END;"
+)
+
+
+def conflict_mistakes(live):
+    """What statements of an application say of conflicts is said of the triggers' own statements too: none of them may fail by it."""
+    wrong = []
+    for made in ("", BEFORE):
+        wrong += live.fresh(*([made] if made else []))
+        try:
+            live.database.asked(CONFLICTS)
+        except sqlite3.Error as told:
+            wrong.append(f"an application was told {told}")
+        told = live.night()
+        wrong += [told] if told else live.mistakes()
+    return wrong
+
+
+def mistakes(live):
+    """All of these."""
+    if live.engine != "sqlite":
+        return []
+    tried = {"rows": row_mistakes, "triggers made anew": anew_mistakes, "without the database": without_database_mistakes, "conflicts": conflict_mistakes}
+    return [f"{live.engine}: {name}: {text}"[:900] for name, each in tried.items() for text in each(live)]
