@@ -1,7 +1,7 @@
 """Opening in PostgreSQL: derived views from scratch, with keys and indexes made when the rows are there."""
 
 from whtools.sql.dialect import COUNT
-from whtools.sql.tokens import END_OF_STATEMENT, joined, name, number, sql, statements, text, word
+from whtools.sql.tokens import joined, name, number, sql, statements, text, word
 
 
 class Opening:
@@ -12,7 +12,7 @@ class Opening:
         made = [each for v in derived for each in self.filled(v)]
         sizes = [self.history.opened(v, self.counted_rows(v)) for v in range(len(self.views))]
         ended = [*sizes, *self.captures.noted_as_opened(), self.history.closed(), *self.captures.looked_at(), *self.captures.noted_as_judged()]
-        return self.whole([*self.history.opening_began(), *made], [], ended, comment)
+        return self.whole([*self.history.opening_began(), *self.strange_in_mirrors(), *made], [], ended, comment)
 
     def counted_rows(self, v):
         """How many rows were put into a view each of which counts once, if it is such a view."""
@@ -45,10 +45,11 @@ class Opening:
     def filling(self, v, term):
         """What fills a view, in 64 bits, or exactly, with the words for what has no value or leaves them."""
         large = self.told_range(v) if self.shape.is_summary(v) else self.told_large(v)
+        queries = [(sql("TRUE"), self.culprits_of(v, 0, False))]
         sure = sql(
-            "BEGIN {made} EXCEPTION WHEN not_null_violation THEN {lost}{end} WHEN numeric_value_out_of_range THEN {large}{end} END",
-            made=statements([self.filled_with(v, term)], 2), lost=self.dialect.raised(text(self.told_range(v))),
-            large=self.dialect.raised(text(large)), end=END_OF_STATEMENT,
+            "BEGIN {made} EXCEPTION WHEN not_null_violation THEN {lost} WHEN numeric_value_out_of_range THEN {large} END",
+            made=statements([self.filled_with(v, term)], 2), lost=statements(self.raised_with(text(self.told_range(v)), queries), 2),
+            large=statements(self.raised_with(text(large), queries), 2),
         )  # fmt: skip
         return self.in_64_bits(lambda: self.filled_with(v, term), [sure])
 

@@ -338,6 +338,7 @@ class Captures:
         table = self.script.table(v)
         return [
             *self.unlike_null(v, source),
+            *self.script.strange_in_source(v, source),
             emptied,
             self.query(v, "DELETE FROM {noted} WHERE view = {view}"),
             self.parts_noted(v),

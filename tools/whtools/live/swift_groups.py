@@ -36,7 +36,7 @@ class SwiftGroups:
 
     def group_change(self, v, added):
         """The groups that change are found in one pass: of a view that none is over they are put by it, and else kept, and made rows of."""
-        lost = [self.refused_where(sql("lost > 0"), self.told_range(v))] if self.shape.checked(v) else []
+        lost = self.dialect.only_where(sql("lost > 0"), self.raised_with(text(self.told_range(v)), self.culprits(v))) if self.shape.checked(v) else []
         if self.is_last(v):
             told = sql("{told} := {range}", told=self.counter("told", v), range=text(self.told_range(v)))
             put = lambda: self.groups_at_once(v, added())  # noqa: E731

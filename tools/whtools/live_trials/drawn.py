@@ -18,6 +18,8 @@ class DrawnScript(SwiftScript):
         catalogue.content, catalogue.sizes = catalogue.words.catalogue().partition(b"\n")[2].decode(), None
         super().__init__(catalogue, LivePostgreSQL(dialect.schema))
         self.captures.whole = list
+        # A drawn number is as large as it is, and stands for nothing else.
+        self.computed_with = {}
 
     def create(self):
         *made, committed = super().create()

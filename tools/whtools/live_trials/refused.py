@@ -6,6 +6,10 @@ import subprocess
 from contextlib import closing
 from typing import NamedTuple
 
+from whtools.catalogue import views_of
+from whtools.live_trials import planning
+from whtools.warehouses import Warehouse
+
 
 class Row(NamedTuple):
     """What makes a row that is refused, what is told of it besides the night's refusal, and what puts it right."""
@@ -135,9 +139,107 @@ def conflict_mistakes(live):
     return wrong
 
 
+# ---- numbers that leave 64 bits, and values that are no numbers, in PostgreSQL
+
+SUMS = (
+    "CREATE TABLE sums (id int PRIMARY KEY, region text NOT NULL, amount bigint NOT NULL, price numeric(10,2) NOT NULL, ends date NOT NULL);"
+    " CREATE TABLE regions (region text PRIMARY KEY, factor bigint NOT NULL); INSERT INTO regions VALUES ('north', 2), ('south', 3);"
+    " INSERT INTO sums SELECT i, CASE WHEN i % 2 = 0 THEN 'north' ELSE 'south' END, i * 10, i + 0.25, DATE '2026-01-01' + i FROM generate_series(1, 9) AS i;"
+)
+BASE = """
+[[view]]
+name = "sums"
+columns = ["id", "region:text", "amount", "price", "ends"]
+key = ["id"]
+[[view]]
+name = "regions"
+columns = ["region:text", "factor"]
+key = ["region"]
+"""
+LAST = '[[view]]\nname = "by_region"\nover = ["sums"]\ngroup = [["region", "sums.region"]]\ncount = "n"\nsum = [["amount", "sums.amount"]]\n'
+OVER_IT = '[[view]]\nname = "total"\nover = ["by_region"]\ngroup = []\ncount = "n"\nsum = [["rows", "by_region.n"]]\n'
+KEPT = '[[view]]\nname = "kept"\nover = ["sums"]\nkeep = [["id", "sums.id"], ["double", ["*", "sums.amount", 2]]]\n'
+JOINED = ('[[view]]\nname = "joined"\nover = ["sums", "regions"]\njoin = [["sums.region", "regions.region"]]\ngroup = [["region", "sums.region"]]\ncount = "n"\n'
+          'sum = [["amount", ["*", "sums.amount", "regions.factor"]]]\n')  # fmt: skip
+PRICES = '[[view]]\nname = "prices"\nover = ["sums"]\nwhere = [">", "sums.price", 400]\ngroup = [["price", "sums.price"], ["ends", "sums.ends"]]\ncount = "n"\n'
+SUMMED = '[[view]]\nname = "summed"\nover = ["sums"]\ngroup = [["region", "sums.region"]]\ncount = "n"\nsum = [["more", ["-", "sums.price", "sums.amount"]]]\n'
+DAYS = '[[view]]\nname = "days"\nover = ["sums"]\nkeep = [["id", "sums.id"], ["next", ["+", "sums.ends", 1]]]\n'
+LARGE = "UPDATE sums SET amount = 9223372036854775800 WHERE id = 4;"
+NAN, ENDLESS = "UPDATE sums SET price = 'NaN' WHERE id = 5;", "UPDATE sums SET ends = '-infinity' WHERE id = 6;"
+# A catalogue's views; what is written; what is told of the night, or nothing where it is carried out; and what puts it right.
+NUMBERS = {
+    "a sum that leaves 64 bits": (LAST, LARGE, "refused range by_region: in the group (region north) from sums (id 4)", "UPDATE sums SET amount = 1 WHERE id = 4;"),
+    "a sum with a view over it": (LAST + OVER_IT, LARGE, "refused range by_region: in the group (region north) from sums (id 4)", "DELETE FROM sums WHERE id = 4;"),
+    "a product that is kept": (KEPT, LARGE, "refused range kept: sums (id 4)", "UPDATE sums SET amount = -4611686018427387904 WHERE id = 4;"),
+    "a product over two tables": (JOINED, LARGE, "refused range joined: in the group (region north) from sums (id 4), regions (region north)", "UPDATE sums SET amount = 1 WHERE id = 4;"),
+    "the factor of a product": (JOINED, "UPDATE regions SET factor = 922337203685477580 WHERE region = 'south';", "from sums (id 9), regions (region south)",
+                                "UPDATE regions SET factor = 4 WHERE region = 'south';"),
+    "what is no number, and summed": (SUMMED, NAN, "refused number sums: a value that is no number, or without end, with which views compute: id 5",
+                                      "UPDATE sums SET price = 5 WHERE id = 5;"),
+    "what is no number, and compared": (PRICES, NAN + ENDLESS, "", ""),
+    "a day without end, and one more": (DAYS, ENDLESS, "refused number sums: a value that is no number, or without end, with which views compute: id 6",
+                                        "DELETE FROM sums WHERE id = 6;"),
+    "a whole number as large as what stands for none": (LAST, "UPDATE sums SET amount = 9223372036854775806 - 600 WHERE id = 4; UPDATE sums SET amount = 9223372036854775806,"
+                                                        " region = 'alone' WHERE id = 2;", "", ""),
+}  # fmt: skip
+# What the views have to have, from the tables.
+BY_HAND = {
+    "by_region": "SELECT region, count(*), sum(amount)::bigint FROM sums GROUP BY region", "total": "SELECT count(DISTINCT region), count(*) FROM sums",
+    "kept": "SELECT id, amount * 2 FROM sums", "joined": "SELECT s.region, count(*), sum(amount * factor)::bigint FROM sums AS s JOIN regions USING (region) GROUP BY 1",
+    "prices": "SELECT CASE WHEN price = 'NaN' THEN 9223372036854775806 ELSE (price * 100)::bigint END, CASE WHEN isfinite(ends) THEN ends - DATE '1970-01-01'"
+              " ELSE -9223372036854775807 END, count(*) FROM sums WHERE price > 4.00 GROUP BY price, ends",
+    "summed": "SELECT region, count(*), sum((price * 100)::bigint - amount)::bigint FROM sums GROUP BY region",
+    "days": "SELECT id, ends - DATE '1970-01-01' + 1 FROM sums",
+}  # fmt: skip
+
+
+def number_mistakes(live):
+    """Nights, openings and captures of such numbers: refused with the rows, and as the tables have it once these are put right."""
+    wrong, path = [], live.path / "numbers"
+    path.mkdir(exist_ok=True)
+    for name, (views, said, word, mended) in NUMBERS.items():
+        (path / "catalogue.toml").write_text(BASE + views)
+        listed = Warehouse(views_of(BASE + views))
+        (path / "strategy.txt").write_bytes(listed.listed(listed.one_way()).partition(b"\n")[2])
+        live.database.fresh()
+        live.database.make([SUMS])
+        faults = [told for told in (live.database.run(planning.told(live, *words, path).text) for words in (["--capture"], ["--live", "--open"])) if told]
+        live.database.asked(said)
+        night = planning.told(live, "--live", path).text
+        told = live.database.run(night)
+        faults += [] if (word and word in (told or "")) or told is word or not (told or word) else [f"the night was told {told!r}"]
+        live.database.asked(mended)
+        told = live.database.run(night) if word else None
+        faults += [told] if told else unlike(live, listed.views)
+        wrong += [f"{name}: {text}" for text in faults + (opened_mistakes(live, path, said, word) if word else [])]
+    return wrong
+
+
+def opened_mistakes(live, path, said, word):
+    """The same where the tables are captured and the views filled with such rows in them."""
+    live.database.fresh()
+    live.database.make([SUMS, said])
+    told = [live.database.run(planning.told(live, *words, path).text) for words in (["--capture"], ["--live", "--open"])]
+    named, row = word.split(":")[0], word.rpartition("(id ")[2][:1] if "(id " in word else word[-1]
+    wanted = "cannot be captured" if "number" in named else named if named.startswith("refused") else "refused range joined"
+    is_told = wanted in str(told) and f"id {row}" in str(told)
+    return [] if is_told else [f"captured and opened with such rows: {told}"]
+
+
+def unlike(live, views):
+    """What the views have otherwise than the tables give them."""
+    wrong = []
+    for view in views:
+        if view.over:
+            stored = f"SELECT {', '.join(column for column, _ in view.columns)} FROM {live.database.table(view.name)}"
+            found, wanted = live.database.answers(stored, BY_HAND[view.name])
+            wrong += [] if sorted(map(tuple, found)) == sorted(map(tuple, wanted)) else [f"{view.name} has {found}, and not {wanted}"]
+    return wrong
+
+
 def mistakes(live):
     """All of these."""
     if live.engine != "sqlite":
-        return []
+        return [f"{live.engine}: numbers: {text}"[:900] for text in number_mistakes(live)]
     tried = {"rows": row_mistakes, "triggers made anew": anew_mistakes, "without the database": without_database_mistakes, "conflicts": conflict_mistakes}
     return [f"{live.engine}: {name}: {text}"[:900] for name, each in tried.items() for text in each(live)]
