@@ -22,15 +22,17 @@ class Opening:
         """A view from scratch: without rows and indexes, then with its rows, then with its indexes."""
         (term,) = self.steps.whole(v)
         key = name(self.said(v, "~key"))
-        constraint = self.constraint(v, [self.views[v].columns[place][0] for place in self.keys.get(v, ())])
+        key_columns = [self.views[v].columns[place][0] for place in self.keys.get(v, ())]
+        constraint = self.constraint(v, key_columns)
         parts = {"table": self.table(v), "key": key}
         return [
             sql("TRUNCATE {table}", **parts),
             sql("ALTER TABLE {table} DROP CONSTRAINT IF EXISTS {key}", **parts),
+            sql("DROP INDEX IF EXISTS {index}", index=self.dialect.table(self.said(v, "~key"))),
             *(sql("DROP INDEX IF EXISTS {index}", index=self.dialect.table(self.said(v, f"~{at}"))) for at in range(1, len(self.asked_for()[v]) + 1)),
             self.filling(v, term),
             sql("GET DIAGNOSTICS {rows} = ROW_COUNT", rows=self.counter("rows", v)),
-            *([sql("ALTER TABLE {table} ADD {constraint}", constraint=constraint, **parts)] if constraint else []),
+            *([sql("ALTER TABLE {table} ADD {constraint}", constraint=constraint, **parts)] if constraint else self.unique_of(v, key_columns)),
             *self.indexes_of(v),
             *self.analyzed_columns(v),
         ]
@@ -39,6 +41,8 @@ class Opening:
         """Statistics of the columns by which other views are joined with this one; how many rows there are its key told, and all else the
         server finds out in its own time."""
         columns = sorted({column for listed in self.asked_for()[v] for column in listed})
+        if any(self.is_text(v, column) for column in columns):
+            return [sql("ANALYZE {table}", table=self.table(v))]
         listed = joined([self.users(v)[column] for column in columns])
         return [sql("ANALYZE {table} ({columns})", table=self.table(v), columns=listed)] if columns else []
 

@@ -171,8 +171,9 @@ class Captures:
         writes there would wait for it."""
         table, is_summary = self.script.table(v), self.script.shape.is_summary(v)
         room = sql("ALTER TABLE {table} SET (fillfactor = {filled})", table=table, filled=number(FILLED["summary" if is_summary else "rows"]))
-        columns = joined(self.script.columns_with_key(v, self.script.key_of(v, sources)))
-        found = [(table, columns, [room, *self.script.indexes_of(v)])]
+        key = self.script.key_of(v, sources)
+        columns = joined(self.script.columns_with_key(v, key))
+        found = [(table, columns, [room, *self.script.unique_of(v, key), *self.script.indexes_of(v)])]
         if v in sources:
             changes, cut = self.script.table(v, "~changes"), word("vacuum_truncate")
             kept = sql("ALTER TABLE {changes} SET ({cut} = false)", changes=changes, cut=cut)

@@ -7,6 +7,7 @@ has a key, a row that leaves and one that comes with it are one that changes. A 
 from functools import cached_property
 
 from whtools.live.culprits import Culprits
+from whtools.live.digests import Digests
 from whtools.live.history import SwiftHistory
 from whtools.live.opening import Opening
 from whtools.live.script import LiveScript
@@ -36,7 +37,7 @@ def without(made, *ways):
 OF_NIGHTS = [sql("SET LOCAL default_statistics_target = 1"), *switched("off", "mergejoin")]
 
 
-class SwiftScript(SwiftGroups, Culprits, Opening, LeanComps, LiveScript):
+class SwiftScript(SwiftGroups, Culprits, Digests, Opening, LeanComps, LiveScript):
     """The statements of a night whose tables are all its own."""
 
     def __init__(self, catalogue, dialect, prefix=""):
@@ -128,7 +129,8 @@ class SwiftScript(SwiftGroups, Culprits, Opening, LeanComps, LiveScript):
         with its key."""
         cells, read, pair = self.cells(v, "g"), self.read(v), [word("pair")] if self.is_keyed(v) else []
         pairs = list(zip(read, cells))
-        on = [pairs[place] for place in self.key(v)] or pairs
+        on = self.found_by(v, [(place, *each) for place, each in enumerate(pairs)])
+        on = joined([sql("{a} = {b}", a=a, b=b) for a, b in (pairs[place] for place in self.key(v))], "AND") if self.key(v) else on
         rest = [each for place, each in enumerate(pairs) if self.key(v) and place not in self.key(v)]
         same = lambda some: joined([sql("{a} = {b}", a=a, b=b) for a, b in some], "AND")  # noqa: E731
         was = sql("coalesce(t.{count}, 0)", count=COUNT)
@@ -137,7 +139,7 @@ class SwiftScript(SwiftGroups, Culprits, Opening, LeanComps, LiveScript):
         return sql(
             "CREATE TEMPORARY TABLE {net} ON COMMIT DROP AS SELECT {cells}, g.n, {was} AS was, t.ctid AS place {pair} FROM ({rows}) AS g ({own})"
             " LEFT JOIN {table} AS t ON {on}", net=name(self.working_name(v, "net")), cells=joined(cells), was=was,
-            pair=sql(", g.pair") if pair else sql(""), rows=rows, own=joined([*self.cells(v), word("n"), *pair]), table=self.table(v), on=same(on),
+            pair=sql(", g.pair") if pair else sql(""), rows=rows, own=joined([*self.cells(v), word("n"), *pair]), table=self.table(v), on=on,
         )  # fmt: skip
 
     def judging(self, v):
