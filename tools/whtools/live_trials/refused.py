@@ -162,7 +162,7 @@ KEPT = '[[view]]\nname = "kept"\nover = ["sums"]\nkeep = [["id", "sums.id"], ["d
 JOINED = ('[[view]]\nname = "joined"\nover = ["sums", "regions"]\njoin = [["sums.region", "regions.region"]]\ngroup = [["region", "sums.region"]]\ncount = "n"\n'
           'sum = [["amount", ["*", "sums.amount", "regions.factor"]]]\n')  # fmt: skip
 PRICES = '[[view]]\nname = "prices"\nover = ["sums"]\nwhere = [">", "sums.price", 400]\ngroup = [["price", "sums.price"], ["ends", "sums.ends"]]\ncount = "n"\n'
-SUMMED = '[[view]]\nname = "summed"\nover = ["sums"]\ngroup = [["region", "sums.region"]]\ncount = "n"\nsum = [["more", ["-", "sums.price", "sums.amount"]]]\n'
+SUMMED = '[[view]]\nname = "summed"\nover = ["sums"]\ngroup = [["region", "sums.region"]]\ncount = "n"\nsum = [["rest", ["-", 1000, "sums.price"]]]\n'
 DAYS = '[[view]]\nname = "days"\nover = ["sums"]\nkeep = [["id", "sums.id"], ["next", ["+", "sums.ends", 1]]]\n'
 LARGE = "UPDATE sums SET amount = 9223372036854775800 WHERE id = 4;"
 NAN, ENDLESS = "UPDATE sums SET price = 'NaN' WHERE id = 5;", "UPDATE sums SET ends = '-infinity' WHERE id = 6;"
@@ -188,7 +188,7 @@ BY_HAND = {
     "kept": "SELECT id, amount * 2 FROM sums", "joined": "SELECT s.region, count(*), sum(amount * factor)::bigint FROM sums AS s JOIN regions USING (region) GROUP BY 1",
     "prices": "SELECT CASE WHEN price = 'NaN' THEN 9223372036854775806 ELSE (price * 100)::bigint END, CASE WHEN isfinite(ends) THEN ends - DATE '1970-01-01'"
               " ELSE -9223372036854775807 END, count(*) FROM sums WHERE price > 4.00 GROUP BY price, ends",
-    "summed": "SELECT region, count(*), sum((price * 100)::bigint - amount)::bigint FROM sums GROUP BY region",
+    "summed": "SELECT region, count(*), sum(1000 - price * 100)::bigint FROM sums GROUP BY region",
     "days": "SELECT id, ends - DATE '1970-01-01' + 1 FROM sums",
 }  # fmt: skip
 

@@ -144,6 +144,25 @@ OF_EVENTS = {
 }  # fmt: skip
 
 
+# What is no number comes after all numbers, and equals itself.
+MARKS = {"postgresql": ["CREATE TABLE marks (id int PRIMARY KEY, price numeric(10,2) NOT NULL, other numeric(10,2));",
+                        "CREATE VIEW marks_again AS SELECT m.id, m.price FROM marks AS m WHERE m.price >= 100;"]}  # fmt: skip
+MARK_ROWS = ("INSERT INTO marks VALUES (1, 100, 99.99), (2, 100.01, 100.01), (3, 'NaN', 'NaN'), (4, 99999999.99, 'NaN'), (5, -1, NULL), (6, 100, NULL);",)
+MARK_LATER = ("UPDATE marks SET price = 'NaN' WHERE id = 1; UPDATE marks SET other = 'NaN' WHERE id > 4;", "UPDATE marks SET price = 100.01 WHERE id = 3;")
+OF_MARKS = {
+    "above": ("SELECT m.id FROM marks AS m WHERE m.price > 100.001", ""),
+    "not_above": ("SELECT m.id FROM marks AS m WHERE NOT m.price > 100.001 OR m.price <= m.other", ""),
+    "like_other": ("SELECT m.id FROM marks AS m WHERE m.price = m.other OR m.other < 99.999", ""),
+    "unlike_other": ("SELECT m.id FROM marks AS m WHERE m.other IS DISTINCT FROM m.price AND m.price <> 100.000001", ""),
+    "each_price": ("SELECT a.id, b.id AS other FROM marks AS a JOIN marks_again AS b ON a.price = b.price", ""),
+}  # fmt: skip
+
+
+def mark_mistakes(live):
+    """What is no number, where it is compared."""
+    return tried(live, MARKS, MARK_ROWS, OF_MARKS, MARK_LATER) if live.engine == "postgresql" else []
+
+
 def event_mistakes(live):
     """Days and moments in the forms that SQLite lets them have."""
     return tried(live, EVENTS, EVENT_ROWS, OF_EVENTS, EVENT_LATER) if live.engine == "sqlite" else []
@@ -181,4 +200,4 @@ def tried(live, tables, rows, views, later):
 
 def mistakes(live):
     """All of these."""
-    return [f"{live.engine}: values: {text}"[:900] for each in (named_mistakes, event_mistakes, compared_mistakes) for text in each(live)]
+    return [f"{live.engine}: values: {text}"[:900] for each in (named_mistakes, event_mistakes, mark_mistakes, compared_mistakes) for text in each(live)]
