@@ -1,64 +1,21 @@
 """Which rows did it, where a night over mirrors in PostgreSQL is refused: groups whose sums leave 64 bits with the rows that are added to them,
 rows of a change that are not there, and values that are no numbers where views compute with them."""
 
-from functools import cached_property
-
 from whtools.live.turned import FIRST, LAST
 from whtools.sql.dialect import MOST
 from whtools.sql.formulas import ALWAYS, Formulas, both
 from whtools.sql.steps import Operand
 from whtools.sql.tokens import END_OF_STATEMENT, body, joined, name, number, sql, statements, text, word
-from whtools.views import Place
 
 # So many rows are told, and of a row without a key so many columns.
 SHOWN, WIDEST = 3, 8
 STRANGE = "a value that is no number, or without end, with which views compute"
 
 
-def leaves(formula):
-    """The places in an expression."""
-    if isinstance(formula, Place):
-        return {formula}
-    return set().union(*map(leaves, formula[1:])) if isinstance(formula, list) else set()
-
-
-def computed_in(predicate):
-    """The places that a predicate computes with."""
-    if not isinstance(predicate, list):
-        return set()
-    if predicate[0] in ("all", "any", "not"):
-        return set().union(*map(computed_in, predicate[1:]))
-    return set().union(*(leaves(side) for side in predicate[1:] if isinstance(side, list)))
-
-
 class Culprits:
     """The statements that find these rows, which are carried out where a night is refused, and not else."""
 
-    # ---- with which columns of base views is computed
-
-    def traced(self, v, place):
-        """The column of a base view that a column of a view is, or None where it is computed."""
-        view = self.views[v]
-        if not view.over:
-            return v, place
-        formulas = [*(view.keep or view.group)]
-        formula = formulas[place] if place < len(formulas) else None
-        return self.traced_in(v, formula) if isinstance(formula, Place) else None
-
-    def traced_in(self, v, place):
-        spot = self.shape.spot(v, place)
-        return self.traced(self.views[v].over[spot.child], spot.column)
-
-    @cached_property
-    def computed_with(self):
-        """Of each base view the places of its numbers that a view sums or computes with."""
-        found = {}
-        for v in self.steps.derived():
-            view = self.views[v]
-            places = set().union(computed_in(view.where), *(leaves(each) for each in view.sums), *(leaves(each) for each in view.keep or () if isinstance(each, list)))
-            for u, column in filter(None, (self.traced_in(v, place) for place in places)):
-                found.setdefault(u, set()).add(column)
-        return {u: sorted(columns) for u, columns in found.items()}
+    # ---- what is no number
 
     def strange_numbers(self, v, cells):
         """A test for what stands for no number, or for what has no end, in a row of a base view, where views compute with it."""

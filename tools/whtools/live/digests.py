@@ -39,7 +39,11 @@ class Digests:
         return places if is_wanted else ()
 
     def constraint(self, v, key):
-        return None if self.unique_places(v, key) else super().constraint(v, key)
+        """None where an index sees to it, which has the constraint's name."""
+        if not self.unique_places(v, key):
+            return super().constraint(v, key)
+        self.said(v, "~key")
+        return None
 
     def unique_of(self, v, key):
         """The index that sees to it that each row or group stands once, where no constraint does."""

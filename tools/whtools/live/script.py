@@ -2,6 +2,7 @@
 
 from hashlib import sha256
 
+from whtools.live.computed import Computed
 from whtools.live.history import History
 from whtools.sql.comments import Comments
 from whtools.sql.names import Names
@@ -10,7 +11,7 @@ from whtools.sql.script import Script
 from whtools.sql.tokens import joined, name, sql, word
 
 
-class LiveScript(Script):
+class LiveScript(Computed, Script):
     """The statements over a catalogue whose base views are mirrors. Their tables and all others stand in a schema of their own, or in
     SQLite have a word before their names. A night takes the changes that are there when it begins, and what comes later stays."""
 

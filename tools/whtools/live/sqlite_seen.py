@@ -4,8 +4,8 @@ Each change of the file's schema has a number. While it stays, triggers, indexes
 one, something may have been away for a while, and rows may have changed unnoticed: then each table is compared with its mirror and its changes,
 if the script knows how its columns are turned, as it does where it was made with the database at hand."""
 
-from whtools.sql.dialect import COUNT
-from whtools.sql.tokens import joined, name, sql, text
+from whtools.sql.dialect import COUNT, LEAST, MOST
+from whtools.sql.tokens import joined, name, number, sql, text
 
 # What is noted of a table beside its name: its unique indexes, the application's triggers, and the triggers of whview; and of the file.
 OF_UNIQUE, OF_OTHERS, OF_TRIGGERS, OF_SCHEMA = "~unique", "~others", "~made", "~schema"
@@ -106,13 +106,21 @@ class Seen:
     # ---- rows that are refused
 
     def refused_rows(self):
-        """Queries that a client prints: rows of the changes with a cell that is turned into no number or text, since a refusal cannot name them."""
+        """Queries that a client prints, since a refusal of SQLite's cannot name rows: those of the changes with a cell that is turned into no number
+        or text, and those that come with a number by which a sum or a product may leave 64 bits."""
         found = []
         for v in self.script.steps.base():
-            read, kinds = self.script.read(v, "t"), self.script.kinds(v)
-            wrong = self.dialect.wrong_cells(read, kinds, sql("t.{count}", count=COUNT))
-            names = [column for column, _ in self.script.views[v].columns]
-            cells = [sql("{said} || quote({cell})", said=text(f"{', ' if at else ' '}{said} "), cell=cell) for at, (said, cell) in enumerate(zip(names, read))]
-            found.append(sql("SELECT {head} || {cells} FROM {changes} AS t WHERE {wrong} LIMIT 5", head=text(f"refused row of {self.script.views[v].name}:"),
-                             cells=joined(cells, "||"), changes=self.script.table(v, "~changes"), wrong=wrong))  # fmt: skip
+            read, kinds = self.script.read(v), self.script.kinds(v)
+            found.append(self.shown_rows(v, f"refused row of {self.script.views[v].name}:", self.dialect.wrong_cells(read, kinds, sql("t.{count}", count=COUNT))))
+            near = [sql("abs({cell} / 2) > {most}", cell=read[place], most=number(MOST // 4)) for place in self.script.computed_with.get(v, ())]
+            real = [sql("{cell} <> {null}", cell=read[place], null=number(LEAST)) for place in self.script.computed_with.get(v, ())]
+            for test in [joined([sql("({real} AND {near})", real=each, near=far) for each, far in zip(real, near)], "OR")] if near else []:
+                test = sql("t.{count} > 0 AND ({test})", count=COUNT, test=test)
+                found.append(self.shown_rows(v, f"row of {self.script.views[v].name} with a number near the end of 64 bits, with which views compute:", test))
         return found
+
+    def shown_rows(self, v, head, test):
+        names = [column for column, _ in self.script.views[v].columns]
+        cells = [sql("{said} || quote({cell})", said=text(f"{', ' if at else ' '}{said} "), cell=cell) for at, (said, cell) in enumerate(zip(names, self.script.read(v)))]
+        return sql("SELECT {head} || {cells} FROM {changes} AS t WHERE {test} LIMIT 5", head=text(head), cells=joined(cells, "||"),
+                   changes=self.script.table(v, "~changes"), test=test)  # fmt: skip
