@@ -115,8 +115,8 @@ class Seen:
             near = [sql("abs({cell} / 2) > {most}", cell=read[place], most=number(MOST // 4)) for place in self.script.computed_with.get(v, ())]
             real = [sql("{cell} <> {null}", cell=read[place], null=number(LEAST)) for place in self.script.computed_with.get(v, ())]
             for test in [joined([sql("({real} AND {near})", real=each, near=far) for each, far in zip(real, near)], "OR")] if near else []:
-                test = sql("t.{count} > 0 AND ({test})", count=COUNT, test=test)
-                found.append(self.shown_rows(v, f"row of {self.script.views[v].name} with a number near the end of 64 bits, with which views compute:", test))
+                come = sql("{test} GROUP BY {columns} HAVING sum(t.{count}) > 0", test=test, columns=joined(read), count=COUNT)
+                found.append(self.shown_rows(v, f"row of {self.script.views[v].name} with a number near the end of 64 bits, with which views compute:", come))
         return found
 
     def shown_rows(self, v, head, test):

@@ -237,9 +237,33 @@ def unlike(live, views):
     return wrong
 
 
+def unseen_mistakes(live):
+    """Rows that are written with triggers off: no night tells, and a capture puts them right."""
+    wrong = live.fresh()
+    said = ".dbconfig enable_trigger off\nDELETE FROM lines WHERE id = 5;\n"
+    subprocess.run(["sqlite3", "-bail", live.database.path], input=said, capture_output=True, text=True, timeout=60, check=True)
+    told = live.night()
+    wrong += [told] if told else [] if live.mistakes() else ["rows that are written with triggers off are seen"]
+    told = live.capture() or live.night()
+    return wrong + ([told] if told else live.mistakes())
+
+
+def near_mistakes(live):
+    """A number by which a sum leaves 64 bits: the night is refused, and the row is printed."""
+    wrong = live.fresh()
+    live.database.asked("UPDATE lines SET pieces = 9223372036854775800 WHERE id = 5; UPDATE products SET price = 5 WHERE product = 'product 3';")
+    out, told = printed(live)
+    near = "row of lines with a number near the end of 64 bits, with which views compute: id 5, product "
+    wrong += [] if near in out and "pieces 9223372036854775800" in out and "refused range sales" in told else [f"the night prints {out!r} and says {told!r}"]
+    live.database.asked("UPDATE lines SET pieces = 1 WHERE id = 5;")
+    out, told = printed(live)
+    return wrong + ([f"a night prints {out!r} and says {told!r}"] if out or told else live.mistakes())
+
+
 def mistakes(live):
     """All of these."""
     if live.engine != "sqlite":
         return [f"{live.engine}: numbers: {text}"[:900] for text in number_mistakes(live)]
-    tried = {"rows": row_mistakes, "triggers made anew": anew_mistakes, "without the database": without_database_mistakes, "conflicts": conflict_mistakes}
+    tried = {"rows": row_mistakes, "triggers made anew": anew_mistakes, "without the database": without_database_mistakes, "conflicts": conflict_mistakes,
+             "unseen": unseen_mistakes, "near the end": near_mistakes}  # fmt: skip
     return [f"{live.engine}: {name}: {text}"[:900] for name, each in tried.items() for text in each(live)]
