@@ -27,8 +27,7 @@ class Opening:
         parts = {"table": self.table(v), "key": key}
         return [
             sql("TRUNCATE {table}", **parts),
-            sql("ALTER TABLE {table} DROP CONSTRAINT IF EXISTS {key}", **parts),
-            sql("DROP INDEX IF EXISTS {index}", index=self.dialect.table(self.said(v, "~key"))),
+            *self.without_key(v, parts),
             *(sql("DROP INDEX IF EXISTS {index}", index=self.dialect.table(self.said(v, f"~{at}"))) for at in range(1, len(self.asked_for()[v]) + 1)),
             self.filling(v, term),
             sql("GET DIAGNOSTICS {rows} = ROW_COUNT", rows=self.counter("rows", v)),
@@ -36,6 +35,15 @@ class Opening:
             *self.indexes_of(v),
             *self.analyzed_columns(v),
         ]
+
+    def without_key(self, v, parts):
+        """What sees to it that each row or group stands once goes, be it a constraint or an index, without a word where it is not there."""
+        index, (said,) = self.dialect.table(self.said(v, "~key")), self.dialect.written([self.table(v)])
+        is_constraint = sql("EXISTS (SELECT 1 FROM pg_constraint AS k WHERE k.conrelid = to_regclass({table}) AND k.conname = {key})", table=text(said),
+                            key=text(self.said(v, "~key")))  # fmt: skip
+        is_index = sql("to_regclass({index}) IS NOT NULL", index=text(self.dialect.written([index])[0]))
+        dropped = (is_constraint, sql("ALTER TABLE {table} DROP CONSTRAINT {key}", **parts)), (is_index, sql("DROP INDEX {index}", index=index))
+        return [each for test, statement in dropped for each in self.dialect.only_where(test, [statement])]
 
     def analyzed_columns(self, v):
         """Statistics of the columns by which other views are joined with this one; how many rows there are its key told, and all else the

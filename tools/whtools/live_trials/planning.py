@@ -6,7 +6,8 @@ from whtools.catalogue import views_of
 from whtools.databases.nights import written
 from whtools.live.command import DIALECTS
 from whtools.live.database import ASKED
-from whtools.live.proposed import DAY, MOMENT, TEXT, ZONED, Proposed
+from whtools.live.proposed import Proposed
+from whtools.live.taken import DAY, MOMENT, TEXT, ZONED
 from whtools.live.turned import NULL
 from whtools.live_trials.shop import TABLES
 from whtools.sql.tokens import Unfit
