@@ -89,18 +89,17 @@ class Triggers:
         ]  # fmt: skip
 
     def noted(self, v, source, test):
-        """The statement that notes what might be replaced."""
-        return sql("INSERT OR REPLACE INTO {replaced} SELECT r._rowid_, {cells} FROM {source} AS r WHERE {test}", replaced=self.replaced(v),
-                   cells=source.shown, source=name(source.table), test=test)  # fmt: skip
+        """The statement that notes rows as they are in their table. OR REPLACE would turn into what a statement of an application's says of
+        conflicts, by which its own would fail."""
+        sets = joined([sql("{cell} = excluded.{cell}", cell=cell) for cell in self.script.cells(v)])
+        return sql(
+            "INSERT INTO {replaced} SELECT r._rowid_, {cells} FROM {source} AS r WHERE {test} ON CONFLICT (place) DO UPDATE SET {sets}",
+            replaced=self.replaced(v), cells=source.shown, source=name(source.table), test=test, sets=sets,
+        )  # fmt: skip
 
     def kept(self, v, source, row):
-        """The statement that notes a row itself, as it is in its table, where it has no note: REPLACE would turn into what a statement of an
-        application's says of conflicts."""
-        return sql(
-            "INSERT INTO {replaced} SELECT r._rowid_, {cells} FROM {source} AS r WHERE r._rowid_ = {row}._rowid_ AND NOT EXISTS (SELECT 1 FROM"
-            " {replaced} AS f WHERE f.place = r._rowid_)",
-            replaced=self.replaced(v), cells=source.shown, source=name(source.table), row=word(row),
-        )  # fmt: skip
+        """The statement that notes a row itself."""
+        return self.noted(v, source, sql("r._rowid_ = {row}._rowid_", row=word(row)))
 
     def renoted(self, v, source):
         """The statement by which the note of a row changes with it."""

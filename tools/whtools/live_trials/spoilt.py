@@ -105,6 +105,7 @@ def unnoticed(live):
         found = []
         for name, spoilt, case in (
             ("noted", sql("SELECT 1"), "REPLACE"),
+            ("kept", sql("SELECT 1"), "a trigger BEFORE UPDATE that changes the row"),
             ("renoted", sql("SELECT 1"), "a trigger BEFORE INSERT that changes what is replaced"),
             ("others", [], "a trigger BEFORE UPDATE that changes the row"),
             ("unlike", sql("SELECT 1 WHERE 1 = 0"), "a unique index that comes, and goes again"),
