@@ -22,7 +22,7 @@ class Culprits:
         both_ends = joined([self.dialect.whole(LAST), self.dialect.whole(FIRST)])
         return joined([sql("{cell} IN ({ends})", cell=cells[place], ends=both_ends) for place in self.computed_with.get(v, ())], "OR")
 
-    def strange_rows(self, v, rows, cells):
+    def strange_rows(self, v, rows, cells, refused):
         """A query for what is told of such rows: a whole number may be as large as what stands for none."""
         whens = [
             sql("{cell} IN ({last}, {first}) AND EXISTS (SELECT 1 FROM {state} AS k JOIN pg_attribute AS a ON a.attrelid = k.source AND a.attname = {column}"
@@ -33,39 +33,35 @@ class Culprits:
         ]  # fmt: skip
         shown = sql("SELECT {said} AS said FROM {rows} WHERE {tests} LIMIT {most}", said=self.told_row(v, cells), rows=rows, tests=joined(whens, "OR"),
                     most=number(SHOWN))  # fmt: skip
-        told = text(f"refused number {self.views[v].name}: {STRANGE}: ")
+        told = text(f"{refused}: {STRANGE}: ")
         return sql("SELECT concat({told}, string_agg(g.said, {comma})) FROM ({shown}) AS g HAVING count(*) > 0", told=told, comma=text("; "), shown=shown)
 
-    def strange_refused(self, v, test, rows, cells):
+    def strange_refused(self, v, test, rows, cells, refused=None):
         """A refusal of such rows, which are looked for where a test holds."""
         if not self.computed_with.get(v):
             return []
-        query = sql("EXECUTE {query} INTO finding", query=body(self.strange_rows(v, rows, cells)))
+        refused = refused or f"refused number {self.views[v].name}"
+        query = sql("EXECUTE {query} INTO finding", query=body(self.strange_rows(v, rows, cells, refused)))
         refusal = self.dialect.where(sql("finding IS NOT NULL"), self.dialect.raised(word("finding")))
         return self.dialect.only_where(test, [query, refusal])
 
     def strange_in_mirrors(self):
-        """Refusals of such rows where views are filled."""
+        """Refusals of such rows where views are filled: no night mends a mirror before that."""
         found = []
         for v in self.computed_with:
             read, table = self.read(v), sql("{table} AS t", table=self.table(v))
             test = sql("EXISTS (SELECT 1 FROM {table} WHERE {tests})", table=table, tests=self.strange_numbers(v, read))
-            found += self.strange_refused(v, test, table, read)
+            cure = f"refused number {self.views[v].name}: in its mirror, so mend the table, and then run --uncapture and --capture before --open"
+            found += self.strange_refused(v, test, table, read, cure)
         return found
 
     def strange_in_source(self, v, source):
         """A refusal of such rows where a table is captured, so that none comes into its mirror."""
-        found = []
-        for place in self.computed_with.get(v, ()):
-            column = source.columns[place]
-            told = f"{self.views[v].name} cannot be captured: in its column {column.name} stands {STRANGE}: "
-            query = sql(
-                "SELECT concat({told}, {row}) FROM {source} AS r WHERE r.{column}::text IN ({ends}) LIMIT 1", told=text(told), source=source.said,
-                row=self.told_row(v, [each.said for each in source.columns]), column=name(column.name),
-                ends=joined([text(said) for said in ("NaN", "infinity", "-infinity")]),
-            )  # fmt: skip
-            found += self.dialect.refuse_with(query)
-        return found
+        if not self.computed_with.get(v):
+            return []
+        rows, cells = sql("{source} AS r", source=source.said), [column.said for column in source.columns]
+        test = sql("EXISTS (SELECT 1 FROM {rows} WHERE {tests})", rows=rows, tests=self.strange_numbers(v, cells))
+        return self.strange_refused(v, test, rows, cells, f"{self.views[v].name} cannot be captured")
 
     # ---- rows in words
 

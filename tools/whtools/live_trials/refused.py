@@ -212,7 +212,21 @@ def number_mistakes(live):
         told = live.database.run(night) if word else None
         faults += [told] if told else unlike(live, listed.views)
         wrong += [f"{name}: {text}" for text in faults + (opened_mistakes(live, path, said, word) if word else [])]
-    return wrong
+    return wrong + [f"a view that comes later: {text}" for text in later_mistakes(live, path)]
+
+
+def later_mistakes(live, path):
+    """A view that is added and computes with a column in whose mirror stands no number: it is not filled, until the tables are captured anew."""
+    (path / "catalogue.toml").write_text(BASE + LAST)
+    live.database.fresh()
+    live.database.make([SUMS, NAN])
+    told = [live.database.run(planning.told(live, *words, path).text) for words in (["--capture"], ["--live", "--open"])]
+    (path / "catalogue.toml").write_text(BASE + LAST + SUMMED)
+    told += [live.database.run(planning.told(live, *words, path).text) for words in (["--capture"], ["--live", "--open"])]
+    wrong = [] if told[:2] == [None, None] and "sums cannot be captured" in str(told[2]) and "run --uncapture and --capture" in str(told[3]) else [f"told {told}"]
+    live.database.asked("UPDATE sums SET price = 5 WHERE id = 5;")
+    told = [live.database.run(planning.told(live, *words, path).text) for words in (["--uncapture"], ["--capture"], ["--live", "--open"])]
+    return wrong + [each for each in told if each] + unlike(live, Warehouse(views_of(BASE + LAST + SUMMED)).views)
 
 
 def opened_mistakes(live, path, said, word):
