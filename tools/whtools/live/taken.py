@@ -292,7 +292,7 @@ class Reader:
     def judge_exact(self, value, does):
         """Refuses what SQLite has to some fifteen digits: it may be a little more or less there than what is compared with it."""
         if not value.is_exact:
-            raise NotTaken(f"it {does} {shown(value.formula)}, which SQLite computes in floating point: it can be had of columns and whole numbers")
+            raise NotTaken(f"it {does} {shown(value.formula)}, which SQLite computes in floating point: have whole units in the table, such as cents, or a column with it")
         digits = len(str(abs(value.formula))) if isinstance(value.formula, int) and value.places else 0
         if self.engine == "sqlite" and digits > MOST_DIGITS["sqlite"]:
             raise NotTaken(f"it {does} a number of {digits} digits, of which SQLite keeps {MOST_DIGITS['sqlite']}")
