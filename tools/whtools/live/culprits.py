@@ -7,8 +7,8 @@ from whtools.sql.formulas import ALWAYS, Formulas, both
 from whtools.sql.steps import Operand
 from whtools.sql.tokens import END_OF_STATEMENT, body, joined, name, number, sql, statements, text, word
 
-# So many rows are told, and of a row without a key so many columns.
-SHOWN, WIDEST = 3, 8
+# So many rows are told, of a row without a key so many columns, and of each column so many letters.
+SHOWN, WIDEST, LONGEST = 3, 8, 200
 STRANGE = "a value that is no number, or without end, with which views compute"
 
 
@@ -69,7 +69,7 @@ class Culprits:
         """The columns of a row by which it is told: its key, or else the first ones."""
         columns = self.views[v].columns
         places = self.keys.get(v) or range(min(len(columns), WIDEST))
-        said = [sql("concat({name}, {cell})", name=text(f"{columns[place][0]} "), cell=cells[place]) for place in places]
+        said = [sql("left(concat({name}, {cell}), {long})", name=text(f"{columns[place][0]} "), cell=cells[place], long=number(LONGEST)) for place in places]
         return sql("concat_ws({comma}, {said})", comma=text(", "), said=joined(said))
 
     # ---- what is refused of a change
@@ -138,7 +138,7 @@ class Culprits:
             return sql("SELECT string_agg(k.said, {comma}) FROM (SELECT s.said FROM ({rows}) AS s WHERE s.weight > 0 LIMIT {shown}) AS k", comma=text("; "), rows=rows,
                        shown=number(SHOWN))  # fmt: skip
         cells, names = self.cells(v)[: self.shape.groups(v)], [column for column, _ in self.views[v].columns]
-        group = [sql("concat({said}, s.{cell})", said=text(f"{said} "), cell=cell) for said, cell in zip(names, cells)]
+        group = [sql("left(concat({said}, s.{cell}), {long})", said=text(f"{said} "), cell=cell, long=number(LONGEST)) for said, cell in zip(names, cells)]
         told = sql("concat({head}, concat_ws({comma}, {group}), {tail}, s.said)", head=text("in the group ("), comma=text(", "), tail=text(") from "),
                    group=joined(group)) if group else sql("concat({head}, s.said)", head=text("from "))  # fmt: skip
         same = joined([sql("o.{cell} = s.{cell}", cell=cell) for cell in cells], "AND") if cells else sql("TRUE")

@@ -9,6 +9,8 @@ from whtools.sql.tokens import joined, name, number, sql, text
 
 # What is noted of a table beside its name: its unique indexes, the application's triggers, and the triggers of whview; and of the file.
 OF_UNIQUE, OF_OTHERS, OF_TRIGGERS, OF_SCHEMA = "~unique", "~others", "~made", "~schema"
+# So many letters of a cell are printed.
+LONGEST = 200
 # The unique indexes s of a table by the statements that made them; and an application's triggers that may be fired before a row changes.
 UNIQUE = "{schema}.sqlite_master AS s WHERE s.type = {index} AND s.tbl_name = {source} COLLATE NOCASE AND s.sql LIKE {unique}"
 HEAD = "upper(substr(s.sql, 1, instr(upper(s.sql), {begin})))"
@@ -121,6 +123,9 @@ class Seen:
 
     def shown_rows(self, v, head, test):
         names = [column for column, _ in self.script.views[v].columns]
-        cells = [sql("{said} || quote({cell})", said=text(f"{', ' if at else ' '}{said} "), cell=cell) for at, (said, cell) in enumerate(zip(names, self.script.read(v)))]
+        cells = [
+            sql("{said} || substr(quote({cell}), 1, {long})", said=text(f"{', ' if at else ' '}{said} "), cell=cell, long=number(LONGEST))
+            for at, (said, cell) in enumerate(zip(names, self.script.read(v)))
+        ]  # fmt: skip
         return sql("SELECT {head} || {cells} FROM {changes} AS t WHERE {test} LIMIT 5", head=text(head), cells=joined(cells, "||"),
                    changes=self.script.table(v, "~changes"), test=test)  # fmt: skip
