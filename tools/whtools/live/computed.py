@@ -43,7 +43,8 @@ class Computed:
         found = {}
         for v in self.steps.derived():
             view = self.views[v]
-            places = set().union(computed_in(view.where), *(leaves(each) for each in view.sums), *(leaves(each) for each in view.keep or () if isinstance(each, list)))
+            formulas = [*view.sums, *(each for each in view.keep or () if isinstance(each, list))]
+            places = computed_in(view.where).union(*map(leaves, formulas))
             for u, column in filter(None, (self.traced_in(v, place) for place in places)):
                 found.setdefault(u, set()).add(column)
         return {u: sorted(columns) for u, columns in found.items()}

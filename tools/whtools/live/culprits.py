@@ -25,8 +25,8 @@ class Culprits:
     def strange_rows(self, v, rows, cells, refused):
         """A query for what is told of such rows: a whole number may be as large as what stands for none."""
         whens = [
-            sql("{cell} IN ({last}, {first}) AND EXISTS (SELECT 1 FROM {state} AS k JOIN pg_attribute AS a ON a.attrelid = k.source AND a.attname = {column}"
-                " AND a.attnum > 0 AND NOT a.attisdropped AND a.atttypid <> {whole}::regtype WHERE k.view = {view})",
+            sql("{cell} IN ({last}, {first}) AND EXISTS (SELECT 1 FROM {state} AS k JOIN pg_attribute AS a ON a.attrelid = k.source"
+                " AND a.attname = {column} AND a.attnum > 0 AND NOT a.attisdropped AND a.atttypid <> {whole}::regtype WHERE k.view = {view})",
                 cell=cells[place], last=self.dialect.whole(LAST), first=self.dialect.whole(FIRST), state=self.captures.state, whole=text("bigint"),
                 column=text(self.views[v].columns[place][0]), view=text(self.views[v].name))
             for place in self.computed_with.get(v, ())
@@ -69,7 +69,9 @@ class Culprits:
         """The columns of a row by which it is told: its key, or else the first ones."""
         columns = self.views[v].columns
         places = self.keys.get(v) or range(min(len(columns), WIDEST))
-        said = [sql("left(concat({name}, {cell}), {long})", name=text(f"{columns[place][0]} "), cell=cells[place], long=number(LONGEST)) for place in places]
+        said = [
+            sql("left(concat({name}, {cell}), {long})", name=text(f"{columns[place][0]} "), cell=cells[place], long=number(LONGEST)) for place in places
+        ]  # fmt: skip
         return sql("concat_ws({comma}, {said})", comma=text(", "), said=joined(said))
 
     # ---- what is refused of a change
@@ -79,7 +81,8 @@ class Culprits:
         row = self.told_row(v, self.cells(v, "d"))
         return sql(
             "SELECT string_agg(g.said, {comma}) FROM (SELECT {row} AS said FROM {net} AS d WHERE d.n IS NULL OR d.n < - d.was OR d.n > 0 AND"
-            " d.n > {most} - d.was LIMIT {shown}) AS g", comma=text("; "), row=row, net=self.working(v, "net"), most=self.dialect.whole(MOST), shown=number(SHOWN),
+            " d.n > {most} - d.was LIMIT {shown}) AS g",
+            comma=text("; "), row=row, net=self.working(v, "net"), most=self.dialect.whole(MOST), shown=number(SHOWN),
         )  # fmt: skip
 
     def raised_with(self, told, queries):
@@ -109,7 +112,8 @@ class Culprits:
         named = [sql("{value} AS {cell}", value=value, cell=cell) for value, cell in zip(cells, self.cells(v))]
         sides = [self.told_side(v, term, at) for at in range(len(term))]
         inner = sql("SELECT {shown} FROM {rows} {where}", rows=rows, where=sql("WHERE {tests}", tests=both(tests)) if tests else sql(""), shown=joined([
-            *named, sql("concat_ws({comma}, {sides}) AS said", comma=text(", "), sides=joined(sides)), sql("{weight} AS weight", weight=self.weight(v, formulas)),
+            *named, sql("concat_ws({comma}, {sides}) AS said", comma=text(", "), sides=joined(sides)),
+            sql("{weight} AS weight", weight=self.weight(v, formulas)),
             *self.added_numbers(v, term, formulas),
         ]))  # fmt: skip
         return self.largest(v, inner, is_change)
@@ -117,7 +121,9 @@ class Culprits:
     def added_numbers(self, v, term, formulas):
         """What a combined row adds to each sum of its group."""
         count, sums = self.count(term), self.views[v].sums if self.shape.is_summary(v) else ()
-        return [sql("{count} * {number} AS {name}", count=count, number=formulas.computed(formula), name=word("s", at)) for at, formula in enumerate(sums, 2)]
+        return [
+            sql("{count} * {number} AS {name}", count=count, number=formulas.computed(formula), name=word("s", at)) for at, formula in enumerate(sums, 2)
+        ]  # fmt: skip
 
     def told_side(self, v, term, child):
         """A child's part of a combined row in words."""
@@ -135,8 +141,8 @@ class Culprits:
     def largest(self, v, rows, is_change):
         """The rows that are told: where sums of groups leave 64 bits, those of such a group."""
         if not self.shape.is_summary(v):
-            return sql("SELECT string_agg(k.said, {comma}) FROM (SELECT s.said FROM ({rows}) AS s WHERE s.weight > 0 LIMIT {shown}) AS k", comma=text("; "), rows=rows,
-                       shown=number(SHOWN))  # fmt: skip
+            return sql("SELECT string_agg(k.said, {comma}) FROM (SELECT s.said FROM ({rows}) AS s WHERE s.weight > 0 LIMIT {shown}) AS k",
+                       comma=text("; "), rows=rows, shown=number(SHOWN))  # fmt: skip
         cells, names = self.cells(v)[: self.shape.groups(v)], [column for column, _ in self.views[v].columns]
         group = [sql("left(concat({said}, s.{cell}), {long})", said=text(f"{said} "), cell=cell, long=number(LONGEST)) for said, cell in zip(names, cells)]
         told = sql("concat({head}, concat_ws({comma}, {group}), {tail}, s.said)", head=text("in the group ("), comma=text(", "), tail=text(") from "),

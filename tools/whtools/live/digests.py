@@ -59,8 +59,8 @@ class Digests:
     def indexes_of(self, u):
         found = []
         for at, columns in enumerate(self.asked_for()[u], 1):
-            index = sql("CREATE INDEX {index} ON {table} ({listed})", index=self.dialect.index(self.said(u, f"~{at}")), table=self.dialect.indexed(self.said(u)),
-                        listed=self.listed(u, columns))  # fmt: skip
+            index, table = self.dialect.index(self.said(u, f"~{at}")), self.dialect.indexed(self.said(u))
+            index = sql("CREATE INDEX {index} ON {table} ({listed})", index=index, table=table, listed=self.listed(u, columns))
             found += [] if columns == self.key_places(u) else [index]
         return found
 

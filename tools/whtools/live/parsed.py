@@ -11,7 +11,10 @@ TOKEN = re.compile(
     re.DOTALL,
 )
 COMPARED = {"=": "=", "==": "=", "<>": "<>", "!=": "<>", "<": "<", "<=": "<=", ">": ">", ">=": ">="}
-RESERVED = {"SELECT", "FROM", "WHERE", "GROUP", "BY", "JOIN", "INNER", "CROSS", "ON", "USING", "AND", "OR", "NOT", "AS", "IN", "IS", "BETWEEN", "ANY", "ALL", "NULL", "COLLATE", *CLAUSES}
+RESERVED = {
+    *CLAUSES, "SELECT", "FROM", "WHERE", "GROUP", "BY", "JOIN", "INNER", "CROSS", "ON", "USING", "AND", "OR", "NOT", "AS", "IN", "IS", "BETWEEN", "ANY", "ALL",
+    "NULL", "COLLATE",
+}  # fmt: skip
 
 
 class NotTaken(Exception):

@@ -23,7 +23,7 @@ MARKS = {
     **{mark: f"it has {word}: {FILL}" for mark, word in LIKES.items()},
     **{mark: f"it has the operator {mark}, which looks for a pattern: {FILL}" for mark in ("~", "~*", "!~", "!~*", "*~", "GLOB", "REGEXP", "MATCH")},
     **{mark: f"it has the operator {mark}, which {JSON}: {FILL}" for mark in ("->", "->>", "#>", "#>>", "@>", "<@", "@@", "@?", "?", "&&", "#-")},
-    **{mark: f"it has the operator {mark}: {FILL}" for mark in ("||", "/", "%", "^", "&", "|", "#", "<<", ">>", "<<=", ">>=", "-|-", "@", "|/", "<->", "^@")},
+    **{mark: f"it has the operator {mark}: {FILL}" for mark in ("||", "/", "%", "^", "&", "|", "#", "<<", ">>", "<<=", ">>=", "-|-", "@", "<->", "^@")},
     "[": f"it takes a part of an array: {FILL}", "COLLATE": "it has COLLATE, and a night compares texts byte by byte: leave it out",
     "SIMILAR": f"it has SIMILAR TO: {FILL}", "AT TIME ZONE": f"it has AT TIME ZONE: {FILL}", "ARRAY": f"it makes an array: {FILL}",
     "FOR": "it locks what it reads by FOR: leave that out",

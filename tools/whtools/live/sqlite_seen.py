@@ -33,20 +33,20 @@ class Seen:
 
     def parts(self, v):
         """What the queries about a view's source have."""
-        words = {"index": "index", "trigger": "trigger", "unique": "CREATE UNIQUE INDEX%", "end": ";", "none": "", "begin": "BEGIN", "after": "AFTER", "before": "BEFORE",
-                 "unique_suffix": OF_UNIQUE, "others_suffix": OF_OTHERS, "triggers_suffix": OF_TRIGGERS}  # fmt: skip
+        words = {"index": "index", "trigger": "trigger", "unique": "CREATE UNIQUE INDEX%", "end": ";", "none": "", "begin": "BEGIN", "after": "AFTER",
+                 "before": "BEFORE", "unique_suffix": OF_UNIQUE, "others_suffix": OF_OTHERS, "triggers_suffix": OF_TRIGGERS}  # fmt: skip
         view = text(self.script.views[v].name)
         source = sql("(SELECT c.source FROM {state} AS c WHERE c.view = {view} AND c.filled = 1)", state=self.state, view=view)
-        return {"schema": name(self.dialect.schema), "state": self.state, "view": view, "source": source, **{word: text(said) for word, said in words.items()},
-                "own": joined([text(said) for said in self.trigger_names(v)])}  # fmt: skip
+        own = joined([text(said) for said in self.trigger_names(v)])
+        return {"schema": name(self.dialect.schema), "state": self.state, "view": view, "source": source, "own": own,
+                **{word: text(said) for word, said in words.items()}}  # fmt: skip
 
     def noted_of(self, v):
         """The statements that note what a table is captured with; and once more, when all are captured, the number of the schema."""
         listed = "SELECT coalesce(group_concat(s.sql, {end}), {none}) FROM "
         kinds = ((OF_UNIQUE, listed + UNIQUE), (OF_OTHERS, listed + OTHERS), (OF_TRIGGERS, "SELECT coalesce(" + MADE + ", {none})"))
-        return [
-            sql("INSERT OR REPLACE INTO {state} SELECT {view} || {suffix}, (" + query + "), 0", suffix=text(suffix), **self.parts(v)) for suffix, query in kinds
-        ]
+        insert = "INSERT OR REPLACE INTO {state} SELECT {view} || {suffix}, ("
+        return [sql(insert + query + "), 0", suffix=text(suffix), **self.parts(v)) for suffix, query in kinds]
 
     def schema_noted(self):
         state = self.dialect.target(f"{self.script.prefix}{self.captured}")
@@ -62,11 +62,12 @@ class Seen:
             parts = self.parts(v)
             is_made = sql(MADE + " = (SELECT c.source FROM {state} AS c WHERE c.view = {view} || {triggers_suffix})", **parts)
             is_its_own = sql(
-                "NOT EXISTS (SELECT 1 FROM {schema}.sqlite_master AS s WHERE s.type = {trigger} AND s.name IN ({own}) AND s.tbl_name <> {source} COLLATE NOCASE)",
-                **parts,
+                "NOT EXISTS (SELECT 1 FROM {schema}.sqlite_master AS s WHERE s.type = {trigger} AND s.name IN ({own})"
+                " AND s.tbl_name <> {source} COLLATE NOCASE)", **parts,
             )
+            is_other = sql("SELECT 1 WHERE NOT coalesce({made} AND {own_table}, 0)", made=is_made, own_table=is_its_own)
             tests = [
-                ("its triggers are gone, or stand on another table", sql("SELECT 1 WHERE NOT coalesce({made} AND {own_table}, 0)", made=is_made, own_table=is_its_own)),
+                ("its triggers are gone, or stand on another table", is_other),
                 ("it has a unique index more", self.more(UNIQUE, "{unique_suffix}", parts)),
                 ("it has a trigger more that may be fired before a row changes", self.more(OTHERS, "{others_suffix}", parts)),
             ]
@@ -113,12 +114,13 @@ class Seen:
         found = []
         for v in self.script.steps.base():
             read, kinds = self.script.read(v), self.script.kinds(v)
-            found.append(self.shown_rows(v, f"refused row of {self.script.views[v].name}:", self.dialect.wrong_cells(read, kinds, sql("t.{count}", count=COUNT))))
+            said, wrong = self.script.views[v].name, self.dialect.wrong_cells(read, kinds, sql("t.{count}", count=COUNT))
+            found.append(self.shown_rows(v, f"refused row of {said}:", wrong))
             near = [sql("abs({cell} / 2) > {most}", cell=read[place], most=number(MOST // 4)) for place in self.script.computed_with.get(v, ())]
             real = [sql("{cell} <> {null}", cell=read[place], null=number(LEAST)) for place in self.script.computed_with.get(v, ())]
             for test in [joined([sql("({real} AND {near})", real=each, near=far) for each, far in zip(real, near)], "OR")] if near else []:
                 come = sql("{test} GROUP BY {columns} HAVING sum(t.{count}) > 0", test=test, columns=joined(read), count=COUNT)
-                found.append(self.shown_rows(v, f"row of {self.script.views[v].name} with a number near the end of 64 bits, with which views compute:", come))
+                found.append(self.shown_rows(v, f"row of {said} with a number near the end of 64 bits, with which views compute:", come))
         return found
 
     def shown_rows(self, v, head, test):

@@ -49,8 +49,8 @@ class Triggers:
         """The statements of an application's own triggers on its table that may be fired before a row changes."""
         own = joined([text(said) for v in self.script.steps.base() for said in self.trigger_names(v)])
         query = sql(
-            "SELECT s.sql FROM sqlite_master AS s WHERE s.type = {trigger} AND s.tbl_name = {table} COLLATE NOCASE AND s.name NOT IN ({own}) ORDER BY s.name",
-            trigger=text("trigger"), table=text(source.table), own=own,
+            "SELECT s.sql FROM sqlite_master AS s WHERE s.type = {trigger} AND s.tbl_name = {table} COLLATE NOCASE AND s.name NOT IN ({own})"
+            " ORDER BY s.name", trigger=text("trigger"), table=text(source.table), own=own,
         )  # fmt: skip
         return [made for made, in database.rows(query)[0] if is_before(made)]
 
@@ -66,7 +66,8 @@ class Triggers:
     def added(self, v, source, row, sign, test=None):
         """The statement that notes a row that came or left."""
         where = sql("WHERE {test}", test=test) if test else NOTHING
-        return sql("{insert} SELECT {cells}, {sign} {where}", insert=self.changes(v), cells=joined(self.cells_of(source, row)), sign=number(sign), where=where)
+        return sql("{insert} SELECT {cells}, {sign} {where}", insert=self.changes(v), cells=joined(self.cells_of(source, row)), sign=number(sign),
+                   where=where)  # fmt: skip
 
     def left(self, v, source):
         """The statement that notes a row that left, as its note has it, or else as SQLite tells it."""
@@ -119,9 +120,10 @@ class Triggers:
         old, itself = self.added(v, source, "old", -1), self.kept(v, source, "old")
         if is_held:
             before, after, old = self.left(v, source), self.added(v, source, "new", 1), self.left(v, source)
+        come = [*self.gone(v, source, NOTHING), self.added(v, source, "new", 1)]
         found = {
             "~before": ("BEFORE INSERT", [self.noted(v, source, alike)]),
-            "~insert": ("AFTER INSERT", [*self.gone(v, source, NOTHING), self.added(v, source, "new", 1), *([self.kept(v, source, "new")] if is_held else [])]),
+            "~insert": ("AFTER INSERT", [*come, *([self.kept(v, source, "new")] if is_held else [])]),
             "~meant": ("BEFORE UPDATE", [meant, *([itself] if is_held else [])]),
             "~update": ("AFTER UPDATE", [before, after, *self.gone(v, source, sql("f.place <> old._rowid_ AND")), self.renoted(v, source)]),
             "~delete": ("AFTER DELETE", [old, forgotten]),

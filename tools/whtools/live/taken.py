@@ -292,7 +292,8 @@ class Reader:
     def judge_exact(self, value, does):
         """Refuses what SQLite has to some fifteen digits: it may be a little more or less there than what is compared with it."""
         if not value.is_exact:
-            raise NotTaken(f"it {does} {shown(value.formula)}, which SQLite computes in floating point: have whole units in the table, such as cents, or a column with it")
+            raise NotTaken(f"it {does} {shown(value.formula)}, which SQLite computes in floating point: have whole units in the table, such as cents,"
+                           " or a column with it")  # fmt: skip
         digits = len(str(abs(value.formula))) if isinstance(value.formula, int) and value.places else 0
         if self.engine == "sqlite" and digits > MOST_DIGITS["sqlite"]:
             raise NotTaken(f"it {does} a number of {digits} digits, of which SQLite keeps {MOST_DIGITS['sqlite']}")
@@ -315,8 +316,9 @@ class Reader:
             raise NotTaken(f"it compares {shown(left.formula)} by a number that leaves 64 bits, in units of 10^-{places}: declare columns of fewer digits")
         found = self.bounds.compared(*sides)
         if found is None:
+            kept = left if isinstance(left.formula, list) else right
             raise NotTaken(f"it compares {shown(left.formula)} with {shown(right.formula)} where 64 bits may not hold what is compared:"
-                           f" make a view that keeps {shown(left.formula if isinstance(left.formula, list) else right.formula)}, and compare that")  # fmt: skip
+                           f" make a view that keeps {shown(kept.formula)}, and compare that")  # fmt: skip
         return found
 
     # ---- joins

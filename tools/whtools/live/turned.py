@@ -157,11 +157,12 @@ def calendar_of_texts(form):
         form = form[: len(f"{DAY} 00:00:00")]
         fits = "(" + fits + " OR {cell} GLOB {form} || {point} AND substr({cell}, 21) NOT GLOB {letter})"
     # What is no day, such as the 31st of February, SQLite takes for another one; by its text it stays where it is.
-    fits += " AND strftime({day}, {cell}, {none}) = substr({cell}, 1, 10)" + (" AND strftime({time}, {cell}) = substr({cell}, 12, 8)" if form != DAY else "")
+    fits += " AND strftime({day}, {cell}, {none}) = substr({cell}, 1, 10)"
+    fits += " AND strftime({time}, {cell}) = substr({cell}, 12, 8)" if form != DAY else ""
     turned_to = "unixepoch({cell})" if form != DAY else "unixepoch({cell}) / 86400"
     wanted = "CASE WHEN {cell} IS NULL THEN NULL WHEN typeof({cell}) = {kind} AND " + fits + " THEN " + turned_to + " ELSE {other} || {cell} END"
-    parts = {"kind": "text", "form": form.replace("0", "[0-9]"), "day": "%Y-%m-%d", "time": "%H:%M:%S", "other": f"not written {form}: ", "point": ".[0-9]*", "none": "+0 days",
-             "letter": "*[^0-9]*"}  # fmt: skip
+    parts = {"kind": "text", "form": form.replace("0", "[0-9]"), "day": "%Y-%m-%d", "time": "%H:%M:%S", "other": f"not written {form}: ",
+             "point": ".[0-9]*", "none": "+0 days", "letter": "*[^0-9]*"}  # fmt: skip
     return lambda cell: sql(wanted, cell=cell, **{name: text(said) for name, said in parts.items()})
 
 
