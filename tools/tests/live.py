@@ -81,6 +81,25 @@ class Turned(unittest.TestCase):
         for cell, turned in wanted.items():
             found = sqlite3.connect(":memory:").execute(f"SELECT {said} FROM (SELECT ? AS x) AS r", [cell]).fetchone()[0]
             self.assertEqual(found if turned is not None else found[:7], "beyond " if turned is None else turned)
+        for cell in (4.999, 0.1 + 0.2, 1e-9, -0.005):
+            found = sqlite3.connect(":memory:").execute(f"SELECT {said} FROM (SELECT ? AS x) AS r", [cell]).fetchone()[0]
+            self.assertTrue(str(found).startswith("not of 2 places: "), found)
+
+    def test_days_and_moments_have_the_form_of_the_first_one(self):
+        plain, zoned = "0000-00-00 00:00:00", "0000-00-00T00:00:00.000Z"
+        for declared, form, cell, turned in (
+            ("DATE", None, "1970-01-02", 1), ("DATE", "0000-00-00", "1969-12-31", -1), ("DATE", None, "1970-01-02 00:00:00", None), ("DATE", None, 5, None),
+            ("DATE", "a number", 5, 5), ("DATE", "a number", "1970-01-02", "1970-01-02"), ("DATE", plain, "1970-01-02", 1), ("DATE", None, "1970-02-30", None),
+            ("DATETIME", None, "1970-01-01 00:01:00", 60), ("DATETIME", plain, "1970-01-01 00:01:00.75", 60), ("TIMESTAMP", plain, "1970-01-01T00:01:00", None),
+            ("DATETIME", zoned, "1970-01-01T00:01:00.750Z", 60), ("DATETIME", zoned, "1970-01-01T00:01:00Z", None), ("DATETIME", None, "1970-01-01 24:00:00", None),
+            ("DATETIME", "0000-00-00T00:00:00", "1970-01-01T00:01:00.5", 60), ("DATETIME", None, "1970-01-01 00:01:00.", None), ("DATETIME", None, None, None),
+        ):  # fmt: skip
+            (said,) = LiveSQLite().written([of_sqlite(Told("x", declared, declared, None, None, cell is None, False, form=form)).said])
+            found = sqlite3.connect(":memory:").execute(f"SELECT {said} FROM (SELECT ? AS x) AS r", [cell]).fetchone()[0]
+            if turned is None:
+                self.assertTrue(found == -(2**63) if cell is None else found.startswith("not written "), (declared, form, cell, found))
+            else:
+                self.assertEqual(found, turned, (declared, form, cell))
 
 
     def test_types_of_postgresql_are_told_by_their_numbers(self):
@@ -101,6 +120,8 @@ class Parsed(unittest.TestCase):
             "SELECT max(x) FROM a": "MAX", "SELECT lower(x) FROM a": "lower", "SELECT x || y FROM a": "||", "SELECT * FROM a": "*",
             "SELECT x FROM (SELECT x FROM b) AS a": "SELECT in its FROM", "SELECT x FROM a WHERE x LIKE 'y'": "LIKE",
             "SELECT CASE WHEN x = 1 THEN 2 END FROM a": "CASE", "SELECT x FROM f(1)": "function f", "SELECT x FROM a UNION SELECT y FROM b": "UNION",
+            "SELECT x FROM a WHERE x ~~ 'y'": "it has LIKE", "SELECT x FROM a WHERE NOT x !~~* 'y'": "NOT ILIKE", "SELECT x FROM ONLY s.a": "ONLY a",
+            "SELECT x[1] FROM a": "part of an array", "SELECT x FROM a WHERE x IS NOT TRUE": "IS NOT TRUE", "SELECT x::timestamp(0) FROM a": "timestamp(0)",
             "WITH a AS (SELECT 1) SELECT x FROM a": "WITH", "SELECT x FROM a LIMIT 3": "LIMIT", "SELECT x FROM a,": "its end",
         }.items():  # fmt: skip
             with self.assertRaises(NotTaken, msg=text) as told:

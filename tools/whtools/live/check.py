@@ -8,7 +8,7 @@ from whtools.live.compared import Compared, Digest
 from whtools.live.noted import Noted
 from whtools.live.repair import Repair
 from whtools.live.session import SESSIONS
-from whtools.sql.tokens import Unfit, joined, number, sql, word
+from whtools.sql.tokens import Unfit, joined, number, sql
 
 # So many keys are told of a table that differs.
 SHOWN = 20
@@ -57,9 +57,9 @@ class Check:
         return [self.found[v] for v in sorted(chosen)]
 
     def refusals(self, chosen):
-        """Refusals of tables that are not captured as they were; SQLite would also drop notes there, which a check does not."""
-        base, select = [v for v in chosen if v in self.sources], word("SELECT").tokens[0]
-        return [each for each in (self.script.captures.whole(base) if base else []) if self.dialect.takes or each.tokens[0] == select]
+        """Refusals of tables that are not captured as they were. Whether rows changed unnoticed the check finds out by itself."""
+        base, captures = [v for v in chosen if v in self.sources], self.script.captures
+        return (captures.whole(base) if self.dialect.takes else captures.stands(base)) if base else []
 
     def looked_at(self, session, v, noted):
         told = noted.told(v) if self.script.views[v].over else []

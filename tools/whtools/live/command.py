@@ -118,7 +118,8 @@ def captured(words, script, database):
         names = ", ".join(name for names in left_out for name in names)
         print(f"tools/sql: {names}: captured or filled, and not in the catalogue; --capture --drop lets it go", file=sys.stderr)
     unindexed = [each for v in existing.unindexed() if v not in mirrors and v not in derived for each in script.indexed(v)]
-    gone += script.dialect.creation([*([QUIETLY] if script.dialect.takes else []), *unindexed]) if unindexed else []
+    if unindexed:
+        gone += script.dialect.creation([QUIETLY, *unindexed] if script.dialect.takes else script.captures.schema_changed(unindexed))
     if not script.dialect.takes:
         reshaped = ReshapedSQLite(script, found, mirrors, derived) if mirrors or derived else None
         return [*gone, *script.captures.capture(found, database, reshaped)]
@@ -196,11 +197,22 @@ def answered(words):
     return checked(words, script, database) if words.check else (told_history(script, database, words.line), 0)
 
 
+def compared(words, script):
+    """A script of SQLite compares tables with their mirrors where the schema has changed, if it is known how they are turned."""
+    try:
+        database = asked(words, script.dialect)
+        script.captures.sources = sources(script, database, words.source or database.own_schema)
+    except Unfit as why:
+        print(f"tools/sql: the night does not compare tables where the schema changes: {why}", file=sys.stderr)
+
+
 def night(words, script):
     """A night, or what came of it where it is a dry one."""
     database = asked(words, script.dialect) if words.plan or words.dry else None
     if words.plan:
         script = with_plan(words, script, database)
+    if words.engine == "sqlite" and words.database:
+        compared(words, script)
     comment = Comments(script.catalogue).short
     if words.dry:
         return Dry(script, database, comment).told()

@@ -6,7 +6,7 @@ import subprocess
 from pathlib import Path
 from typing import NamedTuple
 
-from whtools.live.turned import DIGITS, Told
+from whtools.live.turned import DIGITS, Told, form_of, has_form
 from whtools.sql.postgresql import PATH
 from whtools.sql.tokens import END_OF_STATEMENT, Unfit, joined, name, sql, text
 
@@ -182,7 +182,7 @@ class SQLiteAsked:
             folded = self.folded(said, [column for column, *_ in columns])
         except (sqlite3.Error, Unfit) as fault:
             return Table(said, [], [], f"its columns cannot be compared: {fault}")
-        told = [self.told(*column[:3], is_rowid and column[0] == primary[0], column[0] in folded) for column in columns]
+        told = [self.told(said, *column[:3], is_rowid and column[0] == primary[0], column[0] in folded) for column in columns]
         filled = {each.name for each in told if not each.may_be_null}
         keys = [primary] if primary and filled.issuperset(primary) else []
         keys += [key for key in map(self.indexed, [index for index, _, partial in indexes if not partial]) if key and filled.issuperset(key)]
@@ -219,10 +219,17 @@ class SQLiteAsked:
             copy.close()
         return found
 
-    def told(self, column, type_name, is_filled, is_rowid, is_folded):
+    def told(self, table, column, type_name, is_filled, is_rowid, is_folded):
         digits = DIGITS.fullmatch(type_name.upper())
         numbers = (int(digits[1]), int(digits[2] or 0)) if digits else (None, None)
-        return Told(column, type_name or "none", type_name, *numbers, not (is_filled or is_rowid), is_folded)
+        form = form_of(self.first(table, column)) if has_form(type_name) else None
+        return Told(column, type_name or "none", type_name, *numbers, not (is_filled or is_rowid), is_folded, form=form)
+
+    def first(self, table, column):
+        """The first value of a column, or None."""
+        query = "SELECT r.{column} FROM {table} AS r WHERE r.{column} IS NOT NULL LIMIT 1"
+        found = self.rows(sql(query, column=name(column), table=name(table)))[0]
+        return found[0][0] if found else None
 
     def names(self):
         """The names of all tables and views, in small letters."""

@@ -1,5 +1,6 @@
 """What of a catalogue stands in the database already, and how that differs from what the catalogue wants."""
 
+import re
 from typing import NamedTuple
 
 from whtools.live.history import SIZES
@@ -7,6 +8,9 @@ from whtools.live.noted import Noted
 from whtools.live.reshaped import RESHAPED
 from whtools.sql.tokens import joined, name, sql, text
 
+# What stands before the name of a column of which an index has the digest, and how PostgreSQL writes such an expression.
+DIGEST = "digest of "
+OF_DIGEST = re.compile(r'octet_length\(("(?:[^"]|"")*"|[^()]*)\)')
 KINDS = {"bigint": "int", "integer": "int", "text": "text"}
 
 
@@ -15,6 +19,14 @@ class Reshaped(NamedTuple):
 
     come: list
     go: list
+
+
+def column_of(said):
+    """The column of an index, of which PostgreSQL tells the name or an expression."""
+    found = OF_DIGEST.search(said)
+    column = found[1] if found else said
+    column = column[1:-1].replace('""', '"') if column.startswith('"') else column
+    return (DIGEST if found else "") + column
 
 
 class Existing:
@@ -75,8 +87,13 @@ class Existing:
             listed = self.rows("s.name, x.name", rest, schema=name(self.dialect.schema), index=text("index"), tables=tables)
         found = {}
         for index, column in listed:
-            found.setdefault(index, []).append(column.strip('"').replace('""', '"') if self.dialect.takes else column)
+            found.setdefault(index, []).append(column_of(column) if self.dialect.takes else column)
         return found
+
+    def wanted_in_index(self, v, place):
+        """A column as it is to stand in an index: in PostgreSQL a text stands there by its digest where it is long."""
+        said = self.script.users(v)[place].tokens[0].said
+        return (DIGEST if self.dialect.takes and self.script.is_text(v, place) else "") + said
 
     # ---- how it differs
 
@@ -85,7 +102,7 @@ class Existing:
         there, found = self.standing_indexes() if self.is_captured else {}, []
         for v, listed in enumerate(self.script.asked_for()):
             wanted = {
-                self.script.said(v, f"~{at}"): [self.script.users(v)[place].tokens[0].said for place in columns]
+                self.script.said(v, f"~{at}"): [self.wanted_in_index(v, place) for place in columns]
                 for at, columns in enumerate(listed, 1) if columns != self.script.key_places(v)
             }  # fmt: skip
             is_there = self.columns.get(self.script.said(v)) is not None

@@ -4,7 +4,8 @@ import json
 
 from whtools.live.checks import CHECKS
 from whtools.live.noted import OF_VIEW
-from whtools.live.sqlite import REPLACED
+from whtools.live.sqlite_seen import OF_OTHERS, OF_TRIGGERS, OF_UNIQUE
+from whtools.live.sqlite_triggers import REPLACED
 from whtools.sql.catalogue import Catalogue
 from whtools.sql.tokens import joined, sql, text
 
@@ -47,6 +48,6 @@ class LeftOut:
         triggers = [each for script in self.base for each in script.captures.without_triggers()]
         tables = [*tables, *(each.table(0, REPLACED) for each in self.base)]
         gone = [sql("DROP TABLE IF EXISTS {table}", table=table) for table in tables]
-        beside = joined([text(said + suffix) for said in self.names for suffix in (OF_VIEW, "~unique")])
+        beside = joined([text(said + suffix) for said in self.names for suffix in (OF_VIEW, OF_UNIQUE, OF_OTHERS, OF_TRIGGERS)])
         noted = sql("DELETE FROM {state} WHERE view IN ({beside})", state=self.captures.state, beside=beside)
-        return self.dialect.creation([*triggers, *gone, *self.forgotten(self.captures.state), noted])
+        return self.dialect.creation(self.captures.schema_changed([*triggers, *gone, *self.forgotten(self.captures.state), noted]))

@@ -121,7 +121,8 @@ class Captures(Triggers, Standing):
 
     def judged_before(self, sources):
         """The same judgement for itself, before anything that stands is given other columns."""
-        first = [each for v, source in sources.items() for each in [*self.fitting(source), *self.unlike_null(v, source), *self.unfit(v)]]
+        first = [each for v, source in sources.items() for each in
+                 [*self.fitting(source), *self.unlike_null(v, source), *self.script.strange_in_source(v, source), *self.unfit(v)]]  # fmt: skip
         return [
             sql("BEGIN ISOLATION LEVEL READ COMMITTED READ WRITE{end}", end=END_OF_STATEMENT),
             *self.held(sources),
@@ -193,11 +194,8 @@ class Captures(Triggers, Standing):
         """A mirror whose table has another key than the one by which it was captured: rows that this one kept apart may stand there twice now."""
         former = self.query(v, "SELECT k.name FROM {columns} AS k WHERE k.view = {view} AND k.is_key")
         is_other = sql("EXISTS ({former}) AND EXISTS ({former} AND k.name <> ALL ({now}))", former=former, now=names_of(source.key))
-        table, key = self.script.table(v), name(self.script.said(v, "~key"))
-        constraint = self.script.constraint(v, self.script.key_of(v, {v: source}))
-        changed = [sql("ALTER TABLE {table} DROP CONSTRAINT IF EXISTS {key}", table=table, key=key)]
-        changed += [sql("ALTER TABLE {table} ADD {constraint}", table=table, constraint=constraint)] if constraint else []
-        is_there = sql("to_regclass({table}) IS NOT NULL AND {other}", table=self.written(table), other=is_other)
+        changed = [*self.script.without_key(v), *self.script.with_key(v, self.script.key_of(v, {v: source}))]
+        is_there = sql("to_regclass({table}) IS NOT NULL AND {other}", table=self.written(self.script.table(v)), other=is_other)
         return self.dialect.only_where(is_there, changed)
 
     def view_tables(self, v, sources):
@@ -205,8 +203,9 @@ class Captures(Triggers, Standing):
         writes there would wait for it."""
         table, is_summary = self.script.table(v), self.script.shape.is_summary(v)
         room = sql("ALTER TABLE {table} SET (fillfactor = {filled})", table=table, filled=number(FILLED["summary" if is_summary else "rows"]))
-        columns = joined(self.script.columns_with_key(v, self.script.key_of(v, sources)))
-        found = [(table, columns, [room, *self.script.indexes_of(v)])]
+        key = self.script.key_of(v, sources)
+        columns = joined(self.script.columns_with_key(v, key))
+        found = [(table, columns, [room, *self.script.unique_of(v, key), *self.script.indexes_of(v)])]
         if v in sources:
             changes, cut = self.script.table(v, "~changes"), word("vacuum_truncate")
             kept = sql("ALTER TABLE {changes} SET ({cut} = false)", changes=changes, cut=cut)
@@ -230,6 +229,7 @@ class Captures(Triggers, Standing):
                           " a.attname = ANY ({key}) FROM pg_attribute AS a WHERE a.attrelid = {source}::regclass AND a.attname = ANY ({all})",
                        source=self.written(source.said), filled=names_of([column.name for column in source.columns if not column.may_be_null]),
                        key=names_of(source.key), all=names_of([column.name for column in source.columns])),
+            *self.script.strange_in_source(v, source),
             self.parts_noted(v),
             *self.captured_by(v, source),
         ]  # fmt: skip
@@ -281,6 +281,7 @@ class Captures(Triggers, Standing):
         return [
             *self.fitting(source),
             *self.unlike_null(v, source),
+            *self.script.strange_in_source(v, source),
             emptied,
             self.query(v, "DELETE FROM {torn} WHERE view = {view}", torn=self.torn_table),
             self.query(v, "DELETE FROM {noted} WHERE view = {view}"),

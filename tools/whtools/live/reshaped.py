@@ -63,7 +63,7 @@ class Reshaped:
             *self.dialect.owner.taken_on(),
             sql("LOCK TABLE {table}, {changes} IN ACCESS EXCLUSIVE MODE NOWAIT", table=table, changes=changes),
             sql("INSERT INTO {marks} VALUES ({view}) ON CONFLICT DO NOTHING", marks=self.marks, view=self.captures.view(v)),
-            sql("ALTER TABLE {table} DROP CONSTRAINT IF EXISTS {key}", table=table, key=name(script.said(v, "~key"))),
+            *script.without_key(v),
             *(each for suffix in ("", "~changes") for each in self.columns_changed(v, suffix, self.mirrors[v])),
             *self.captures.captured_by(v, self.sources[v]),
             self.captures.query(v, "UPDATE {state} SET filled = FALSE WHERE view = {view}"),
@@ -97,15 +97,14 @@ class Reshaped:
         return sql("EXISTS (SELECT 1 FROM {marks} AS m WHERE m.view = {view})", marks=self.marks, view=self.captures.view(v))
 
     def contents_of(self, v):
-        table = self.script.table(v)
-        key = self.script.constraint(v, self.script.key_of(v, self.sources))
         return [
             *self.captures.fitting(self.sources[v]),
             *self.captures.unlike_null(v, self.sources[v]),
+            *self.script.strange_in_source(v, self.sources[v]),
             *self.guessed(v),
             *self.merged(v),
-            sql("ALTER TABLE {table} DROP CONSTRAINT IF EXISTS {key}", table=table, key=name(self.script.said(v, "~key"))),
-            *([sql("ALTER TABLE {table} ADD {key}", table=table, key=key)] if key else []),
+            *self.script.without_key(v),
+            *self.script.with_key(v, self.script.key_of(v, self.sources)),
             *self.script.indexed(v),
             sql("DELETE FROM {changes}", changes=self.script.table(v, "~changes")),
             self.captures.difference(v, self.sources[v]),
@@ -163,7 +162,7 @@ class Reshaped:
             check = [sql("ALTER TABLE {table} ADD CHECK ({count} > 0)", table=table, count=count)] if count.tokens[0].said in reshaped.come else []
         return [
             sql("TRUNCATE {table}", table=table),
-            sql("ALTER TABLE {table} DROP CONSTRAINT IF EXISTS {key}", table=table, key=name(self.script.said(v, "~key"))),
+            *self.script.without_key(v),
             *self.columns_changed(v, "", reshaped),
             *check,
             sql("UPDATE {columns} SET type = {none} WHERE view = {view} AND name = {none}", columns=columns, none=text(""), view=self.captures.view(v)),

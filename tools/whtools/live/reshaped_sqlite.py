@@ -1,7 +1,7 @@
 """Tables of the nights in SQLite that get other columns, within the transaction that captures: each is made anew with the rows that it had."""
 
 from whtools.live.reshaped import UNKNOWN
-from whtools.live.sqlite import REPLACED
+from whtools.live.sqlite_triggers import REPLACED
 from whtools.sql.dialect import COUNT
 from whtools.sql.tokens import joined, name, sql, text
 

@@ -2,6 +2,7 @@
 
 from hashlib import sha256
 
+from whtools.live.computed import Computed
 from whtools.live.history import History
 from whtools.live.noted import Noted
 from whtools.sql.comments import Comments
@@ -11,7 +12,7 @@ from whtools.sql.script import Script
 from whtools.sql.tokens import joined, name, sql, word
 
 
-class LiveScript(Script):
+class LiveScript(Computed, Script):
     """The statements over a catalogue whose base views are mirrors. Their tables and all others stand in a schema of their own, or in
     SQLite have a word before their names. A night takes the changes that are there when it begins, and what comes later stays."""
 
@@ -65,7 +66,8 @@ class LiveScript(Script):
         listed = [(works.expression(step), works.predicted(step)) for step in steps]
         ended = [] if self.dialect.takes else self.emptied()
         ended += self.dialect.settled() + [each for v in range(len(self.views)) for each in [*self.verified(v), *self.untouched(v)]]
-        return self.whole([*self.looked_at(), *self.history.began()], steps, [*ended, *self.history.ended(*zip(*listed))], comment)
+        before = [*self.looked_at(), *self.history.began()]
+        return self.whole(before, steps, [*ended, *self.history.ended(*zip(*listed))], comment, self.captures)
 
     def looked_at(self):
         """A refusal of tables that are not captured as they were, and of views that are not filled as the catalogue has them."""
@@ -102,12 +104,13 @@ class LiveScript(Script):
         gone = [sql("DROP INDEX IF EXISTS {index}", index=self.dialect.table(self.said(v, f"~{at}"))) for at in range(1, len(self.asked_for()[v]) + 1)]
         return [*gone, *self.indexes_of(v)]
 
-    def whole(self, before, steps, after, comment):
-        """A transaction of all this, which locks the mirrors and the views alone."""
+    def whole(self, before, steps, after, comment, captures=None):
+        """A transaction of all this, which locks the mirrors and the views alone; a night looks at what is captured before all else."""
         locked = [self.table(v) for v in range(len(self.views))]
         working = self.checked.working_tables() + self.working_tables()
         made = before + self.carried(steps, comment) + after
-        return self.dialect.program(self.checked.statements(locked), working, made, self.checked.watchers())
+        looked, shown = (captures.stands(), captures.refused_rows()) if captures else ((), ())
+        return self.dialect.program(self.checked.statements(locked), working, made, self.checked.watchers(), looked, shown)
 
     # ---- tables
 

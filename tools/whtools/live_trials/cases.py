@@ -38,7 +38,7 @@ BOTH = {
         "INSERT INTO products (product, price) VALUES ('product 2', 50), ('product 98', 51) ON CONFLICT DO NOTHING;"
     ),
     "a statement that fails": Case("INSERT INTO products (product, price) VALUES ('new', 1), ('product 4', 2);", fails="product"),
-    "dates before 1970": Case("UPDATE orders SET day = '1969-12-30' WHERE id = 7; UPDATE orders SET day = '1901-05-06', at = '1960-01-01 01:02:03Z' WHERE id = 9;"),
+    "dates before 1970": Case("UPDATE orders SET day = '1969-12-30' WHERE id = 7; UPDATE orders SET day = '1901-05-06', at = '1960-01-01 01:02:03' WHERE id = 9;"),
 }  # fmt: skip
 
 HOSTILE = """"a'; DROP TABLE lines; --%s $night$ ""part""\\" """.strip()
@@ -215,6 +215,40 @@ OF_SQLITE = {
         " pieces INT NOT NULL); INSERT INTO lines SELECT * FROM l; INSERT INTO lines VALUES (3, 'product 1', 8);", refused="its triggers are gone",
     ),
     "all rows leave": Case("DELETE FROM lines;"),
+    "a table in the place of another one": Case(
+        "PRAGMA foreign_keys = OFF; ALTER TABLE lines RENAME TO old_lines; CREATE TABLE lines (id INT NOT NULL, product TEXT NOT NULL, pieces INT NOT NULL);"
+        " INSERT INTO lines SELECT * FROM old_lines WHERE id > 2; UPDATE old_lines SET pieces = 1;", refused="its triggers are gone, or stand on another table",
+    ),
+    "a unique index that comes, and goes again": Case(
+        "CREATE UNIQUE INDEX later ON products (price); REPLACE INTO products (product, price) VALUES ('q', 1.25); DROP INDEX later;",
+        refused="rows of it changed unnoticed while the schema did",
+    ),
+    "tables and indexes of others come": Case(
+        "CREATE TABLE elsewhere (x INT); CREATE INDEX by_day ON orders (day);" + NEW_ORDER + NEW_LINES + "ANALYZE; DELETE FROM lines WHERE id < 4;"
+    ),
+    "the file is packed anew": Case("DELETE FROM lines WHERE id < 9 AND rowid % 2 = 0; VACUUM;" + NEW_ORDER + NEW_LINES),
+    "a trigger that comes later": Case(
+        "CREATE TRIGGER a BEFORE UPDATE ON lines WHEN new.pieces = 5 BEGIN UPDATE lines SET pieces = 9, product = 'product 9' WHERE rowid = old.rowid; END;",
+        refused="it has a trigger more",
+    ),
+    "a trigger BEFORE UPDATE that changes the row": Case(
+        "UPDATE lines SET pieces = 5 WHERE id < 12; UPDATE lines SET product = 'product 3' WHERE id = 7; UPDATE lines SET pieces = 5 WHERE id < 12;",
+        made="CREATE TRIGGER a BEFORE UPDATE ON lines WHEN new.pieces = 5 BEGIN UPDATE lines SET pieces = old.pieces + 9, product = 'product 9'"
+             " WHERE rowid = old.rowid; END;",
+    ),
+    "a trigger BEFORE DELETE that changes the row": Case(
+        "DELETE FROM lines WHERE id < 9;" + NEW_LINES.replace("900", "9") + "DELETE FROM lines WHERE id = 9;",
+        made="CREATE TRIGGER a BEFORE DELETE ON lines BEGIN UPDATE lines SET pieces = pieces + 1 WHERE rowid = old.rowid; END;",
+    ),
+    "a trigger BEFORE INSERT that changes what is replaced": Case(
+        "REPLACE INTO products (product, price) VALUES ('product 1', 2), ('product 2', 3);",
+        made="CREATE TRIGGER a BEFORE INSERT ON products BEGIN UPDATE products SET price = 77.25 WHERE product = new.product; END;",
+    ),
+    "a trigger BEFORE UPDATE that makes the row anew": Case(
+        "UPDATE lines SET pieces = 5 WHERE id < 7;",
+        made="CREATE TRIGGER a BEFORE UPDATE ON lines WHEN new.pieces = 5 BEGIN DELETE FROM lines WHERE rowid = old.rowid;"
+             " INSERT INTO lines (rowid, id, product, pieces) VALUES (old.rowid, old.id, 'product 4', 2); END;",
+    ),
 }  # fmt: skip
 OF = {"postgresql": {**BOTH, **OF_POSTGRESQL, **COLUMNS, **PARTS}, "sqlite": {**BOTH, **OF_SQLITE}}
 

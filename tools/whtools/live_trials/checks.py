@@ -161,9 +161,9 @@ def rewritten_mistakes(live):
     thread.join()
     writer.close()
     (found,) = told
-    wrong += [] if any("columns of lines were written anew" in line for line in history(live)) else [f"the history says {history(live)}"]
+    wrong += [] if any("columns of public.lines were written anew" in line for line in history(live)) else [f"the history says {history(live)}"]
     wrong += [f"{view} alone: {other.text}{other.told}" for view in ("orders", "sales") for other in [check(live, view)] if other.status]
-    right = found.status == 1 and "columns of lines were written anew" in found.told and "differs" not in found.text
+    right = found.status == 1 and "columns of public.lines were written anew" in found.told and "differs" not in found.text
     return wrong + ([] if right else [f"a check beside ALTER TABLE was told {found.text}{found.told}"])
 
 

@@ -121,7 +121,16 @@ def unnoticed(live):
         live.script = live.words("--live")
         found += absent_mistakes(live) + trigger_mistakes(live) + unnoticed_intruders(live)
     else:
-        with mock.patch.object(SQLiteCaptures, "noted", lambda *_: sql("SELECT 1")):
-            found = unnoticed_case(live, "REPLACE that is not noted", "REPLACE")
+        found = []
+        for name, spoilt, case in (
+            ("noted", sql("SELECT 1"), "REPLACE"),
+            ("kept", sql("SELECT 1"), "a trigger BEFORE UPDATE that changes the row"),
+            ("renoted", sql("SELECT 1"), "a trigger BEFORE INSERT that changes what is replaced"),
+            ("others", [], "a trigger BEFORE UPDATE that changes the row"),
+            ("unlike", sql("SELECT 1 WHERE 1 = 0"), "a unique index that comes, and goes again"),
+            ("stands", [], "a table in the place of another one"),
+        ):  # fmt: skip
+            with mock.patch.object(SQLiteCaptures, name, lambda *_, made=spoilt: made):
+                found += unnoticed_case(live, name, case)
     live.script = live.words("--live")
     return found
