@@ -110,7 +110,9 @@ def captured(words, script, database):
     existing = Existing(script, database)
     schema = words.source or (schema_of(script, database) if existing.is_captured else database.own_schema)
     mirrors, derived, marked = existing.mirrors(), existing.derived(), existing.marked()
-    base = sorted({*existing.new(), *mirrors, *marked, *named(words, script)} if words.changed or words.names else script.steps.base())
+    # A role that is to own what another one does has rights on all tables, and not on some.
+    is_part = (words.changed or words.names) and (not script.dialect.takes or existing.is_of(words.role))
+    base = sorted({*existing.new(), *mirrors, *marked, *named(words, script)} if is_part else script.steps.base())
     base = [v for v in base if not script.views[v].over]
     found, left_out = sources(script, database, schema, base), existing.strangers()
     gone = LeftOut(script, lambda catalogue: live_script(catalogue, words), *left_out).statements() if words.drop else []

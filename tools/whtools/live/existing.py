@@ -52,6 +52,12 @@ class Existing:
             return self.rows("to_regclass({table}) IS NOT NULL", "", table=text(self.dialect.written([table])[0]))[0][0]
         return table.tokens[-1].said.lower() in self.database.names()
 
+    def is_of(self, role):
+        """Whether what stands is a role's, where one is named."""
+        rest = "FROM pg_namespace AS n JOIN pg_roles AS r ON r.oid = n.nspowner WHERE n.oid = to_regnamespace({schema})"
+        schema = text(self.dialect.written([name(self.dialect.schema)])[0])
+        return role is None or self.rows("r.rolname", rest, schema=schema) == [[role]]
+
     def standing_columns(self):
         """The columns of each of the night's tables that is there, with their kinds, by the tables' names."""
         names = joined([text(each.said) for each in self.script.expected()])

@@ -104,7 +104,7 @@ class Captures(Triggers, Standing):
     def made(self, sources):
         """One transaction that judges the sources and makes all or nothing: what is not there yet, or is otherwise than the catalogue has it now, the
         functions of the triggers, and what is captured. Tables that other roles may change stay as they are until it ends."""
-        functions = [self.script.said(v, "~capture") for v in sources]
+        functions = [self.script.said(v, "~capture") for v in self.script.steps.base()]
         first = [*self.no_strangers(), *self.dialect.owner.made(self.table_names(), functions, sources)]
         schema = name(self.dialect.schema)
         is_missing = sql("to_regnamespace({schema}) IS NULL", schema=self.written(schema))

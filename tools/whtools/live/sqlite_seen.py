@@ -57,7 +57,7 @@ class Seen:
         state = self.dialect.target(f"{self.script.prefix}{self.captured}")
         parts = {"state": state, "schema": text(OF_SCHEMA), "version": VERSION}
         forgotten = sql("DELETE FROM {state} WHERE view = {schema} AND source IS NOT {version}", **parts)
-        return [forgotten, *made, sql("UPDATE {state} SET source = {version} WHERE view = {schema}", **parts)]
+        return [forgotten, *made, sql("UPDATE {state} SET source = {version} WHERE view = {schema}", **parts)] if made else []
 
     def told(self, v, why):
         return f"table {self.script.views[v].name} is not captured as it was: {why}; run tools/sql --capture"

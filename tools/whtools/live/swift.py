@@ -58,8 +58,12 @@ class SwiftScript(SwiftGroups, Culprits, Digests, Opening, LeanComps, LiveScript
 
     @cached_property
     def keys(self):
-        """Of each view that has one the places of its key."""
-        return Keys(self.catalogue, self.shape).found
+        """Of each view that has one the places of its key. A text of a joined view's key has to be one of a key of the application's: in no index of
+        its own has a text by which only a view is grouped to have room."""
+        found = Keys(self.catalogue, self.shape).found
+        of_base = {(u, place) for u, key in found.items() if not self.views[u].over for place in key}
+        texts = {v: [place for place in key if self.is_text(v, place)] for v, key in found.items() if self.views[v].over and not self.shape.is_summary(v)}
+        return {v: key for v, key in found.items() if all(self.traced(v, place) in of_base for place in texts.get(v, ()))}
 
     # ---- steps
 

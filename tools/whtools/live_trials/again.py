@@ -127,8 +127,8 @@ def of_less(live, path):
 
 
 def left_out_mistakes(live):
-    """A column that is taken out of the catalogue and views that are defined anew, captured again: writers go on all the time, and once the views are filled
-    nights are right; and the same when the column is captured once more."""
+    """A column that is taken out of the catalogue and views that are defined anew, captured again: writers go on all the time, the mirror keeps its rows as of the
+    last night, and once what differs is filled nights are right; and the same when the column is captured once more."""
     path, wrong = live.path / "less", live.fresh()
     path.mkdir(exist_ok=True)
     (path / "catalogue.toml").write_text(LESS)
@@ -139,11 +139,11 @@ def left_out_mistakes(live):
         found = live.database.run(written(*by, words, path).text)
         wrong += [] if (told in (found or "") if told else found is None) else [f"{words} is told {found!r}"]
         live.database.asked(AGAIN)
-    for words in (["--live", "--open"], ["--live"], ["--live"]):
+    for words in (["--live", "--open", "--changed"], ["--live"], ["--live"]):
         found = live.database.run(written(*by, *words, path).text)
         wrong += [f"{words} is told {found!r}"] if found else of_less(live, path) if len(words) == 1 else []
         live.database.asked(AGAIN)
-    found = live.capture() or live.database.run(live.words("--live", "--open")) or live.night()
+    found = live.capture() or live.database.run(live.words("--live", "--open", "--changed")) or live.night()
     wrong += [f"with the column again: {found}"] if found else live.mistakes()
     live.database.asked(AGAIN)
     found = live.night()

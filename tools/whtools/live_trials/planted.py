@@ -8,6 +8,8 @@ from unittest import mock
 from whtools.databases.engines import Client
 from whtools.databases.nights import written
 from whtools.live.database import PostgreSQLAsked
+from whtools.live.session import PostgreSQLSession
+from whtools.live_trials.again import LESS, ORDER
 
 FIRST_IN_PATH = Client(("-v", "ON_ERROR_STOP=1"), {"PGOPTIONS": "-c search_path=public,pg_catalog", "PGCLIENTENCODING": "UTF8"})
 QUOTED = re.compile(r"E?'(?:[^'\\]|''|\\.)*'|\"(?:[^\"]|\"\")*\"|--[^\n]*")
@@ -22,11 +24,16 @@ WIDE = (
     ("json_build_array", "name, text, name, text, name, int4, bool, bool"), ("json_build_array", "name, json"), ("json_build_array", "numeric, numeric"),
     ("json_build_array", "int8, text, int8, int8, int8"), ("json_build_array", "int8, text, int8, float8"), ("json_build_array", "text, int8, int8, int8"),
     ("concat_ws", "text, xid, text"), ("concat_ws", 'text, name, oid, "char"'), ("concat_ws", "text, name, text, oid[], text[], xid[], xid[], xid[], xid[], xid[]"),
+    ("json_build_array", "text, numeric, int8, int8, text"), ("json_build_array", "int8, numeric"), ("json_build_array", "int8, int8, numeric, numeric, int8, text, int8"),
+    ("json_build_array", "int8, int8, numeric, numeric, int8, int8, text, text, int8"), ("sha256", "bytea"), ("encode", "bytea, text"),
     ("format", "text, text, regclass"), ("format", "text, name, name, text"), ("concat", "text, text, text, regclass, text"),
 )  # fmt: skip
 GIVES = {"||": "text", "+": "int8", "-": "int8", "*": "int8", "/": "int8", "&": "int8"}
 BODY = "LANGUAGE plpgsql AS $$ BEGIN RAISE EXCEPTION 'planted: {}'; END $$;"
 LATER = "UPDATE lines SET pieces = pieces + 1 WHERE id < 9; UPDATE orders SET region = 'region 1', at = NULL WHERE id = 5; DELETE FROM orders WHERE id = 7;"
+# What is told of the nights' tables.
+TOLD = (["--check"], ["--check", "--in-turn"], ["--check", "--repair"], ["--history"], ["--history", "--line"])
+CHANGING = (["--capture", "--changed"], ["--live", "--open", "--changed"])
 # What an application writes without a call or an operator of its own.
 WRITES = "UPDATE lines SET pieces = 4; UPDATE orders SET region = 'region 1', at = NULL; INSERT INTO lines VALUES (3, 'product 3', 3); DELETE FROM products; TRUNCATE lines;"
 PLANTER = "CREATE ROLE planter; GRANT ALL ON SCHEMA public TO planter; SET ROLE planter; SET client_min_messages = error;"
@@ -38,17 +45,31 @@ class Asked:
     """What tools/sql asks a database for, noted as it is written."""
 
     def __init__(self):
-        self.texts, self.run = [], PostgreSQLAsked.run
+        self.texts, self.runs = [], {kind: kind.run for kind in (PostgreSQLAsked, PostgreSQLSession)}
 
     def noted(self, asked, lines):
         self.texts += asked.dialect.written(lines)
-        return self.run(asked, lines)
+        return self.runs[type(asked)](asked, lines)
+
+
+def less(path):
+    """A folder with a catalogue that has a column and views less."""
+    found = path / "planted"
+    found.mkdir(exist_ok=True)
+    (found / "catalogue.toml").write_text(LESS)
+    (found / "strategy.txt").write_bytes(b"\n".join(each.encode() for each in ORDER))
+    return found
 
 
 def scripts(live, path):
     """What tools/sql writes and asks, as texts."""
     found, asked = [], Asked()
-    with mock.patch.object(PostgreSQLAsked, "run", lambda each, lines: asked.noted(each, lines)):
+    note = lambda each, lines: asked.noted(each, lines)  # noqa: E731
+    with mock.patch.object(PostgreSQLAsked, "run", note), mock.patch.object(PostgreSQLSession, "run", note):
+        for words in TOLD:
+            written("--database", live.database.address, *words, path)
+        for words in CHANGING:
+            found.append(written("--database", live.database.address, *words, less(path)).text)
         for words in (["--uncapture"], ["--capture"], ["--live", "--open"], ["--live"], ["--sizes"], ["--sizes-after"], ["--costs"], ["--dry"]):
             found.append(written("--database", live.database.address, *words, path).text)
         found.append(written("--database", live.database.address, "--catalogue").text)
@@ -100,6 +121,14 @@ def told_by(live, before, path, program):
         made = written("--database", live.database.address, *words, *more, path) if words != ["--plan"] or program else None
         told = made and (made.told if made.status else run(live, made.text, before))
         wrong += [f"{words}: {told}"] if told and not (words == ["--plan"] and "certified" in told) else []
+    live.database.asked('UPDATE wh.lines SET pieces = pieces + 1 WHERE id = 5; UPDATE wh.sales SET cost = 1 WHERE cost = 0;')
+    for words in TOLD:
+        made = written("--database", live.database.address, *words, path)
+        wrong += [f"{words}: {made.told}"] if made.told or made.status > 1 else []
+    for folder, words in product((less(path), path), CHANGING):
+        made = written("--database", live.database.address, *words, folder)
+        told = made.told if made.status else run(live, made.text, before)
+        wrong += [f"{words}: {told}"] if told else []
     for words in (["--catalogue"], ["--sizes", path], ["--sizes-after", path], ["--dry", path]):
         made = written("--database", live.database.address, *words)
         wrong += [f"{words}: {made.told}"] if made.status else []
