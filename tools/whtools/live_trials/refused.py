@@ -222,9 +222,10 @@ def later_mistakes(live, path):
     live.database.make([SUMS, NAN])
     told = [live.database.run(planning.told(live, *words, path).text) for words in (["--capture"], ["--live", "--open"])]
     (path / "catalogue.toml").write_text(BASE + LAST + SUMMED)
-    told += [live.database.run(planning.told(live, *words, path).text) for words in (["--capture"], ["--live", "--open"])]
-    wrong = [] if told[:2] == [None, None] and "sums cannot be captured" in str(told[2]) and "run --uncapture and --capture" in str(told[3]) else [f"told {told}"]
+    told.append(live.database.run(planning.told(live, "--capture", path).text))
     live.database.asked("UPDATE sums SET price = 5 WHERE id = 5;")
+    told += [live.database.run(planning.told(live, *words, path).text) for words in (["--capture"], ["--live", "--open"])]
+    wrong = [] if told[:2] + told[3:4] == [None] * 3 and "sums cannot be captured" in str(told[2]) and "run --uncapture and --capture" in str(told[4]) else [f"told {told}"]
     told = [live.database.run(planning.told(live, *words, path).text) for words in (["--uncapture"], ["--capture"], ["--live", "--open"])]
     return wrong + [each for each in told if each] + unlike(live, Warehouse(views_of(BASE + LAST + SUMMED)).views)
 
