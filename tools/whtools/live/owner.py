@@ -44,6 +44,8 @@ class Owner:
 
     def session(self):
         """The lines by which a session asks as whoever owns the schema: what somebody has put in the place of its tables is then called as that one."""
+        if self.dialect.schema == self.dialect.own_schema:
+            return []
         return self.dialect.written([self.dialect.block_of_another(self.taken_on(True))])
 
     # ---- what somebody with more rights does before

@@ -162,11 +162,10 @@ class Captures(Triggers, Standing):
             (self.columns, sql("view text NOT NULL, name text NOT NULL, type text NOT NULL, PRIMARY KEY (view, name)"), []),
             (self.parts, sql("view text NOT NULL, part oid NOT NULL, name text NOT NULL, triggers text NOT NULL, file oid NOT NULL,"
                              " attributes text NOT NULL"), [sql("CREATE INDEX ON {parts} (part)", parts=self.parts)]),
-            (self.torn_table, sql("view text NOT NULL, why text NOT NULL"), []),
             (self.script.own(JUDGED), sql("print text NOT NULL"), []),
             *((self.script.own(said), columns, []) for said, columns in self.script.history.tables()),
         ]  # fmt: skip
-        made = [each for table in tables for each in self.table_made(*table)]
+        made = [each for table in tables for each in self.table_made(*table)] + self.torn_made()
         added = [sql("ALTER TABLE {columns} ADD {said} boolean NOT NULL DEFAULT FALSE", columns=self.columns, said=word(said))
                  for said in ("is_filled", "is_key")]  # fmt: skip
         known = sql("NOT EXISTS (SELECT 1 FROM pg_attribute AS a WHERE a.attrelid = to_regclass({columns}) AND a.attname = {said})",
@@ -174,6 +173,9 @@ class Captures(Triggers, Standing):
         made += self.dialect.only_where(known, added)
         own = [each for v in range(len(self.script.views)) for table in self.view_tables(v, sources) for each in self.table_made(*table)]
         return [*made, *(each for v in sources for each in self.keyed_anew(v, sources[v])), *own]
+
+    def torn_made(self):
+        return self.table_made(self.torn_table, sql("view text NOT NULL, why text NOT NULL"), [])
 
     def table_made(self, table, columns, more):
         is_missing = sql("to_regclass({table}) IS NULL", table=self.written(table))

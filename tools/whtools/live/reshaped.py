@@ -29,7 +29,7 @@ class Reshaped:
         if self.mirrors:
             is_missing = sql("to_regclass({marks}) IS NULL", marks=self.captures.written(self.marks))
             made = sql("CREATE TABLE {marks} (view text PRIMARY KEY)", marks=self.marks)
-            found += self.dialect.creation(self.dialect.only_where(is_missing, [made]))
+            found += self.dialect.creation([*self.dialect.only_where(is_missing, [made]), *self.captures.torn_made()])
             found += [self.alone(v) for v in self.mirrors]
         return found + (self.contents(filled) if filled else [])
 
