@@ -39,8 +39,8 @@ class Owner:
         """From here on a program is carried out as whoever owns the schema, where that may be: a superuser's night is none of a superuser. It may be
         kept for all of a session."""
         member = sql("finding IS NOT NULL AND pg_has_role(session_user, finding::name, {member})", member=text("MEMBER"))
-        return [sql("finding := {other}", other=self.other()),
-                self.dialect.where(member, sql("PERFORM set_config({role}, finding, {local})", role=text("role"), local=word("FALSE" if is_kept else "TRUE")))]  # fmt: skip
+        taken = sql("PERFORM set_config({role}, finding, {local})", role=text("role"), local=word("FALSE" if is_kept else "TRUE"))
+        return [sql("finding := {other}", other=self.other()), self.dialect.where(member, taken)]
 
     def session(self):
         """The lines by which a session asks as whoever owns the schema: what somebody has put in the place of its tables is then called as that one."""

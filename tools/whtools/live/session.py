@@ -27,8 +27,9 @@ class PostgreSQLSession:
 
     def __enter__(self):
         level = "READ WRITE" if self.is_writing else "READ ONLY"
-        for line in (*self.dialect.head, "SET client_min_messages = warning;", f"SET search_path = {PATH};", "SET row_security = off;",
-                     "SET jit = off;", *self.dialect.owner.session(), f"SET lock_timeout = '{PATIENCE}';", f"BEGIN ISOLATION LEVEL REPEATABLE READ {level};"):  # fmt: skip
+        settings = ("client_min_messages = warning", f"search_path = {PATH}", "row_security = off", "jit = off", f"lock_timeout = '{PATIENCE}'")
+        begun = (*(f"SET {each};" for each in settings), *self.dialect.owner.session(), f"BEGIN ISOLATION LEVEL REPEATABLE READ {level};")
+        for line in (*self.dialect.head, *begun):
             self.given(line)
         return self
 
