@@ -71,7 +71,7 @@ class LiveScript(Computed, Script):
 
     def looked_at(self):
         """A refusal of tables that are not captured as they were, and of views that are not filled as the catalogue has them."""
-        return [*self.captures.whole(), *self.captures.opened()]
+        return [*self.captures.whole(), *self.captures.opened(), *self.captures.others_unfilled()]
 
     def told_unopened(self, said):
         return f"view {said} was not filled by the definition that the catalogue has: run tools/sql --live --open"

@@ -140,6 +140,12 @@ class Captures(Triggers, Seen):
 
     # ---- by what definitions the views were filled
 
+    def others_unfilled(self):
+        """Views that are filled and not in this catalogue are filled no more: its nights take changes of which they learn nothing."""
+        views = joined([text(view.name) for view in self.script.views])
+        return [sql("UPDATE {state} SET source = {none} WHERE filled = 0 AND source <> {none} AND view NOT IN ({views}) AND view IN (SELECT s.view FROM {sizes}"
+                    " AS s)", state=self.dialect.target(f"{self.script.prefix}{CAPTURED}"), none=text(""), views=views, sizes=self.script.own(SIZES))]  # fmt: skip
+
     def opened(self):
         """Refusals of views that were never filled, or by another definition."""
         found = []

@@ -150,6 +150,12 @@ class Standing:
         told = sql("SELECT replace({told}, {hole}, u.view) FROM ({unlike}) AS u", told=text(self.script.told_unopened("%s")), hole=text("%s"), unlike=unlike)
         return self.dialect.refuse_with(told) if listed else []
 
+    def others_unfilled(self):
+        """Views that are filled and not in this catalogue are filled no more: its nights take changes of which they learn nothing."""
+        views = joined([self.view(v) for v in range(len(self.script.views))])
+        return [sql("UPDATE {columns} SET type = {none} WHERE name = {none} AND type <> {none} AND view NOT IN ({views})", columns=self.columns,
+                    none=text(""), views=views)]  # fmt: skip
+
     def whole(self, base=None):
         """A refusal of a source that is not captured as it was, of all or of those of these views."""
         base = self.script.steps.base() if base is None else base

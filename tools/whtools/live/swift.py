@@ -280,7 +280,7 @@ class SwiftScript(SwiftGroups, Culprits, Digests, Opening, LeanComps, LiveScript
         tables = [self.table(v) for v in range(len(self.views))]
         checks = self.dialect.block([*self.checked.statements(tables), *self.captures.judged()])
         opened = self.captures.opened() if steps else []
-        judged = [self.once(checks), *self.captures.whole(), *opened, *self.captures.noted_as_judged()]
+        judged = [self.once(checks), *self.captures.whole(), *opened, *self.captures.others_unfilled(), *self.captures.noted_as_judged()]
         judged = [*self.captures.looked_at(), *self.then(self.captures.is_changed(), judged)]
         made = before + self.carried(steps, comment) + after
         kept = KEPT if any(word("collapsed").tokens[0] in each.tokens for each in made) else []
