@@ -1,10 +1,14 @@
 """Tests of what is made of an application's tables without a database: columns that are turned, views that are read, keys that follow."""
 
+import json
 import sqlite3
 import subprocess
 import unittest
+from pathlib import Path
+from tempfile import TemporaryDirectory
 from types import SimpleNamespace
 
+from whtools.live.compared import Digest
 from whtools.live.database import Table
 from whtools.live.measured import Step, fitted, measured, steps_of
 from whtools.live.parsed import NotTaken, parsed
@@ -77,6 +81,36 @@ class Turned(unittest.TestCase):
         for cell, turned in wanted.items():
             found = sqlite3.connect(":memory:").execute(f"SELECT {said} FROM (SELECT ? AS x) AS r", [cell]).fetchone()[0]
             self.assertEqual(found if turned is not None else found[:7], "beyond " if turned is None else turned)
+        for cell in (4.999, 0.1 + 0.2, 1e-9, -0.005):
+            found = sqlite3.connect(":memory:").execute(f"SELECT {said} FROM (SELECT ? AS x) AS r", [cell]).fetchone()[0]
+            self.assertTrue(str(found).startswith("not of 2 places: "), found)
+
+    def test_days_and_moments_have_the_form_of_the_first_one(self):
+        plain, zoned = "0000-00-00 00:00:00", "0000-00-00T00:00:00.000Z"
+        for declared, form, cell, turned in (
+            ("DATE", None, "1970-01-02", 1), ("DATE", "0000-00-00", "1969-12-31", -1), ("DATE", None, "1970-01-02 00:00:00", None), ("DATE", None, 5, None),
+            ("DATE", "a number", 5, 5), ("DATE", "a number", "1970-01-02", "1970-01-02"), ("DATE", plain, "1970-01-02", 1), ("DATE", None, "1970-02-30", None),
+            ("DATETIME", None, "1970-01-01 00:01:00", 60), ("DATETIME", plain, "1970-01-01 00:01:00.75", 60), ("TIMESTAMP", plain, "1970-01-01T00:01:00", None),
+            ("DATETIME", zoned, "1970-01-01T00:01:00.750Z", 60), ("DATETIME", zoned, "1970-01-01T00:01:00Z", None), ("DATETIME", None, "1970-01-01 24:00:00", None),
+            ("DATETIME", "0000-00-00T00:00:00", "1970-01-01T00:01:00.5", 60), ("DATETIME", None, "1970-01-01 00:01:00.", None), ("DATETIME", None, None, None),
+        ):  # fmt: skip
+            (said,) = LiveSQLite().written([of_sqlite(Told("x", declared, declared, None, None, cell is None, False, form=form)).said])
+            found = sqlite3.connect(":memory:").execute(f"SELECT {said} FROM (SELECT ? AS x) AS r", [cell]).fetchone()[0]
+            if turned is None:
+                self.assertTrue(found == -(2**63) if cell is None else found.startswith("not written "), (declared, form, cell, found))
+            else:
+                self.assertEqual(found, turned, (declared, form, cell))
+
+
+    def test_types_of_postgresql_are_told_by_their_numbers(self):
+        price = of_postgresql(Told("price", "numeric(10,2)", "numeric", 10, 2, False, False, 1700, 1700, 3, "column price of table public.t", 655366))
+        colour = of_postgresql(Told("colour", "colour", "enum", None, None, False, False, 16400, 16400, 4, "column colour of table public.t"))
+        many = of_postgresql(Told("many", "many", "int4", None, None, False, False, 23, 16401, 5, "column many of table public.t"))
+        said, fits = (LivePostgreSQL().written([getattr(column, part) for column in (price, colour, many)]) for part in ("said", "fits"))
+        for wanted, found in (("a.atttypid = 1700", fits[0]), ("a.atttypmod = 655366", fits[0]), ("y.typtype = 'e'", fits[1]), ("d.type = 23", fits[2])):
+            self.assertIn(wanted, found)
+        self.assertIn("enum_out", said[1])
+        self.assertEqual([column.told.is_domain for column in (price, colour, many)], [False, False, True])
 
 
 class Parsed(unittest.TestCase):
@@ -86,6 +120,8 @@ class Parsed(unittest.TestCase):
             "SELECT max(x) FROM a": "MAX", "SELECT lower(x) FROM a": "lower", "SELECT x || y FROM a": "||", "SELECT * FROM a": "*",
             "SELECT x FROM (SELECT x FROM b) AS a": "SELECT in its FROM", "SELECT x FROM a WHERE x LIKE 'y'": "LIKE",
             "SELECT CASE WHEN x = 1 THEN 2 END FROM a": "CASE", "SELECT x FROM f(1)": "function f", "SELECT x FROM a UNION SELECT y FROM b": "UNION",
+            "SELECT x FROM a WHERE x ~~ 'y'": "it has LIKE", "SELECT x FROM a WHERE NOT x !~~* 'y'": "NOT ILIKE", "SELECT x FROM ONLY s.a": "ONLY a",
+            "SELECT x[1] FROM a": "part of an array", "SELECT x FROM a WHERE x IS NOT TRUE": "IS NOT TRUE", "SELECT x::timestamp(0) FROM a": "timestamp(0)",
             "WITH a AS (SELECT 1) SELECT x FROM a": "WITH", "SELECT x FROM a LIMIT 3": "LIMIT", "SELECT x FROM a,": "its end",
         }.items():  # fmt: skip
             with self.assertRaises(NotTaken, msg=text) as told:
@@ -126,11 +162,80 @@ class Parsed(unittest.TestCase):
 class WordsOfADatabase(unittest.TestCase):
     def test_where_no_database_is_read_they_are_refused(self):
         for engine in "postgresql", "sqlite", "clickhouse":
-            for words in ["--database", "live"], ["--from", "there"], ["--measured"]:
+            for words in ["--database", "live"], ["--from", "there"], ["--measured"], ["--role", "keeper"]:
                 asked = [ROOT / "tools/sql", "--night", "--engine", engine, *words, ROOT / "examples/shop"]
                 ran = subprocess.run(asked, capture_output=True, text=True)
-                self.assertEqual((ran.returncode != 0, ran.stdout), (True, ""), words)
-                self.assertRegex(ran.stderr, "^tools/sql: --database, --from and --measured go with ")
+                self.assertTrue(ran.returncode, words)
+                self.assertRegex(ran.stderr, "^tools/sql: --database, --from, --role and --measured go with ")
+
+
+class ScriptsThatCannotBeWritten(unittest.TestCase):
+    """An empty file would pass for a night that went well."""
+
+    def asked(self, *words):
+        ran = subprocess.run([ROOT / "tools/sql", *words], capture_output=True, text=True)
+        self.assertTrue(ran.returncode, words)
+        return ran
+
+    def test_the_script_in_its_place_raises_in_sqlite(self):
+        for words in ["--live", "no folder"], ["--night", "no folder"], ["--lvie", ROOT / "examples/live"], ["--capture", ROOT / "examples/live"]:
+            ran = self.asked("--engine", "sqlite", *words)
+            with self.assertRaisesRegex(sqlite3.Error, "tools/sql wrote no script: ") as told:
+                sqlite3.connect(":memory:").executescript(ran.stdout)
+            self.assertIn(str(told.exception).partition(": ")[2][:20], ran.stderr)
+
+    def test_and_in_postgresql(self):
+        for words in ["--live", "no folder"], ["--night", "it's"], ["--lvie", ROOT / "examples/live"]:
+            lines = self.asked(*words).stdout.splitlines()
+            self.assertEqual((lines[0], lines[3:5]), (r"\set ON_ERROR_STOP on", ["DO $night$", "BEGIN"]))
+            self.assertRegex(lines[5], "^  RAISE EXCEPTION USING MESSAGE = '([^']|'')*';$")
+
+    def test_what_people_read_stays_empty(self):
+        for words in ["--catalogue", "--engine", "sqlite"], ["--sizes", "no folder"], ["--check", "no folder"], ["--history", "no folder"], ["--explain", "no folder"]:
+            self.assertEqual(self.asked(*words).stdout, "", words)
+
+    def test_words_that_go_with_others(self):
+        for words in ["--repair"], ["--in-turn"], ["--line"], ["--changed"], ["--drop"], ["--live"]:
+            self.assertIn("go" if words != ["--live"] else "unrecognized", self.asked(*words, ROOT / "examples/live", *(["lines"] if words == ["--live"] else [])).stderr)
+
+
+class DeepFormulas(unittest.TestCase):
+    """A formula that is as deep as the formats let it be is checked in SQLite, whose parser has a hundred places."""
+
+    def sql(self, folder, *words):
+        return subprocess.run([ROOT / "tools/sql", "--engine", "sqlite", "--database", folder / "own.db", *words, folder], capture_output=True, text=True)
+
+    def test_both_where_it_agrees_and_where_it_does_not(self):
+        formula = "t.b"
+        for at in range(31):
+            formula = ["+", 1, ["*", "t.b", formula]] if at % 2 else ["-", ["+", formula, 1], "t.b"]
+        of_t = f'over = ["t"]\ngroup = [["a", "t.a"]]\ncount = "n"\nsum = [["e", {json.dumps(formula)}]]'
+        with TemporaryDirectory() as name:
+            folder = Path(name)
+            (folder / "catalogue.toml").write_text(f'[[view]]\nname = "t"\ncolumns = ["a", "b"]\n[[view]]\nname = "v"\n{of_t}\n')
+            database = sqlite3.connect(folder / "own.db", isolation_level=None)
+            database.executescript("CREATE TABLE t (a INT NOT NULL, b INT NOT NULL); INSERT INTO t VALUES (1, 1), (1, 0), (2, 1);")
+            database.executescript(self.sql(folder, "--capture", "--live", "--open").stdout)
+            found = [self.sql(folder, "--check")]
+            database.execute("UPDATE wh_v SET e = e + 1 WHERE a = 1")
+            found.append(self.sql(folder, "--check"))
+            database.close()
+        self.assertEqual([(ran.returncode, ran.stdout.splitlines()[-1]) for ran in found], [(0, "all 2 agree"), (1, "1 of 2 differ")])
+
+
+class Digests(unittest.TestCase):
+    def digest(self, rows):
+        found = Digest()
+        for row in rows:
+            found.step(*row)
+        return found.finalize()
+
+    def test_order_is_nothing_and_counts_are_much(self):
+        rows = [(1, 3, "a"), (2, -1, "b"), (1, -2, "b")]
+        self.assertEqual(self.digest(rows), self.digest([*rows[::-1], (0, 7, "c")]))
+        self.assertEqual(self.digest(rows), self.digest([(1, -1, "b"), *rows, (-1, -1, "b")]))
+        for other in [rows[1:], [(1, 3, "a"), (3, -1, "b")], [(1, 3, "a"), (1, -1, "b"), (2, -2, "b")], [(1, 3.0, "a"), *rows[1:]], [(1, "3", "a"), *rows[1:]]]:
+            self.assertNotEqual(self.digest(rows), self.digest(other))
 
 
 class KeysThatFollow(unittest.TestCase):

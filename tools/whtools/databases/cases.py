@@ -6,7 +6,7 @@ from whtools.catalogue import views_of
 from whtools.databases.engines import PSQL, SHELL, Broken, Client, in_folder
 from whtools.databases.filled import Filled, plainly
 from whtools.databases.judged import Judged, is_sentence
-from whtools.databases.nights import Night, written
+from whtools.databases.nights import Night, begun, written
 
 DONE, REFUSED, EITHER = "is carried out", "is refused", "is carried out or refused"
 
@@ -108,7 +108,7 @@ class Tried:
         with in_folder() as folder:
             script = written("--engine", self.database.engine, *self.night.option(), self.night.folder(folder))
         if script.status:
-            return script.told + ("" if not script.text else " Traceback: and a script was written all the same")
+            return script.told + ("" if not begun(self.database.engine, script.text) else " Traceback: and a script was written all the same")
         text = self.written(script.text)
         self.is_changed = text != script.text
         default = PSQL if self.database.engine == "postgresql" else SHELL

@@ -188,9 +188,9 @@ def numbered():
 ALE_IS_SOLD = {**ALE_COMES, "lines": [((9, "ale", 1), 1)]}
 
 def trigger(when, table, body, each="FOR EACH ROW", kind="TRIGGER"):
-    """A trigger of PostgreSQL."""
+    """A trigger of PostgreSQL, whose function has a path of names of its own, since a night has none but the server's."""
     return [
-        f"CREATE FUNCTION meddling() RETURNS trigger LANGUAGE plpgsql AS $$ BEGIN {body} END $$;",
+        f"CREATE FUNCTION meddling() RETURNS trigger LANGUAGE plpgsql SET search_path FROM CURRENT AS $$ BEGIN {body} END $$;",
         f"CREATE {kind} meddling {when} ON {table} {each} EXECUTE FUNCTION meddling();",
     ]
 

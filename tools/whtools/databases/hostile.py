@@ -9,7 +9,7 @@ from whtools.catalogue import views_of
 from whtools.databases.engines import Client, in_folder
 from whtools.databases.filled import Filled, plainly
 from whtools.databases.judged import Judged, is_sentence
-from whtools.databases.nights import Night, written
+from whtools.databases.nights import Night, begun, written
 
 # The catalogue in which each name has a sign of its own, and what the signs are where they are not tried.
 CATALOGUE = """[[view]]
@@ -165,7 +165,7 @@ class Hostile:
 
     def unwritten(self, script):
         """A refusal is told in words, and before the first line."""
-        found = ["a script was begun"] if script.text else []
+        found = ["a script was begun"] if begun(self.database.engine, script.text) else []
         return found + ([f"the refusal is {script.told.strip()[-200:]!r}"] if "Traceback" in script.told or not script.told.strip() else [])
 
     def harm(self, scripts, is_elsewhere):
@@ -265,7 +265,7 @@ def no_text_mistakes(database, folder):
         path = night.folder(folder)
         (path / "catalogue.toml").write_bytes(night.catalogue.replace(b"MARK", raw))
         script = written("--engine", database.engine, path)
-        if not script.status or script.text or "Traceback" in script.told:
+        if not script.status or begun(database.engine, script.text) or "Traceback" in script.told:
             found.append(f"{database.engine}: {raw!r} in a text: {script.told.strip()[-300:]!r}, and {len(script.text)} letters written")
     return found
 

@@ -2,6 +2,7 @@
 
 import csv
 import io
+import re
 import subprocess
 import sys
 from collections import Counter
@@ -106,6 +107,26 @@ def written(*words):
             told.write(f"Traceback: {fault!r}\n")
     output.flush()
     return Written(output.buffer.getvalue().decode(), told.getvalue(), status)
+
+
+# A script that raises and does nothing else, as each engine has it: its text has no quote that ends it, and no line's end.
+FAILING = {
+    "postgresql": re.compile(
+        r"\\set ON_ERROR_STOP on\n\\set ON_ERROR_ROLLBACK off\nSET client_encoding = 'UTF8';\nDO (\$\w*\$)\nBEGIN\n"
+        r"  RAISE EXCEPTION USING MESSAGE = (?P<told>E'(?:[^'\\\n]|\\\\|\\')*'|'(?:[^'\\\n]|'')*');\nEND;\n\1;\n"
+    ),
+    "sqlite": re.compile(
+        r'CREATE TABLE temp\."night~" \(begun\);\nCREATE TEMPORARY TRIGGER "night~" AFTER INSERT ON "night~" BEGIN\n'
+        r"  SELECT RAISE\(ROLLBACK, (?P<told>'(?:[^'\n]|'')*')\);\nEND;\n"
+        r'INSERT INTO temp\."night~" VALUES \(1\);\n'
+    ),
+}  # fmt: skip
+
+
+def begun(engine, text):
+    """Whether more was written of a script that was refused than one that raises."""
+    found = FAILING[engine].fullmatch(text)
+    return found is None or (engine == "postgresql" and found[1] in found["told"])
 
 
 def bag(rows, columns, count=None):

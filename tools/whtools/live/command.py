@@ -2,20 +2,29 @@
 
 import sys
 
+from whtools.live.check import checked as check
+from whtools.live.checks import Checks
 from whtools.live.database import ASKED
 from whtools.live.dry import Dry
+from whtools.live.existing import Existing
+from whtools.live.left_out import LeftOut
 from whtools.live.measured import measured, steps_of
+from whtools.live.monitored import told_history
+from whtools.live.opening import QUIETLY
 from whtools.live.planned import planned, sizes_text
 from whtools.live.postgresql import LivePostgreSQL
 from whtools.live.proposed import Proposed
+from whtools.live.reshaped import Reshaped
+from whtools.live.reshaped_sqlite import Reshaped as ReshapedSQLite
 from whtools.live.script import LiveScript
+from whtools.live.session import SESSIONS
 from whtools.live.sizes import Sizes
 from whtools.live.sources import sources
 from whtools.live.sqlite import LiveSQLite
 from whtools.live.swift import SwiftScript
 from whtools.sql.catalogue import read
 from whtools.sql.comments import Comments
-from whtools.sql.tokens import Unfit
+from whtools.sql.tokens import Unfit, sql
 
 SCHEMA = "wh"
 DIALECTS = {"postgresql": LivePostgreSQL, "sqlite": LiveSQLite}
@@ -26,7 +35,7 @@ def live_script(catalogue, words):
     schema = words.schema or SCHEMA
     if words.engine == "sqlite":
         return LiveScript(catalogue, LiveSQLite(is_timed=words.dry), f"{schema}_")
-    return SwiftScript(catalogue, LivePostgreSQL(schema))
+    return SwiftScript(catalogue, LivePostgreSQL(schema, words.role))
 
 
 def asked(words, dialect):
@@ -93,6 +102,57 @@ def with_plan(words, script, database):
     return live_script(planned(words, text, costs), words)
 
 
+# ---- what is captured and filled
+
+
+def captured(words, script, database):
+    """The statements that capture what the catalogue has: tables that stand with other columns get theirs first, and keep what they have."""
+    existing = Existing(script, database)
+    schema = words.source or (schema_of(script, database) if existing.is_captured else database.own_schema)
+    mirrors, derived, marked = existing.mirrors(), existing.derived(), existing.marked()
+    # A role that is to own what another one does has rights on all tables, and not on some.
+    is_part = (words.changed or words.names) and (not script.dialect.takes or existing.is_of(words.role))
+    base = sorted({*existing.new(), *mirrors, *marked, *named(words, script)} if is_part else script.steps.base())
+    base = [v for v in base if not script.views[v].over]
+    found, left_out = sources(script, database, schema, base), existing.strangers()
+    gone = LeftOut(script, lambda catalogue: live_script(catalogue, words), *left_out).statements() if words.drop else []
+    if any(left_out) and not words.drop:
+        names = ", ".join(name for names in left_out for name in names)
+        print(f"tools/sql: {names}: captured or filled, and not in the catalogue; --capture --drop lets it go", file=sys.stderr)
+    unindexed = [each for v in existing.unindexed() if v not in mirrors and v not in derived for each in script.indexed(v)]
+    if unindexed:
+        gone += script.dialect.creation([QUIETLY, *unindexed] if script.dialect.takes else script.captures.schema_changed(unindexed))
+    if not script.dialect.takes:
+        reshaped = ReshapedSQLite(script, found, mirrors, derived) if mirrors or derived else None
+        return [*gone, *script.captures.capture(found, database, reshaped)]
+    made = Reshaped(script, found, mirrors, derived, marked).statements()
+    return [*gone, *made, *(script.captures.capture(found, database) if found else script.captures.made(found))]
+
+
+def opened(words, script):
+    """The statements that fill the derived views, or those that are named, or what is new or defined otherwise than it was filled."""
+    if not words.open:
+        return []
+    chosen = named(words, script) if words.names else None
+    if words.changed:
+        database = asked(words, script.dialect)
+        chosen = {*(chosen or ()), *changed(script, database)}
+    return script.open(Comments(script.catalogue).short, chosen) if chosen is None or script.filled_anew(chosen) else []
+
+
+def changed(script, database):
+    """The derived views that are new, or were filled by another definition, or have other columns."""
+    existing = Existing(script, database)
+    if not existing.is_captured:
+        return script.steps.derived()
+    with SESSIONS[script.dialect.engine](database, False) as session:
+        return {*existing.unlike(session), *existing.derived()}
+
+
+def named(words, script):
+    return chosen(words, script) if words.names else []
+
+
 # ---- what is asked for
 
 
@@ -104,11 +164,57 @@ def of_database(words, script, database):
     return costs_text(script, costs_of(script, database)) if words.costs else []
 
 
+def chosen(words, script):
+    """The numbers of the views that are named, or of all."""
+    if unknown := [said for said in words.names if said not in script.catalogue.names]:
+        raise Unfit(f"there is no table or view {unknown[0]!r} in the catalogue")
+    return [script.catalogue.names[said] for said in dict.fromkeys(words.names)] or list(range(len(script.views)))
+
+
+def checked(words, script, database):
+    """A check of what is named, or of what was checked the longest ago."""
+    views = Checks(script).in_turn(database, chosen(words, script)) if words.in_turn else chosen(words, script)
+    base = [v for v in views if not script.views[v].over]
+    found = sources(script, database, words.source or schema_of(script, database), base) if base else {}
+    return check(script, database, found, views, words.repair)
+
+
+def schema_of(script, database):
+    """The schema of the tables that are captured."""
+    if not script.dialect.takes:
+        return database.own_schema
+    query = (
+        "SELECT to_json(s.nspname) FROM {state} AS c JOIN pg_class AS k ON k.oid = c.source JOIN pg_namespace AS s ON s.oid = k.relnamespace"
+        " ORDER BY c.view LIMIT 1"
+    )
+    return next(iter(database.rows(sql(query, state=script.captures.state))[0]), database.own_schema)
+
+
+def answered(words):
+    """What is told of a database, and the status."""
+    if words.engine not in DIALECTS:
+        raise Unfit("--check and --history go with --engine postgresql or sqlite")
+    script = live_script(read(words.path), words)
+    database = asked(words, script.dialect)
+    return checked(words, script, database) if words.check else (told_history(script, database, words.line), 0)
+
+
+def compared(words, script):
+    """A script of SQLite compares tables with their mirrors where the schema has changed, if it is known how they are turned."""
+    try:
+        database = asked(words, script.dialect)
+        script.captures.sources = sources(script, database, words.source or database.own_schema)
+    except Unfit as why:
+        print(f"tools/sql: the night does not compare tables where the schema changes: {why}", file=sys.stderr)
+
+
 def night(words, script):
     """A night, or what came of it where it is a dry one."""
     database = asked(words, script.dialect) if words.plan or words.dry else None
     if words.plan:
         script = with_plan(words, script, database)
+    if words.engine == "sqlite" and words.database:
+        compared(words, script)
     comment = Comments(script.catalogue).short
     if words.dry:
         return Dry(script, database, comment).told()
@@ -117,6 +223,8 @@ def night(words, script):
 
 def written(words):
     """The text that is asked for."""
+    if words.role and (words.engine, words.capture) != ("postgresql", True):
+        raise Unfit("--role goes with --capture and --engine postgresql")
     if words.catalogue:
         return proposed(words)
     catalogue = read(words.path)
@@ -126,13 +234,11 @@ def written(words):
         return of_database(words, script, asked(words, dialect))
     if words.uncapture:
         return dialect.head + dialect.written(script.captures.uncapture(asked(words, dialect)))
-    found = []
+    if not words.capture and not words.open:
+        return night(words, script)
     for warning in catalogue.warnings if words.capture else ():
         print(f"tools/sql: {warning}", file=sys.stderr)
-    if words.capture:
-        database = asked(words, dialect)
-        found += script.captures.capture(sources(script, database, words.source or database.own_schema), database)
-    found += script.open(Comments(catalogue).short) if words.open else []
-    if found:
-        return dialect.head + dialect.written(found)
-    return night(words, script)
+    found = captured(words, script, asked(words, dialect)) if words.capture else []
+    found += opened(words, script)
+    # A script without anything to do says that all is done.
+    return dialect.head + dialect.written(found or dialect.creation([]))

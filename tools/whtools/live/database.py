@@ -6,7 +6,8 @@ import subprocess
 from pathlib import Path
 from typing import NamedTuple
 
-from whtools.live.turned import DIGITS, Told
+from whtools.live.turned import DIGITS, Told, form_of, has_form
+from whtools.sql.postgresql import PATH
 from whtools.sql.tokens import END_OF_STATEMENT, Unfit, joined, name, sql, text
 
 
@@ -16,13 +17,14 @@ HEIR = "it inherits from {parent}, through which its rows may change unnoticed: 
 
 
 class Table(NamedTuple):
-    """An ordinary or partitioned table: its columns, its keys without NULLs, the primary one first and then the narrowest, by names, and why
-    it cannot be captured, or None."""
+    """An ordinary or partitioned table: its columns, its keys without NULLs, the primary one first and then the narrowest, by names, why it cannot
+    be captured, or None, and whether it is partitioned."""
 
     name: str
     columns: list
     keys: list
     unfit: str | None = None
+    is_parted: bool = False
 
 
 class PostgreSQLAsked:
@@ -39,7 +41,8 @@ class PostgreSQLAsked:
 
     def run(self, lines):
         """What statements print."""
-        given = "\n".join([*self.dialect.head, "SET client_min_messages = warning;", *self.dialect.written(lines), ""])
+        set_before = ["SET client_min_messages = warning;", f"SET search_path = {PATH};", *self.dialect.owner.session()]
+        given = "\n".join([*self.dialect.head, *set_before, *self.dialect.written(lines), ""])
         try:
             ran = subprocess.run(self.command(), input=given.encode(), capture_output=True, check=False)
         except OSError as fault:
@@ -48,6 +51,10 @@ class PostgreSQLAsked:
             told = ran.stderr.decode(errors="replace").strip().split("\n")
             raise Unfit(f"the database says: {' '.join(told)[:600]}")
         return ran.stdout.decode()
+
+    def put(self, lines):
+        """Statements that write."""
+        self.run(lines)
 
     def rows(self, *queries, before=(), after=()):
         """The rows of each query, whose columns are listed in it as an array of JSON, between other statements."""
@@ -69,10 +76,11 @@ class PostgreSQLAsked:
         )  # fmt: skip
         columns, keys = self.rows(self.columns_query(of), self.keys_query(of))
         found = {}
-        for table, parent, column, shown, type_name, modifier, *others in columns:
+        for table, parent, is_parted, column, shown, type_name, modifier, *others in columns:
             digits = (modifier - 4) >> 16 & 0xFFFF if modifier >= 4 else None
             places = modifier - 4 & 0x7FF if modifier >= 4 else None
-            found.setdefault(table, Table(table, [], [], parent and HEIR.format(parent=parent))).columns.append(Told(column, shown, type_name, digits, places, *others))
+            own = found.setdefault(table, Table(table, [], [], parent and HEIR.format(parent=parent), is_parted))
+            own.columns.append(Told(column, shown, type_name, digits, places, *others, modifier))
         for table, key in keys:
             found[table].keys.append(key)
         return found
@@ -83,8 +91,7 @@ class PostgreSQLAsked:
             "SELECT json_build_array(c.relname, pg_get_viewdef(c.oid)) FROM pg_class AS c JOIN pg_namespace AS s ON s.oid = c.relnamespace"
             " WHERE s.nspname = {schema} AND c.relkind IN ({kinds}) ORDER BY c.relname", schema=text(schema), kinds=joined([text("v"), text("m")]),
         )  # fmt: skip
-        nowhere = sql("SET search_path = pg_catalog{end}", end=END_OF_STATEMENT)
-        return dict(self.rows(query, before=[nowhere])[0])
+        return dict(self.rows(query)[0])
 
     def columns_query(self, of):
         """Each column by its base type: an enumeration's is told as such, unless a domain hides whether its values are renamed."""
@@ -93,13 +100,16 @@ class PostgreSQLAsked:
             " NOT a.attnotnull FROM pg_attribute AS a WHERE a.attnum > 0 AND NOT a.attisdropped AND a.attrelid IN (SELECT c.oid FROM {of})"
             " UNION ALL SELECT b.relation, b.place, t.typbasetype, CASE WHEN b.modifier = -1 THEN t.typtypmod ELSE b.modifier END,"
             " b.nothing AND NOT t.typnotnull FROM b JOIN pg_type AS t ON t.oid = b.type AND t.typtype = {domain})"
-            " SELECT json_build_array(c.relname, (SELECT min(i.inhparent::regclass::text) FROM pg_inherits AS i WHERE i.inhrelid = c.oid), a.attname, format_type(a.atttypid, a.atttypmod),"
-            " CASE WHEN t.typtype = {of_enum} AND t.oid = a.atttypid THEN {enum} WHEN n.nspname <> {own} THEN {other} ELSE t.typname END, b.modifier, b.nothing,"
-            " EXISTS (SELECT 1 FROM pg_collation AS l WHERE l.oid = a.attcollation AND NOT l.collisdeterministic))"
+            " SELECT json_build_array(c.relname, (SELECT min(i.inhparent::regclass::text) FROM pg_inherits AS i WHERE i.inhrelid = c.oid), c.relkind = {parted},"
+            " a.attname, format_type(a.atttypid, a.atttypmod), CASE WHEN t.typtype = {of_enum} AND t.oid = a.atttypid THEN {enum}"
+            " WHEN n.nspname <> {own} THEN {other} ELSE t.typname END, b.modifier, b.nothing,"
+            " EXISTS (SELECT 1 FROM pg_collation AS l WHERE l.oid = a.attcollation AND NOT l.collisdeterministic), t.oid::bigint, a.atttypid::bigint,"
+            " a.attnum, pg_describe_object({classes}::regclass, a.attrelid, a.attnum))"
             " FROM b JOIN pg_type AS t ON t.oid = b.type JOIN pg_namespace AS n ON n.oid = t.typnamespace"
             " JOIN pg_attribute AS a ON a.attrelid = b.relation AND a.attnum = b.place JOIN pg_class AS c ON c.oid = b.relation"
             " WHERE t.typtype <> {domain} ORDER BY c.relname, a.attnum",
-            of=of, domain=text("d"), of_enum=text("e"), enum=text("enum"), own=text("pg_catalog"), other=text(""),
+            of=of, domain=text("d"), of_enum=text("e"), enum=text("enum"), own=text("pg_catalog"), other=text(""), parted=text("p"),
+            classes=text("pg_class"),
         )  # fmt: skip
 
     def keys_query(self, of):
@@ -118,7 +128,7 @@ class PostgreSQLAsked:
 
 
 class SQLiteAsked:
-    """A file of SQLite, which is read and not written."""
+    """A file of SQLite, which is read, and written where that is said."""
 
     own_schema = "main"
 
@@ -135,6 +145,17 @@ class SQLiteAsked:
             raise Unfit(f"{self.address}: {fault}") from fault
         finally:
             found.close()
+
+    def put(self, lines):
+        """Statements that write, in a transaction of their own."""
+        database = sqlite3.connect(self.address, isolation_level=None, timeout=60)
+        try:
+            for line in self.dialect.written(lines):
+                database.execute(line)
+        except sqlite3.Error as fault:
+            raise Unfit(f"{self.address}: {fault}") from fault
+        finally:
+            database.close()
 
     def tables(self, _, names=None):
         """The tables of the file, by their names."""
@@ -161,7 +182,7 @@ class SQLiteAsked:
             folded = self.folded(said, [column for column, *_ in columns])
         except (sqlite3.Error, Unfit) as fault:
             return Table(said, [], [], f"its columns cannot be compared: {fault}")
-        told = [self.told(*column[:3], is_rowid and column[0] == primary[0], column[0] in folded) for column in columns]
+        told = [self.told(said, *column[:3], is_rowid and column[0] == primary[0], column[0] in folded) for column in columns]
         filled = {each.name for each in told if not each.may_be_null}
         keys = [primary] if primary and filled.issuperset(primary) else []
         keys += [key for key in map(self.indexed, [index for index, _, partial in indexes if not partial]) if key and filled.issuperset(key)]
@@ -198,10 +219,17 @@ class SQLiteAsked:
             copy.close()
         return found
 
-    def told(self, column, type_name, is_filled, is_rowid, is_folded):
+    def told(self, table, column, type_name, is_filled, is_rowid, is_folded):
         digits = DIGITS.fullmatch(type_name.upper())
         numbers = (int(digits[1]), int(digits[2] or 0)) if digits else (None, None)
-        return Told(column, type_name or "none", type_name, *numbers, not (is_filled or is_rowid), is_folded)
+        form = form_of(self.first(table, column)) if has_form(type_name) else None
+        return Told(column, type_name or "none", type_name, *numbers, not (is_filled or is_rowid), is_folded, form=form)
+
+    def first(self, table, column):
+        """The first value of a column, or None."""
+        query = "SELECT r.{column} FROM {table} AS r WHERE r.{column} IS NOT NULL LIMIT 1"
+        found = self.rows(sql(query, column=name(column), table=name(table)))[0]
+        return found[0][0] if found else None
 
     def names(self):
         """The names of all tables and views, in small letters."""

@@ -1,5 +1,6 @@
 """What each night leaves of itself: when it ran, the rows of each view before and after it and of its change, and how long each step took."""
 
+from whtools.live.checks import CHECKS, columns
 from whtools.sql.dialect import COUNT
 from whtools.sql.tokens import joined, number, sql, text, word
 
@@ -28,6 +29,7 @@ class History:
                         " PRIMARY KEY (night, view)", **parts)),
             (STEPS, sql("night {whole} NOT NULL, step {whole} NOT NULL, told {text} NOT NULL, work {whole}, seconds {seconds},"
                         " PRIMARY KEY (night, step)", **parts)),
+            (CHECKS, columns(self.dialect)),
         ]  # fmt: skip
 
     def table(self, said):
@@ -74,10 +76,10 @@ class History:
         return sql(added, target=self.target(SIZES), night=self.number(), view=text(self.script.views[v].name), more=more, change=change,
                    last=last, now=now)  # fmt: skip
 
-    def opened(self, v, counted=None):
-        """The rows of a view that was just filled, where they were counted, or as they are; of a mirror as they were told last."""
+    def opened(self, v, is_filled=True, counted=None):
+        """The rows of a view that was just filled, where they were counted, or as they are; of another one as they were told last."""
         last, now = self.before(v)
-        now = now if self.script.views[v].over else sql("coalesce({last}, {now})", last=last, now=now)
+        now = now if is_filled and self.script.views[v].over else sql("coalesce({last}, {now})", last=last, now=now)
         added = "INSERT INTO {target} (night, view, pre, post, change) SELECT {night}, {view}, g.many, g.many, 0 FROM (SELECT {now} AS many) AS g"
         return sql(added, target=self.target(SIZES), night=self.number(), view=text(self.script.views[v].name), now=counted or now)
 

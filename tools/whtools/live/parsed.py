@@ -3,21 +3,18 @@
 import re
 from typing import NamedTuple
 
+from whtools.live.reasons import CLAUSES, CURRENT, WHO, of_cast, of_function, of_word
+
 TOKEN = re.compile(
     r"(?P<blank>\s+|--[^\n]*|/\*.*?\*/)|(?P<name>\"(?:[^\"]|\"\")+\"|`[^`]+`)|(?P<text>[Ee]?'(?:[^']|'')*')|(?P<number>\d+(?:\.\d+)?(?![\w.]))"
-    r"|(?P<word>[^\W\d]\w*)|(?P<mark>::|<>|!=|<=|>=|==|\|\||.)",
+    r"|(?P<word>[^\W\d]\w*)|(?P<mark>::|<>|!=|!?~~\*?|!?~\*?|->>?|#>>?|#-|<<=|>>=|<=|>=|==|<<|>>|@>|<@|@@|@\?|&&|<->|-\|-|\^@|\|\||.)",
     re.DOTALL,
 )
 COMPARED = {"=": "=", "==": "=", "<>": "<>", "!=": "<>", "<": "<", "<=": "<=", ">": ">", ">=": ">="}
-# Words that no name of a table or a column may be read as, each with what is said of it where it stands.
-CLAUSES = {
-    "DISTINCT": "it has DISTINCT: group by all its columns", "LEFT": "it has an outer join", "RIGHT": "it has an outer join",
-    "FULL": "it has an outer join", "NATURAL": "it has a NATURAL join: name the columns", "HAVING": "it has HAVING", "ORDER": "it has ORDER BY",
-    "LIMIT": "it has LIMIT", "OFFSET": "it has OFFSET", "UNION": "it has UNION", "EXCEPT": "it has EXCEPT", "INTERSECT": "it has INTERSECT",
-    "WITH": "it has WITH", "CASE": "it has CASE", "OVER": "it has a window", "FILTER": "it has FILTER", "WINDOW": "it has a window",
-    "EXISTS": "it has EXISTS", "LIKE": "it has LIKE", "ILIKE": "it has ILIKE", "VALUES": "it has VALUES", "FETCH": "it has FETCH",
+RESERVED = {
+    *CLAUSES, "SELECT", "FROM", "WHERE", "GROUP", "BY", "JOIN", "INNER", "CROSS", "ON", "USING", "AND", "OR", "NOT", "AS", "IN", "IS", "BETWEEN", "ANY", "ALL",
+    "NULL", "COLLATE",
 }  # fmt: skip
-RESERVED = {"SELECT", "FROM", "WHERE", "GROUP", "BY", "JOIN", "INNER", "CROSS", "ON", "USING", "AND", "OR", "NOT", "AS", "IN", "IS", "BETWEEN", "ANY", "ALL", "NULL", *CLAUSES}
 
 
 class NotTaken(Exception):
@@ -73,12 +70,17 @@ class Parser:
 
     def want(self, word):
         if not self.took(word):
-            raise NotTaken(CLAUSES.get(self.said) or f"{self.tokens[self.at][1]!r} stands where {word} is read")
+            self.refuse_here(f"where {word} is read")
+
+    def refuse_here(self, where):
+        """Refuses what stands here, by its own reason where it has one."""
+        is_zone = [said.upper() for _, said in self.tokens[self.at : self.at + 3]] == ["AT", "TIME", "ZONE"]
+        raise NotTaken(of_word("AT TIME ZONE" if is_zone else self.said) or f"{self.tokens[self.at][1]!r} stands {where}")
 
     def name(self):
         kind, said = self.tokens[self.at]
         if kind not in ("word", "name") or (kind == "word" and said.upper() in RESERVED):
-            raise NotTaken(CLAUSES.get(self.said) or f"{said!r} stands where a name is read")
+            self.refuse_here("where a name is read")
         self.at += 1
         return said
 
@@ -116,7 +118,7 @@ class Parser:
         groups = self.listed(self.expression) if self.took("GROUP", "BY") else None
         self.took(";")
         if self.said != "its end":
-            raise NotTaken(CLAUSES.get(self.said) or f"{self.tokens[self.at][1]!r} stands behind its end")
+            self.refuse_here("behind its end")
         return Select(shown, tables, self.equal, where, groups)
 
     def output(self):
@@ -160,9 +162,12 @@ class Parser:
             found = self.joined()
             self.want(")")
             return found
+        is_only = self.took("ONLY")
         schema, name = None, self.name()
         while self.took("."):
             schema, name = name, self.name()
+        if is_only:
+            raise NotTaken(f"it is over ONLY {name}, and a table's rows are taken with those of its heirs and parts: leave ONLY out")
         if self.said == "(":
             raise NotTaken(f"it is over the function {name}")
         kind, said = self.tokens[self.at]
@@ -212,9 +217,9 @@ class Parser:
             sign = COMPARED[self.said]
             self.at += 1
             if self.took("ANY"):
-                return self.one_of(left, self.array()) if sign == "=" else self.refuse("it compares with an array")
+                return self.one_of(left, self.array()) if sign == "=" else self.refuse("it compares with ANY of an array: write each comparison")
             if self.took("ALL"):
-                return ("not", self.one_of(left, self.array())) if sign == "<>" else self.refuse("it compares with an array")
+                return ("not", self.one_of(left, self.array())) if sign == "<>" else self.refuse("it compares with ALL of an array: write each comparison")
             return ("compared", sign, left, self.expression())
         return self.tested(left)
 
@@ -222,6 +227,12 @@ class Parser:
         """What stands behind an expression that is no comparison."""
         if self.took("IS"):
             is_not = self.took("NOT")
+            if self.took("DISTINCT", "FROM"):
+                found = ("distinct", left, self.expression())
+                return ("not", found) if is_not else found
+            if self.said != "NULL":
+                word = f"IS {'NOT ' if is_not else ''}{self.tokens[self.at][1]}"
+                raise NotTaken(f"it has {word}: write the condition or the comparison itself, and IS NULL or IS NOT NULL beside it where it may be NULL")
             self.want("NULL")
             return ("not", ("null", left)) if is_not else ("null", left)
         is_not = self.took("NOT")
@@ -234,7 +245,7 @@ class Parser:
             found = self.one_of(left, self.listed(self.expression))
             self.want(")")
         elif is_not or left[0] != "column":
-            raise NotTaken(CLAUSES.get(self.said) or f"{self.tokens[self.at][1]!r} stands where a comparison is read")
+            self.refuse_here("where a comparison is read")
         else:
             found = ("compared", "<>", left, ("number", 0, 0))
         return ("not", found) if is_not else found
@@ -248,6 +259,8 @@ class Parser:
         brackets = 1
         while self.took("("):
             brackets += 1
+        if self.said != "ARRAY":
+            raise NotTaken("it compares with the members of an array that is no list of values: join a table that has them row by row")
         self.want("ARRAY")
         self.want("[")
         found = self.listed(self.expression)
@@ -268,8 +281,9 @@ class Parser:
             sign = self.said
             self.at += 1
             found = (sign, found, self.product())
-        if self.said in ("||", "/", "%", "^"):
-            raise NotTaken(f"it has the operator {self.said}")
+        is_mark = self.tokens[self.at][0] == "mark" and self.said not in COMPARED
+        if is_mark and of_word(self.said):
+            self.refuse_here("")
         return found
 
     def product(self):
@@ -283,21 +297,37 @@ class Parser:
         while self.took("::"):
             kind, said = self.tokens[self.at][0], self.name()
             said = f'"{said}"' if kind == "name" else said.lower()
-            while self.said in ("VARYING", "PRECISION", "WITH", "WITHOUT", "TIME", "ZONE"):
-                said += f" {self.said.lower()}"
-                self.at += 1
+            said += self.more_of_type()
             if self.said in ("(", "."):
-                raise NotTaken(f"it casts to {said}, with more that is said of that type")
+                raise NotTaken(of_cast(self.bounded_type(said)))
             while self.took("["):
                 self.want("]")
             found = ("cast", said, found)
+        return found
+
+    def more_of_type(self):
+        """The words behind the first one of a type."""
+        found = ""
+        while self.said in ("VARYING", "PRECISION", "WITH", "WITHOUT", "TIME", "ZONE"):
+            found += f" {self.said.lower()}"
+            self.at += 1
+        return found
+
+    def bounded_type(self, said):
+        """A type with its length or its places, or in its schema, in words."""
+        closed, found = (")", ""), said
+        while self.said not in (*closed, "its end"):
+            found += self.tokens[self.at][1]
+            self.at += 1
+        if self.took(")"):
+            found += ")" + self.more_of_type()
         return found
 
     def atom(self):
         kind, said = self.tokens[self.at]
         if self.took("("):
             if self.said == "SELECT":
-                raise NotTaken("it has a SELECT within another")
+                self.refuse_here("")
             found = self.expression()
             self.want(")")
             return found
@@ -316,6 +346,10 @@ class Parser:
         return self.called_or_column()
 
     def called_or_column(self):
+        kind, said = self.tokens[self.at]
+        is_array = kind == "word" and said.upper() == "ARRAY" and self.tokens[self.at + 1][1] == "["
+        if is_array or kind == "word" and said.upper() in CURRENT | WHO:
+            self.refuse_here("")
         names = [self.name()]
         if self.took("("):
             return self.called(names[0].upper())
@@ -336,7 +370,7 @@ class Parser:
         elif said in ("MIN", "MAX"):
             raise NotTaken(f"it has {said}, which changes alone do not keep up to date")
         else:
-            raise NotTaken(f"it has the function {said.lower()}")
+            raise NotTaken(of_function(said.lower()))
         self.want(")")
         return found
 

@@ -2,7 +2,9 @@
 
 from hashlib import sha256
 
+from whtools.live.computed import Computed
 from whtools.live.history import History
+from whtools.live.noted import Noted
 from whtools.sql.comments import Comments
 from whtools.sql.names import Names
 from whtools.sql.catalogued import WIDEST_INDEX
@@ -10,7 +12,7 @@ from whtools.sql.script import Script
 from whtools.sql.tokens import joined, name, sql, word
 
 
-class LiveScript(Script):
+class LiveScript(Computed, Script):
     """The statements over a catalogue whose base views are mirrors. Their tables and all others stand in a schema of their own, or in
     SQLite have a word before their names. A night takes the changes that are there when it begins, and what comes later stays."""
 
@@ -19,6 +21,7 @@ class LiveScript(Script):
         self.prefixed = Names(dialect, [prefix + view.name for view in catalogue.views])
         super().__init__(catalogue, dialect)
         self.catalogue, self.history, self.captures = catalogue, History(self), dialect.captures(self)
+        self.instead = {}
         self.name_all()
 
     cure = ": put it right in the table that is captured, and run tools/sql --capture"
@@ -27,6 +30,10 @@ class LiveScript(Script):
 
     def said(self, v, suffix=""):
         return self.prefixed.of(self.prefix + self.views[v].name, suffix)
+
+    def table(self, v, suffix=""):
+        """The table of a view or of its changes; or what stands for one that is not as it should be, where a check says so."""
+        return self.instead[v] if v in self.instead and not suffix else super().table(v, suffix)
 
     def name_all(self):
         """Names that are cut are told apart in the order in which they are asked for first: whatever is written, that of the views."""
@@ -59,11 +66,12 @@ class LiveScript(Script):
         listed = [(works.expression(step), works.predicted(step)) for step in steps]
         ended = [] if self.dialect.takes else self.emptied()
         ended += self.dialect.settled() + [each for v in range(len(self.views)) for each in [*self.verified(v), *self.untouched(v)]]
-        return self.whole([*self.looked_at(), *self.history.began()], steps, [*ended, *self.history.ended(*zip(*listed))], comment)
+        before = [*self.looked_at(), *self.history.began()]
+        return self.whole(before, steps, [*ended, *self.history.ended(*zip(*listed))], comment, self.captures)
 
     def looked_at(self):
         """A refusal of tables that are not captured as they were, and of views that are not filled as the catalogue has them."""
-        return [*self.captures.whole(), *self.captures.opened()]
+        return [*self.captures.whole(), *self.captures.opened(), *self.captures.others_unfilled()]
 
     def told_unopened(self, said):
         return f"view {said} was not filled by the definition that the catalogue has: run tools/sql --live --open"
@@ -72,21 +80,37 @@ class LiveScript(Script):
         """The numbers of the derived views, each with a digest of its definition."""
         return {v: sha256("\n".join(self.words.definition(v)).encode()).hexdigest() for v in self.steps.derived()}
 
-    def open(self, comment):
-        """The derived views are filled from the mirrors; what is in the tables of changes stays there."""
-        derived = self.steps.derived()
+    def filled_anew(self, chosen=None):
+        """The derived views that are filled where these are, or all: these themselves, and those over them."""
+        if chosen is None:
+            return self.steps.derived()
+        found = set(chosen)
+        for v in self.steps.derived():
+            found |= {v} if found.intersection(self.views[v].over) else set()
+        return sorted(found.intersection(self.steps.derived()))
+
+    def open(self, comment, chosen=None):
+        """The derived views are filled from the mirrors, or these of them and those over them; what is in the tables of changes stays there."""
+        derived = self.filled_anew(chosen)
         cleared = [each for v in reversed(derived) for each in self.cleared(v)]
         ended = self.dialect.settled() + [each for v in derived for each in self.verified(v)]
-        sizes = [self.history.opened(v) for v in range(len(self.views))]
-        ended = [*ended, *sizes, *self.captures.noted_as_opened(), self.history.closed()]
-        return self.whole([*self.history.began(), *cleared], self.steps.opening(), ended, comment)
+        sizes = [self.history.opened(v, v in derived) for v in range(len(self.views))]
+        steps = [step for step in self.steps.opening() if step.view in derived]
+        ended = [*ended, *sizes, *Noted(self).as_filled(derived), self.history.closed()]
+        return self.whole([*self.history.began(), *cleared], steps, ended, comment)
 
-    def whole(self, before, steps, after, comment):
-        """A transaction of all this, which locks the mirrors and the views alone."""
+    def indexed(self, v):
+        """The indexes of a table are made anew, by the columns by which views are joined with it."""
+        gone = [sql("DROP INDEX IF EXISTS {index}", index=self.dialect.table(self.said(v, f"~{at}"))) for at in range(1, len(self.asked_for()[v]) + 1)]
+        return [*gone, *self.indexes_of(v)]
+
+    def whole(self, before, steps, after, comment, captures=None):
+        """A transaction of all this, which locks the mirrors and the views alone; a night looks at what is captured before all else."""
         locked = [self.table(v) for v in range(len(self.views))]
         working = self.checked.working_tables() + self.working_tables()
         made = before + self.carried(steps, comment) + after
-        return self.dialect.program(self.checked.statements(locked), working, made, self.checked.watchers())
+        looked, shown = (captures.stands(), captures.refused_rows()) if captures else ((), ())
+        return self.dialect.program(self.checked.statements(locked), working, made, self.checked.watchers(), looked, shown)
 
     # ---- tables
 

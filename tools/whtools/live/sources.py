@@ -9,12 +9,14 @@ TURNS = {"postgresql": turned.of_postgresql, "sqlite": turned.of_sqlite}
 
 
 class Source(NamedTuple):
-    """A table of the application: its schema and name, its columns as they are turned, in the view's order, and what of them is a key."""
+    """A table of the application: its schema and name, its columns as they are turned, in the view's order, what of them is a key, and whether it
+    is partitioned."""
 
     schema: str
     table: str
     columns: list
     key: list
+    is_parted: bool = False
 
     @property
     def said(self):
@@ -55,12 +57,12 @@ def source(engine, view, schema, table, wanted=()):
     keys = [key for key in table.keys if apart.issuperset(key)]
     if wanted and not any(set(key) <= set(wanted) for key in keys):
         raise Unfit(f"{view.name}: the catalogue has the key {', '.join(wanted)}, and the table {table.name} has no unique key of these columns")
-    return Source(schema, table.name, columns, keys[0] if keys else [])
+    return Source(schema, table.name, columns, keys[0] if keys else [], table.is_parted)
 
 
-def sources(script, asked, schema):
-    """The tables of the base views, by the views' numbers."""
-    base = script.steps.base()
+def sources(script, asked, schema, base=None):
+    """The tables of the base views, or of these of them, by the views' numbers."""
+    base = script.steps.base() if base is None else base
     tables = asked.tables(schema, [script.views[v].name for v in base])
     found = {}
     for v in base:

@@ -1,22 +1,14 @@
 """SQLite as tables are captured there: by triggers row by row, in the same file, where one writes at a time."""
 
 from whtools.live.history import SIZES
-from whtools.live.turned import NULL, again
+from whtools.live.sqlite_seen import Seen
+from whtools.live.sqlite_triggers import REPLACED, Triggers
+from whtools.live.turned import NULL
 from whtools.sql.dialect import COUNT
 from whtools.sql.sqlite import SQLite
-from whtools.sql.tokens import END_OF_STATEMENT, Unfit, joined, name, number, sql, statements, text, word
+from whtools.sql.tokens import Unfit, joined, name, number, sql, text
 
 CAPTURED = "~captured"
-# A row that REPLACE takes away fires no trigger by itself. What might be replaced is noted by its place before a row comes or changes; what
-# of it is gone afterwards was replaced. A note of a row that stayed does no harm: it is taken back where that row changes or leaves.
-REPLACED = "~replaced"
-
-# Whether a row r and the one that comes have the same in a column of a unique index; or, of a NULL that REPLACE fills, may have.
-SAME = "r.{column} = new.{column} COLLATE {by}"
-SAME_OR_FILLED = f"(new.{{column}} IS NULL OR {SAME})"
-# The unique indexes s of a table by the statements that made them.
-UNIQUE = "{schema}.sqlite_master AS s WHERE s.type = {index} AND s.tbl_name = {source} COLLATE NOCASE AND s.sql LIKE {unique}"
-OF_UNIQUE = "~unique"
 
 
 class LiveSQLite(SQLite):
@@ -38,19 +30,15 @@ class LiveSQLite(SQLite):
         return Captures(script)
 
 
-class Captures:
+class Captures(Triggers, Seen):
     """The statements that capture the tables of base views, that look whether they are still captured, and that let them go."""
 
     def __init__(self, script):
-        self.script, self.dialect = script, script.dialect
+        self.script, self.dialect, self.captured = script, script.dialect, CAPTURED
         self.state = script.own(CAPTURED)
 
-    def table(self, v, suffix):
-        """A table as a trigger names it where it writes there."""
-        return self.dialect.target(self.script.said(v, suffix))
-
-    def replaced(self, v):
-        return self.table(v, REPLACED)
+    def named(self, said):
+        return sql("{schema}.{said}", schema=name(self.dialect.schema), said=name(said))
 
     def tables(self, sources):
         """All tables with their columns and what follows when they are made, by their names."""
@@ -85,74 +73,9 @@ class Captures:
         if column.kind == "int":
             reasons.append((f"{NULL['int']}, which stands for NULL", sql("{cell} = {null}", cell=cell, null=number(NULL["int"]))))
         for why, test in reasons:
-            if database.rows(sql("SELECT 1 FROM {source} AS r WHERE {test} LIMIT 1", source=name(source.table), test=test))[0]:
-                raise Unfit(f"{self.script.views[v].name} cannot be captured: in its column {column.name} stands {why}")
-
-    def alike(self, source, database):
-        """Whether a row r of the table and the row that comes cannot both stay."""
-        found = [sql("r._rowid_ = new._rowid_")]
-        for columns in database.unique(source.table):
-            if any(said is None for said, *_ in columns):
-                raise Unfit(f"{source.table} cannot be captured: it has a unique index over an expression, by which REPLACE takes rows away")
-            pairs = [sql(SAME_OR_FILLED if fills else SAME, column=name(said), by=word(by)) for said, by, fills in columns]
-            found.append(sql("({pairs})", pairs=joined(pairs, "AND")))
-        return joined(found, "OR")
-
-    # ---- triggers
-
-    def added(self, v, source, row, sign, test=None):
-        """The statement that notes a row that came or left."""
-        return sql(
-            "INSERT INTO {changes} ({columns}) SELECT {cells}, {sign} {where}", changes=self.table(v, "~changes"),
-            columns=joined([*self.script.users(v), COUNT]), cells=joined([again(column.said, word(row)) for column in source.columns]),
-            sign=number(sign), where=sql("WHERE {test}", test=test) if test else sql(""),
-        )  # fmt: skip
-
-    def gone(self, v, source, test):
-        """The statements that note what was replaced: of the rows that pass a test, those that are there no more or in whose place another
-        one came."""
-        replaced, columns = self.replaced(v), joined([*self.script.users(v), COUNT])
-        is_gone = sql("(f.place = new._rowid_ {test} OR NOT EXISTS (SELECT 1 FROM {source} AS r WHERE r._rowid_ = f.place))",
-                      test=test, source=name(source.table))  # fmt: skip
-        return [
-            sql("INSERT INTO {changes} ({columns}) SELECT {cells}, -1 FROM {replaced} AS f WHERE {gone}", changes=self.table(v, "~changes"),
-                columns=columns, cells=joined(self.script.cells(v, "f")), replaced=replaced, gone=is_gone),
-            sql("DELETE FROM {replaced} WHERE place IN (SELECT f.place FROM {replaced} AS f WHERE {gone})", replaced=replaced, gone=is_gone),
-        ]  # fmt: skip
-
-    def noted(self, v, source, alike, test):
-        """The statement that notes what might be replaced."""
-        return sql(
-            "INSERT OR REPLACE INTO {replaced} SELECT r._rowid_, {cells} FROM {source} AS r WHERE ({alike}) {test}",
-            replaced=self.replaced(v), cells=source.shown, source=name(source.table), alike=alike, test=test,
-        )
-
-    def triggers(self, v, source, database):
-        """What is fired, by its name."""
-        alike, old = self.alike(source, database), sql("AND f.place <> old._rowid_")
-        changed = joined([sql("old.{column} IS NOT new.{column}", column=name(column.name)) for column in source.columns], "OR")
-        taken_back = sql("DELETE FROM {replaced} WHERE place = old._rowid_", replaced=self.replaced(v))
-        return {
-            "~before": ("BEFORE INSERT", [self.noted(v, source, alike, sql(""))]),
-            "~insert": ("AFTER INSERT", [*self.gone(v, source, sql("")), self.added(v, source, "new", 1)]),
-            "~meant": ("BEFORE UPDATE", [self.noted(v, source, alike, sql("AND r._rowid_ <> old._rowid_"))]),
-            "~update": ("AFTER UPDATE", [taken_back, *self.gone(v, source, old), self.added(v, source, "old", -1, changed),
-                                         self.added(v, source, "new", 1, changed)]),
-            "~delete": ("AFTER DELETE", [taken_back, self.added(v, source, "old", -1)]),
-        }  # fmt: skip
-
-    def trigger_names(self, v):
-        return [self.script.said(v, suffix) for suffix in ("~before", "~insert", "~meant", "~update", "~delete")]
-
-    def fired(self, v, source, database):
-        return [
-            sql("CREATE TRIGGER {said} {when} ON {source} FOR EACH ROW BEGIN{made}\nEND{end}", said=self.named(self.script.said(v, suffix)),
-                when=sql(when), source=name(source.table), made=statements(made, 1), end=END_OF_STATEMENT)
-            for suffix, (when, made) in self.triggers(v, source, database).items()
-        ]  # fmt: skip
-
-    def named(self, said):
-        return sql("{schema}.{said}", schema=name(self.dialect.schema), said=name(said))
+            query = sql("SELECT r._rowid_, quote({cell}) FROM {source} AS r WHERE {test} LIMIT 1", cell=cell, source=name(source.table), test=test)
+            for place, found in database.rows(query)[0]:
+                raise Unfit(f"{self.script.views[v].name} cannot be captured: in its column {column.name} stands {why}: {found}, in the row of rowid {place}")
 
     # ---- contents
 
@@ -174,27 +97,24 @@ class Captures:
                 mirror=script.table(v), columns=joined([*script.users(v), COUNT]), cells=cells, source=name(source.table), filled=is_filled),
             difference,
             sql("INSERT OR REPLACE INTO {state} VALUES ({view}, {source}, 1)", state=self.state, view=view, source=text(source.table)),
-            sql("INSERT OR REPLACE INTO {state} SELECT {view} || {suffix}, coalesce(group_concat(s.sql, {end}), {none}), 0 FROM " + UNIQUE,
-                state=self.state, view=view, suffix=text(OF_UNIQUE), end=text(";"), none=text(""), **self.unique_parts(text(source.table))),
+            sql("DELETE FROM {replaced}", replaced=script.table(v, REPLACED)),
+            *self.noted_of(v),
         ]  # fmt: skip
-
-    def unique_parts(self, source):
-        return {"schema": name(self.dialect.schema), "index": text("index"), "source": source, "unique": text("CREATE UNIQUE INDEX%")}
 
     # ---- scripts
 
-    def capture(self, sources, database):
-        there, made = self.judge(sources, database), []
+    def capture(self, sources, database, reshaped=None):
+        there, made, filled = self.judge(sources, database), [], []
+        if reshaped:
+            there, made, filled = there - {said.lower() for said in reshaped.gone()}, reshaped.before(), reshaped.after()
         for said, (columns, more) in self.tables(sources).items():
             if said.lower() not in there:
                 made += [sql("CREATE TABLE {table} ({columns})", table=self.named(said), columns=columns), *more]
-        made += self.without_triggers()
+        made += self.without_triggers(sources)
         made += [each for v, source in sources.items() for each in self.fired(v, source, database)]
-        return self.dialect.creation([*made, *(each for v, source in sources.items() for each in self.filled(v, source))])
-
-    def without_triggers(self):
-        said = [said for v in self.script.steps.base() for said in self.trigger_names(v)]
-        return [sql("DROP TRIGGER IF EXISTS {said}", said=self.named(each)) for each in said]
+        filled += [each for v, source in sources.items() for each in self.filled(v, source)]
+        is_all = f"{self.script.prefix}{CAPTURED}" not in there or set(sources) == set(self.script.steps.base())
+        return self.dialect.creation([*made, *filled, self.schema_noted()] if is_all else self.schema_changed([*made, *filled]))
 
     def uncapture(self, database):
         """What was not made by --capture stays as it is."""
@@ -220,13 +140,11 @@ class Captures:
 
     # ---- by what definitions the views were filled
 
-    def noted_as_opened(self):
-        """The views are filled as the catalogue has them."""
-        state = self.dialect.target(f"{self.script.prefix}{CAPTURED}")
-        return [
-            sql("INSERT OR REPLACE INTO {state} VALUES ({view}, {print}, 0)", state=state, view=text(self.script.views[v].name), print=text(said))
-            for v, said in self.script.definitions().items()
-        ]  # fmt: skip
+    def others_unfilled(self):
+        """Views that are filled and not in this catalogue are filled no more: its nights take changes of which they learn nothing."""
+        views = joined([text(view.name) for view in self.script.views])
+        return [sql("UPDATE {state} SET source = {none} WHERE filled = 0 AND source <> {none} AND view NOT IN ({views}) AND view IN (SELECT s.view FROM {sizes}"
+                    " AS s)", state=self.dialect.target(f"{self.script.prefix}{CAPTURED}"), none=text(""), views=views, sizes=self.script.own(SIZES))]  # fmt: skip
 
     def opened(self):
         """Refusals of views that were never filled, or by another definition."""
@@ -239,29 +157,3 @@ class Captures:
             )  # fmt: skip
             found += self.dialect.refuse(self.script.told_unopened(self.script.views[v].name), query)
         return found
-
-    # ---- a night's look at them
-
-    def whole(self):
-        """Refusals of a table whose triggers are gone, as they are where a table was made anew; and notes of what stayed are dropped."""
-        found = []
-        for v in self.script.steps.base():
-            view, names = self.script.views[v].name, self.trigger_names(v)
-            told = f"table {view} is not captured as it was: its triggers are gone; run tools/sql --capture"
-            query = sql(
-                "SELECT 1 WHERE (SELECT count(*) FROM {schema}.sqlite_master AS s WHERE s.type = {kind} AND s.name IN ({names})) <> {many}"
-                " OR NOT EXISTS (SELECT 1 FROM {state} AS c WHERE c.view = {view} AND c.filled = 1)",
-                schema=name(self.dialect.schema), kind=text("trigger"), names=joined(list(map(text, names))), many=number(len(names)),
-                state=self.state, view=text(view),
-            )  # fmt: skip
-            found += [*self.dialect.refuse(told, query), *self.indexed_as_it_was(v), sql("DELETE FROM {replaced}", replaced=self.replaced(v))]
-        return found
-
-    def indexed_as_it_was(self, v):
-        """A refusal of a table with a unique index more, by which REPLACE takes rows away that no trigger notes."""
-        view = text(self.script.views[v].name)
-        source = sql("(SELECT c.source FROM {state} AS c WHERE c.view = {view})", state=self.state, view=view)
-        query = sql("SELECT 1 FROM {state} AS u JOIN " + UNIQUE + " AND instr(u.source, s.sql) = 0 AND u.view = {view} || {suffix}",
-                    state=self.state, view=view, suffix=text(OF_UNIQUE), **self.unique_parts(source))  # fmt: skip
-        told = f"table {self.script.views[v].name} is not captured as it was: it has a unique index more; run tools/sql --capture"
-        return self.dialect.refuse(told, query)

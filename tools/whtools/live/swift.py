@@ -6,6 +6,8 @@ has a key, a row that leaves and one that comes with it are one that changes. A 
 
 from functools import cached_property
 
+from whtools.live.culprits import Culprits
+from whtools.live.digests import Digests
 from whtools.live.history import SwiftHistory
 from whtools.live.opening import Opening
 from whtools.live.script import LiveScript
@@ -15,7 +17,7 @@ from whtools.sql.dialect import COUNT, MOST
 from whtools.sql.keys import Keys
 from whtools.sql.lean import LOOK_UPS, LeanComps
 from whtools.sql.postgresql import KEPT, LIMITS, PostgreSQL
-from whtools.sql.tokens import joined, name, sql, statements, word
+from whtools.sql.tokens import joined, name, sql, statements, text, word
 
 # How many rows of a view's change there are, that leave, that stay otherwise and that come; and of views without keys by how many rows their
 # tables grow, and how many change.
@@ -35,7 +37,7 @@ def without(made, *ways):
 OF_NIGHTS = [sql("SET LOCAL default_statistics_target = 1"), *switched("off", "mergejoin")]
 
 
-class SwiftScript(SwiftGroups, Opening, LeanComps, LiveScript):
+class SwiftScript(SwiftGroups, Culprits, Digests, Opening, LeanComps, LiveScript):
     """The statements of a night whose tables are all its own."""
 
     def __init__(self, catalogue, dialect, prefix=""):
@@ -46,6 +48,7 @@ class SwiftScript(SwiftGroups, Opening, LeanComps, LiveScript):
         """What a night and an opening count. At first each is NULL: a value to begin with would be an expression that is planned."""
         numbers = [word(kind, v) for v in range(len(self.views)) for kind in (COUNTERS if self.is_told_by_key(v) else COUNTERS + SUMS)]
         numbers += [word("made", v) for v in self.steps.derived() if not self.is_direct(v)]
+        numbers += [word("strange", v) for v in self.computed_with]
         whole = [sql("{said} pg_catalog.int8", said=said) for said in [*numbers, word("lost")]]
         refusals = [sql("{told} pg_catalog.text", told=self.counter("told", v)) for v in range(len(self.views))]
         refusals += [sql("{there} pg_catalog.bool", there=self.counter("there", v)) for v in self.steps.base()]
@@ -55,8 +58,12 @@ class SwiftScript(SwiftGroups, Opening, LeanComps, LiveScript):
 
     @cached_property
     def keys(self):
-        """Of each view that has one the places of its key."""
-        return Keys(self.catalogue, self.shape).found
+        """Of each view that has one the places of its key. A text of a joined view's key has to be one of a key of the application's: in no index of
+        its own has a text by which only a view is grouped to have room."""
+        found = Keys(self.catalogue, self.shape).found
+        of_base = {(u, place) for u, key in found.items() if not self.views[u].over for place in key}
+        texts = {v: [place for place in key if self.is_text(v, place)] for v, key in found.items() if self.views[v].over and not self.shape.is_summary(v)}
+        return {v: key for v, key in found.items() if all(self.traced(v, place) in of_base for place in texts.get(v, ()))}
 
     # ---- steps
 
@@ -126,7 +133,8 @@ class SwiftScript(SwiftGroups, Opening, LeanComps, LiveScript):
         with its key."""
         cells, read, pair = self.cells(v, "g"), self.read(v), [word("pair")] if self.is_keyed(v) else []
         pairs = list(zip(read, cells))
-        on = [pairs[place] for place in self.key(v)] or pairs
+        on = self.found_by(v, [(place, *each) for place, each in enumerate(pairs)])
+        on = joined([sql("{a} = {b}", a=a, b=b) for a, b in (pairs[place] for place in self.key(v))], "AND") if self.key(v) else on
         rest = [each for place, each in enumerate(pairs) if self.key(v) and place not in self.key(v)]
         same = lambda some: joined([sql("{a} = {b}", a=a, b=b) for a, b in some], "AND")  # noqa: E731
         was = sql("coalesce(t.{count}, 0)", count=COUNT)
@@ -135,7 +143,7 @@ class SwiftScript(SwiftGroups, Opening, LeanComps, LiveScript):
         return sql(
             "CREATE TEMPORARY TABLE {net} ON COMMIT DROP AS SELECT {cells}, g.n, {was} AS was, t.ctid AS place {pair} FROM ({rows}) AS g ({own})"
             " LEFT JOIN {table} AS t ON {on}", net=name(self.working_name(v, "net")), cells=joined(cells), was=was,
-            pair=sql(", g.pair") if pair else sql(""), rows=rows, own=joined([*self.cells(v), word("n"), *pair]), table=self.table(v), on=same(on),
+            pair=sql(", g.pair") if pair else sql(""), rows=rows, own=joined([*self.cells(v), word("n"), *pair]), table=self.table(v), on=on,
         )  # fmt: skip
 
     def judging(self, v):
@@ -155,15 +163,24 @@ class SwiftScript(SwiftGroups, Opening, LeanComps, LiveScript):
         ]
         if self.is_keyed(v):
             refusals.append((sql("count(*) <> {gone} + {come} + 2 * {stay}", **counted), self.told_torn(v)))
-        return {"rows": sql("count(*)"), **counted, **sums, "told": self.first_told(refusals)}
+        strange = {"strange": self.many(self.strange_numbers(v, self.cells(v, "d"))) for _ in self.computed_with.get(v, ())[:1]}
+        return {"rows": sql("count(*)"), **counted, **sums, "told": self.first_told(refusals), **strange}
 
     def judge(self, step):
-        return self.judged(step.view)
+        v = step.view
+        strange = sql("{strange} > 0", strange=self.counter("strange", v))
+        rows = sql("{net} AS d", net=self.working(v, "net"))
+        return [*self.judged(v), *self.strange_refused(v, strange, rows, self.cells(v, "d"))]
 
     def judged(self, v):
-        """A refusal of what is absent, too large or otherwise than its key, by what was told of it."""
+        """A refusal of what is absent, too large or otherwise than its key, by what was told of it, with the rows that did it."""
         told = self.counter("told", v)
-        return [self.dialect.where(sql("{told} IS NOT NULL", told=told), self.dialect.raised(told))]
+        queries = self.culprits(v) if self.shape.is_summary(v) else [(sql("TRUE"), self.wrong_rows(v))]
+        return self.dialect.only_where(sql("{told} IS NOT NULL", told=told), self.raised_with(told, queries))
+
+    def range(self, v, query):
+        """A refusal of an output without a value, with the rows that did it."""
+        return self.dialect.only_where(sql("EXISTS ({query})", query=query), self.raised_with(text(self.told_range(v)), self.culprits(v)))
 
     # ---- what is computed
 
@@ -257,13 +274,13 @@ class SwiftScript(SwiftGroups, Opening, LeanComps, LiveScript):
         tests = [sql("EXISTS (SELECT 1 FROM {changes} AS d)", changes=self.table(v, "~changes")) for v in base]
         return [*OF_NIGHTS, sql("SELECT {tests} INTO {there}", tests=joined(tests), there=joined([self.counter("there", v) for v in base]))]
 
-    def whole(self, before, steps, after, comment):
+    def whole(self, before, steps, after, comment, _=None):
         """The tables are judged where they are not as they were when they last passed: nothing else than the night makes use of them. A night
         wants views that are filled as the catalogue has them, too."""
         tables = [self.table(v) for v in range(len(self.views))]
         checks = self.dialect.block([*self.checked.statements(tables), *self.captures.judged()])
         opened = self.captures.opened() if steps else []
-        judged = [self.once(checks), *self.captures.whole(), *opened, *self.captures.noted_as_judged()]
+        judged = [self.once(checks), *self.captures.whole(), *opened, *self.captures.others_unfilled(), *self.captures.noted_as_judged()]
         judged = [*self.captures.looked_at(), *self.then(self.captures.is_changed(), judged)]
         made = before + self.carried(steps, comment) + after
         kept = KEPT if any(word("collapsed").tokens[0] in each.tokens for each in made) else []

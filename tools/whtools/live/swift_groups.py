@@ -18,7 +18,8 @@ class SwiftGroups:
         """Each group that changes, with its sums before and after, and its place."""
         groups, given = self.shape.groups(v), [*self.summed_columns(v, "s"), *self.lost_column(v)]
         cells, read = self.cells(v)[:groups], self.read(v)
-        on = joined([sql("{a} = g.{b}", a=a, b=b) for a, b in zip(read, cells)], "AND") if groups else sql("1 = 1")
+        pairs = [(place, a, sql("g.{b}", b=b)) for place, (a, b) in enumerate(zip(read, cells))]
+        on = self.found_by(v, pairs) if pairs else sql("1 = 1")
         before = [sql("coalesce({column}, 0)", column=column) for column in read[groups:]]
         after = "{was} + g.{sum}::bigint" if self.is_fast else "{was}::numeric + g.{sum}"
         after = [sql(after, was=was, sum=each) for was, each in zip(before, self.summed_columns(v, "s"))]
@@ -36,7 +37,7 @@ class SwiftGroups:
 
     def group_change(self, v, added):
         """The groups that change are found in one pass: of a view that none is over they are put by it, and else kept, and made rows of."""
-        lost = [self.refused_where(sql("lost > 0"), self.told_range(v))] if self.shape.checked(v) else []
+        lost = self.dialect.only_where(sql("lost > 0"), self.raised_with(text(self.told_range(v)), self.culprits(v))) if self.shape.checked(v) else []
         if self.is_last(v):
             told = sql("{told} := {range}", told=self.counter("told", v), range=text(self.told_range(v)))
             put = lambda: self.groups_at_once(v, added())  # noqa: E731

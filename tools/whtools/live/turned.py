@@ -12,13 +12,16 @@ LAST, FIRST = MOST - 1, LEAST + 1
 # So many digits fit 64 bits, or a REAL of SQLite.
 MOST_DIGITS = {"postgresql": 18, "sqlite": 15}
 NEITHER = "which is neither a whole number nor a text to the byte: make it numeric(p,s), or leave the column out"
+OTHER = "which is neither a whole number nor a text to the byte: fill a column of a text or a number with what you want of it, or leave the column out"
 FOLDED = "whose collation takes unequal texts for equal ones, as a night does not: leave the column out"
 TOO_WIDE = "whose values need not fit 64 bits: make it numeric(p,s) with p up to {most}, or leave the column out"
 
 
 class Told(NamedTuple):
     """What a database says of a column: its name, its type in words and by its bare name, its digits and places, whether it may be NULL, and
-    whether its collation takes unequal texts for equal ones."""
+    whether its collation takes unequal texts for equal ones. PostgreSQL tells the number of its type below all domains, too, that of the domain, if
+    it is one, its place, how the server describes it, and what modifies the type. Of a day or a moment in SQLite is told how the first one is
+    written, digits as 0."""
 
     name: str
     shown: str
@@ -27,16 +30,32 @@ class Told(NamedTuple):
     places: int | None
     may_be_null: bool
     is_folded: bool = False
+    number: int | None = None
+    own_number: int | None = None
+    place: int = 0
+    described: str = ""
+    modifier: int = -1
+    form: str | None = None
+
+    @property
+    def is_domain(self):
+        return self.number != self.own_number
 
 
 class Turned(NamedTuple):
-    """How a column is turned: into which kind, from the cell of a row r, whether it may be NULL, and whether unequal values stay unequal."""
+    """How a column is turned: into which kind, from the cell of a row r, whether it may be NULL, and whether unequal values stay unequal; in
+    PostgreSQL also a test of whether a row a of the server's attributes is this column, and still of the type that is turned so; how it is turned
+    where it may be of another type by now, and then is nothing; the same where it may be NULL by now; and what the database says of it."""
 
     name: str
     kind: str
     said: Sql
     may_be_null: bool
     is_apart: bool
+    fits: Sql | None = None
+    sure: Sql | None = None
+    filled: Sql | None = None
+    told: Told | None = None
 
 
 class Unturned(NamedTuple):
@@ -78,10 +97,10 @@ def calendar(template):
     return lambda cell: sql(wanted, cell=cell, day=text("1970-01-01"), last=whole(LAST), first=whole(FIRST))
 
 
-def units(places):
-    """A numeric of so many places, which may be no number."""
-    wanted = "CASE WHEN {cell} = {nan}::numeric THEN {last} ELSE ({cell} * {unit}::numeric)::bigint END"
-    return lambda cell: sql(wanted, cell=cell, nan=text("NaN"), last=whole(LAST), unit=text(str(10**places)))
+def units(digits, places):
+    """A numeric of so many digits and places; what is none of them, as one of a wider column would be, comes after all others."""
+    wanted = ("CASE WHEN {cell} BETWEEN - {most}::numeric AND {most}::numeric THEN ({cell} * {unit}::numeric)::bigint WHEN {cell} IS NOT NULL THEN {last} END")
+    return lambda cell: sql(wanted, cell=cell, most=text(str(10 ** (digits - places))), last=whole(LAST), unit=text(str(10**places)))
 
 
 SECONDS = calendar("floor(extract(epoch FROM {cell}))::bigint")
@@ -94,20 +113,56 @@ NUMBERS = {
 TEXTS = ("text", "varchar", "bpchar", "uuid", "name", "enum")
 
 
+# A domain down to the type below it, whether its values may be NULL, and what modifies the type.
+DOMAIN = (
+    "EXISTS (WITH RECURSIVE d (type, modifier, nothing) AS (SELECT a.atttypid, a.atttypmod, NOT a.attnotnull UNION ALL SELECT y.typbasetype,"
+    " CASE WHEN d.modifier = -1 THEN y.typtypmod ELSE d.modifier END, d.nothing AND NOT y.typnotnull FROM d JOIN pg_type AS y ON y.oid = d.type"
+    " AND y.typtype = {domain}) SELECT 1 FROM d WHERE d.type = {number} AND {modified} AND {filled})"
+)
+
+
+def fits(told):
+    """A test of whether a row a of the server's attributes is this column, of the type that is turned. Types are told by their numbers, which only the
+    server's own have: whoever owns a table may give a column a type of his own, and with it a cast that would be called in the place of the
+    server's. An enumeration's values are written by the server itself, whoever has made it."""
+    of = "d" if told.is_domain else "a"
+    is_numeric, kind = told.type == "numeric", {"d": ("type", "modifier", "nothing"), "a": ("atttypid", "atttypmod", "")}[of]
+    filled = sql("TRUE") if told.may_be_null else sql("NOT d.nothing") if told.is_domain else sql("a.attnotnull")
+    modified = sql(f"{of}.{kind[1]} = {{modifier}}", modifier=number(told.modifier)) if is_numeric else sql("TRUE")
+    parts = {"column": text(told.name), "number": number(told.number), "modified": modified, "filled": filled}
+    if told.is_domain:
+        return sql("a.attname = {column} AND " + DOMAIN, domain=text("d"), **parts)
+    if told.type == "enum":
+        return sql("a.attname = {column} AND {filled} AND EXISTS (SELECT 1 FROM pg_type AS y WHERE y.oid = a.atttypid AND y.typtype = {enum})",
+                   enum=text("e"), **parts)  # fmt: skip
+    return sql("a.attname = {column} AND a.atttypid = {number} AND {modified} AND {filled}", **parts)
+
+
 def of_postgresql(told):
     """How PostgreSQL turns a column, or why it does not."""
+    found = how_of_postgresql(told)
+    if isinstance(found, Unturned) or told.number is None:
+        return found
+    sure = sql("CASE WHEN pg_typeof({cell}) = {own}::regtype THEN {said} END", cell=cell(told), own=text(str(told.own_number)), said=found.said)
+    null = whole(NULL["int"]) if found.kind == "int" else sql("{said}::text", said=text(NULL["text"]))
+    filled = found.said if told.may_be_null else sql("coalesce({said}, {null})", said=found.said, null=null)
+    return found._replace(fits=fits(told), sure=sure, filled=filled, told=told)
+
+
+def how_of_postgresql(told):
     found = NUMBERS.get(told.type)
     if told.type == "numeric":
         most = MOST_DIGITS["postgresql"]
         if told.digits is None or not 0 <= told.places <= told.digits <= most:
             return refused(told, TOO_WIDE.format(most=most))
-        found = units(told.places)
+        found = units(told.digits, told.places)
     if told.type in TEXTS:
         if told.is_folded:
             return refused(told, FOLDED)
-        return turned(told, "text", sql("{cell}::text", cell=cell(told)), sql("{said}::text", said=text(NULL["text"])))
+        said = "textin(enum_out({cell}))" if told.type == "enum" else "{cell}::text"
+        return turned(told, "text", sql(said, cell=cell(told)), sql("{said}::text", said=text(NULL["text"])))
     if found is None:
-        return refused(told, NEITHER)
+        return refused(told, NEITHER if told.type in ("float4", "float8", "numeric", "money") else OTHER)
     return turned(told, "int", found(cell(told)), whole(NULL["int"]), found is not SECONDS)
 
 
@@ -122,30 +177,65 @@ def turned(told, kind, said, null, is_apart=True):
 # ---- SQLite, which keeps any value in any column: what is of another kind than its column is left as it is, and a night refuses it
 
 
-def day_or_moment(template):
-    """What is written as a day or a moment; a number of the application's own stays what it is."""
-    wanted = "coalesce(CASE WHEN typeof({cell}) = {kind} AND {cell} GLOB {digit} THEN " + template + " END, {cell})"
-    return lambda cell: sql(wanted, cell=cell, kind=text("text"), digit=text("[0-9]*"), start=text("start of day"), day=number(86400))
+# Days and moments are compared by SQLite as the texts that they are: in one form these come in the order of time.
+DAY = "0000-00-00"
+MOMENT_FORM = re.compile(rf"{DAY}[ T]00:00:00(\.0+)?Z?")
+NUMBER_FORM = "a number"
+
+
+def form_of(said):
+    """How a value of a column of days or moments is written, digits as 0; a number of the application's own has a form too."""
+    return re.sub("[0-9]", "0", said) if isinstance(said, str) else None if said is None else NUMBER_FORM
+
+
+def has_form(type_name):
+    """Whether a column of a declared type has days or moments."""
+    return next((found is None for word, _, found in BY_WORDS if word in type_name.upper()), False)
+
+
+def in_form(told):
+    """The form that all values of a column have to have: that of its first one, or else how SQLite itself writes them."""
+    if "DATE" in told.type.upper() and "DATETIME" not in told.type.upper():
+        return NUMBER_FORM if told.form == NUMBER_FORM else DAY
+    return told.form if told.form == NUMBER_FORM or MOMENT_FORM.fullmatch(told.form or "") else f"{DAY} 00:00:00"
+
+
+def calendar_of_texts(form):
+    """A day or a moment of a form, as the number that it is; whatever else stands there is told as a text, which a night refuses. Behind a moment
+    without a zone any fraction of a second may stand: texts with one come in the order of time beside those without."""
+    if form == NUMBER_FORM:
+        return lambda cell: cell
+    fits = "{cell} GLOB {form}"
+    if form != DAY and not form.endswith("Z"):
+        form = form[: len(f"{DAY} 00:00:00")]
+        fits = "(" + fits + " OR {cell} GLOB {form} || {point} AND substr({cell}, 21) NOT GLOB {letter})"
+    # What is no day, such as the 31st of February, SQLite takes for another one; by its text it stays where it is.
+    fits += " AND strftime({day}, {cell}, {none}) = substr({cell}, 1, 10)"
+    fits += " AND strftime({time}, {cell}) = substr({cell}, 12, 8)" if form != DAY else ""
+    turned_to = "unixepoch({cell})" if form != DAY else "unixepoch({cell}) / 86400"
+    wanted = "CASE WHEN {cell} IS NULL THEN NULL WHEN typeof({cell}) = {kind} AND " + fits + " THEN " + turned_to + " ELSE {other} || {cell} END"
+    parts = {"kind": "text", "form": form.replace("0", "[0-9]"), "day": "%Y-%m-%d", "time": "%H:%M:%S", "other": f"not written {form}: ",
+             "point": ".[0-9]*", "none": "+0 days", "letter": "*[^0-9]*"}  # fmt: skip
+    return lambda cell: sql(wanted, cell=cell, **{name: text(said) for name, said in parts.items()})
 
 
 def units_of_reals(places):
-    """A number of so many places; one that a REAL has not to the last digit is told as a text, which a night refuses."""
+    """A number of so many places; one that has more, or that a REAL has not to the last digit, is told as a text, which a night refuses."""
     wanted = (
-        "CASE WHEN typeof({cell}) NOT IN ({kinds}) THEN {cell} WHEN {cell} BETWEEN - {most} AND {most} THEN CAST(round({cell} * {unit}) AS INTEGER)"
-        " ELSE {beyond} || {cell} END"
+        "CASE WHEN typeof({cell}) NOT IN ({kinds}) THEN {cell} WHEN {cell} NOT BETWEEN - {most} AND {most} THEN {beyond} || {cell}"
+        " WHEN round({cell} * {unit}) / {unit} = {cell} THEN CAST(round({cell} * {unit}) AS INTEGER) ELSE {between} || {cell} END"
     )
     kinds, most = joined([text("integer"), text("real")]), number(10 ** (MOST_DIGITS["sqlite"] - places))
-    return lambda cell: sql(wanted, cell=cell, kinds=kinds, unit=number(10**places), most=most, beyond=text("beyond "))
+    parts = {"beyond": text("beyond "), "between": text(f"not of {places} places: ")}
+    return lambda cell: sql(wanted, cell=cell, kinds=kinds, unit=number(10**places), most=most, **parts)
 
 
-MOMENTS = day_or_moment("unixepoch({cell})")
 # The first word that is found in a declared type says how it is turned.
 BY_WORDS = (
     ("INT", "int", lambda cell: cell),
     ("BOOL", "int", lambda cell: cell),
-    ("TIMESTAMP", "int", MOMENTS),
-    ("DATETIME", "int", MOMENTS),
-    ("DATE", "int", day_or_moment("unixepoch({cell}, {start}) / {day}")),
+    ("TIMESTAMP", "int", None),
+    ("DATE", "int", None),
     ("CHAR", "text", lambda cell: cell),
     ("CLOB", "text", lambda cell: cell),
     ("TEXT", "text", lambda cell: cell),
@@ -157,6 +247,9 @@ def of_sqlite(told):
     """How SQLite turns a column, or why it does not."""
     declared = told.type.upper()
     kind, found = next((how for word, *how in BY_WORDS if word in declared), (None, None))
+    is_apart = kind is None or found is not None
+    if not is_apart:
+        is_apart, found = in_form(told) in (DAY, NUMBER_FORM), calendar_of_texts(in_form(told))
     if digits := DIGITS.fullmatch(declared):
         if not int(digits[2] or 0) <= int(digits[1]) <= MOST_DIGITS["sqlite"]:
             return refused(told, TOO_WIDE.format(most=MOST_DIGITS["sqlite"]))
@@ -166,7 +259,7 @@ def of_sqlite(told):
     if kind == "text" and told.is_folded:
         return refused(told, FOLDED)
     null = number(NULL["int"]) if kind == "int" else text(NULL["text"])
-    return turned(told, kind, found(cell(told)), null, found is not MOMENTS)
+    return turned(told, kind, found(cell(told)), null, is_apart)
 
 
 def again(said, row):

@@ -1,23 +1,13 @@
 """What applications do to their tables while these are captured, one case each: after the next night the views are what the tables give."""
 
-from typing import NamedTuple
-
 from whtools.databases.engines import Broken
+from whtools.live_trials.altered import COLOURS, COLUMNS, PARTED, PARTS
+from whtools.live_trials.case import Case
 
 NEW_ORDER = "INSERT INTO orders (id, day, paid, region) VALUES (900, '2026-02-02', TRUE, 'region 9');"
 # What is written where tables have been captured anew.
 AGAIN = "INSERT INTO lines SELECT id, 'product 2', 5 FROM orders WHERE id = 35; UPDATE lines SET pieces = 6 WHERE id = 36;"
 NEW_LINES = "INSERT INTO lines VALUES (900, 'product 2', 3), (900, 'product 3', 4);"
-
-
-class Case(NamedTuple):
-    """What is made beside the tables before they are captured; what the application says; what of it fails, by a word; how a night is
-    refused until the tables are captured anew, by a word."""
-
-    said: str
-    made: str = ""
-    fails: str = ""
-    refused: str = ""
 
 
 BOTH = {
@@ -48,23 +38,14 @@ BOTH = {
         "INSERT INTO products (product, price) VALUES ('product 2', 50), ('product 98', 51) ON CONFLICT DO NOTHING;"
     ),
     "a statement that fails": Case("INSERT INTO products (product, price) VALUES ('new', 1), ('product 4', 2);", fails="product"),
-    "dates before 1970": Case("UPDATE orders SET day = '1969-12-30' WHERE id = 7; UPDATE orders SET day = '1901-05-06', at = '1960-01-01 01:02:03Z' WHERE id = 9;"),
+    "dates before 1970": Case("UPDATE orders SET day = '1969-12-30' WHERE id = 7; UPDATE orders SET day = '1901-05-06', at = '1960-01-01 01:02:03' WHERE id = 9;"),
 }  # fmt: skip
 
-PARTED = (
-    "ALTER TABLE lines RENAME TO old_lines; CREATE TABLE lines (id int NOT NULL, product text NOT NULL, pieces smallint NOT NULL) PARTITION BY"
-    " RANGE (id); CREATE TABLE low (pieces smallint NOT NULL, id int NOT NULL, product text NOT NULL); ALTER TABLE lines ATTACH PARTITION low FOR VALUES"
-    " FROM (0) TO (20); CREATE TABLE high PARTITION OF lines FOR VALUES FROM (20) TO (2000) PARTITION BY LIST (product);"
-    " CREATE TABLE others PARTITION OF high DEFAULT; INSERT INTO lines SELECT * FROM old_lines; DROP TABLE old_lines;"
-)
 HOSTILE = """"a'; DROP TABLE lines; --%s $night$ ""part""\\" """.strip()
 ATTACHED = (
     "CREATE TABLE more (id int NOT NULL, product text NOT NULL, pieces smallint NOT NULL); INSERT INTO more VALUES (2000, 'product 2', 5), (2001, 'product 3', 6);"
     " ALTER TABLE lines ATTACH PARTITION more FOR VALUES FROM (2000) TO (3000);"
     " INSERT INTO orders (id, day, region) VALUES (2000, '2026-03-03', 'region 7'), (2001, '2026-03-03', 'region 7');"
-)
-COLOURS = (
-    "CREATE TYPE colour AS ENUM ('region 1', 'region 2', 'region 3'); ALTER TABLE orders ALTER region TYPE colour USING region::colour;"
 )
 ANEW = "CREATE TABLE lines (id int NOT NULL, product text NOT NULL, pieces smallint NOT NULL);"
 HEIRS = "CREATE TABLE special_lines (why text) INHERITS (lines); INSERT INTO special_lines VALUES (3, 'product 3', 3, 'gift');"
@@ -82,7 +63,7 @@ OF_POSTGRESQL = {
     "TRUNCATE of what is referred to": Case("TRUNCATE orders CASCADE;" + NEW_ORDER + NEW_LINES),
     "TRUNCATE that is taken back": Case("BEGIN; TRUNCATE lines; ROLLBACK;"),
     "TRUNCATE of rows of one's own": Case("BEGIN;" + NEW_ORDER + NEW_LINES + "TRUNCATE lines;" + NEW_LINES + "COMMIT;"),
-    "TRUNCATE of a later isolation": Case("BEGIN ISOLATION LEVEL REPEATABLE READ; TRUNCATE lines; COMMIT;", fails="at READ COMMITTED alone"),
+    "TRUNCATE of a later isolation": Case("BEGIN ISOLATION LEVEL REPEATABLE READ; TRUNCATE lines; COMMIT;", refused="it was truncated at another isolation"),
     "without triggers, as one supposes": Case("SET session_replication_role = replica;" + NEW_ORDER + "SET session_replication_role = origin;"),
     "no number, and no end of days": Case(
         "UPDATE orders SET day = 'infinity', at = '-infinity' WHERE id = 2; UPDATE orders SET day = '-infinity', at = 'infinity' WHERE id = 3;"
@@ -139,14 +120,14 @@ OF_POSTGRESQL = {
     "triggers that are disabled for a while": Case(
         "ALTER TABLE lines DISABLE TRIGGER ALL; DELETE FROM lines WHERE id = 3; DO $$ DECLARE t text; BEGIN FOR t IN SELECT tgname FROM pg_trigger WHERE tgrelid"
         " = 'lines'::regclass AND NOT tgisinternal LOOP EXECUTE format('ALTER TABLE lines ENABLE ALWAYS TRIGGER %I', t); END LOOP; END $$;",
-        refused="the triggers of lines were disabled",
+        refused="the triggers of public.lines were disabled",
     ),
     "triggers that have other names, as those of a dump": Case(
         "DO $$ DECLARE t text; BEGIN FOR t IN SELECT tgname FROM pg_trigger WHERE tgrelid = 'lines'::regclass AND NOT tgisinternal LOOP"
         " EXECUTE format('ALTER TRIGGER %I ON lines RENAME TO %I', t, 'once ' || t); END LOOP; END $$; ALTER TABLE lines DISABLE TRIGGER ALL;"
         " ALTER TABLE lines ENABLE TRIGGER ALL;" + NEW_LINES.replace("900", "8"), refused="lines has no triggers",
     ),
-    "a column whose values are written anew": Case("ALTER TABLE lines ALTER pieces TYPE smallint USING pieces + 1;", refused="columns of lines were written anew"),
+    "a column whose values are written anew": Case("ALTER TABLE lines ALTER pieces TYPE smallint USING pieces + 1;", refused="columns of public.lines were written anew"),
     "a column that is made anew": Case("ALTER TABLE lines DROP COLUMN pieces; ALTER TABLE lines ADD COLUMN pieces smallint NOT NULL DEFAULT 2;",
                                        refused="its column pieces is of another type"),
     "an heir that comes, is written to and goes again": Case(
@@ -170,7 +151,7 @@ OF_POSTGRESQL = {
     ),
     "a table in the place of another one": Case(
         f"ALTER TABLE lines RENAME TO old_lines; {ANEW} INSERT INTO lines SELECT * FROM old_lines WHERE id > 2;" + NEW_LINES.replace("900", "4"),
-        refused="it is old_lines now, and another table may have its name",
+        refused="it is public.old_lines now, and another table may have its name",
     ),
     "an heir's row with the key of another one": Case(
         "INSERT INTO special (product, price) VALUES ('product 1', 3), ('product 1', 4), ('product 2', 2.25); DELETE FROM ONLY products WHERE product = 'product 2';",
@@ -179,7 +160,7 @@ OF_POSTGRESQL = {
     "TRUNCATE by a role from which rows are hidden": Case(
         'ALTER FUNCTION wh."lines~capture"() OWNER TO seller; GRANT USAGE ON SCHEMA wh TO seller; GRANT ALL ON ALL TABLES IN SCHEMA wh TO seller;'
         " GRANT SELECT ON lines TO seller; GRANT USAGE ON SCHEMA public TO seller; ALTER TABLE lines ENABLE ROW LEVEL SECURITY;"
-        " CREATE POLICY few ON lines USING (id < 9); INSERT INTO lines VALUES (3, 'product 3', 3); TRUNCATE lines;", fails="row-level security",
+        " CREATE POLICY few ON lines USING (id < 9); INSERT INTO lines VALUES (3, 'product 3', 3); TRUNCATE lines;", refused="its rows are hidden",
     ),
     "a row that a unique index of one's own keeps out until another one has left": Case(
         "CREATE UNIQUE INDEX own ON wh.orders (at) WHERE at > 1800000000; INSERT INTO orders (id, day, at) VALUES (0, '2026-02-02', '2030-01-01 00:00Z');"
@@ -234,8 +215,42 @@ OF_SQLITE = {
         " pieces INT NOT NULL); INSERT INTO lines SELECT * FROM l; INSERT INTO lines VALUES (3, 'product 1', 8);", refused="its triggers are gone",
     ),
     "all rows leave": Case("DELETE FROM lines;"),
+    "a table in the place of another one": Case(
+        "PRAGMA foreign_keys = OFF; ALTER TABLE lines RENAME TO old_lines; CREATE TABLE lines (id INT NOT NULL, product TEXT NOT NULL, pieces INT NOT NULL);"
+        " INSERT INTO lines SELECT * FROM old_lines WHERE id > 2; UPDATE old_lines SET pieces = 1;", refused="its triggers are gone, or stand on another table",
+    ),
+    "a unique index that comes, and goes again": Case(
+        "CREATE UNIQUE INDEX later ON products (price); REPLACE INTO products (product, price) VALUES ('q', 1.25); DROP INDEX later;",
+        refused="rows of it changed unnoticed while the schema did",
+    ),
+    "tables and indexes of others come": Case(
+        "CREATE TABLE elsewhere (x INT); CREATE INDEX by_day ON orders (day);" + NEW_ORDER + NEW_LINES + "ANALYZE; DELETE FROM lines WHERE id < 4;"
+    ),
+    "the file is packed anew": Case("DELETE FROM lines WHERE id < 9 AND rowid % 2 = 0; VACUUM;" + NEW_ORDER + NEW_LINES),
+    "a trigger that comes later": Case(
+        "CREATE TRIGGER a BEFORE UPDATE ON lines WHEN new.pieces = 5 BEGIN UPDATE lines SET pieces = 9, product = 'product 9' WHERE rowid = old.rowid; END;",
+        refused="it has a trigger more",
+    ),
+    "a trigger BEFORE UPDATE that changes the row": Case(
+        "UPDATE lines SET pieces = 5 WHERE id < 12; UPDATE lines SET product = 'product 3' WHERE id = 7; UPDATE lines SET pieces = 5 WHERE id < 12;",
+        made="CREATE TRIGGER a BEFORE UPDATE ON lines WHEN new.pieces = 5 BEGIN UPDATE lines SET pieces = old.pieces + 9, product = 'product 9'"
+             " WHERE rowid = old.rowid; END;",
+    ),
+    "a trigger BEFORE DELETE that changes the row": Case(
+        "DELETE FROM lines WHERE id < 9;" + NEW_LINES.replace("900", "9") + "DELETE FROM lines WHERE id = 9;",
+        made="CREATE TRIGGER a BEFORE DELETE ON lines BEGIN UPDATE lines SET pieces = pieces + 1 WHERE rowid = old.rowid; END;",
+    ),
+    "a trigger BEFORE INSERT that changes what is replaced": Case(
+        "REPLACE INTO products (product, price) VALUES ('product 1', 2), ('product 2', 3);",
+        made="CREATE TRIGGER a BEFORE INSERT ON products BEGIN UPDATE products SET price = 77.25 WHERE product = new.product; END;",
+    ),
+    "a trigger BEFORE UPDATE that makes the row anew": Case(
+        "UPDATE lines SET pieces = 5 WHERE id < 7;",
+        made="CREATE TRIGGER a BEFORE UPDATE ON lines WHEN new.pieces = 5 BEGIN DELETE FROM lines WHERE rowid = old.rowid;"
+             " INSERT INTO lines (rowid, id, product, pieces) VALUES (old.rowid, old.id, 'product 4', 2); END;",
+    ),
 }  # fmt: skip
-OF = {"postgresql": {**BOTH, **OF_POSTGRESQL}, "sqlite": {**BOTH, **OF_SQLITE}}
+OF = {"postgresql": {**BOTH, **OF_POSTGRESQL, **COLUMNS, **PARTS}, "sqlite": {**BOTH, **OF_SQLITE}}
 
 
 def said(live, text, fails):

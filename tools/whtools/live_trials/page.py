@@ -13,13 +13,39 @@ BLOCK = re.compile(r"```(sh|cron|)\n(.*?)```", re.DOTALL)
 WHERE = "/srv/warehouse"
 
 
-def blocks():
-    """The commands of both walks with their lines of cron, and what is printed."""
-    section = (ROOT / "docs/SQL.md").read_text().partition("### A walk")[2].partition("\n### ")[0]
+def blocks_of(heading):
+    """The blocks of a section, by their kinds."""
+    section = (ROOT / "docs/SQL.md").read_text().partition(f"### {heading}")[2].partition("\n### ")[0].partition("\n## ")[0]
     found = {"sh": [], "cron": [], "": []}
     for kind, text in BLOCK.findall(section):
         found[kind].append(text)
-    return list(zip(("postgresql", "sqlite"), found["sh"], found["cron"])), found[""][0]
+    return found
+
+
+def blocks():
+    """The commands of both walks with their lines of cron, and what is printed."""
+    found = blocks_of("A walk")
+    first, planned, second = found["sh"]
+    return list(zip(("postgresql", "sqlite"), (first, second), found["cron"], (planned, ""))), found[""][0]
+
+
+def later_mistakes(folder, planned, server):
+    """What the commands after the walk do otherwise than the page says: one plan for all nights, a check with its line of cron, and a view more."""
+    checks, changes = blocks_of("Checks"), blocks_of("A catalogue that changes")
+    (check,), (printed,), (line,) = checks["sh"], checks[""], checks["cron"]
+    ran = run(planned, folder, server)
+    wrong = [] if not ran.returncode and not ran.stdout else [f"one plan: {ran.stdout}{ran.stderr}"]
+    ran = run(check, folder, server)
+    wrong += [] if (ran.stdout, ran.returncode) == (printed, 0) else [f"a check prints {ran.stdout}{ran.stderr}"]
+    *_, line = line.strip().split(" ", 5)
+    ran = run(line.replace(WHERE, str(folder)) + "; cat live/checks.log", folder, server)
+    wrong += [] if not ran.returncode and "all 1 agree" in ran.stdout else [f"a check by cron: {ran.stdout}{ran.stderr}"]
+    ran = run(changes["sh"][0] + "tools/sql --check --database live live by_product", folder, server)
+    wrong += [] if not ran.returncode and ran.stdout.startswith("by_product agrees: 3 rows\n") else [f"a view more: {ran.stdout}{ran.stderr}"]
+    ran = run(planned, folder, server)
+    wrong += [] if not ran.returncode and not ran.stdout else [f"a night of a view more: {ran.stdout}{ran.stderr}"]
+    ran = run("rm live/catalogue.toml; tools/sql --plan --database live live > live/night.sql || psql -q -f live/night.sql live", folder, server)
+    return wrong + ([] if ran.returncode == 3 and "wrote no script" in ran.stderr else [f"a script that cannot be written: {ran.returncode} {ran.stderr}"])
 
 
 def run(commands, folder, server):
@@ -29,7 +55,7 @@ def run(commands, folder, server):
     return subprocess.run(words, cwd=folder, capture_output=True, text=True, env={**os.environ, **more}, check=False)
 
 
-def walk_mistakes(engine, commands, cron, printed, started, server):
+def walk_mistakes(engine, commands, cron, planned, printed, started, server):
     """What a walk prints otherwise than the page says, and what the line of cron does otherwise than a night."""
     with tempfile.TemporaryDirectory() as folder:
         shutil.copytree(ROOT / "tools", Path(folder) / "tools", ignore=shutil.ignore_patterns("tests", "edits"))
@@ -43,6 +69,7 @@ def walk_mistakes(engine, commands, cron, printed, started, server):
         line = line.replace(WHERE, folder)
         ran = run(line + "; cat live/nights.log", folder, server)
         wrong += [] if ran.returncode == 0 and "certified all work" in ran.stdout and "rror" not in ran.stdout else [f"cron: {ran.stdout}{ran.stderr}"]
+        wrong += later_mistakes(folder, planned, server) if planned else []
     return [f"docs/SQL.md by {engine}: {text}"[:1500] for text in wrong]
 
 
@@ -50,6 +77,6 @@ def page_mistakes(started, server):
     """What both walks do otherwise than the page says."""
     walks, printed = blocks()
     return [
-        each for engine, commands, cron in walks if server or engine == "sqlite"
-        for each in walk_mistakes(engine, commands, cron, printed, started, server if engine == "postgresql" else None)
+        each for engine, commands, cron, planned in walks if server or engine == "sqlite"
+        for each in walk_mistakes(engine, commands, cron, planned, printed, started, server if engine == "postgresql" else None)
     ]  # fmt: skip

@@ -6,7 +6,8 @@ from whtools.catalogue import views_of
 from whtools.databases.nights import written
 from whtools.live.command import DIALECTS
 from whtools.live.database import ASKED
-from whtools.live.proposed import DAY, MOMENT, TEXT, ZONED, Proposed
+from whtools.live.proposed import Proposed
+from whtools.live.taken import DAY, MOMENT, TEXT, ZONED
 from whtools.live.turned import NULL
 from whtools.live_trials.shop import TABLES
 from whtools.sql.tokens import Unfit
@@ -132,35 +133,35 @@ def catalogue_mistakes(live):
     path = live.path / f"of the database of {live.engine}"
     path.mkdir(exist_ok=True)
     (path / "catalogue.toml").write_text(found.text)
-    wrong += [] if wrong else same_views(live, path)
+    wrong += [] if wrong else same_views(live, path, views, LATER)
     live.database.make([*(f"DROP VIEW {name};" for name in reversed(views)), UNMADE[live.engine]])
     return [f"a catalogue: {text}" for text in wrong]
 
 
-def same_views(live, path):
-    """What the views that were taken have otherwise than the application's, once they are filled, and after each of two nights."""
+def same_views(live, path, texts, later):
+    """What the views that were taken have otherwise than the application's, once they are filled, and after each night of what is written later."""
     for words in (["--capture"], ["--live", "--open"]):
         script = told(live, *words, path)
         if fault := live.database.run(script.text):
             return [fault]
     database = ASKED[live.engine](live.database.address, DIALECTS[live.engine]())
     known = Proposed(live.engine, database.tables(database.own_schema), database.views(database.own_schema), database.own_schema).known
-    wrong, views = unlike_views(live, known), Warehouse(views_of((path / "catalogue.toml").read_text()))
+    wrong, views = unlike_views(live, known, texts), Warehouse(views_of((path / "catalogue.toml").read_text()))
     (path / "strategy.txt").write_bytes(views.listed(views.one_way()).partition(b"\n")[2])
-    for text in LATER:
+    for text in later:
         live.database.asked(text)
         fault = live.database.run(told(live, "--live", path).text)
-        wrong += [fault] if fault else unlike_views(live, known)
+        wrong += [fault] if fault else unlike_views(live, known, texts)
     return wrong + [fault for fault in [live.database.run(told(live, "--uncapture", path).text)] if fault]
 
 
-def unlike_views(live, known):
+def unlike_views(live, known, views):
     """What the views that were taken have otherwise than the application's."""
-    wrong, views = [], {**VIEWS, **OWN[live.engine]}
+    wrong = []
     for name in (name for name, (_, reason) in views.items() if not reason):
         there = [column for column in known[name] if not column.name.endswith("_sum") and column.name != "rows"]
         own = f"SELECT {', '.join(shown(live.engine, column) for column in there)} FROM {name}"
-        has_counts = '"#"' if is_joined(live, name) else "1"
+        has_counts = '"#"' if is_joined(views[name][0]) else "1"
         stored = f"SELECT {', '.join(column.name for column in there)}, {has_counts} FROM {live.database.table(name)}"
         wanted, rows = live.database.answers(own, stored)
         found = Counter()
@@ -170,8 +171,7 @@ def unlike_views(live, known):
     return wrong
 
 
-def is_joined(live, name):
-    text = {**VIEWS, **OWN[live.engine]}[name][0]
+def is_joined(text):
     return "GROUP BY" not in text and "count(" not in text
 
 

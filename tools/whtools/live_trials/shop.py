@@ -127,6 +127,10 @@ class Live:
             raise ValueError(made.told)
         return made.text
 
+    def alone(self, *words):
+        """What tools/sql writes without a database at hand."""
+        return written("--engine", self.engine, *words, self.path).text
+
     def capture(self):
         return self.database.run(self.words("--capture"))
 
@@ -135,6 +139,8 @@ class Live:
         self.database.fresh()
         self.database.make([TABLES[self.engine].replace("{rows}", str(self.rows)), *more])
         told = self.capture() or self.database.run(self.words("--live", "--open"))
+        # By a script that is made with the tables at hand, these are compared where the schema changes.
+        self.script = self.words("--live") if self.engine == "sqlite" else self.script
         return [f"capture: {told}"] if told else self.mistakes()
 
     def night(self):

@@ -2,10 +2,12 @@
 
 from unittest import mock
 
+from whtools.databases.engines import Broken
 from whtools.live import command
 from whtools.live.sqlite import Captures as SQLiteCaptures
 from whtools.live.swift import SwiftScript
-from whtools.live_trials import beside, cases
+from whtools.live.triggers import Triggers
+from whtools.live_trials import beside, cases, intruders
 from whtools.sql.tokens import sql
 
 
@@ -75,7 +77,7 @@ def absent_mistakes(live):
 
 
 ON_VIEWS = (
-    "CREATE FUNCTION noted() RETURNS trigger LANGUAGE plpgsql AS $f$ BEGIN INSERT INTO book VALUES (TG_OP); RETURN NEW; END $f$;"
+    "CREATE FUNCTION noted() RETURNS trigger LANGUAGE plpgsql AS $f$ BEGIN INSERT INTO public.book VALUES (TG_OP); RETURN NEW; END $f$;"
     " CREATE TABLE book (told text); CREATE TRIGGER noted {when} UPDATE ON wh.daily FOR EACH ROW EXECUTE FUNCTION noted();"
 )
 
@@ -92,6 +94,21 @@ def trigger_mistakes(live):
     return wrong
 
 
+def unnoticed_intruders(live):
+    """Functions that look at no table and at no type, which tables and types of others do not notice."""
+    live.script = live.words("--live")
+    with mock.patch.object(Triggers, "judged_by", lambda *_: sql("SELECT NULL")), mock.patch.object(Triggers, "as_ever", lambda *_: sql("")):
+        tried = {"tables of others": intruders.forged_mistakes, "types of others": intruders.of_later}
+        return [f"{live.engine}: {said} are not noticed" for said, mistakes in tried.items() if not is_noticed(mistakes, live)]
+
+
+def is_noticed(mistakes, live):
+    try:
+        return bool(mistakes(live))
+    except Broken:
+        return True
+
+
 def unnoticed(live):
     """The spoilt scripts of an engine that nothing notices."""
     if live.engine == "postgresql":
@@ -99,10 +116,21 @@ def unnoticed(live):
         for kind, case in ((NotLookedAt, "a part that is dropped"), (NoGroupChanges, "rows change")):
             with mock.patch.object(command, "SwiftScript", kind):
                 found += unnoticed_case(live, kind.__name__, case)
+        with mock.patch.object(Triggers, "torn", lambda *_: sql("PERFORM 1")):
+            found += unnoticed_case(live, "what no trigger notes is not marked", "a column that gets another name")
         live.script = live.words("--live")
-        found += absent_mistakes(live) + trigger_mistakes(live)
+        found += absent_mistakes(live) + trigger_mistakes(live) + unnoticed_intruders(live)
     else:
-        with mock.patch.object(SQLiteCaptures, "noted", lambda *_: sql("SELECT 1")):
-            found = unnoticed_case(live, "REPLACE that is not noted", "REPLACE")
+        found = []
+        for name, spoilt, case in (
+            ("noted", sql("SELECT 1"), "REPLACE"),
+            ("kept", sql("SELECT 1"), "a trigger BEFORE UPDATE that changes the row"),
+            ("renoted", sql("SELECT 1"), "a trigger BEFORE INSERT that changes what is replaced"),
+            ("others", [], "a trigger BEFORE UPDATE that changes the row"),
+            ("unlike", sql("SELECT 1 WHERE 1 = 0"), "a unique index that comes, and goes again"),
+            ("stands", [], "a table in the place of another one"),
+        ):  # fmt: skip
+            with mock.patch.object(SQLiteCaptures, name, lambda *_, made=spoilt: made):
+                found += unnoticed_case(live, name, case)
     live.script = live.words("--live")
     return found

@@ -58,11 +58,19 @@ def entries(node, named):
 
 def length(path, name):
     """How many entries the list of this name has in a file of Python, or None where there is none."""
-    if not path.exists():
-        return None
-    assigned = [each for each in ast.parse(path.read_text()).body if isinstance(each, ast.Assign)]
-    named = {target.id: each.value for each in assigned for target in each.targets if isinstance(target, ast.Name)}
+    named = lists(path)
     return entries(named[name], named) if name in named else None
+
+
+def lists(path):
+    """What is assigned to each name in a file of Python, and to those that it takes from other files of its package."""
+    body, found = ast.parse(path.read_text()).body if path.exists() else [], {}
+    for each in body:
+        if isinstance(each, ast.ImportFrom) and each.module and each.module.startswith("whtools.") and each.module.rpartition(".")[0].endswith(path.parent.name):
+            others = lists(path.parent / f"{each.module.rpartition('.')[2]}.py")
+            found.update({alias.name: others[alias.name] for alias in each.names if alias.name in others})
+    assigned = [each for each in body if isinstance(each, ast.Assign)]
+    return {**found, **{target.id: each.value for each in assigned for target in each.targets if isinstance(target, ast.Name)}}
 
 
 class Counted:

@@ -19,7 +19,7 @@ MOST = {
     "docs/PERFORMANCE.md": 14,
     "docs/PLANTED.md": 5,
     "docs/PROMISES.md": 20,
-    "docs/SQL.md": 18,
+    "docs/SQL.md": 24,
     "docs/TESTING.md": 12,
     "docs/WAREHOUSE.md": 8,
 }

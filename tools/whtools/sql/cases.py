@@ -121,7 +121,7 @@ CASES = {
         [OWN.format("x BIGINT NOT NULL, t TEXT NOT NULL, about TEXT"), COMES], "table a does not fit: a row comes", KEPT, [], NewRowsAreNotJudged
     ),
 }
-FUNCTION = "CREATE FUNCTION f() RETURNS trigger LANGUAGE plpgsql AS $f$ BEGIN {} END $f$;"
+FUNCTION = "CREATE FUNCTION f() RETURNS trigger LANGUAGE plpgsql SET search_path FROM CURRENT AS $f$ BEGIN {} END $f$;"
 EACH = " FOR EACH ROW EXECUTE FUNCTION f();"
 OF_POSTGRESQL = {
     "a trigger that skips a row": Case(

@@ -1,6 +1,7 @@
 """The words of tools/sql, and what is written for them."""
 
 import argparse
+import re
 import sys
 
 from whtools.live import command as live
@@ -16,14 +17,37 @@ from whtools.warehouse.finding import Failure
 
 ENGINES = {"postgresql": PostgreSQL, "sqlite": SQLite, "clickhouse": ClickHouse}
 # What is said of tables that applications write to.
-LIVE = ("live", "capture", "uncapture", "catalogue", "sizes", "sizes-after", "plan", "dry", "costs")
+LIVE = ("live", "capture", "uncapture", "catalogue", "sizes", "sizes-after", "plan", "dry", "costs", "check", "history")
+# So many letters of a message stand in a script that raises it.
+MOST_TOLD = 600
+# What goes with these, and not alone.
+BESIDE = {"measured": ("plan", "dry"), "repair": ("check",), "in-turn": ("check",), "line": ("history",), "changed": ("capture", "open"), "drop": ("capture",)}
+
+
+class Words(argparse.ArgumentParser):
+    """The words of the command line. Where they are not taken, a script is wanted all the same, and one that is empty would pass for one that went
+    through."""
+
+    def error(self, message):
+        engine = next((said for said in ENGINES if said in sys.argv), "postgresql")
+        put_if_taken(failing(engine, message))
+        super().error(message)
+
+
+def failing(engine, told):
+    """The lines of a script that raises, and does nothing else; of ClickHouse tools/cluster goes by the status."""
+    if engine == "clickhouse":
+        return []
+    dialect = ENGINES[engine]()
+    told = re.sub(r"[\x00-\x1f\x7f\ud800-\udfff]", "?", " ".join(f"tools/sql wrote no script: {told}".split()))
+    return dialect.head + dialect.written(dialect.failing(told[:MOST_TOLD]))
 
 
 def asked(about):
     """The words of the command line."""
-    words = argparse.ArgumentParser("tools/sql", description=about, formatter_class=argparse.RawDescriptionHelpFormatter)
+    words = Words("tools/sql", description=about, formatter_class=argparse.RawDescriptionHelpFormatter)
     words.add_argument("--engine", choices=ENGINES, default="postgresql")
-    for name in ("create", "open", "night", "explain", *LIVE, "measured"):
+    for name in ("create", "open", "night", "explain", *LIVE, *BESIDE):
         words.add_argument(f"--{name}", action="store_true")
     words.add_argument("--database", default="")
     words.add_argument("--from", dest="source")
@@ -32,16 +56,27 @@ def asked(about):
     words.add_argument("--inst-cost")
     words.add_argument("--comp-cost")
     words.add_argument("--schema")
+    words.add_argument("--role")
     words.add_argument("--plain", default="")
     words.add_argument("--counted", default="")
     words.add_argument("--shard", action="append", default=[])
     words.add_argument("--cluster")
     words.add_argument("--keyed", default="")
     words.add_argument("path", nargs="?")
-    found = words.parse_args()
+    words.add_argument("names", nargs="*")
+    found = words.parse_intermixed_args()
     if (found.path is None) != found.catalogue:
         words.error("--catalogue is made of a database, and all else of a bundle or a folder")
+    for name, others in BESIDE.items():
+        if is_said(found, name) and name != "measured" and not any(is_said(found, other) for other in others):
+            words.error(f"--{name} goes with {' or '.join(f'--{other}' for other in others)}")
+    if found.names and not (found.check or found.capture or found.live and found.open):
+        words.error(f"unrecognized arguments: {' '.join(found.names)}")
     return found
+
+
+def is_said(words, name):
+    return getattr(words, name.replace("-", "_"))
 
 
 def base_views(catalogue, listed):
@@ -88,12 +123,12 @@ def script_of(catalogue, words):
 
 def written(words):
     """The text that is asked for."""
-    if any(getattr(words, name.replace("-", "_")) for name in LIVE):
+    if any(is_said(words, name) for name in LIVE):
         if words.engine == "clickhouse":
             raise Unfit(f"{', '.join(f'--{name}' for name in LIVE)} go with --engine postgresql or sqlite")
         return live.written(words)
-    if words.database or words.source or words.measured:
-        raise Unfit(f"--database, --from and --measured go with {', '.join(f'--{name}' for name in LIVE)}")
+    if words.database or words.source or words.measured or words.role:
+        raise Unfit(f"--database, --from, --role and --measured go with {', '.join(f'--{name}' for name in LIVE)}")
     catalogue = read(words.path)
     script, comments = script_of(catalogue, words), Comments(catalogue)
     dialect = script.dialect
@@ -106,12 +141,45 @@ def written(words):
     return dialect.head + dialect.written(found)
 
 
-def main(about):
-    """Writes all or nothing."""
+def put(lines):
+    sys.stdout.buffer.write("".join(f"{line}\n" for line in lines).encode())
+
+
+def put_if_taken(lines):
+    """What is put where something has failed already, if only that nobody reads it."""
     try:
-        text = "\n".join(written(asked(about))) + "\n"
-        sys.stdout.buffer.write(text.encode())
+        put(lines)
+        sys.stdout.flush()
+    except OSError:
+        pass
+
+
+def is_script(words):
+    """Whether what is asked for is for the database to carry out, and not for people to read."""
+    others = ("catalogue", "sizes", "sizes-after", "costs", "dry", "explain", "check", "history")
+    return not any(is_said(words, name) for name in others)
+
+
+def failed(words, lines):
+    """A failure, by a message and a status; and where a script is wanted, by one that raises, since an empty one would pass for one that went through."""
+    if is_script(words):
+        put_if_taken(failing(words.engine, "; ".join(lines)))
+    sys.exit("\n".join(f"tools/sql: {line}" for line in lines))
+
+
+def main(about):
+    """Writes all, or what fails in the place of it, and gives the status."""
+    words = asked(about)
+    try:
+        lines, status = live.answered(words) if words.check or words.history else (written(words), 0)
+        put(lines)
+        return status
     except (Unfit, OSError) as told:
-        sys.exit(f"tools/sql: {told}")
+        return failed(words, [str(told)])
     except Failure as failure:
-        sys.exit("\n".join(f"tools/sql: {line}" for line in failure.lines))
+        return failed(words, failure.lines)
+    except BaseException as fault:
+        # A fault of this tool's own, or that it is told to stop, ends as a failure does, and with its traceback.
+        if is_script(words):
+            put_if_taken(failing(words.engine, repr(fault)))
+        raise

@@ -57,12 +57,16 @@ class Comps:
             operand = term[join.child]
             table = self.working(operand.view, "net") if operand.is_change else self.table(operand.view)
             over = sql("{table} AS {of}", table=table, of=word("t", join.child + 1))
-            test = both([sql("{a} = {b}", a=self.spot(v, term, a), b=self.spot(v, term, b)) for a, b in join.pairs])
+            test = both([self.matched(v, term, pair) for pair in join.pairs])
             if first is None:
                 found, first = over, test
             else:
                 found = sql("{found} JOIN {over} ON {test}", found=found, over=over, test=test)
         return found, first
+
+    def matched(self, v, term, pair):
+        """Whether two columns are equal by which a child is joined."""
+        return sql("{a} = {b}", a=self.spot(v, term, pair[0]), b=self.spot(v, term, pair[1]))
 
     def conditions(self, v, term, first):
         """What a combined row has to pass beside the joins."""

@@ -11,15 +11,13 @@ LIMITS = sql("{least} AND {most}", least=sql("{n}::numeric", n=text(str(LEAST)))
 VARIABLES = [sql("{name} pg_catalog.text", name=word(said)) for said in ("path", "finding", "collapsed", "merged", "nested")]
 VARIABLES.append(sql("touched pg_catalog.int8"))
 MANY_PAIRS = 12
-# A block rests on these, whatever a session has set. The functions of triggers may want the path that was set.
+# A block rests on these, whatever a session has set. No name is looked up but in the server's own schema, and tables that are not there among
+# temporary ones: whoever may make functions or operators elsewhere would have them called in the place of the server's, where they fit better.
+PATH = "pg_catalog, pg_temp"
 SETTINGS = [
-    sql("path := pg_catalog.current_setting({key})", key=text("search_path")),
-    sql("PERFORM pg_catalog.set_config({key}, {value}, TRUE)", key=text("search_path"), value=text("pg_catalog")),
-    sql(
-        "PERFORM set_config({key}, concat_ws({comma}, {first}, nullif(path, {none}), {last}), TRUE), set_config({rows}, {off}, TRUE),"
-        " set_config({jit}, {off}, TRUE)", key=text("search_path"), comma=text(", "), first=text("pg_catalog"), none=text(""), last=text("pg_temp"),
-        rows=text("row_security"), jit=text("jit"), off=text("off"),
-    ),
+    sql("PERFORM pg_catalog.set_config({key}, {value}, TRUE)", key=text("search_path"), value=text(PATH)),
+    sql("PERFORM set_config({rows}, {off}, TRUE), set_config({jit}, {off}, TRUE), set_config({nulls}, {on}, TRUE)", rows=text("row_security"),
+        jit=text("jit"), nulls=text("array_nulls"), off=text("off"), on=text("on")),
 ]  # fmt: skip
 # Of many equalities PostgreSQL supposes that hardly a row passes, and would go through changes that have no index again and again.
 SEARCHES = (
@@ -217,6 +215,11 @@ class PostgreSQL(Dialect):
         block = self.block([self.where(isolated, self.raised(text(ISOLATION))), *checked, *tables, *made])
         begin = sql("BEGIN ISOLATION LEVEL READ COMMITTED READ WRITE{end}", end=END_OF_STATEMENT)
         return [begin, UNREAD, block, sql("COMMIT{end}", end=END_OF_STATEMENT)]
+
+    def failing(self, told):
+        """A script that raises, and nothing else."""
+        raised = sql("\nBEGIN\n  {raised}{end}\nEND{end}", raised=self.raised(text(told)), end=END_OF_STATEMENT)
+        return [sql("DO {raised}{end}", raised=body(raised), end=END_OF_STATEMENT)]
 
     def creation(self, made):
         """A transaction that makes tables and indexes."""

@@ -11,7 +11,7 @@ ROOM = 2**24
 INTEGER = text("integer")
 # What is left of SQLite's limits beside the statements round a formula.
 DEEPEST_TEST, MOST_HELD = 900, 66
-JUDGED, NIGHT = "night~judged", "night~"
+JUDGED, LOOKED, NIGHT = "night~judged", "night~looked", "night~"
 UNJUDGED = "the tables were not judged: run the script from its beginning"
 
 
@@ -190,10 +190,11 @@ class SQLite(Dialect):
             sql("INSERT INTO {table} VALUES (1){end}", table=self.working(said), end=END_OF_STATEMENT),
         ]
 
-    def program(self, checked, working, made, watchers=None):
+    def program(self, checked, working, made, watchers=None, looked=(), shown=()):
         """A transaction between the making of its working tables and their going: a judgement, so that columns are there which the night
-        names, and the night, which does nothing where the judgement did not end well."""
-        tables = [(self.working(said), columns) for said, columns in [*working, *((said, [sql("begun")]) for said in (JUDGED, NIGHT))]]
+        names, more that is looked at, with what is printed of it, and the night, which does nothing where the judgement did not end well."""
+        fired = (JUDGED, *([LOOKED] if looked else []), NIGHT)
+        tables = [(self.working(said), columns) for said, columns in [*working, *((said, [sql("begun")]) for said in fired)]]
         gone = [self.dropped("TRIGGER", self.working(said)) for said in watchers or ()]
         gone += [self.dropped("TABLE", table) for table, _ in tables]
         judged = sql("SELECT RAISE(ROLLBACK, {told}) WHERE NOT EXISTS (SELECT 1 FROM {table})", told=text(UNJUDGED), table=self.working(JUDGED))
@@ -202,6 +203,8 @@ class SQLite(Dialect):
             *gone,
             *(sql("CREATE TABLE {table} ({columns}){end}", table=table, columns=joined(columns), end=END_OF_STATEMENT) for table, columns in tables),
             *self.fired(JUDGED, checked),
+            *(self.fired(LOOKED, looked) if looked else []),
+            *(sql("{query}{end}", query=query, end=END_OF_STATEMENT) for query in shown),
             *(
                 sql("CREATE TEMPORARY TRIGGER {said} {watcher}{end}", said=name(said), watcher=watcher, end=END_OF_STATEMENT)
                 for said, watcher in (watchers or {}).items()
@@ -213,6 +216,11 @@ class SQLite(Dialect):
 
     def dropped(self, kind, said):
         return sql("DROP {kind} IF EXISTS {said}{end}", kind=word(kind), said=said, end=END_OF_STATEMENT)
+
+    def failing(self, told):
+        """A script that raises, and nothing else."""
+        made = sql("CREATE TABLE {table} (begun){end}", table=self.working(NIGHT), end=END_OF_STATEMENT)
+        return [made, *self.fired(NIGHT, [sql("SELECT RAISE(ROLLBACK, {told})", told=text(told))])]
 
     def creation(self, made):
         """A transaction that makes tables and indexes."""

@@ -1,0 +1,102 @@
+"""The role that owns what --capture makes in PostgreSQL, and as which nights run: one without rights but those on its own tables and to read what is
+captured, if --role names it."""
+
+from whtools.sql.tokens import END_OF_STATEMENT, joined, name, sql, statements, text, word
+
+OWNED = "the schema %s is owned by %s, who would get what is captured: name another schema by --schema, or this role by --role"
+SUPER = "the role %s is a superuser, or passes by row-level security: name by --role one that is made for this alone"
+# Whoever owns the night's schema, where it is another role than this one and no superuser.
+OTHER = (
+    "(SELECT r.rolname FROM pg_namespace AS n JOIN pg_roles AS r ON r.oid = n.nspowner WHERE n.oid = to_regnamespace({schema}) AND NOT r.rolsuper"
+    " AND r.rolname <> current_user)"
+)
+BELOW_SOURCE = (
+    "(WITH RECURSIVE below (relation) AS (SELECT {source}::regclass::oid UNION SELECT i.inhrelid FROM below AS b JOIN pg_inherits AS i"
+    " ON i.inhparent = b.relation) SELECT b.relation::regclass AS relation FROM below AS b) AS b"
+)
+
+
+class Owner:
+    """The statements by which things are made and nights carried out as whoever owns the night's schema."""
+
+    def __init__(self, dialect, role=None):
+        self.dialect, self.role = dialect, role
+
+    def written(self, said):
+        return text(self.dialect.written([said])[0])
+
+    def each(self, query):
+        """A program that carries out the statements that a query gives."""
+        return sql("FOR finding IN {query} LOOP EXECUTE finding{end} END LOOP", query=query, end=END_OF_STATEMENT)
+
+    def schema(self):
+        return self.written(name(self.dialect.schema))
+
+    def other(self):
+        return sql(OTHER, schema=self.schema())
+
+    def taken_on(self, is_kept=False):
+        """From here on a program is carried out as whoever owns the schema, where that may be: a superuser's night is none of a superuser. It may be
+        kept for all of a session."""
+        member = sql("finding IS NOT NULL AND pg_has_role(session_user, finding::name, {member})", member=text("MEMBER"))
+        taken = sql("PERFORM set_config({role}, finding, {local})", role=text("role"), local=word("FALSE" if is_kept else "TRUE"))
+        return [sql("finding := {other}", other=self.other()), self.dialect.where(member, taken)]
+
+    def session(self):
+        """The lines by which a session asks as whoever owns the schema: what somebody has put in the place of its tables is then called as that one."""
+        if self.dialect.schema == self.dialect.own_schema:
+            return []
+        return self.dialect.written([self.dialect.block_of_another(self.taken_on(True))])
+
+    # ---- what somebody with more rights does before
+
+    def made(self, tables, functions, sources):
+        """The role and its schema, what was another's before, and what the role may: to read what is captured, and to make tables for a night. A schema
+        that somebody else has made is not taken."""
+        mine = sql("AND r.rolname <> {role}", role=text(self.role)) if self.role else sql("")
+        strange = sql("SELECT format({told}, n.nspname, r.rolname) FROM pg_namespace AS n JOIN pg_roles AS r ON r.oid = n.nspowner WHERE n.oid ="
+                      " to_regnamespace({schema}) AND NOT r.rolsuper AND r.rolname <> current_user {mine}", told=text(OWNED), schema=self.schema(),
+                      mine=mine)  # fmt: skip
+        return [*self.dialect.refuse_with(strange), *(self.own_role(tables, functions) if self.role else []), *self.granted(sources)]
+
+    def own_role(self, tables, functions):
+        role, said = name(self.role), text(self.role)
+        known = "SELECT 1 FROM pg_roles AS r WHERE r.rolname = {said}"
+        is_missing = sql("to_regnamespace({schema}) IS NULL", schema=self.schema())
+        unfit = sql("SELECT format({told}, r.rolname) FROM pg_roles AS r WHERE r.rolname = {said} AND (r.rolsuper OR r.rolbypassrls)",
+                    told=text(SUPER), said=said)  # fmt: skip
+        create = sql("CREATE ROLE {role} NOLOGIN NOSUPERUSER NOCREATEDB NOCREATEROLE NOREPLICATION NOBYPASSRLS", role=role)
+        owned = [
+            sql("CREATE SCHEMA {schema} AUTHORIZATION {role}", schema=name(self.dialect.schema), role=role),
+            *self.given("SELECT format({alter}, n.nspname, {said}) FROM pg_namespace AS n WHERE n.oid = to_regnamespace({schema})"
+                        " AND n.nspowner <> {number}", "ALTER SCHEMA %I OWNER TO %I"),
+            *self.given("SELECT format({alter}, k.oid::regclass, {said}) FROM pg_class AS k WHERE k.relnamespace = to_regnamespace({schema})"
+                        " AND k.relname IN ({names}) AND k.relowner <> {number}", "ALTER TABLE %s OWNER TO %I", tables),
+            *self.given("SELECT format({alter}, p.oid::regprocedure, {said}) FROM pg_proc AS p WHERE p.pronamespace = to_regnamespace({schema})"
+                        " AND p.proname IN ({names}) AND p.proowner <> {number}", "ALTER FUNCTION %s OWNER TO %I", functions),
+        ]  # fmt: skip
+        return [
+            self.dialect.where(sql("NOT EXISTS (" + known + ")", said=said), create),
+            *self.dialect.refuse_with(unfit),
+            self.dialect.where(is_missing, owned[0]),
+            *owned[1:],
+        ]
+
+    def given(self, query, alter, names=()):
+        """What is somebody else's is given to the role."""
+        number = sql("(SELECT r.oid FROM pg_roles AS r WHERE r.rolname = {said})", said=text(self.role))
+        listed = joined(list(map(text, names)))
+        return [self.each(sql(query, alter=text(alter), said=text(self.role), schema=self.schema(), number=number, names=listed))]
+
+    def granted(self, sources):
+        """The rights of the owner on what is not its own, where it has not all rights in any case."""
+        owner = self.other()
+        database, usage, reading = map(text, ("GRANT TEMPORARY ON DATABASE %I TO %I", "GRANT USAGE ON SCHEMA %I TO %I", "GRANT SELECT ON %s TO %I"))
+        queries = [sql("SELECT format({grant}, current_database(), {owner})", grant=database, owner=owner)]
+        for schema in sorted({source.schema for source in sources.values()}):
+            queries.append(sql("SELECT format({grant}, {schema}::name, {owner})", grant=usage, schema=text(schema), owner=owner))
+        for source in sources.values():
+            below = sql(BELOW_SOURCE, source=self.written(source.said))
+            queries.append(sql("SELECT format({grant}, b.relation, {owner}) FROM {below}", grant=reading, owner=owner, below=below))
+        has_other = sql("{other} IS NOT NULL", other=self.other())
+        return [sql("IF {test} THEN {made} END IF", test=has_other, made=statements(list(map(self.each, queries)), 2))]

@@ -1,0 +1,151 @@
+"""One transaction of an application's database, whose statements follow from what the ones before answered."""
+
+import json
+import sqlite3
+import subprocess
+import tempfile
+
+from whtools.sql.postgresql import PATH
+from whtools.sql.tokens import END_OF_STATEMENT, Unfit, sql
+
+# A table that somebody alters is waited for so long, and no longer.
+PATIENCE = "60s"
+MARK = "--"
+
+
+class PostgreSQLSession:
+    """A transaction through psql, which is given statements one by one. All of it sees one snapshot, which is taken when the tables are
+    locked: one that is written anew by ALTER TABLE would look empty to a snapshot from before."""
+
+    def __init__(self, asked, is_writing):
+        self.asked, self.dialect, self.is_writing = asked, asked.dialect, is_writing
+        self.told = tempfile.TemporaryFile()
+        try:
+            self.client = subprocess.Popen(asked.command(), stdin=subprocess.PIPE, stdout=subprocess.PIPE, stderr=self.told)
+        except OSError as fault:
+            raise Unfit(f"psql cannot be run: {fault.strerror}") from fault
+
+    def __enter__(self):
+        level = "READ WRITE" if self.is_writing else "READ ONLY"
+        settings = ("client_min_messages = warning", f"search_path = {PATH}", "row_security = off", "jit = off", f"lock_timeout = '{PATIENCE}'")
+        begun = (*(f"SET {each};" for each in settings), *self.dialect.owner.session(), f"BEGIN ISOLATION LEVEL REPEATABLE READ {level};")
+        for line in (*self.dialect.head, *begun):
+            self.given(line)
+        return self
+
+    def __exit__(self, *_):
+        """What is not committed by now is rolled back."""
+        for pipe in (self.client.stdin, self.client.stdout):
+            try:
+                pipe.close()
+            except OSError:
+                pass
+        self.client.wait()
+        self.told.close()
+
+    def locked(self, own, sources):
+        """From here on the tables stay what they are; where rows are written, no night runs, and writers to the sources go on."""
+        mode = "EXCLUSIVE" if self.is_writing else "ACCESS SHARE"
+        for tables, how in ((own, mode), (sources, "ACCESS SHARE")):
+            for table in tables:
+                self.run([sql("LOCK TABLE {table} IN " + how + " MODE{end}", table=table, end=END_OF_STATEMENT)])
+
+    def given(self, line):
+        try:
+            self.client.stdin.write(line.encode() + b"\n")
+            self.client.stdin.flush()
+        except BrokenPipeError:
+            self.failed()
+
+    def failed(self):
+        self.client.wait()
+        self.told.seek(0)
+        told = self.told.read().decode(errors="replace").partition("\nCONTEXT:")[0]
+        told = " ".join(told.strip().removeprefix("ERROR:  ").split("\n"))
+        if "lock timeout" in told:
+            raise Unfit(f"somebody alters a table, and was waited for {PATIENCE}: try once more later")
+        raise Unfit(told[:600])
+
+    def run(self, lines):
+        """What statements print, line by line."""
+        # A query would tell where the answer ends, and take the snapshot before all tables are locked.
+        for line in [*self.dialect.written(lines), rf"\echo {MARK}"]:
+            self.given(line)
+        found = []
+        for line in self.client.stdout:
+            if line == f"{MARK}\n".encode():
+                return found
+            found.append(line.decode().removesuffix("\n"))
+        return self.failed()
+
+    def rows(self, columns, rest, **parts):
+        """The rows of a query, whose columns and whose rest are templates."""
+        query = sql("SELECT json_build_array(" + columns + ") " + rest + "{end}", end=END_OF_STATEMENT, **parts)
+        return [json.loads(line) for line in self.run([query])]
+
+    def carried_out(self, statements):
+        for each in statements:
+            self.run([sql("{each}{end}", each=each, end=END_OF_STATEMENT)])
+
+    def judged(self, statements):
+        """Statements of a block, which may refuse what there is."""
+        if statements:
+            self.run([self.dialect.block(statements)])
+
+    def noted(self, statements):
+        """The same, which change what there is."""
+        self.judged(statements)
+
+    def committed(self):
+        self.run([sql("COMMIT{end}", end=END_OF_STATEMENT)])
+
+
+class SQLiteSession:
+    """A transaction of a file, of which there is one snapshot anyhow."""
+
+    def __init__(self, asked, is_writing):
+        self.asked, self.dialect, self.is_writing = asked, asked.dialect, is_writing
+
+    def __enter__(self):
+        self.database = sqlite3.connect(self.asked.address, isolation_level=None, timeout=60)
+        self.said("BEGIN IMMEDIATE" if self.is_writing else "BEGIN")
+        return self
+
+    def __exit__(self, *_):
+        if self.database.in_transaction:
+            self.database.rollback()
+        self.database.close()
+
+    def locked(self, own, sources):
+        """A transaction of SQLite sees and keeps what there was at its first query."""
+
+    def said(self, statement):
+        try:
+            return self.database.execute(statement)
+        except sqlite3.Error as fault:
+            raise Unfit(f"{self.asked.address}: {fault}") from fault
+
+    def rows(self, columns, rest, **parts):
+        said = self.said(self.dialect.written([sql("SELECT " + columns + " " + rest, **parts)])[0])
+        try:
+            return [list(row) for row in said]
+        except sqlite3.Error as fault:
+            raise Unfit(f"{self.asked.address}: {fault}") from fault
+
+    def carried_out(self, statements):
+        for line in self.dialect.written(statements):
+            self.said(line)
+
+    def judged(self, statements):
+        """Statements of a trigger's program, which may refuse what there is, and change nothing that stays."""
+        if statements:
+            self.carried_out([sql("SAVEPOINT judged"), sql("CREATE TABLE temp.judged (begun)"), *self.dialect.fired("judged", statements),
+                              sql("ROLLBACK TO judged"), sql("RELEASE judged")])  # fmt: skip
+
+    noted = carried_out
+
+    def committed(self):
+        self.said("COMMIT")
+
+
+SESSIONS = {"postgresql": PostgreSQLSession, "sqlite": SQLiteSession}

@@ -1,0 +1,169 @@
+"""Whether PostgreSQL's tables are captured as they were, and the night's own as they were judged."""
+
+from hashlib import sha256
+
+from whtools.live.history import SIZES
+from whtools.sql.tokens import body, joined, name, sql, text, word
+
+JUDGED = "~judged"
+# A column's place, its type and, of an enumeration, its values: more of them may come behind, and none may get another name. How a type of
+# one's own is called depends on the search path, its number does not; and a value may have a comma.
+TYPE = (
+    "concat(a.attnum, {comma}, CASE WHEN a.atttypid < 16384 THEN format_type(a.atttypid, a.atttypmod) ELSE a.atttypid::text END, {comma},"
+    " (SELECT string_agg(concat(length(e.enumlabel::text), {comma}, e.enumlabel, {comma}), {none} ORDER BY e.oid) FROM pg_enum AS e"
+    " WHERE e.enumtypid = a.atttypid))"
+)
+# What tells of a part p of a source whether its triggers are as they were made, where its rows lie, and whether its columns are as they were.
+TRIGGERS = "ARRAY(SELECT t.xmin FROM pg_trigger AS t WHERE t.tgrelid = {part} AND t.tgfoid = to_regprocedure({function}) ORDER BY t.oid)::text"
+FILE = "coalesce(pg_relation_filenode({part}), 0)"
+ATTRIBUTES = (
+    "ARRAY(SELECT a.xmin FROM pg_attribute AS a JOIN {columns} AS k ON k.name = a.attname WHERE k.view = {view} AND a.attrelid = {part} AND a.attnum > 0"
+    " ORDER BY a.attnum)::text"
+)
+# How many triggers a part b of a source has that itself is partitioned or not.
+WANTED = (
+    "(SELECT CASE WHEN c.relkind = {ordinary} THEN 5 ELSE 3 END + CASE WHEN s.relkind <> {parted} THEN 0 WHEN c.relkind = {ordinary} THEN 2 ELSE 1 END"
+    " FROM pg_class AS c, {state} AS o JOIN pg_class AS s ON s.oid = o.source WHERE c.oid = b.relation AND o.view = b.view)"
+)
+# Parts b of a source whose rows may change while no trigger is fired.
+UNFIT = (
+    ("JOIN pg_class AS k ON k.oid = b.relation WHERE k.relkind = {ordinary} AND k.relpersistence <> {logged}",
+     "%s is unlogged, and a crash would empty it unnoticed"),
+    ("JOIN pg_subscription_rel AS r ON r.srrelid = b.relation", "%s is written by logical replication, which fires no such triggers"),
+)  # fmt: skip
+# A unique index of a source c over no other columns than those of the key by which it was captured.
+KEYED = (
+    "EXISTS (SELECT 1 FROM pg_index AS i WHERE i.indrelid = c.source AND i.indisunique AND i.indisvalid AND i.indpred IS NULL AND i.indexprs IS NULL"
+    " AND NOT EXISTS (SELECT 1 FROM generate_series(0, i.indnkeyatts - 1) AS g JOIN pg_attribute AS a ON a.attrelid = i.indrelid"
+    " AND a.attnum = i.indkey[g] WHERE NOT a.attnotnull OR NOT EXISTS (SELECT 1 FROM {columns} AS k WHERE k.view = c.view AND k.is_key"
+    " AND k.name = a.attname)))"
+)
+# All sources at once; and what may be otherwise than it was captured, each a query for a sentence, with its words.
+ALL_BELOW = (
+    "WITH RECURSIVE sources (view, made) AS (VALUES {rows}), below (view, made, relation) AS (SELECT w.view, w.made, c.source::oid FROM sources AS w"
+    " JOIN {state} AS c ON c.view = w.view UNION SELECT b.view, b.made, i.inhrelid FROM below AS b JOIN pg_inherits AS i ON i.inhparent = b.relation)"
+    " SELECT coalesce({queries})"
+)
+OF_COLUMN = (
+    "SELECT format({told}, k.view, format({why}, k.name%s)) FROM {columns} AS k JOIN sources AS w ON w.view = k.view JOIN {state} AS c ON c.view = k.view"
+)
+STANDS = " LEFT JOIN pg_attribute AS a ON a.attrelid = c.source AND a.attname = k.name AND a.attnum > 0 AND NOT a.attisdropped WHERE k.name <> {none} AND "
+PLACED = "pg_attribute AS m ON m.attrelid = c.source AND m.attnum::text = split_part(k.type, {comma}, 1)"
+HOLES = (
+    ("SELECT format({told}, w.view, {why}) FROM sources AS w WHERE NOT EXISTS (SELECT 1 FROM {state} AS c JOIN pg_class AS k ON k.oid = c.source"
+     " WHERE c.view = w.view AND c.filled)", "its table is gone, or was never filled"),
+    (OF_COLUMN % ", m.attname" + " JOIN " + PLACED + " AND NOT m.attisdropped" + STANDS + "a.attname IS NULL", "its column %s is called %s now"),
+    (OF_COLUMN % "" + STANDS + "a.attname IS NULL", "its column %s is gone"),
+    (OF_COLUMN % "" + STANDS + "k.is_filled AND NOT a.attnotnull AND NOT EXISTS (SELECT 1 FROM pg_type AS y WHERE y.oid = a.atttypid AND y.typtype = {domain})",
+     "its column %s may be NULL now"),
+    (OF_COLUMN % "" + STANDS + "NOT starts_with(" + TYPE + ", k.type)", "its column %s is of another type, or its values have other names, or it was made anew"),
+    ("SELECT format({told}, c.view, format({why}, string_agg(k.name, {comma} ORDER BY k.name))) FROM sources AS w JOIN {state} AS c ON c.view = w.view"
+     " JOIN {columns} AS k ON k.view = c.view AND k.is_key WHERE NOT " + KEYED + " GROUP BY c.view", "its key (%s) is gone: a row may stand in it twice"),
+    ("SELECT format({told}, b.view, format({why}, b.relation::regclass)) FROM below AS b WHERE (SELECT count(*) FROM pg_trigger AS t"
+     " WHERE t.tgrelid = b.relation AND t.tgfoid = b.made AND t.tgenabled IN ({always}, {replica})) < " + WANTED, "%s has no triggers"),
+    ("SELECT format({told}, p.view, format({why}, p.name)) FROM {noted} AS p JOIN sources AS w ON w.view = p.view"
+     " WHERE NOT EXISTS (SELECT 1 FROM below AS b WHERE b.view = p.view AND b.relation = p.part)", "%s is no part of it any more"),
+    ("SELECT format({told}, w.view, format({why}, i.inhparent::regclass)) FROM sources AS w JOIN {state} AS c ON c.view = w.view JOIN pg_inherits AS i"
+     " ON i.inhrelid = c.source", "it inherits from %s, through which its rows may change unnoticed"),
+    ("SELECT format({told}, p.view, format({why}, p.name)) FROM {noted} AS p JOIN sources AS w ON w.view = p.view WHERE p.triggers <> "
+     + TRIGGERS.replace("{part}", "p.part").replace("to_regprocedure({function})", "w.made"), "the triggers of %s were disabled or made anew"),
+    ("SELECT format({told}, p.view, format({why}, p.name)) FROM {noted} AS p JOIN sources AS w ON w.view = p.view WHERE p.file <> "
+     + FILE.replace("{part}", "p.part") + " AND p.attributes <> " + ATTRIBUTES.replace("{part}", "p.part").replace("{view}", "p.view"),
+     "columns of %s were written anew"),
+    ("SELECT format({told}, w.view, format({why}, c.source)) FROM sources AS w JOIN {state} AS c ON c.view = w.view JOIN pg_class AS k ON k.oid = c.source"
+     " WHERE k.relname <> w.view OR EXISTS (SELECT 1 FROM {noted} AS p WHERE p.view = w.view AND p.part = c.source AND to_regclass(p.name) <> p.part)",
+     "it is %s now, and another table may have its name"),
+    *(("SELECT format({told}, b.view, format({why}, b.relation::regclass)) FROM below AS b " + test, why) for test, why in UNFIT),
+    ("SELECT format({told}, w.view, format({why}, o.why)) FROM sources AS w JOIN {torn} AS o ON o.view = w.view", "%s"),
+)  # fmt: skip
+
+
+class Standing:
+    """A night's look at the tables that are captured, and at its own."""
+
+    # ---- the tables of the night and of the application, which are judged where they changed
+
+    def own(self):
+        """The tables of the night."""
+        tables = [self.script.table(v) for v in range(len(self.script.views))]
+        tables += [self.script.table(v, "~changes") for v in self.script.steps.base()]
+        return sql("ARRAY[{tables}]::oid[]", tables=joined([sql("to_regclass({table})", table=self.written(table)) for table in tables]))
+
+    def sources(self):
+        """The tables that are captured, with their parts and heirs."""
+        return sql("ARRAY(SELECT p.part FROM {noted} AS p ORDER BY p.part)", noted=self.parts)
+
+    def print(self):
+        """What tells whether all of these are as they were, for this role and these definitions of the views: their columns, whatever may act on
+        their rows, keys, parts, names, and values of enumerations, if only of others; and what triggers could not note. A row of the server's
+        catalogue that is written anew has the number of another transaction. In which order they come is the server's: where it is another
+        one, the tables are judged once more."""
+        both, parts = sql("(own || captured)"), (
+            "SELECT concat_ws({comma}, CASE WHEN k.oid = ANY (own) THEN k.xmin END, CASE WHEN k.oid = ANY (captured) THEN concat_ws({comma}, k.relname,"
+            " k.relnamespace, k.relpersistence) END) FROM pg_class AS k WHERE k.oid = ANY {both}",
+            "SELECT a.xmin FROM pg_attribute AS a WHERE a.attrelid = ANY {both} AND a.attnum > 0",
+            "SELECT t.xmin FROM pg_trigger AS t WHERE t.tgrelid = ANY {both}",
+            "SELECT x.xmin FROM pg_index AS x WHERE x.indrelid = ANY (captured) AND x.indisunique",
+            "SELECT i.xmin FROM pg_inherits AS i WHERE i.inhparent = ANY {both} OR i.inhrelid = ANY {both}",
+            "SELECT r.xmin FROM pg_subscription_rel AS r WHERE r.srrelid = ANY (captured)",
+            "SELECT e.xmin FROM pg_enum AS e",
+            "SELECT o.why FROM {torn} AS o",
+        )  # fmt: skip
+        listed = joined([sql("ARRAY(" + part + ")", both=both, comma=text(","), torn=self.torn_table) for part in parts])
+        definitions = sha256("".join(self.script.definitions().values()).encode()).hexdigest()
+        return sql("concat_ws({comma}, current_user, {definitions}, captured, {parts})", comma=text(","), definitions=text(definitions), parts=listed)
+
+    def looked_at(self):
+        """The tables, and their print."""
+        return [sql("own := {own}", own=self.own()), sql("captured := {sources}", sources=self.sources()), sql("seen := {print}", print=self.print())]
+
+    def is_changed(self):
+        return sql("NOT EXISTS (SELECT 1 FROM {judged} AS j WHERE j.print = seen)", judged=self.script.own(JUDGED))
+
+    def judged(self):
+        """A refusal of triggers on the night's tables that may change what it writes, since it does not look again."""
+        names = joined([text(self.script.said(v)) for v in range(len(self.script.views))])
+        acting = sql(
+            "SELECT format({told}, k.relname, t.tgname) FROM pg_trigger AS t JOIN pg_class AS k ON k.oid = t.tgrelid"
+            " WHERE k.relnamespace = to_regnamespace({schema}) AND k.relname IN ({names}) AND (t.tgtype & 2 = 2 OR NOT t.tgisinternal AND"
+            " t.tgconstraint <> 0 OR t.tgisinternal) LIMIT 1",
+            told=text("table %s does not fit: the trigger %s may change what a night writes; use one that is fired AFTER and writes elsewhere"),
+            schema=self.written(name(self.dialect.schema)), names=names,
+        )  # fmt: skip
+        return self.dialect.refuse_with(acting)
+
+    def noted_as_judged(self):
+        """All passed, as it was seen."""
+        judged = self.script.own(JUDGED)
+        return [sql("DELETE FROM {judged}", judged=judged), sql("INSERT INTO {judged} VALUES (seen)", judged=judged)]
+
+    # ---- by what definitions the views were filled: in the table of columns each stands by no name
+
+    def opened(self):
+        """A refusal of a view that was never filled, or by another definition."""
+        listed = [sql("({view}, {print})", view=self.view(v), print=text(said)) for v, said in self.script.definitions().items()]
+        unlike = sql(
+            "SELECT w.view FROM (VALUES {listed}) AS w (view, print) LEFT JOIN {columns} AS k ON k.view = w.view AND k.name = {none} WHERE k.type <> w.print"
+            " OR k.type IS NULL AND NOT EXISTS (SELECT 1 FROM {sizes} AS s WHERE s.view = w.view) LIMIT 1",
+            listed=joined(listed), columns=self.columns, none=text(""), sizes=self.script.own(SIZES),
+        )  # fmt: skip
+        told = sql("SELECT replace({told}, {hole}, u.view) FROM ({unlike}) AS u", told=text(self.script.told_unopened("%s")), hole=text("%s"), unlike=unlike)
+        return self.dialect.refuse_with(told) if listed else []
+
+    def others_unfilled(self):
+        """Views that are filled and not in this catalogue are filled no more: its nights take changes of which they learn nothing."""
+        views = joined([self.view(v) for v in range(len(self.script.views))])
+        return [sql("UPDATE {columns} SET type = {none} WHERE name = {none} AND type <> {none} AND view NOT IN ({views})", columns=self.columns,
+                    none=text(""), views=views)]  # fmt: skip
+
+    def whole(self, base=None):
+        """A refusal of a source that is not captured as it was, of all or of those of these views."""
+        base = self.script.steps.base() if base is None else base
+        functions = [self.written(sql("{function}()", function=self.function(v))) for v in base]
+        rows = [sql("({view}::text, {made}::regprocedure::oid)", view=self.view(v), made=made) for v, made in zip(base, functions)]
+        told = text("table %s is not captured as it was: %s; run tools/sql --capture")
+        own = {"state": self.state, "columns": self.columns, "noted": self.parts, "torn": self.torn_table, "told": told, **self.texts}
+        queries = [sql("(" + query + " LIMIT 1)", why=text(why), **own) for query, why in HOLES]
+        query = sql(ALL_BELOW, rows=joined(rows), queries=joined(queries), state=self.state)
+        refusal = self.dialect.where(sql("finding IS NOT NULL"), self.dialect.raised(word("finding")))
+        return [sql("EXECUTE {query} INTO finding", query=body(query)), refusal]

@@ -1,0 +1,294 @@
+"""The triggers by which PostgreSQL tells what applications write: what they do, and how they are put on tables beside writers.
+
+No statement of an application fails by them. Where one cannot note what it was fired for, the table is marked as torn: the next night is refused
+and says why, and --capture compares the table with its mirror."""
+
+from typing import NamedTuple
+
+from whtools.live.turned import again
+from whtools.sql.dialect import COUNT
+from whtools.sql.postgresql import PATH
+from whtools.sql.tokens import END_OF_STATEMENT, body, joined, name, number, sql, statements, text, word
+
+# How often a table is tried that somebody is writing to, and how many milliseconds it is left alone in between: a minute in all.
+TRIES, PAUSE = 1200, 50
+# A source, its partitions and its heirs, as b. Whatever has no rows of its own is not truncated by itself.
+BELOW = (
+    "(WITH RECURSIVE below (root, relation) AS (SELECT c.source::oid, c.source::oid FROM {state} AS c WHERE c.view = {view} UNION SELECT b.root,"
+    " i.inhrelid FROM below AS b JOIN pg_inherits AS i ON i.inhparent = b.relation) SELECT * FROM below) AS b"
+)
+FIRED = "(SELECT count(*) FROM pg_trigger AS t WHERE t.tgrelid = {relation} AND t.tgfoid = {function}::regprocedure AND t.tgenabled IN ({always}, {replica}))"
+# What a function of triggers finds out first: whether its table is captured at all, whether its columns can still be turned, and whether others
+# inherit from it. A function may be called by a trigger that somebody else has made, on a table of his own.
+JUDGED = (
+    "SELECT CASE WHEN NOT EXISTS (SELECT 1 FROM {noted} AS n WHERE n.view = {view} AND n.part = TG_RELID) AND NOT EXISTS (SELECT 1 FROM "
+    + BELOW + " WHERE b.relation = TG_RELID) THEN {strange} WHEN (SELECT count(*) FROM pg_attribute AS a WHERE a.attrelid = TG_RELID AND a.attnum > 0"
+    " AND ({fits})) <> {many} THEN {unlike} WHEN EXISTS (SELECT 1 FROM pg_inherits AS i WHERE i.inhparent = TG_RELID) THEN {parent} END"
+)
+# A command that is known not to be a MERGE: by the statement that fired the trigger, where a client sent it or a function carried it out. A statement
+# that was prepared may be any.
+MERGING = (
+    "(CASE WHEN finding = {none} THEN coalesce(strpos(lower(current_query()), {merge}) > 0 OR strpos(lower(current_query()), {execute}) > 0, TRUE)"
+    " WHEN starts_with(finding, {statement}) THEN strpos(lower(finding), {merge}) > 0 OR strpos(lower(finding), {execute}) > 0"
+    " ELSE TRUE END)"
+)
+BY_ROWS = "current_setting(concat({way}, pg_trigger_depth() - {depth}), TRUE) = {rows}"
+# Whether a table cannot be read without that functions are called that are no superuser's, by a superuser: PostgreSQL works out what is constant in the
+# conditions of indexes and checks of a table whenever it plans a query of it.
+CALLS = (
+    "(EXISTS (SELECT 1 FROM pg_roles AS u WHERE u.rolname = current_user AND u.rolsuper) AND EXISTS (SELECT 1 FROM (SELECT o.classid, o.objid FROM pg_depend AS o"
+    " WHERE o.refclassid = {classes}::regclass AND o.refobjid = {relation} AND o.classid IN ({classes}::regclass, {constraints}::regclass, {statistics}::regclass)"
+    " UNION ALL SELECT {classes}::regclass, {relation}) AS o JOIN pg_depend AS f ON f.classid = o.classid AND f.objid = o.objid LEFT JOIN pg_operator AS x"
+    " ON f.refclassid = {operators}::regclass AND x.oid = f.refobjid JOIN pg_proc AS p ON p.oid = CASE f.refclassid WHEN {functions}::regclass THEN f.refobjid"
+    " ELSE x.oprcode::oid END JOIN pg_roles AS r ON r.oid = p.proowner WHERE NOT r.rolsuper))"
+)
+WHY = {
+    "calls": "it was truncated, and its indexes or checks call a function that is no superuser's",
+    "unlike": "rows were written while its columns were not as they were captured",
+    "early": "rows were written by a transaction that had begun before it was captured",
+    "isolation": "it was truncated at another isolation than READ COMMITTED, which does not see all rows that go",
+    "hidden": "it was truncated, and its rows are hidden from whoever owns the function of its triggers",
+    "applied": "rows were written by logical replication, for which no statement is captured",
+}
+BUSY = "somebody is writing to %s all the time, and its triggers wait for a moment without: run the script again"
+
+
+class Event(NamedTuple):
+    """A trigger: the end of its name, when it is fired, for what of it, what its function is told, whether only tables with rows of their own have
+    it, and by whose writing it is fired."""
+
+    said: str
+    when: str
+    each: object
+    argument: str = ""
+    is_ordinary: bool = False
+    mode: str = "ALWAYS"
+
+
+def of_statement(tables=""):
+    return sql(f"{tables} FOR EACH STATEMENT")
+
+
+class Triggers:
+    """The statements about the triggers of a script's captures."""
+
+    def events(self, source):
+        """The triggers of a source's tables. A row that a MERGE moves from one partition to another is in none of the tables of a statement's
+        rows, so that where a command may be one, rows are noted one by one."""
+        found = [
+            Event("insert", "AFTER INSERT ON ", of_statement("REFERENCING NEW TABLE AS come")),
+            Event("update", "AFTER UPDATE ON ", of_statement("REFERENCING OLD TABLE AS gone NEW TABLE AS come")),
+            Event("delete", "AFTER DELETE ON ", of_statement("REFERENCING OLD TABLE AS gone")),
+            Event("truncate", "BEFORE TRUNCATE ON ", of_statement(), is_ordinary=True),
+            Event("applied", "AFTER INSERT OR UPDATE OR DELETE ON ", sql("FOR EACH ROW"), "applied", True, "REPLICA"),
+        ]
+        if source.is_parted:
+            each = sql("FOR EACH ROW WHEN ({test})", test=self.by_rows(0))
+            found.append(Event("way", "BEFORE UPDATE ON ", of_statement(), "way"))
+            found.append(Event("rows", "AFTER INSERT OR UPDATE OR DELETE ON ", each, "rows", True))
+        return found
+
+    def by_rows(self, depth):
+        """Whether the rows of a command are noted one by one, as a trigger's function sees it or the command itself."""
+        return sql(BY_ROWS, way=text("whview.way"), rows=text("rows"), depth=number(depth))
+
+    # ---- what a trigger does
+
+    def captured_by(self, v, source):
+        """The function of a table's triggers, which nobody else may call. Where a transaction is one snapshot, this may be from before what is now: then
+        each cell is turned only if it is of its type, and what fails marks the table as torn."""
+        sure = source._replace(columns=[column._replace(said=column.sure) for column in source.columns])
+        program = sql(
+            "\n#variable_conflict use_column\nDECLARE finding pg_catalog.text{end}\nBEGIN\n  {as_ever}finding := ({judged}){end}\n  {first}{end}\n"
+            "  IF finding = {unlike} THEN {torn}{end}\n  ELSIF {current} THEN{noted}\n  ELSE\n  BEGIN{surely}\n  EXCEPTION WHEN OTHERS THEN {torn}{end}\n"
+            "  END{end}\n  END IF{end}\n  RETURN NULL{end}\nEND{end}",
+            as_ever=self.as_ever(v, source), judged=self.judged_by(v, source), first=self.part_unnoted(v), unlike=text("unlike"),
+            torn=self.torn(v, "unlike"), current=self.is_current(), noted=self.noting(v, source), surely=self.noting(v, sure), end=END_OF_STATEMENT,
+        )  # fmt: skip
+        made = sql("CREATE OR REPLACE FUNCTION {function}() RETURNS trigger LANGUAGE plpgsql SECURITY DEFINER SET search_path = " + PATH + " AS {program}",
+                   function=self.function(v), program=body(program))  # fmt: skip
+        return [made, sql("REVOKE ALL ON FUNCTION {function}() FROM PUBLIC", function=self.function(v))]
+
+    def as_ever(self, v, source):
+        """What nearly all statements need: where the table is called as it was, its columns too, and rows have the types that they had, they are noted
+        at once. None of this is asked of tables of the server's catalogue, which is slow, and by a snapshot that may be old. A table in parts, and
+        a domain, which may allow NULL by now, want a closer look."""
+        if source.is_parted or any(column.told.is_domain for column in source.columns):
+            return sql("")
+        known = [sql("pg_describe_object(1259, TG_RELID, {place}) = {described}", place=number(column.told.place), described=text(column.told.described))
+                 for column in source.columns]  # fmt: skip
+        filled = source._replace(columns=[column._replace(said=column.filled) for column in source.columns])
+        return sql(
+            "IF TG_NARGS = 0 AND TG_OP <> {truncate} AND {known} THEN\n  IF TG_OP = {delete} THEN finding := ({gone}){end} ELSE finding := ({come}){end}"
+            " END IF{end}\n  IF finding IS NULL THEN RETURN NULL{end} END IF{end}\n  IF finding = {types} THEN\n  {noted}\n  END IF{end}\n  RETURN NULL{end}\n  END IF{end}\n"
+            "  END IF{end}\n  ", truncate=text("TRUNCATE"), known=joined(known, "AND"), delete=text("DELETE"), gone=self.types_of(source, "gone"),
+            come=self.types_of(source, "come"), types=text(",".join(str(column.told.own_number) for column in source.columns)),
+            noted=sql("IF FALSE THEN NULL{end}\n  {noted}", noted=self.of_statement(v, filled), end=END_OF_STATEMENT), end=END_OF_STATEMENT,
+        )  # fmt: skip
+
+    def types_of(self, source, rows):
+        """The numbers of the types of a statement's rows, and whether others inherit from the table; NULL where there are no rows."""
+        types = joined([sql("pg_typeof(r.{column})::oid", column=name(column.name)) for column in source.columns])
+        return sql("SELECT concat_ws({comma}, {types}, CASE WHEN EXISTS (SELECT 1 FROM pg_inherits AS i WHERE i.inhparent = TG_RELID) THEN {parent} END)"
+                   " FROM {rows} AS r LIMIT 1", comma=text(","), types=types, parent=text("parent"), rows=word(rows))  # fmt: skip
+
+    def is_current(self):
+        """Whether each statement of a trigger sees what is there now."""
+        return sql("current_setting({isolation}) = {wanted}", isolation=text("transaction_isolation"), wanted=text("read committed"))
+
+    def noting(self, v, source):
+        """What is noted, by what a trigger was fired for."""
+        return sql(
+            "\n  IF TG_ARGV[0] = {applied} THEN {of_applied}\n  {of_parts}ELSIF TG_OP = {truncate} THEN {truncated}\n  {of_statement}\n  END IF{end}",
+            applied=text("applied"), of_applied=self.of_applied(v), of_parts=self.of_parts(v, source), truncate=text("TRUNCATE"),
+            truncated=self.truncated(v, source), of_statement=self.of_statement(v, source), end=END_OF_STATEMENT,
+        )  # fmt: skip
+
+    def judged_by(self, v, source):
+        fits = joined([sql("({fits})", fits=column.fits) for column in source.columns], "OR")
+        return self.query(v, JUDGED, fits=fits, many=number(len(source.columns)), **{said: text(said) for said in ("strange", "unlike", "parent")})
+
+    def torn(self, v, why):
+        """A mark that a table is not captured as it was. It stands once, as far as the transaction sees: nobody waits for another's."""
+        there = self.query(v, "SELECT 1 FROM {torn} AS o WHERE o.view = {view} AND o.why = {why}", torn=self.torn_table, why=text(WHY[why]))
+        return self.query(v, "INSERT INTO {torn} SELECT {view}, {why} WHERE NOT EXISTS ({there})", torn=self.torn_table, why=text(WHY[why]), there=there)
+
+    def part_unnoted(self, v):
+        """What a trigger does first: for a table that is none of the source's nothing, and where a table has parts or heirs one that nobody noted is,
+        so that it is missed also where it is gone before the next night, and with it rows that came through the table."""
+        return self.query(
+            v, "IF finding = {strange} THEN IF NOT {current} THEN {early}{end} END IF{end} RETURN NULL{end} ELSIF finding = {parent} THEN IF EXISTS (SELECT 1 FROM "
+            + BELOW + " WHERE {unnoted}) THEN {made}{end} END IF{end} END IF", strange=text("strange"), current=self.is_current(), early=self.torn(v, "early"),
+            parent=text("parent"), unnoted=self.unnoted(v), made=self.parts_noted(v), end=END_OF_STATEMENT,
+        )  # fmt: skip
+
+    def of_parts(self, v, source):
+        """Of a table in parts: how the rows of a command are noted, and rows one by one."""
+        if not source.is_parted:
+            return sql("")
+        texts = {"none": "", "merge": "merge", "execute": "execute", "statement": 'SQL statement "', "line": "\n", "rows": "rows", "said": "way"}
+        parts = {said: text(each) for said, each in texts.items()}
+        return sql(
+            "ELSIF TG_ARGV[0] = {said} THEN\n    GET DIAGNOSTICS finding = PG_CONTEXT{end}\n    finding := CASE WHEN strpos(finding, {line}) > 0 THEN"
+            " substr(finding, strpos(finding, {line}) + 1) ELSE {none} END{end}\n    IF " + MERGING + " THEN PERFORM set_config(concat({way},"
+            " pg_trigger_depth() - 1), {rows}, TRUE){end} END IF{end}\n  ELSIF TG_ARGV[0] = {rows} THEN {noted}\n  ELSIF {by_rows} AND TG_OP <>"
+            " {truncate} THEN NULL{end}\n  ",
+            way=text("whview.way"), noted=self.rows_noted(v, source), by_rows=self.by_rows(1), truncate=text("TRUNCATE"), end=END_OF_STATEMENT, **parts,
+        )  # fmt: skip
+
+    def rows_noted(self, v, source):
+        """The rows that a trigger of single rows is fired for."""
+        insert = self.insert(v)
+        come, gone = (sql("SELECT {cells}, {sign}", cells=joined([again(column.said, word(row)) for column in source.columns]), sign=number(sign))
+                      for row, sign in (("NEW", 1), ("OLD", -1)))  # fmt: skip
+        return sql(
+            "\n    IF TG_OP <> {deleted} THEN {insert} {come}{end} END IF{end}\n    IF TG_OP <> {inserted} THEN {insert} {gone}{end} END IF{end}",
+            insert=insert, come=come, gone=gone, inserted=text("INSERT"), deleted=text("DELETE"), end=END_OF_STATEMENT,
+        )
+
+    def of_applied(self, v):
+        """Rows that come in the role of a replica. What an SQL statement writes is noted by the triggers of statements; where there is no statement
+        they are not fired, and the table is torn."""
+        return sql("IF current_query() IS NULL THEN {torn}{end} END IF{end}", torn=self.torn(v, "applied"), end=END_OF_STATEMENT)
+
+    def truncated(self, v, source):
+        """The rows of a table that is emptied, where all of them can be seen."""
+        before, after = sql("{insert} SELECT {shown}, -1 FROM ONLY", insert=self.insert(v), shown=source.shown), sql("AS r")
+        return sql(
+            "\n    IF NOT {current} THEN {alone}{end}\n    ELSIF row_security_active(TG_RELID) OR NOT"
+            " has_table_privilege(TG_RELID, {select}) OR NOT has_schema_privilege((SELECT k.relnamespace FROM pg_class AS k WHERE k.oid = TG_RELID), {usage})"
+            " THEN {hidden}{end}\n    ELSIF {calls} THEN {called}{end}\n    ELSE EXECUTE concat({before}, TG_RELID::regclass, {after}){end}\n    END IF{end}",
+            current=self.is_current(), alone=self.torn(v, "isolation"), select=text("SELECT"),
+            usage=text("USAGE"), hidden=self.torn(v, "hidden"), calls=self.calls(word("TG_RELID")), called=self.torn(v, "calls"),
+            before=text(self.dialect.written([before])[0] + " "), after=text(" " + self.dialect.written([after])[0]), end=END_OF_STATEMENT,
+        )  # fmt: skip
+
+    def calls(self, relation):
+        classes = {"classes": "class", "constraints": "constraint", "statistics": "statistic_ext", "operators": "operator", "functions": "proc"}
+        return sql(CALLS, relation=relation, **{said: text(f"pg_{each}") for said, each in classes.items()})
+
+    def insert(self, v):
+        return sql("INSERT INTO {changes} ({columns})", changes=self.script.table(v, "~changes"), columns=joined([*self.script.users(v), COUNT]))
+
+    def of_statement(self, v, source):
+        """The rows of a statement. What an UPDATE leaves as it was leaves and comes: nights add it up, and writers do not wait for that."""
+        insert = self.insert(v)
+        come, gone = (sql("SELECT {shown}, {sign} FROM {rows} AS r", shown=source.shown, sign=number(sign), rows=word(rows))
+                      for rows, sign in (("come", 1), ("gone", -1)))  # fmt: skip
+        both = sql("{gone} UNION ALL {come}", gone=gone, come=come)
+        parts = {f"{said}_rows": sql("{insert} {rows}", insert=insert, rows=rows) for said, rows in (("insert", come), ("delete", gone), ("update", both))}
+        words = {said.lower(): text(said) for said in ("INSERT", "DELETE", "UPDATE")}
+        return sql("ELSIF TG_OP = {insert} THEN {insert_rows}{end}\n  ELSIF TG_OP = {delete} THEN {delete_rows}{end}\n"
+                   "  ELSIF TG_OP = {update} THEN {update_rows}{end}", **words, **parts, end=END_OF_STATEMENT)  # fmt: skip
+
+    # ---- how triggers come and go
+
+    def fired(self, v, source):
+        """Each table of a source gets its triggers in a transaction of its own, at a moment when nobody is writing to it."""
+        events = self.events(source)
+        is_ordinary = sql("EXISTS (SELECT 1 FROM pg_class AS c WHERE c.oid = part AND c.relkind = {ordinary})", ordinary=self.texts["ordinary"])
+        own, all_have = ([each for event in events if event.is_ordinary == kind for each in self.put(event)] for kind in (True, False))
+        relations = self.query(v, "SELECT b.relation::regclass FROM " + BELOW)
+        many = [sum(not event.is_ordinary for event in events), len(events)]
+        wanted = sql("(SELECT CASE c.relkind WHEN {ordinary} THEN {most} ELSE {few} END FROM pg_class AS c WHERE c.oid = part)",
+                     ordinary=self.texts["ordinary"], few=number(many[0]), most=number(many[1]))  # fmt: skip
+        missing = self.query(v, FIRED + " < {wanted}", relation=word("part"), wanted=wanted)
+        unfit = self.query(v, "SELECT format({told}, c.oid::regclass) FROM pg_class AS c WHERE c.oid = part AND c.relkind = {foreign}",
+                           told=text("%s is a foreign table, whose changes are not captured"))  # fmt: skip
+        made = [*all_have, *self.dialect.only_where(is_ordinary, own)]
+        return self.one_by_one(v, relations, missing, "SHARE ROW EXCLUSIVE", made, self.dialect.refuse_with(unfit))
+
+    def put(self, event):
+        """The statements that put a trigger on a table, and have it fired whoever writes."""
+        said, argument = sql("quote_ident(concat({said}, made::oid, {event}))", said=text("whview "), event=text(f" {event.said}")), event.argument
+        create = sql(
+            "EXECUTE concat({create}, {said}, {when}, part, {each}, {call}, left(made::text, -1), {argument})", create=text("CREATE OR REPLACE TRIGGER "),
+            said=said, when=text(f" {event.when}"), each=text(" " + self.dialect.written([event.each])[0]), call=text(" EXECUTE FUNCTION "),
+            argument=text(f"'{argument}')" if argument else ")"),
+        )  # fmt: skip
+        enable = sql("EXECUTE concat({alter}, part, {enable}, {said})", alter=text("ALTER TABLE ONLY "), enable=text(f" ENABLE {event.mode} TRIGGER "), said=said)
+        return [create, enable]
+
+    def renamed(self, v):
+        """Triggers that have other names go, as those of a dump have: they would note each change beside the new ones."""
+        strange = sql("t.tgfoid = made AND NOT starts_with(t.tgname, concat({said}, made::oid, {blank}))", said=text("whview "), blank=text(" "))
+        relations = self.query(v, "SELECT DISTINCT t.tgrelid::regclass FROM pg_trigger AS t WHERE {strange}", strange=strange)
+        return self.dropped_from(v, relations, strange)
+
+    def left(self, v):
+        """The triggers of tables that are no part of a source any more go."""
+        relations = self.query(v, "SELECT DISTINCT t.tgrelid::regclass FROM pg_trigger AS t WHERE t.tgfoid = {function}::regprocedure"
+                                  " AND t.tgrelid NOT IN (SELECT b.relation FROM " + BELOW + ")")  # fmt: skip
+        return self.dropped_from(v, relations)
+
+    def let_go(self, v):
+        """All triggers of a source go."""
+        relations = self.query(v, "SELECT DISTINCT t.tgrelid::regclass FROM pg_trigger AS t WHERE t.tgfoid = to_regprocedure({function})")
+        return self.dropped_from(v, relations)
+
+    def dropped_from(self, v, relations, test=sql("t.tgfoid = made")):
+        there = self.query(v, "EXISTS (SELECT 1 FROM pg_trigger AS t WHERE t.tgrelid = part AND {test})", test=test)
+        named = sql("SELECT t.tgname FROM pg_trigger AS t WHERE t.tgrelid = part AND {test}", test=test)
+        dropped = sql(
+            "FOR finding IN {named} LOOP EXECUTE concat({drop}, quote_ident(finding), {on}, part){end} END LOOP",
+            named=named, drop=text("DROP TRIGGER "), on=text(" ON "), end=END_OF_STATEMENT,
+        )
+        return self.one_by_one(v, relations, there, "ACCESS EXCLUSIVE", [dropped], [])
+
+    def one_by_one(self, v, relations, test, mode, made, judged):
+        """A program that goes to each of these relations where a test holds, and tries its statements until nobody is writing there. The path of names
+        holds beyond each of its transactions."""
+        function = self.written(sql("{function}()", function=self.function(v)))
+        lock = sql("EXECUTE concat({lock}, part, {mode})", lock=text("LOCK TABLE ONLY "), mode=text(f" IN {mode} MODE NOWAIT"))
+        busy = self.dialect.where(sql("tries > {most}", most=number(TRIES)), self.dialect.raised(sql("format({busy}, part)", busy=text(BUSY))))
+        kinds = {"part": "regclass", "made": "regprocedure", "tries": "int4", "path": "text", "finding": "text"}
+        program = sql(
+            "\nDECLARE {variables}\nBEGIN\npath := pg_catalog.current_setting({key}){end}\nPERFORM pg_catalog.set_config({key}, {own}, FALSE){end}\n"
+            "made := to_regprocedure({function}){end}\nFOR part IN {relations} LOOP\n{judged}\ntries := 0{end}\n"
+            "WHILE {test} LOOP\nBEGIN{made}\nEXCEPTION WHEN lock_not_available THEN\ntries := tries + 1{end}\n{busy}{end}\n"
+            "PERFORM pg_sleep({pause} / 1000.0){end}\nEND{end}\nEND LOOP{end}\nCOMMIT{end}\nEND LOOP{end}\nPERFORM set_config({key}, path, FALSE){end}\nEND{end}",
+            variables=joined([sql("{said} pg_catalog.{kind}{end}", said=word(said), kind=word(kind), end=END_OF_STATEMENT) for said, kind in kinds.items()], None),
+            key=text("search_path"), own=text(PATH), function=function, relations=relations, judged=statements(judged, 1), test=test,
+            made=statements([lock, *made], 2), busy=busy, pause=number(PAUSE), end=END_OF_STATEMENT,
+        )  # fmt: skip
+        return sql("DO {program}{end}", program=body(program), end=END_OF_STATEMENT)
