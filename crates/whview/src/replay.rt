@@ -210,7 +210,7 @@ fn answer_of<R: Threads + Sync>(
     budget: &ThreadBudget<'_, R>,
     input: ReplayInput,
 ) -> Result<Answer, AllocError>
-    requires { IsFitReplay input }
+    requires fit { IsFitReplay input }
     ensures { IfOk result (λ a. IsReplayTold (shown_replay input) a.text.items (status_number a.status)) }
 {
     answer_with(
