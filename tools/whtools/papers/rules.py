@@ -12,7 +12,7 @@ MOST = {
     "CHANGELOG.md": 2,
     "docs/ARCHITECTURE.md": 15,
     "docs/CLUSTER.md": 8.2,
-    "docs/DECISIONS.md": 62,
+    "docs/DECISIONS.md": 66,
     "docs/DEFINITIONS.md": 23,
     "docs/FORMATS.md": 29,
     "docs/OPERATING.md": 6,
