@@ -12,6 +12,7 @@ mod limits;
 mod opened;
 mod product;
 mod refused;
+mod run;
 mod steps;
 mod waves;
 mod wide;

@@ -1,6 +1,7 @@
 //! The texts that are read and written: tables of texts, each with what it says or its first fault, worked out by hand
 //! from the formats.
 
+mod beside;
 mod bundles;
 mod cases;
 mod catalogues;

@@ -1,2 +1,3 @@
+pub mod ReadingAhead
 pub mod ReadingNights
 pub mod ReadingRows

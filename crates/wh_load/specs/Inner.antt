@@ -1,1 +1,2 @@
 pub mod ReadingShown
+pub mod ReadingRows

@@ -33,5 +33,6 @@ pub use wh_text_lines::{
     strategy_grammar_law, tree_lines_law, write_expression, write_plan, write_strategy,
 };
 pub use wh_text_tables::{
-    changes_read_back_law, read_changes, read_sizes, read_table, table_reads_back_law, write_table,
+    Content, RowsAhead, changes_read_back_law, read_ahead, read_changes, read_from, read_sizes,
+    read_table, table_reads_back_law, write_table,
 };

@@ -3,9 +3,11 @@
 //! The order of the faults is the same in all: first that of the headings, from the top; then a part that is missing, the
 //! catalogue before the others; then the texts' own faults, the catalogue's first.
 
+mod ahead;
 mod base;
 pub mod certify;
 pub mod check;
+mod found;
 mod given;
 pub mod inputs;
 pub mod night;

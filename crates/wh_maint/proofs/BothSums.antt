@@ -107,6 +107,12 @@ fit_less counts more a b xs ys us vs e f fit =
     let all = opened counts more a b xs ys us vs e f fit in
     record { counts = all.counts; sums = λ j. all.sums (suc j) }
 
+pub all_opened : (a b : Bag) (xs ys us vs : List Bag) → us ≡ a ∷ xs → vs ≡ b ∷ ys → ((j : ℕ) → SumsTogetherFit (bag_at us j) (bag_at vs j))
+    → (j : ℕ) → SumsTogetherFit (bag_at (a ∷ xs) j) (bag_at (b ∷ ys) j)
+all_opened a b xs ys us vs e f fit j =
+    subst (λ (ls : List Bag). SumsTogetherFit (bag_at ls j) (bag_at (b ∷ ys) j)) e
+    (subst (λ (ls : List Bag). SumsTogetherFit (bag_at us j) (bag_at ls j)) f (fit j))
+
 pub on_ok : {A E : Type 0} (r : Result A E) (P Q : Type 0) → (P → Q) → OnOk r P → OnOk r Q
 on_ok (Ok x) P Q f h = f h
 on_ok (Err e) P Q f h = h
@@ -143,19 +149,13 @@ columns_bring xs ys us vs e f none j =
     subst (λ (bags : List Bag). HasRowsOf (bag_at bags j) (bag_at ys j)) (sym e)
     (subst (λ (bags : List Bag). HasRowsOf (bag_at us j) (bag_at bags j)) (sym f) (none j))
 
--- ---- counts alone
+-- ---- counts taken in, and then the sums
 
-one_alone : (cs : List Bag) → length cs ≡ 1 → (j : ℕ) → bag_at cs (suc j) ≡ empty
-one_alone [] e j = absurd (omega (arith, e))
-one_alone (b ∷ []) e j = refl
-one_alone (b ∷ d ∷ cs) e j = absurd (omega (arith, e))
-
-pub alone_summed : (mine others all : List Bag) → length mine ≡ 1 → length others ≡ 1 → length all ≡ 1 → bag_at all 0 ≡ sum_of (bag_at mine 0) (bag_at others 0)
+pub taken_in : (mine others counted all : List Bag) (more : Bag) (sums : List Bag) → more ∷ sums ≡ others
+    → bag_at counted 0 ≡ sum_of (bag_at mine 0) more → ((j : ℕ) → bag_at counted (suc j) ≡ bag_at mine (suc j)) → bag_at all 0 ≡ bag_at counted 0
+    → ((j : ℕ) (q : Row) → count (bag_at all (suc j)) q ≡ count (bag_at counted (suc j)) q +ℤ count (bag_at sums j) q)
     → (j : ℕ) (q : Row) → count (bag_at all j) q ≡ count (bag_at mine j) q +ℤ count (bag_at others j) q
-alone_summed mine others all m o a is zero q = ap (λ b. count b q) is ∙ count-sum_of (bag_at mine 0) (bag_at others 0) q
-alone_summed mine others all m o a is (suc j) q =
-    let none : count empty q ≡ pos 0 = none_in q in
-    let sum : pos 0 +ℤ pos 0 ≡ pos 0 = refl in
-    ap (λ b. count b q) (one_alone all a j) ∙ none ∙ sym sum
-    ∙ (λ i. sym none i +ℤ sym none i)
-    ∙ (λ i. count (sym (one_alone mine m j) i) q +ℤ count (sym (one_alone others o j) i) q)
+taken_in mine others counted all more sums is here kept same then zero q =
+    ap (λ b. count b q) (same ∙ here) ∙ count-sum_of (bag_at mine 0) more q ∙ (λ i. count (bag_at mine 0) q +ℤ count (bag_at (is i) 0) q)
+taken_in mine others counted all more sums is here kept same then (suc j) q =
+    then j q ∙ (λ i. count (kept j i) q +ℤ count (bag_at (is i) (suc j)) q)

@@ -1,15 +1,19 @@
 -- The walks over the columns of pending accumulators that test new counts.
 use Rattle.std.proofs.Common.{◌≡◌, ◌≢◌, ℕ, zero, suc, ◌<◌, refl, sym, ap, subst, ◌∙◌, ℤ, pos, true, false, ◌||◌, [], ◌∷◌, inl, inr, arith}
 use Rattle.std.proofs.lemmas.Bool.{false≢true, cases_order}
+use Rattle.std.specs.Prelude.{FitsSigned}
+use Rattle.std.specs.Int.{w64}
 use Rattle.wh_row.specs.Row.{Row, is_row}
 use Rattle.wh_row.specs.Weigh.{Counted}
-use Rattle.wh_row.specs.Bag.{Bag, count, written}
+use Rattle.wh_row.specs.Bag.{Bag, count, empty, written}
 use Rattle.wh_row.specs.Inner.Room.{has_row}
 use Rattle.wh_row.proofs.BagLaws.{same_row}
 use Rattle.wh_maint.specs.View.{Summed}
 use Rattle.wh_maint.specs.Summary.{is_nonzero}
 use Rattle.wh_maint.specs.Value.{NewCountsFit}
-use Rattle.wh_maint.specs.Inner.Finishing.{GroupCountFits, CountsFitIn, stands_within}
+use Rattle.wh_maint.specs.Inner.Finishing.{HasNoRow, GroupCountFits, CountsFitIn, stands_within}
+use Rattle.wh_maint.proofs.BothSums.{none_in}
+use Rattle.wh_maint.proofs.OldRows.{new_alone}
 use Rattle.wh_maint.proofs.NewRows.{touched_at}
 use Rattle.wh_maint.proofs.DoneGroups.{AreRest, rest_start, rest_next, or_false, absent_from, touched_stands}
 
@@ -59,3 +63,9 @@ columns_fit sums table p h = λ g t. fits_within (suc sums) g h (touched_stands 
 
 pub each_column : (sums : ℕ) (table : Bag) (p : ℕ → Bag) → NewCountsFit (Summed sums) table p → (j : ℕ) → j < suc sums → CountsFitIn sums table p j
 each_column sums table p h j l = λ g n. h g (touched_at sums p g j l n)
+
+-- where the table has no rows, the new counts are those that are pending
+pub pending_fit : (sums : ℕ) (table : Bag) (p : ℕ → Bag) → table ≡ empty → ((g : Row) → FitsSigned w64 (count (p 0) g)) → NewCountsFit (Summed sums) table p
+pending_fit sums table p e fits g _ =
+    let none : HasNoRow sums table g = λ row n. absurd (n (ap (λ b. count b row) e ∙ none_in row)) in
+    subst (FitsSigned w64) (sym (new_alone sums table p g none 0)) (fits g)

@@ -249,6 +249,25 @@ filled_all old others new now among filled q =
     (λ n i. filled.kept q n i +ℤ among q n i)
     (zero_or_not (count new q))
 
+-- ---- all rows, one after another
+
+-- the others' rows that were passed are added
+abbrev pub HaveComeBy : Bag → Bag → Bag → Counted → Type 0
+HaveComeBy old others now es = (q : Row) → count now q +ℤ count_in es q ≡ count old q +ℤ count others q
+
+pub come_first : (old others : Bag) (es : Counted) → es ≡ written others → HaveComeBy old others old es
+come_first old others es all q = ap (λ x. count old q +ℤ count_in x q) all ∙ ap (λ z. count old q +ℤ z) (count_in-written others q)
+
+pub come_there : (old others now : Bag) (e : Row × ℤ) (rest : Counted) → AreTold others (e ∷ rest) → AreRising (rows_of (e ∷ rest))
+    → HaveComeBy old others now (e ∷ rest) → count now e.0 ≡ count old e.0
+come_there old others now e rest told rising come = still (count now e.0) (count old e.0) others e rest told rising (come e.0)
+
+pub come_next : (old others now next : Bag) (e : Row × ℤ) (rest : Counted) → next ≡ plus now e.0 e.1 → HaveComeBy old others now (e ∷ rest) → HaveComeBy old others next rest
+come_next old others now next e rest is come q = moved now next e rest is q ∙ come q
+
+pub come_all : (old others now : Bag) → HaveComeBy old others now [] → now ≡ sum_of old others
+come_all old others now come = same_bag now (sum_of old others) (λ q. no_more _ _ (come q) ∙ sym (count-sum_of old others q))
+
 -- ---- one column
 
 pub apart : (sums others new : Bag) → AreNewRows sums others new → (q : Row) → count new q ≢ pos 0 → count sums q ≡ pos 0

@@ -61,12 +61,17 @@ pub fn finish<F: RowTest, G: RowValue>(
     }
 }
 
-/// Whether each touched group's new count fits i64.
+/// Whether each touched group's new count fits i64. Where the table has no rows, no group is looked at: the new counts are those that
+/// are pending.
 fn new_counts_fit(pending: &Pending, sums: usize, table: &Bag) -> bool
     requires columns { length pending.now.columns ≡ suc sums }
     requires fit { IsSummaryTable sums table.now }
     ensures { IsTrue result ↔ NewCountsFit (Summed sums) table.now (bag_at pending.now.columns) }
 {
+    if table.is_empty() {
+        pending.counts().counts_fit();
+        return true;
+    }
     if !counted_fit(pending, sums, table) {
         return false;
     }

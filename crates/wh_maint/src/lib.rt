@@ -21,7 +21,9 @@ mod installed;
 mod laws;
 mod opening;
 mod pending;
+mod run;
 mod size;
+mod taken;
 mod term;
 mod wants;
 

@@ -5,10 +5,11 @@ ghost use Rattle.std.specs.List.{range_with_len};
 ghost use mir.Syntax.{w64, w128};
 ghost use Rattle.wh_row.specs.Bag.{count as count_of, written, empty, plus, sum_of, SumFits};
 ghost use Rattle.wh_maint.specs.Comp.{bag_at, merged};
-ghost use Rattle.wh_maint.specs.Refused.{MergedFit, BringsNothing, IsMergeFault};
+ghost use Rattle.wh_maint.specs.Refused.{SumsTogetherFit, MergedFit, BringsNothing, IsMergeFault};
 
 use crate::both_sums::add_columns;
 use crate::fault::{MaintFault, RowFault};
+use crate::taken::take_columns_in;
 use std::alloc::{AllocError, Global};
 use std::marker::Model;
 use wh_row::{Bag, BagFault, SumRows, Sums};
@@ -108,8 +109,8 @@ impl Pending {
         Ok(())
     }
 
-    /// Takes in what others added of the same view: as [`Pending::merge`] does, and by no more than a move where nothing was
-    /// added yet, or where all rows of a joined view are above these.
+    /// Takes in what others added of the same view: as [`Pending::merge`] does, but that a refusal may leave some of it added. It is
+    /// moved where nothing was added yet, and so is each column of which all rows are above these.
     pub(crate) fn take_in(&mut self, other: Pending) -> Result<(), RowFault>
         requires view { other.view ≡ self.old.view }
         requires columns { length other.columns ≡ length self.old.columns }
@@ -123,26 +124,17 @@ impl Pending {
             *self = other;
             return Ok(());
         }
-        if self.sums.is_empty() {
-            self.take_counts_in(other.into_counts())?;
-            return Ok(());
-        }
-        match self.merge(&other) {
-            Ok(()) => Ok(()),
-            Err(MaintFault::Memory) => Err(RowFault::Memory),
-            Err(MaintFault::Large(_)) => unreachable!(),
-            Err(MaintFault::Range(_)) => unreachable!(),
-            Err(MaintFault::Absent(_, _)) => unreachable!(),
-        }
+        self.take_counts_in(other.counts)?;
+        self.take_sums_in(other.sums)
     }
 
-    /// Takes in counts alone.
+    /// Takes in counts.
     fn take_counts_in(&mut self, counts: Bag) -> Result<(), RowFault>
-        requires one { length self.old.columns ≡ 1 }
         requires fits { SumFits (bag_at self.old.columns 0) counts }
         ensures view { self.new.view ≡ self.old.view }
-        ensures columns { length self.new.columns ≡ 1 }
-        ensures sum { OnOk result (bag_at self.new.columns 0 ≡ sum_of (bag_at self.old.columns 0) counts) }
+        ensures columns { length self.new.columns ≡ length self.old.columns }
+        ensures count { OnOk result (bag_at self.new.columns 0 ≡ sum_of (bag_at self.old.columns 0) counts) }
+        ensures sums { (j : ℕ) → bag_at self.new.columns (suc j) ≡ bag_at self.old.columns (suc j) }
         ensures memory { OnErr result (result ≡ Err RowFault.Memory) }
     {
         match self.counts.take_in(counts) {
@@ -150,6 +142,25 @@ impl Pending {
             Err(BagFault::Memory) => Err(RowFault::Memory),
             Err(BagFault::Large) => unreachable!(),
         }
+    }
+
+    /// Takes in the sums of each column.
+    fn take_sums_in(&mut self, others: Vec<Sums>) -> Result<(), RowFault>
+        requires columns { suc (length others.items) ≡ length self.old.columns }
+        requires fits { (j : ℕ) → SumsTogetherFit (bag_at self.old.columns (suc j)) (bag_at others.items j) }
+        ensures view { self.new.view ≡ self.old.view }
+        ensures columns { length self.new.columns ≡ length self.old.columns }
+        ensures count { bag_at self.new.columns 0 ≡ bag_at self.old.columns 0 }
+        ensures sums { OnOk result ((j : ℕ) (q : List ℤ) → count_of (bag_at self.new.columns (suc j)) q
+            ≡ count_of (bag_at self.old.columns (suc j)) q +ℤ count_of (bag_at others.items j) q) }
+        ensures memory { OnErr result (result ≡ Err RowFault.Memory) }
+    {
+        let mut others = others;
+        let columns = self.sums.as_mut_slice();
+        let Ok(()) = take_columns_in(self.alloc, columns, others.as_mut_slice()) else {
+            return Err(RowFault::Memory);
+        };
+        Ok(())
     }
 
     /// Whether nothing was added.

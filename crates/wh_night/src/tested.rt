@@ -78,10 +78,7 @@ fn are_all_fit<F: RowTest, G: RowValue>(
     ensures fit { IfOk result (λ fit. IsTrue fit ↔ AreFitTables catalog.now tables.now) }
     ensures memory { IfErr result (λ fault. fault ≡ Memory) }
 {
-    match are_fit(alloc, catalog, tables) {
-        Ok(fit) => Ok(fit),
-        Err(_) => Err(MaintFault::Memory),
-    }
+    are_fit(alloc, catalog, tables).map_err(|_| MaintFault::Memory)
 }
 
 /// Whether these tables are fit for this night: each is fit, and, unless a base change is refused, the strategy leaves them so. The

@@ -120,10 +120,18 @@ weight-one e = let is : 0 + unsigned_abs e.1 ≡ unsigned_abs e.1 = omega arith 
 pub weight-next : (es : Counted) (p : ℕ) (e : Row × ℤ) → slice_get es p ≡ Some e → weight (take (p + 1) es) ≡ weight (take p es) + unsigned_abs e.1
 weight-next es p e is = ap (λ n. weight (take n es)) (add-one p) ∙ ap weight (next_taken es p e is) ∙ weight-append (take p es) (e ∷ []) ∙ ap (λ n. weight (take p es) + n) (weight-one e)
 
+pub weight-joined-next : (ps : List Counted) (i : ℕ) (d : Counted) → i < length ps → weight (joined (take (i + 1) ps)) ≡ weight (joined (take i ps)) + weight (get_or ps i d)
+weight-joined-next ps i d below = sym (ap weight (joined-next ps i d below)) ∙ weight-append (joined (take i ps)) (get_or ps i d)
+
+-- what has room weighs no more than it
+pub room_held : (left : Option ℕ) (w room : ℕ) → IfSome left (λ left. left + w ≡ room) → IsSome left → w ≤ room
+room_held None w room is some = absurd (let bad : false ≡ true = some in cc)
+room_held (Some left) w room is some = omega (arith, is)
+
 -- parts that have no more than this each
 pub light-next : (ps : List Counted) (i : ℕ) (d : Counted) (room : ℕ) → i < length ps → weight (joined (take i ps)) ≤ room * i → weight (get_or ps i d) ≤ room → weight (joined (take (i + 1) ps)) ≤ room * (i + 1)
 light-next ps i d room below before here =
-    let both : weight (joined (take (i + 1) ps)) ≡ weight (joined (take i ps)) + weight (get_or ps i d) = sym (ap weight (joined-next ps i d below)) ∙ weight-append (joined (take i ps)) (get_or ps i d) in
+    let both = weight-joined-next ps i d below in
     let more = mul_add room i 1 in
     omega (arith, both, before, here, more)
 

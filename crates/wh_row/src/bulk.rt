@@ -1,4 +1,4 @@
-//! What a bag keeps that is made of rising records at once.
+//! What a bag keeps that is made at once, of rising records or of two bags.
 
 ghost use Rattle.std.specs.Prelude.{◌≡◌, IfSome, unsigned_abs};
 ghost use Rattle.std.specs.List.{sum_by};
@@ -7,6 +7,7 @@ ghost use Rattle.wh_row.specs.Inner.Stored.{AreCounts};
 
 use crate::kept::{Kept, one_if_below};
 use crate::records::Records;
+use wh_pieces::Pieces;
 
 /// What is kept of a bag of these records where each stands alone with its row; none where a count is 0 or all together leave u64.
 pub(crate) fn kept_of(records: &Records) -> Option<Kept>
@@ -28,4 +29,18 @@ pub(crate) fn kept_of(records: &Records) -> Option<Kept>
         total: u128::from(total),
         below,
     })
+}
+
+/// What is kept of a bag with these counts.
+pub(crate) fn kept_of_counts(counts: &Pieces<i64>) -> Kept
+    ensures total { result.total ≡ sum_by (λ e. unsigned_abs e.1) counts.now }
+    ensures below { result.below ≡ sum_by (λ e. one_below e.1) counts.now }
+{
+    let mut total: u128 = 0;
+    let mut below = 0;
+    for (_, count) in counts.entries() {
+        total += u128::from(count.unsigned_abs());
+        below += one_if_below(count);
+    }
+    Kept { total, below }
 }

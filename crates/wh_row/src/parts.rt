@@ -1,7 +1,8 @@
 //! The bag of records that come in parts, by several threads.
 //!
 //! Where the rows of each part rise, a thread makes a bag of each. Most often all rows of a part are above those of the part before it,
-//! so that the bags are moved behind each other. Other records are put in one, and shared out.
+//! so that the bags are moved behind each other. Other records are shared out. Where they weigh too much for that, or memory is refused,
+//! all are put in one and added up in the order given.
 
 ghost use Rattle.std.specs.Prelude.{◌≡◌, ◌≢◌, ℕ, ◌≤◌, ◌*◌, List, [], length, All, IfSome, IsSome, IfOk, OnOk, OnErr, IsTrue};
 ghost use Rattle.wh_row.specs.Bag.{bag_of};
@@ -11,13 +12,11 @@ ghost use Rattle.wh_row.specs.Records.{EachSumFits, IsFirstTooLarge, joined};
 
 use crate::bag::Bag;
 use crate::fault::RecordsFault;
-use crate::records::Records;
+use crate::records::{MOST, Records};
+use crate::shares::from_shares;
 use std::alloc::{AllocError, Global};
 use std::thread::Threads;
 use wh_threads::{ThreadBudget, Work};
-
-/// The largest count.
-const MOST: u64 = 9223372036854775807;
 
 impl Bag {
     /// What [`Bag::from_records`] answers for the records of all parts, those of a part behind those of the part before.
@@ -40,10 +39,13 @@ impl Bag {
         if let Some(bag) = from_rising_parts(budget, parts) {
             return Ok(bag);
         }
+        if let Some(bag) = from_light_parts(budget, parts) {
+            return Ok(bag);
+        }
         let Ok(records) = in_one(budget.alloc, parts) else {
             return Err(RecordsFault::Memory);
         };
-        Bag::from_records(budget, &records)
+        Bag::from_each(budget.alloc, &records)
     }
 }
 
@@ -125,9 +127,7 @@ fn part_alone(alloc: Global, room: u64, records: &Records) -> Option<Bag>
     ensures bag { IfSome result (λ bag. bag ≡ bag_of records.now) }
     ensures light { IfSome result (λ bag. weight records.now ≤ room) }
 {
-    if !weighs_at_most(records, room) {
-        return None;
-    }
+    let _left = records.room_left(room)?;
     let bag = Bag::from_rising(alloc, records);
     if bag.is_some() || !records.is_rising() {
         return bag;
@@ -135,17 +135,31 @@ fn part_alone(alloc: Global, room: u64, records: &Records) -> Option<Bag>
     Bag::from_ordered(alloc, records)
 }
 
-/// Whether the absolute counts together are no more than this.
-fn weighs_at_most(records: &Records, room: u64) -> bool
-    ensures { IsTrue result → weight records.now ≤ room }
+/// The bag of the records of all parts, in shares, where all absolute counts together are an i64 and there is memory for it.
+fn from_light_parts<R: Threads + Sync>(
+    budget: &ThreadBudget<'_, R>,
+    parts: &[Records],
+) -> Option<Bag>
+    ensures bag { IfSome result (λ bag. bag ≡ bag_of (joined parts.now)) }
+    ensures fits { IfSome result (λ bag. EachSumFits (joined parts.now)) }
 {
-    let mut left = room;
-    for place in 0..records.len() {
-        let (_, count) = records.get(place);
-        let Some(less) = left.checked_sub(count.unsigned_abs()) else {
+    if !are_light(parts) {
+        return None;
+    }
+    let shares = budget.parts(Work::Records, len_of(parts));
+    from_shares(budget, shares, parts)
+}
+
+/// Whether the absolute counts of all parts together are an i64. Then no running sum leaves it.
+fn are_light(parts: &[Records]) -> bool
+    ensures { IsTrue result → EachSumFits (joined parts.now) }
+{
+    let mut room = MOST;
+    for records in parts {
+        let Some(left) = records.room_left(room) else {
             return false;
         };
-        left = less;
+        room = left;
     }
     true
 }
@@ -176,7 +190,7 @@ fn reserve_for(all: &mut Records, parts: &[Records])
 }
 
 /// How many records the parts have. It tells how many threads are worth their start, and no more.
-fn len_of(parts: &[Records]) -> usize {
+pub(crate) fn len_of(parts: &[Records]) -> usize {
     let mut len: usize = 0;
     for records in parts {
         len = len.saturating_add(records.len());

@@ -100,8 +100,7 @@ pub fn read_plan(alloc: Global, names: &Names, text: &[u8]) -> Result<Plan, Load
     ensures memory { result ≡ Err LoadFault.Memory → text.now ≢ [] }
 {
     let said = read_lines(alloc, &PlanLines { names }, text)?;
-    let plan = plan_from(alloc, said.into_lines())?;
-    Ok(plan)
+    Ok(plan_from(alloc, said.into_lines())?)
 }
 
 /// Appends the line of a pair, without its LF.

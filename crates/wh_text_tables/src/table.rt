@@ -10,6 +10,7 @@ ghost use Rattle.wh_text_tables.specs.TableText.{text_gives};
 ghost use Rattle.wh_text_tables.specs.Inner.TableText.{EndsSum};
 ghost use Rattle.wh_text_tables.specs.declared.table.header.Content.TheVariants.{Table, Changes};
 
+mod ahead;
 mod answers;
 mod entry;
 mod header;
@@ -20,9 +21,10 @@ mod write;
 mod written;
 
 use crate::part::read_part;
-use crate::table::header::Content;
 use crate::table::rows::{RowsRead, RowsReader};
 use crate::table::wide::read_beside;
+pub use ahead::{RowsAhead, read_ahead, read_from};
+pub use header::Content;
 use std::mem;
 use std::thread::Threads;
 use wh_row::{Bag, Records, RecordsFault};

@@ -138,12 +138,19 @@ pub(crate) fn contents_of<R: Threads + Abort + Sync, F: RowTest, G: RowValue>(
     catalog: &Catalog<F, G>,
     base: Vec<Bag>,
 ) -> Result<Vec<Bag>, MaintFault> {
+    contents_of_threads(rt, 1, alloc, catalog, base)
+}
+
+/// The contents of a base, by so many threads.
+pub(crate) fn contents_of_threads<R: Threads + Abort + Sync, F: RowTest, G: RowValue>(
+    rt: &R,
+    threads: usize,
+    alloc: Global,
+    catalog: &Catalog<F, G>,
+    base: Vec<Bag>,
+) -> Result<Vec<Bag>, MaintFault> {
     assert!(rt; are_bags(catalog, &base));
-    let budget = ThreadBudget {
-        rt,
-        alloc,
-        threads: 1,
-    };
+    let budget = ThreadBudget { rt, alloc, threads };
     opening_contents(&budget, catalog, base)
 }
 

@@ -18,11 +18,10 @@ pub fn bundle_of<'a>(
     ensures ok { IfOk result (λ bundle. parts_in nights bytes.now ≡ Ok bundle) }
     ensures err { IfErr result (λ f. (f ≡ LoadFault.Memory) ⊎ (parts_in nights bytes.now ≡ Err f)) }
 {
-    match parts(alloc, bytes, nights) {
-        Ok(bundle) => Ok(bundle),
-        Err(PartFault::Part(word)) => Err(LoadFault::Part(word)),
-        Err(PartFault::Memory) => Err(LoadFault::Memory),
-    }
+    parts(alloc, bytes, nights).map_err(|fault| match fault {
+        PartFault::Part(word) => LoadFault::Part(word),
+        PartFault::Memory => LoadFault::Memory,
+    })
 }
 
 /// The text of the part with this heading, in this night where it may stand in each. A missing part is named by the heading's

@@ -156,8 +156,7 @@ fn replay_in<R: Threads + Sync>(
     let mut texts = Dict::new(alloc);
     let written = read_definitions(alloc, &catalogue, &shape, &mut texts)?;
     let Written { views } = written;
-    let replay = replay_over(budget, bundle, shape, views, texts, &replayed)?;
-    Ok(replay)
+    replay_over(budget, bundle, shape, views, texts, &replayed)
 }
 
 /// Reads what a bundle of any nights has to be replayed. The fault is the first one: of the headings, from the top, a line that

@@ -10,10 +10,12 @@ use crate::records::cell;
 use csv::StringRecord;
 use wh_text::Column;
 
-/// What a part tells: a table, or changes to one.
+/// What a part tells.
 #[derive(Clone, Copy)]
-pub(crate) enum Content {
+pub enum Content {
+    /// A table.
     Table,
+    /// Changes to one.
     Changes,
 }
 

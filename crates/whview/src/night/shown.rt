@@ -29,10 +29,7 @@ fn copy_of(alloc: Global, view: &WrittenView, table: &Bag) -> Result<Bag, AllocE
     if view.definition.is_none() {
         return Ok(Bag::new(alloc));
     }
-    match table.copy(alloc) {
-        Ok(copy) => Ok(copy),
-        Err(_) => Err(AllocError),
-    }
+    table.copy(alloc).map_err(|_| AllocError)
 }
 
 /// Copies of the derived views' tables, in the places of their views.

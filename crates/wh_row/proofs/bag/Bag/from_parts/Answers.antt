@@ -14,4 +14,4 @@ returns-in-len1-clause-large g c =
 
 pub returns-clause-large : goal.returns-clause-large
 returns-clause-large g c =
-    subst (λ (es : Counted). (place : ℕ) → c.from_records-2.result ≡ Err (Large place) → IsFirstTooLarge es place) c.in-Ok.ensures.ok c.from_records-2.ensures.large
+    subst (λ (es : Counted). (place : ℕ) → c.from_each.result ≡ Err (Large place) → IsFirstTooLarge es place) c.in-Ok.ensures.ok c.from_each.ensures.large
