@@ -10,6 +10,7 @@ from types import SimpleNamespace
 
 from whtools.live.compared import Digest
 from whtools.live.database import Table
+from whtools.live.log import slot_part
 from whtools.live.measured import Step, fitted, measured, steps_of
 from whtools.live.parsed import NotTaken, parsed
 from whtools.live.postgresql import LivePostgreSQL
@@ -253,7 +254,7 @@ class KeysThatFollow(unittest.TestCase):
 
 class NamesThatAreCut(unittest.TestCase):
     def test_they_are_the_same_whatever_is_asked_for_first(self):
-        names, suffixes = ["x" * 62 + letter for letter in "abc"], ("~key", "~changes", "~capture", "~1")
+        names, suffixes = ["x" * 62 + letter for letter in "abc"], ("~key", "~changes", "~capture", "~logged", "~1")
         text = KEYED.format("").replace("sales", names[0]).replace("shops", names[1]).replace("sold", names[2])
         first, then = (SwiftScript(Catalogue(text), LivePostgreSQL("wh")) for _ in range(2))
         said = {(v, suffix): first.said(v, suffix) for suffix in suffixes for v in (0, 1)}
@@ -261,6 +262,15 @@ class NamesThatAreCut(unittest.TestCase):
             then.said(2, suffix)
         self.assertEqual({(v, suffix): then.said(v, suffix) for v, suffix in reversed(said)}, said)
         self.assertEqual(len(set(said.values())), len(said))
+
+
+class Slots(unittest.TestCase):
+    def test_the_slots_of_schemas_have_names_that_the_server_takes(self):
+        schemas = ["wh", "Wh", "w h", 'the "house"', "wh_", "é" * 63, "w" * 63, "w" * 62 + "W"]
+        names = [f"whview_4294967295_{slot_part(schema)}" for schema in schemas]
+        self.assertEqual(len(set(names)), len(names))
+        for said in names:
+            self.assertRegex(said, "^[a-z0-9_]{1,63}$")
 
 
 class Measures(unittest.TestCase):

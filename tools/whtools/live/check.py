@@ -35,17 +35,23 @@ class Check:
         self.script, self.dialect, self.database, self.is_repairing = script, script.dialect, database, is_repairing
         self.sources, self.compared, self.found = sources, Compared(script, sources), {}
         self.is_waiting = False
+        self.log = script.captures.log if self.dialect.takes and script.captures.log.is_used(database) else None
 
     def of(self, chosen):
-        """What is found of the views with these numbers. Those below come first, so that a view is not told to differ for what differs below."""
+        """What is found of the views with these numbers."""
+        return self.log.beside_nights(lambda: self.of_snapshot(chosen)) if self.log else self.of_snapshot(chosen)
+
+    def of_snapshot(self, chosen):
+        """What one snapshot has. Views below come first, so that a view is not told to differ for what differs below."""
         script = self.script
-        with SESSIONS[self.dialect.engine](self.database, self.is_repairing) as session:
+        with SESSIONS[self.dialect.engine](self.database, self.is_repairing, self.log is not None) as session:
             if not self.dialect.takes:
                 session.database.create_aggregate("digest", -1, Digest)
             own = [script.table(v) for v in range(len(script.views))]
             session.locked(own, [self.sources[v].said for v in chosen if v in self.sources])
             # A column of another type might run what its owner made, so that nothing of it is read before this.
             session.judged(self.refusals(chosen))
+            session.judged(self.log.noted(self.is_repairing) if self.log else [])
             noted = Noted(script).read(session)
             try:
                 for v in sorted(chosen):

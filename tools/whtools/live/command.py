@@ -7,6 +7,7 @@ from whtools.live.checks import Checks
 from whtools.live.database import ASKED
 from whtools.live.dry import Dry
 from whtools.live.existing import Existing
+from whtools.live.from_log import FromLog, identified, tables_read, unlimited
 from whtools.live.left_out import LeftOut
 from whtools.live.measured import measured, steps_of
 from whtools.live.monitored import told_history
@@ -35,12 +36,25 @@ def live_script(catalogue, words):
     schema = words.schema or SCHEMA
     if words.engine == "sqlite":
         return LiveScript(catalogue, LiveSQLite(is_timed=words.dry), f"{schema}_")
-    return SwiftScript(catalogue, LivePostgreSQL(schema, words.role))
+    return SwiftScript(catalogue, LivePostgreSQL(schema, words.role, words.without_role, FromLog if words.from_log else None))
 
 
 def asked(words, dialect):
     """The database that is asked."""
     return ASKED[words.engine](words.database, dialect)
+
+
+def of_kept_way(catalogue, words):
+    """The scripts that capture and let go: what is captured from the log stays so until it is let go."""
+    script = live_script(catalogue, words)
+    if not script.dialect.takes:
+        return script
+    database = asked(words, script.dialect)
+    is_used = script.captures.log.is_used(database)
+    if words.capture and (words.from_log or is_used) and (told := unlimited(database)):
+        print(f"tools/sql: {told}", file=sys.stderr)
+    words.from_log = is_used or words.from_log
+    return live_script(catalogue, words)
 
 
 def proposed(words):
@@ -115,6 +129,9 @@ def captured(words, script, database):
     base = sorted({*existing.new(), *mirrors, *marked, *named(words, script)} if is_part else script.steps.base())
     base = [v for v in base if not script.views[v].over]
     found, left_out = sources(script, database, schema, base), existing.strangers()
+    if words.from_log:
+        found = identified(database, script, found)
+        script.captures.read_tables = tables_read(database, script, schema, [] if words.drop else left_out[0])
     gone = LeftOut(script, lambda catalogue: live_script(catalogue, words), *left_out).statements() if words.drop else []
     if any(left_out) and not words.drop:
         names = ", ".join(name for names in left_out for name in names)
@@ -218,17 +235,24 @@ def night(words, script):
     comment = Comments(script.catalogue).short
     if words.dry:
         return Dry(script, database, comment).told()
-    return [*script.dialect.head, *script.dialect.written(script.night(script.catalogue.correct(), comment))]
+    made = script.night(script.catalogue.correct(), comment)
+    if script.dialect.takes:
+        made = [script.captures.log.flushed_before(), *made, script.captures.log.moved()]
+    return [*script.dialect.head, *script.dialect.written(made)]
 
 
 def written(words):
     """The text that is asked for."""
-    if words.role and (words.engine, words.capture) != ("postgresql", True):
-        raise Unfit("--role goes with --capture and --engine postgresql")
+    if (words.role or words.without_role) and (words.engine, words.capture) != ("postgresql", True):
+        raise Unfit("--role and --without-role go with --capture and --engine postgresql")
+    if words.role and words.without_role:
+        raise Unfit("--role and --without-role do not go together")
+    if words.from_log and words.engine != "postgresql":
+        raise Unfit("--from-log goes with --engine postgresql")
     if words.catalogue:
         return proposed(words)
     catalogue = read(words.path)
-    script = live_script(catalogue, words)
+    script = of_kept_way(catalogue, words) if words.capture or words.uncapture else live_script(catalogue, words)
     dialect = script.dialect
     if words.sizes or words.sizes_after or words.costs:
         return of_database(words, script, asked(words, dialect))

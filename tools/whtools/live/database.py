@@ -76,11 +76,11 @@ class PostgreSQLAsked:
         )  # fmt: skip
         columns, keys = self.rows(self.columns_query(of), self.keys_query(of))
         found = {}
-        for table, parent, is_parted, column, shown, type_name, modifier, *others in columns:
+        for table, parent, is_parted, column, shown, type_name, modifier, *others, relation in columns:
             digits = (modifier - 4) >> 16 & 0xFFFF if modifier >= 4 else None
             places = modifier - 4 & 0x7FF if modifier >= 4 else None
             own = found.setdefault(table, Table(table, [], [], parent and HEIR.format(parent=parent), is_parted))
-            own.columns.append(Told(column, shown, type_name, digits, places, *others, modifier))
+            own.columns.append(Told(column, shown, type_name, digits, places, *others, modifier, relation=relation))
         for table, key in keys:
             found[table].keys.append(key)
         return found
@@ -104,7 +104,7 @@ class PostgreSQLAsked:
             " a.attname, format_type(a.atttypid, a.atttypmod), CASE WHEN t.typtype = {of_enum} AND t.oid = a.atttypid THEN {enum}"
             " WHEN n.nspname <> {own} THEN {other} ELSE t.typname END, b.modifier, b.nothing,"
             " EXISTS (SELECT 1 FROM pg_collation AS l WHERE l.oid = a.attcollation AND NOT l.collisdeterministic), t.oid::bigint, a.atttypid::bigint,"
-            " a.attnum, pg_describe_object({classes}::regclass, a.attrelid, a.attnum))"
+            " a.attnum, pg_describe_object({classes}::regclass, a.attrelid, a.attnum), a.attrelid::bigint)"
             " FROM b JOIN pg_type AS t ON t.oid = b.type JOIN pg_namespace AS n ON n.oid = t.typnamespace"
             " JOIN pg_attribute AS a ON a.attrelid = b.relation AND a.attnum = b.place JOIN pg_class AS c ON c.oid = b.relation"
             " WHERE t.typtype <> {domain} ORDER BY c.relname, a.attnum",

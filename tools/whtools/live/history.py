@@ -129,20 +129,26 @@ class SwiftHistory(History):
         """A night is written down when it is over, in one statement."""
         return [self.moment(0)]
 
-    def ended(self, told, works):
-        """The night, its steps, and the sizes of all views, each from those of the last night; a view that was not in it is counted."""
-        night = sql("INSERT INTO {target} (night, began, ended) SELECT coalesce(max(b.night), 0) + 1, moments[0], {moment} FROM {target} AS b"
-                    " RETURNING night INTO tonight", target=self.target(NIGHTS), moment=self.dialect.moment)  # fmt: skip
+    def ended(self, told, works, seconds=None):
+        """The night, its steps, and the sizes of all views, each from those of the last night, in one statement, since it takes longer to plan one than
+        to carry it out; a view that was not in the last night is counted."""
+        night = sql("night AS (INSERT INTO {target} (night, began, ended) SELECT coalesce(max(b.night), 0) + 1, moments[0], {moment} FROM {target} AS b"
+                    " RETURNING night)", target=self.target(NIGHTS), moment=self.dialect.moment)  # fmt: skip
         changes = zip(*(self.changed(v) for v in range(len(self.script.views))))
         sizes = sql(
-            "INSERT INTO {target} (night, view, pre, post, change) SELECT tonight, l.view, s.post, s.post + coalesce(l.more, 0), coalesce(l.moved, 0)"
-            " FROM unnest({views}::text[], ARRAY[{more}], ARRAY[{moved}]) AS l (view, more, moved) JOIN {target} AS s ON s.view = l.view"
-            " AND s.night = tonight - 1", target=self.target(SIZES),
+            "INSERT INTO {target} (night, view, pre, post, change) SELECT o.night, l.view, s.post, s.post + coalesce(l.more, 0), coalesce(l.moved, 0)"
+            " FROM night AS o CROSS JOIN unnest({views}::text[], ARRAY[{more}], ARRAY[{moved}]) AS l (view, more, moved) JOIN {target} AS s"
+            " ON s.view = l.view AND s.night = o.night - 1", target=self.target(SIZES),
             views=array([view.name for view in self.script.views]), **dict(zip(("more", "moved"), map(joined, changes))),
         )  # fmt: skip
+        steps = [self.steps(told, works, seconds or self.seconds)] if told else []
         few = sql("touched < {many}", many=number(len(self.script.views)))
         counted = [sql("GET DIAGNOSTICS touched = ROW_COUNT"), *self.dialect.only_where(few, [self.counted()])]
-        return [night, *([self.steps(told, works)] if told else []), sizes, *counted]
+        return [sql("WITH {before} {sizes}", before=joined([night, *steps]), sizes=sizes), *counted]
+
+    def ended_quietly(self, told, works):
+        """The same of a night in which nothing changed, whose steps took no time."""
+        return self.ended(told, works, number(0))
 
     def changed(self, v):
         """By how many rows a view grew, and how many changed: of two with a key that change each is one, and of a group that stays both."""
@@ -152,10 +158,10 @@ class SwiftHistory(History):
         both = sql("{come} + {gone} + 2 * {stay}", come=come, gone=gone, stay=stay)
         return sql("{come} - {gone}", come=come, gone=gone), both if self.script.shape.is_summary(v) else rows
 
-    def steps(self, told, works):
+    def steps(self, told, works, seconds):
         listed = "unnest({told}::text[], {works}::bigint[]) WITH ORDINALITY AS l (told, work, step)"
-        return sql("INSERT INTO {target} (night, step, told, work, seconds) SELECT tonight, l.step, l.told, l.work, {seconds} FROM " + listed,
-                   target=self.target(STEPS), told=array(told), works=array(works), seconds=self.seconds)  # fmt: skip
+        return sql("steps AS (INSERT INTO {target} (night, step, told, work, seconds) SELECT o.night, l.step, l.told, l.work, {seconds} FROM night AS o"
+                   " CROSS JOIN " + listed + ")", target=self.target(STEPS), told=array(told), works=array(works), seconds=seconds)  # fmt: skip
 
     def filled(self, v):
         """The rows of a mirror that a statement has just filled, each of which counts once: those of a night before the first."""

@@ -35,11 +35,11 @@ class LeftOut:
     def of_postgresql(self, tables):
         """Triggers first, so that no writer meets a table that is gone; nothing goes where something else depends on it."""
         captures = self.captures
-        gone = [sql("DROP FUNCTION IF EXISTS {function}()", function=each.captures.function(0)) for each in self.base]
+        gone = [gone for each in self.base for gone in each.captures.functions_gone(0)]
         gone += [sql("DROP TABLE IF EXISTS {table}", table=table) for table in tables]
         judged = self.dialect.creation(captures.no_readers(tables))
         noted = self.forgotten(captures.state, captures.columns, captures.parts)
-        for table in (self.script.own(CHECKS), captures.torn_table):
+        for table in (self.script.own(CHECKS), captures.torn_table, captures.log.table):
             is_there = sql("to_regclass({table}) IS NOT NULL", table=captures.written(table))
             noted += self.dialect.only_where(is_there, self.forgotten(table))
         return [*judged, *(each.captures.let_go(0) for each in self.base), *self.dialect.creation([*gone, *noted])]

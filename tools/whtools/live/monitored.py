@@ -24,13 +24,26 @@ class Waiting(NamedTuple):
     bytes: int
 
 
+class Kept(NamedTuple):
+    """How many bytes of the server's log a slot keeps, and how the server calls its state."""
+
+    bytes: int
+    state: str
+
+
 class History:
     """What a database says of its nights, of what waits for them, and of checks."""
 
     def __init__(self, script, database):
         self.script, self.dialect, self.database = script, script.dialect, database
         self.nights, self.waiting = self.carried_out(), self.changes()
-        self.checks, self.now = Checks(script).last(database), time.time()
+        self.checks, self.now, self.log = Checks(script).last(database), time.time(), self.kept()
+
+    def kept(self):
+        """What the slot keeps of the server's log, where tables are captured from it; nothing where there is none any more."""
+        if not self.dialect.takes or not self.script.captures.log.is_used(self.database):
+            return None
+        return next((Kept(*each) for each in self.database.rows(self.script.captures.log.kept())[0]), Kept(0, "gone"))
 
     def rows(self, columns, rest, **parts):
         listed = f"json_build_array({columns})" if self.dialect.takes else columns
@@ -78,11 +91,11 @@ class History:
         found = []
         for v, view in enumerate(self.script.views):
             behind = self.behind(v)
-            state = f"{behind} changes wait for it" if behind else "nothing waits for it"
+            state = f"{behind} changes wait for it" if behind else "what waits for it is in the log" if self.log else "nothing waits for it"
             found.append(f"{view.name}: {self.since()}; {state}; {self.checked(view.name)}")
         for v, waiting in self.waiting.items():
             found.append(f"{self.script.views[v].name}~changes: {waiting.rows} rows, {waiting.bytes} bytes")
-        return found
+        return [*found, f"the log: {self.log.bytes} bytes are kept for the next night, and the slot is {self.log.state}"] if self.log else found
 
     def checked(self, said):
         """What the last check of a table or view said."""
@@ -106,6 +119,7 @@ class History:
             "check_age": whole(self.now - min(float(each[0]) for each in known)) if all(known) else -1,
             "unchecked": sum(each is None for each in known),
             "differing": sum(each is not None and bool(each[2] or each[3]) for each in known),
+            **({"log_bytes": self.log.bytes, "log_state": self.log.state} if self.log else {}),
         }
         return " ".join(f"{key}={value}" for key, value in found.items())
 

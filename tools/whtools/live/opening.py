@@ -17,7 +17,7 @@ class Opening:
         made = [each for v in derived for each in self.filled(v)]
         sizes = [self.history.opened(v, v in derived, self.counted_rows(v) if v in derived else None) for v in range(len(self.views))]
         ended = [*sizes, *Noted(self).as_filled(derived), self.history.closed(), *self.captures.looked_at(), *self.captures.noted_as_judged()]
-        return self.whole([QUIETLY, *self.history.opening_began(), *self.strange_in_mirrors(), *made], [], ended, comment)
+        return self.whole([QUIETLY, *self.history.opening_began(), *self.strange_in_mirrors(), *made, *ended], [])
 
     def counted_rows(self, v):
         """How many rows were put into a view each of which counts once, if it is such a view."""

@@ -5,6 +5,10 @@ from whtools.sql.tokens import END_OF_STATEMENT, joined, name, sql, statements, 
 
 OWNED = "the schema %s is owned by %s, who would get what is captured: name another schema by --schema, or this role by --role"
 SUPER = "the role %s is a superuser, or passes by row-level security: name by --role one that is made for this alone"
+UNSAFE = (
+    "%s is owned by %s, who is no superuser, and by what he puts on it could have functions of his own called as the superuser who captures it: name a role"
+    " for what is captured, as by --role whview; or say --without-role where that does not matter"
+)
 # Whoever owns the night's schema, where it is another role than this one and no superuser.
 OTHER = (
     "(SELECT r.rolname FROM pg_namespace AS n JOIN pg_roles AS r ON r.oid = n.nspowner WHERE n.oid = to_regnamespace({schema}) AND NOT r.rolsuper"
@@ -19,8 +23,8 @@ BELOW_SOURCE = (
 class Owner:
     """The statements by which things are made and nights carried out as whoever owns the night's schema."""
 
-    def __init__(self, dialect, role=None):
-        self.dialect, self.role = dialect, role
+    def __init__(self, dialect, role=None, is_taken_without=False):
+        self.dialect, self.role, self.is_taken_without = dialect, role, is_taken_without
 
     def written(self, said):
         return text(self.dialect.written([said])[0])
@@ -50,6 +54,20 @@ class Owner:
 
     # ---- what somebody with more rights does before
 
+    def unsafe(self, sources):
+        """A refusal of a superuser's capture of what somebody else owns, where no role is named that it would be of."""
+        if self.role or self.is_taken_without:
+            return []
+        found = []
+        for source in sources.values():
+            below = sql(BELOW_SOURCE, source=self.written(source.said))
+            found += self.dialect.refuse_with(sql(
+                "SELECT format({told}, b.relation, r.rolname) FROM {below} JOIN pg_class AS k ON k.oid = b.relation JOIN pg_roles AS r ON r.oid = k.relowner"
+                " WHERE NOT r.rolsuper AND EXISTS (SELECT 1 FROM pg_roles AS u WHERE u.rolname = current_user AND u.rolsuper) LIMIT 1", told=text(UNSAFE),
+                below=below,
+            ))  # fmt: skip
+        return found
+
     def made(self, tables, functions, sources):
         """The role and its schema, what was another's before, and what the role may: to read what is captured, and to make tables for a night. A schema
         that somebody else has made is not taken."""
@@ -57,7 +75,7 @@ class Owner:
         strange = sql("SELECT format({told}, n.nspname, r.rolname) FROM pg_namespace AS n JOIN pg_roles AS r ON r.oid = n.nspowner WHERE n.oid ="
                       " to_regnamespace({schema}) AND NOT r.rolsuper AND r.rolname <> current_user {mine}", told=text(OWNED), schema=self.schema(),
                       mine=mine)  # fmt: skip
-        return [*self.dialect.refuse_with(strange), *(self.own_role(tables, functions) if self.role else []), *self.granted(sources)]
+        return [*self.dialect.refuse_with(strange), *self.unsafe(sources), *(self.own_role(tables, functions) if self.role else []), *self.granted(sources)]
 
     def own_role(self, tables, functions):
         role, said = name(self.role), text(self.role)

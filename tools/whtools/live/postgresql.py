@@ -1,8 +1,12 @@
 """PostgreSQL as tables are captured there: by statement triggers with transition tables, beside writers that do not wait."""
 
+from whtools.live.fitting import Fitting
+from whtools.live.log import FORMER, LOG, Log
+from whtools.live.opening import QUIETLY
 from whtools.live.owner import BELOW_SOURCE, Owner
+from whtools.live.parting import SUFFIX, Parting
 from whtools.live.standing import ATTRIBUTES, FILE, JUDGED, TRIGGERS, TYPE, UNFIT, Standing
-from whtools.live.triggers import BELOW, Triggers
+from whtools.live.triggers import BELOW, WAITED, Triggers
 from whtools.live.turned import NULL
 from whtools.sql.dialect import COUNT
 from whtools.sql.postgresql import UNREAD, PostgreSQL
@@ -12,8 +16,7 @@ from whtools.sql.tokens import END_OF_STATEMENT, body, joined, name, number, sql
 # rows some change in a night, of groups most.
 FILLED = {"rows": 90, "summary": 60}
 CAPTURED, COLUMNS, PARTS, TORN, RESHAPED = "~captured", "~columns", "~parts", "~torn", "~reshaped"
-# How long a lock is waited for that others' changes of a table hold.
-WAITED = "60s"
+APART = sql("pg_temp.{said}", said=name("whview apart"))
 STRANGE = "there is a table %s already, which is none of --capture's: name another schema by --schema"
 # Without the lines before it a block would read changes by one snapshot and take them away by another: what comes in between would be lost.
 ALONE = "the isolation is not REPEATABLE READ: run the whole script, and not its block alone"
@@ -31,12 +34,9 @@ class LivePostgreSQL(PostgreSQL):
     moment = sql("clock_timestamp()")
     now = sql("extract(epoch FROM clock_timestamp())")
 
-    def __init__(self, schema=None, role=None):
+    def __init__(self, schema=None, role=None, is_taken_without=False, captures=None):
         super().__init__(schema)
-        self.owner = Owner(self, role)
-
-    def captures(self, script):
-        return Captures(script)
+        self.owner, self.captures = Owner(self, role, is_taken_without), captures or Captures
 
     # All of a night is one snapshot, taken when the tables are locked: each transaction of an application is in it wholly, or not at all.
     isolation = "REPEATABLE READ"
@@ -48,6 +48,14 @@ class LivePostgreSQL(PostgreSQL):
     def block_of_another(self, made):
         """The same as whoever runs the script."""
         return super().block(made)
+
+    def block_apart(self, made):
+        """The same where tables of the application are read. What their owner has put on them may be called then, as PostgreSQL plans a query: as the owner
+        of the night's schema, and within a function of that one, which nobody leaves for another role, as he could where a role was only taken on."""
+        program = sql("\n#variable_conflict use_column\nDECLARE{variables}\nBEGIN{made}\nEND{end}", variables=statements(self.variables, 1),
+                      made=statements([*made, *self.settled()], 1), end=END_OF_STATEMENT)  # fmt: skip
+        made = sql("CREATE FUNCTION {apart}() RETURNS void LANGUAGE plpgsql SECURITY DEFINER AS {program}", apart=APART, program=body(program))
+        return self.block([made, sql("PERFORM {apart}()", apart=APART), sql("DROP FUNCTION {apart}()", apart=APART)])
 
     def program(self, locked, working, made, _=None):
         """A transaction that locks tables, and then is one block. Within a transaction that has asked something already it is refused by the
@@ -69,8 +77,9 @@ class Captures(Triggers, Standing):
     """The statements that capture the tables of base views, that look whether they are still captured, and that let them go."""
 
     def __init__(self, script):
-        self.script, self.dialect = script, script.dialect
+        self.script, self.dialect, self.fitted, self.log = script, script.dialect, Fitting(script), Log(script)
         self.state, self.columns, self.parts, self.torn_table = (script.own(said) for said in (CAPTURED, COLUMNS, PARTS, TORN))
+        self.parting = Parting(self)
         letters = {"ordinary": "r", "parted": "p", "always": "A", "replica": "R", "foreign": "f", "logged": "p", "domain": "d", "comma": ",", "none": ""}
         self.texts = {said: text(letter) for said, letter in letters.items()}
 
@@ -79,6 +88,10 @@ class Captures(Triggers, Standing):
 
     def function(self, v):
         return self.dialect.table(self.script.said(v, "~capture"))
+
+    def functions_of(self, v):
+        """The functions that are a view's own."""
+        return [self.function(v)]
 
     def written(self, said):
         """What is written for tokens, as a text."""
@@ -104,32 +117,48 @@ class Captures(Triggers, Standing):
     def made(self, sources):
         """One transaction that judges the sources and makes all or nothing: what is not there yet, or is otherwise than the catalogue has it now, the
         functions of the triggers, and what is captured. Tables that other roles may change stay as they are until it ends."""
-        functions = [self.script.said(v, "~capture") for v in self.script.steps.base()]
-        first = [*self.no_strangers(), *self.dialect.owner.made(self.table_names(), functions, sources)]
+        first = [*self.no_strangers(), *self.dialect.owner.made(self.table_names(), self.function_names(), sources), *self.made_before()]
         schema = name(self.dialect.schema)
         is_missing = sql("to_regnamespace({schema}) IS NULL", schema=self.written(schema))
         made = [self.dialect.where(is_missing, sql("CREATE SCHEMA {schema}", schema=schema))]
-        judged = [each for v, source in sources.items() for each in [*self.fitting(source), *self.unlike_null(v, source)]]
+        judged, read = [each for source in sources.values() for each in self.fitting(source)], [each for v in sources for each in self.read(v, sources[v])]
         noted = [each for v in sources for each in self.noted(v, sources[v])]
         return [
             sql("BEGIN ISOLATION LEVEL READ COMMITTED READ WRITE{end}", end=END_OF_STATEMENT),
             *self.held(sources),
             self.dialect.block_of_another(first),
             self.dialect.block([*judged, *made, *self.tables_made(sources), *noted, self.published()]),
+            self.dialect.block_apart(read),
             sql("COMMIT{end}", end=END_OF_STATEMENT),
+            *self.watched(sources),
         ]
+
+    def made_before(self):
+        """What somebody with more rights makes, or judges, before all else."""
+        return []
+
+    def function_names(self):
+        """The functions that are the nights' own."""
+        return [*(self.script.said(v, suffix) for v in self.script.steps.base() for suffix in ("~capture", SUFFIX)), *self.fitted.names]
+
+    def watched(self, sources):
+        """Partitions are captured as they come."""
+        return self.parting.watched(sources)
 
     def judged_before(self, sources):
         """The same judgement for itself, before anything that stands is given other columns."""
-        first = [each for v, source in sources.items() for each in
-                 [*self.fitting(source), *self.unlike_null(v, source), *self.script.strange_in_source(v, source), *self.unfit(v)]]  # fmt: skip
+        first = [each for v, source in sources.items() for each in [*self.read(v, source), *self.unfit(v)]]
         return [
             sql("BEGIN ISOLATION LEVEL READ COMMITTED READ WRITE{end}", end=END_OF_STATEMENT),
             *self.held(sources),
-            self.dialect.block_of_another(self.no_strangers()),
-            self.dialect.block(first),
+            self.dialect.block_of_another([*self.no_strangers(), *self.dialect.owner.unsafe(sources)]),
+            self.dialect.block_apart(first),
             sql("COMMIT{end}", end=END_OF_STATEMENT),
         ]
+
+    def read(self, v, source):
+        """A refusal of a source with rows that cannot be turned, which are read where the source is what it was."""
+        return [*self.fitting(source), *self.unlike_null(v, source), *self.script.strange_in_source(v, source)]
 
     def held(self, sources):
         """Nobody changes a source from here on, and no rows are left out that a change of one has just written anew: a snapshot from before that does
@@ -175,7 +204,8 @@ class Captures(Triggers, Standing):
         return [*made, *(each for v in sources for each in self.keyed_anew(v, sources[v])), *own]
 
     def torn_made(self):
-        return self.table_made(self.torn_table, sql("view text NOT NULL, why text NOT NULL"), [])
+        """What the functions of triggers want beside the tables of changes."""
+        return [*self.table_made(self.torn_table, sql("view text NOT NULL, why text NOT NULL"), []), *self.fitted.made()]
 
     def table_made(self, table, columns, more):
         is_missing = sql("to_regclass({table}) IS NULL", table=self.written(table))
@@ -231,25 +261,27 @@ class Captures(Triggers, Standing):
                           " a.attname = ANY ({key}) FROM pg_attribute AS a WHERE a.attrelid = {source}::regclass AND a.attname = ANY ({all})",
                        source=self.written(source.said), filled=names_of([column.name for column in source.columns if not column.may_be_null]),
                        key=names_of(source.key), all=names_of([column.name for column in source.columns])),
-            *self.script.strange_in_source(v, source),
             self.parts_noted(v),
             *self.captured_by(v, source),
         ]  # fmt: skip
 
     def unfit(self, v):
         """A refusal of a source whose rows may change while no trigger is fired."""
-        queries = [self.query(v, "SELECT format({told}, b.relation::regclass) FROM " + BELOW + " " + test + " LIMIT 1", told=text(told)) for test, told in UNFIT]
+        queries = [self.query(v, "SELECT format({told}, b.relation::regclass) FROM " + BELOW + " " + test + " LIMIT 1", told=text(told)) for test, told in self.unfit_parts]
         return [each for query in queries for each in self.dialect.refuse_with(query)]
+
+    # What is noted of each part beside its name, and by what its rows may change unnoticed.
+    stamp, unfit_parts = TRIGGERS, UNFIT
 
     def unnoted(self, v):
         """A test of a part b that nobody noted."""
         return self.query(v, "NOT EXISTS (SELECT 1 FROM {noted} AS n WHERE n.view = {view} AND n.part = b.relation)")
 
-    def parts_noted(self, v):
+    def parts_noted(self, v, only=sql("")):
         """The parts that a source has are noted, so that one that goes is missed."""
-        told = ", ".join(each.replace("{part}", "b.relation") for each in (TRIGGERS, FILE, ATTRIBUTES))
-        return self.query(v, "INSERT INTO {noted} SELECT {view}, b.relation, b.relation::regclass, " + told + " FROM " + BELOW + " WHERE {unnoted}",
-                          unnoted=self.unnoted(v))  # fmt: skip
+        told = ", ".join(each.replace("{part}", "b.relation") for each in (self.stamp, FILE, ATTRIBUTES))
+        return self.query(v, "INSERT INTO {noted} SELECT {view}, b.relation, b.relation::regclass, " + told + " FROM " + BELOW + " WHERE {unnoted} {only}",
+                          unnoted=self.unnoted(v), only=only)  # fmt: skip
 
     def parts_without_key(self, v):
         """By a key of the noted parts, which they once had, a writer that notes one would wait for another writer that does."""
@@ -270,7 +302,7 @@ class Captures(Triggers, Standing):
             sql("BEGIN ISOLATION LEVEL REPEATABLE READ READ WRITE{end}", end=END_OF_STATEMENT),
             *self.held(sources),
             sql("LOCK TABLE {mirrors} IN EXCLUSIVE MODE{end}", mirrors=mirrors, end=END_OF_STATEMENT),
-            self.dialect.block(made),
+            self.dialect.block_apart(made),
             sql("COMMIT{end}", end=END_OF_STATEMENT),
         ]
 
@@ -281,9 +313,7 @@ class Captures(Triggers, Standing):
         first = [*self.first(v, source), self.query(v, "UPDATE {state} SET filled = TRUE WHERE view = {view}")]
         table = self.script.table(v)
         return [
-            *self.fitting(source),
-            *self.unlike_null(v, source),
-            *self.script.strange_in_source(v, source),
+            *self.read(v, source),
             emptied,
             self.query(v, "DELETE FROM {torn} WHERE view = {view}", torn=self.torn_table),
             self.query(v, "DELETE FROM {noted} WHERE view = {view}"),
@@ -319,6 +349,10 @@ class Captures(Triggers, Standing):
             source=source.said, mirrored=joined(self.script.read(v)), count=COUNT, mirror=self.script.table(v),
         )  # fmt: skip
 
+    def since(self, v):
+        """What else is noted where a mirror and its changes have all that a snapshot sees: nothing, where writers note what comes then."""
+        return []
+
     # ---- scripts
 
     def capture(self, sources, _):
@@ -334,14 +368,25 @@ class Captures(Triggers, Standing):
             "NOT EXISTS (SELECT 1 FROM pg_depend AS d WHERE d.refclassid = {spaces}::regclass AND d.refobjid = to_regnamespace({said}))",
             said=self.written(schema), spaces=text("pg_namespace"),
         )  # fmt: skip
-        functions = [sql("DROP FUNCTION IF EXISTS {function}()", function=self.function(v)) for v in base]
-        gone = [*functions, *gone, self.dialect.where(is_empty, sql("DROP SCHEMA {schema}", schema=schema))]
+        functions = [each for v in base for each in self.functions_gone(v)]
+        others = [sql("DROP FUNCTION IF EXISTS {function}", function=self.dialect.table(said)) for said in self.shared_function_names()]
+        gone = [QUIETLY, *functions, *others, *gone, self.dialect.where(is_empty, sql("DROP SCHEMA {schema}", schema=schema))]
         judged = self.dialect.creation(self.if_captured([*self.no_strangers(), *self.no_others(), *self.no_readers()]))
-        return [*judged, *(self.let_go(v) for v in base), *self.dialect.creation(self.if_captured(gone))]
+        return [*judged, *self.parting.unwatched(), *self.let_all_go(base), *self.dialect.creation(self.if_captured(gone))]
+
+    def let_all_go(self, base):
+        return [self.let_go(v) for v in base]
+
+    def functions_gone(self, v):
+        return [*(sql("DROP FUNCTION IF EXISTS {function}()", function=function) for function in self.functions_of(v)), *self.parting.gone(v)]
+
+    def shared_function_names(self):
+        """The functions that are no view's own."""
+        return [*self.fitted.names]
 
     def table_names(self):
         """All tables that --capture makes."""
-        own = [self.script.prefix + said for said in (CAPTURED, COLUMNS, PARTS, TORN, JUDGED, RESHAPED, *(said for said, _ in self.script.history.tables()))]
+        own = [self.script.prefix + said for said in (CAPTURED, COLUMNS, PARTS, TORN, JUDGED, RESHAPED, LOG, FORMER, *(said for said, _ in self.script.history.tables()))]
         changes = [self.script.said(v, "~changes") for v in self.script.steps.base()]
         return [*(self.script.said(v) for v in range(len(self.script.views))), *changes, *own]
 

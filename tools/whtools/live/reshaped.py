@@ -89,7 +89,7 @@ class Reshaped:
             sql("BEGIN ISOLATION LEVEL REPEATABLE READ READ WRITE{end}", end=END_OF_STATEMENT),
             *self.captures.held({v: self.sources[v] for v in filled}),
             sql("LOCK TABLE {mirrors} IN EXCLUSIVE MODE{end}", mirrors=mirrors, end=END_OF_STATEMENT),
-            self.dialect.block([QUIETLY, *made]),
+            self.dialect.block_apart([QUIETLY, *made]),
             sql("COMMIT{end}", end=END_OF_STATEMENT),
         ]
 
@@ -98,9 +98,7 @@ class Reshaped:
 
     def contents_of(self, v):
         return [
-            *self.captures.fitting(self.sources[v]),
-            *self.captures.unlike_null(v, self.sources[v]),
-            *self.script.strange_in_source(v, self.sources[v]),
+            *self.captures.read(v, self.sources[v]),
             *self.guessed(v),
             *self.merged(v),
             *self.script.without_key(v),
@@ -108,6 +106,7 @@ class Reshaped:
             *self.script.indexed(v),
             sql("DELETE FROM {changes}", changes=self.script.table(v, "~changes")),
             self.captures.difference(v, self.sources[v]),
+            *self.captures.since(v),
             self.captures.query(v, "UPDATE {state} SET filled = TRUE WHERE view = {view}"),
             sql("DELETE FROM {marks} WHERE view = {view}", marks=self.marks, view=self.captures.view(v)),
         ]  # fmt: skip

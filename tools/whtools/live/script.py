@@ -41,8 +41,10 @@ class LiveScript(Computed, Script):
         for v in range(len(self.views)):
             self.constraint(v, self.key_of(v, ()))
             more = range(1, len(indexes[v]) + 1)
-            for suffix in (*more, *(() if self.views[v].over else ("changes", "capture"))):
+            for suffix in (*more, *(() if self.views[v].over else ("changes", "capture", "parting"))):
                 self.said(v, f"~{suffix}")
+        for v in self.steps.base():
+            self.said(v, "~logged")
 
     def own(self, suffix):
         """A table that is of no view, such as the history of nights."""

@@ -6,19 +6,33 @@ import subprocess
 import tempfile
 
 from whtools.sql.postgresql import PATH
-from whtools.sql.tokens import END_OF_STATEMENT, Unfit, sql
+from whtools.sql.tokens import END_OF_STATEMENT, Unfit, body, name, sql, text
 
 # A table that somebody alters is waited for so long, and no longer.
 PATIENCE = "60s"
 MARK = "--"
+IS_STANDBY = (
+    "SELECT CASE WHEN NOT pg_is_in_recovery() THEN NULL WHEN EXISTS (SELECT 1 FROM pg_roles AS r WHERE r.rolname = session_user AND r.rolsuper"
+    " AND r.rolname <> current_user) THEN {unsafe} ELSE {standby} END"
+)
+# Tables of the application are read within functions of whoever owns the night's schema, which what their owner has put on them does not leave for
+# another role.
+ROWS, DONE = (sql("pg_temp.{said}", said=name(said)) for said in ("whview rows", "whview done"))
+APART = [
+    sql("CREATE FUNCTION {rows}(query text) RETURNS SETOF json LANGUAGE plpgsql SECURITY DEFINER AS {program}{end}", rows=ROWS, end=END_OF_STATEMENT,
+        program=body(sql("\nBEGIN\n  RETURN QUERY EXECUTE query{end}\nEND{end}", end=END_OF_STATEMENT))),
+    sql("CREATE FUNCTION {done}(said text) RETURNS void LANGUAGE plpgsql SECURITY DEFINER AS {program}{end}", done=DONE, end=END_OF_STATEMENT,
+        program=body(sql("\nBEGIN\n  EXECUTE said{end}\nEND{end}", end=END_OF_STATEMENT))),
+]  # fmt: skip
 
 
 class PostgreSQLSession:
     """A transaction through psql, which is given statements one by one. All of it sees one snapshot, which is taken when the tables are
-    locked: one that is written anew by ALTER TABLE would look empty to a snapshot from before."""
+    locked: one that is written anew by ALTER TABLE would look empty to a snapshot from before. One that only compares may note first what the log
+    has, which is undone with it."""
 
-    def __init__(self, asked, is_writing):
-        self.asked, self.dialect, self.is_writing = asked, asked.dialect, is_writing
+    def __init__(self, asked, is_writing, is_noting=False):
+        self.asked, self.dialect, self.is_writing, self.is_noting = asked, asked.dialect, is_writing, is_noting
         self.told = tempfile.TemporaryFile()
         try:
             self.client = subprocess.Popen(asked.command(), stdin=subprocess.PIPE, stdout=subprocess.PIPE, stderr=self.told)
@@ -26,12 +40,22 @@ class PostgreSQLSession:
             raise Unfit(f"psql cannot be run: {fault.strerror}") from fault
 
     def __enter__(self):
-        level = "READ WRITE" if self.is_writing else "READ ONLY"
+        level = "READ WRITE" if self.is_writing or self.is_noting else "READ ONLY"
         settings = ("client_min_messages = warning", f"search_path = {PATH}", "row_security = off", "jit = off", f"lock_timeout = '{PATIENCE}'")
-        begun = (*(f"SET {each};" for each in settings), *self.dialect.owner.session(), f"BEGIN ISOLATION LEVEL REPEATABLE READ {level};")
-        for line in (*self.dialect.head, *begun):
+        for line in (*self.dialect.head, *(f"SET {each};" for each in settings), *self.dialect.owner.session()):
             self.given(line)
+        self.is_apart = self.read_apart()
+        self.given(f"BEGIN ISOLATION LEVEL REPEATABLE READ {level};")
         return self
+
+    def read_apart(self):
+        """Makes the functions by which tables are read, but on a standby, which takes none: there nobody reads as another role whom others gain by."""
+        (standby,) = self.run([sql(IS_STANDBY + "{end}", unsafe=text("unsafe"), standby=text("standby"), end=END_OF_STATEMENT)])
+        if standby == "unsafe":
+            raise Unfit("a standby is checked as a member of the role that owns the nights' tables, and not as a superuser, who would carry out what others put on theirs")
+        if not standby:
+            self.run(APART)
+        return not standby
 
     def __exit__(self, *_):
         """What is not committed by now is rolled back."""
@@ -80,12 +104,14 @@ class PostgreSQLSession:
 
     def rows(self, columns, rest, **parts):
         """The rows of a query, whose columns and whose rest are templates."""
-        query = sql("SELECT json_build_array(" + columns + ") " + rest + "{end}", end=END_OF_STATEMENT, **parts)
-        return [json.loads(line) for line in self.run([query])]
+        query = sql("SELECT json_build_array(" + columns + ") " + rest, **parts)
+        if self.is_apart:
+            query = sql("SELECT * FROM {rows}({query})", rows=ROWS, query=text(self.dialect.written([query])[0]))
+        return [json.loads(line) for line in self.run([sql("{query}{end}", query=query, end=END_OF_STATEMENT)])]
 
     def carried_out(self, statements):
-        for each in statements:
-            self.run([sql("{each}{end}", each=each, end=END_OF_STATEMENT)])
+        for each in self.dialect.written(statements):
+            self.run([sql("SELECT {done}({each}){end}", done=DONE, each=text(each), end=END_OF_STATEMENT)])
 
     def judged(self, statements):
         """Statements of a block, which may refuse what there is."""
@@ -103,7 +129,7 @@ class PostgreSQLSession:
 class SQLiteSession:
     """A transaction of a file, of which there is one snapshot anyhow."""
 
-    def __init__(self, asked, is_writing):
+    def __init__(self, asked, is_writing, _=False):
         self.asked, self.dialect, self.is_writing = asked, asked.dialect, is_writing
 
     def __enter__(self):

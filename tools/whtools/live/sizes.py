@@ -61,7 +61,7 @@ class Sizes:
     def before(self):
         """The sizes of each view for the next night, and how many nights tell those of the derived ones."""
         past, base = self.past(), self.script.steps.base()
-        changes = dict(zip(base, (answer[0] for answer in self.rows(*(self.changed(v) for v in base)))))
+        changes = dict(zip(base, (answer[0] for answer in self.waiting([self.changed(v) for v in base]))))
         found = {}
         for v, view in enumerate(self.views):
             pre = self.rows_of(v, past)
@@ -70,6 +70,14 @@ class Sizes:
             else:
                 found[v] = self.derived(v, pre, past, found)
         return [found[v] for v in range(len(self.views))], self.told_by(past)
+
+    def waiting(self, queries):
+        """The answers about changes, with those that wait in the log where tables are captured from it."""
+        if not self.script.dialect.takes or not self.script.captures.log.is_used(self.database):
+            return self.rows(*queries)
+        log = self.script.captures.log
+        before, after = log.before_sizes()
+        return log.beside_nights(lambda: self.database.rows(*queries, before=before, after=after))
 
     def rows_of(self, v, past):
         """How many rows a view has: the last night says it, or the engine counts them."""

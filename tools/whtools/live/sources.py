@@ -9,14 +9,15 @@ TURNS = {"postgresql": turned.of_postgresql, "sqlite": turned.of_sqlite}
 
 
 class Source(NamedTuple):
-    """A table of the application: its schema and name, its columns as they are turned, in the view's order, what of them is a key, and whether it
-    is partitioned."""
+    """A table of the application: its schema and name, its columns as they are turned, in the view's order, what of them is a key, whether it is
+    partitioned, and whether the server's log tells its rows by this key."""
 
     schema: str
     table: str
     columns: list
     key: list
     is_parted: bool = False
+    is_identified: bool = False
 
     @property
     def said(self):
@@ -26,6 +27,11 @@ class Source(NamedTuple):
     def shown(self):
         """The columns of a row r of the table, as they are turned."""
         return joined([column.said for column in self.columns])
+
+    @property
+    def number(self):
+        """The number by which the server knows the table."""
+        return self.columns[0].told.relation
 
     @property
     def null_columns(self):

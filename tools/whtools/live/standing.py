@@ -3,7 +3,8 @@
 from hashlib import sha256
 
 from whtools.live.history import SIZES
-from whtools.sql.tokens import body, joined, name, sql, text, word
+from whtools.live.log_standing import OF_LOG, OF_WHOLE
+from whtools.sql.tokens import body, joined, name, sql, statements, text, word
 
 JUDGED = "~judged"
 # A column's place, its type and, of an enumeration, its values: more of them may come behind, and none may get another name. How a type of
@@ -77,6 +78,11 @@ HOLES = (
     ("SELECT format({told}, w.view, format({why}, o.why)) FROM sources AS w JOIN {torn} AS o ON o.view = w.view", "%s"),
 )  # fmt: skip
 
+# What is asked of triggers has no place where there are none.
+OF_TRIGGERS = ("%s has no triggers", "the triggers of %s were disabled or made anew", UNFIT[1][1])
+WITHOUT = tuple(each for each in HOLES if each[1] not in OF_TRIGGERS)
+LOG_HOLES = (*WITHOUT[:-1], *OF_LOG, (OF_WHOLE[0] + ATTRIBUTES.replace("{part}", "p.part").replace("{view}", "p.view"), OF_WHOLE[1]), WITHOUT[-1])
+
 
 class Standing:
     """A night's look at the tables that are captured, and at its own."""
@@ -100,7 +106,8 @@ class Standing:
         one, the tables are judged once more."""
         both, parts = sql("(own || captured)"), (
             "SELECT concat_ws({comma}, CASE WHEN k.oid = ANY (own) THEN k.xmin END, CASE WHEN k.oid = ANY (captured) THEN concat_ws({comma}, k.relname,"
-            " k.relnamespace, k.relpersistence) END) FROM pg_class AS k WHERE k.oid = ANY {both}",
+            " k.relnamespace, k.relpersistence, k.relreplident, y.xmin, n.xmin) END) FROM pg_class AS k JOIN pg_namespace AS n ON n.oid = k.relnamespace LEFT JOIN"
+            " pg_type AS y ON y.oid = k.reltype WHERE k.oid = ANY {both}",
             "SELECT a.xmin FROM pg_attribute AS a WHERE a.attrelid = ANY {both} AND a.attnum > 0",
             "SELECT t.xmin FROM pg_trigger AS t WHERE t.tgrelid = ANY {both}",
             "SELECT x.xmin FROM pg_index AS x WHERE x.indrelid = ANY (captured) AND x.indisunique",
@@ -158,12 +165,22 @@ class Standing:
 
     def whole(self, base=None):
         """A refusal of a source that is not captured as it was, of all or of those of these views."""
-        base = self.script.steps.base() if base is None else base
+        base, is_there = self.script.steps.base() if base is None else base, self.log.is_there()
         functions = [self.written(sql("{function}()", function=self.function(v))) for v in base]
-        rows = [sql("({view}::text, {made}::regprocedure::oid)", view=self.view(v), made=made) for v, made in zip(base, functions)]
+        by_triggers = self.refused_holes(HOLES, [sql("({view}::text, {made}::regprocedure::oid)", view=self.view(v), made=made) for v, made in zip(base, functions)])
+        from_log = self.refused_holes(LOG_HOLES, [sql("({view}::text, NULL::oid)", view=self.view(v)) for v in base])
+        return [sql("IF {is_there} THEN {from_log} ELSE {by_triggers} END IF", is_there=is_there, from_log=statements(from_log, 2), by_triggers=statements(by_triggers, 2))]
+
+    def refused_holes(self, holes, rows):
+        """A refusal of what is otherwise, of these views and what notes their changes."""
         told = text("table %s is not captured as it was: %s; run tools/sql --capture")
-        own = {"state": self.state, "columns": self.columns, "noted": self.parts, "torn": self.torn_table, "told": told, **self.texts}
-        queries = [sql("(" + query + " LIMIT 1)", why=text(why), **own) for query, why in HOLES]
+        own = {"state": self.state, "columns": self.columns, "noted": self.parts, "torn": self.torn_table, "told": told, "log": self.log.table, **self.texts,
+               **self.letters_of_identity()}  # fmt: skip
+        queries = [sql("(" + query + " LIMIT 1)", why=text(why), **own) for query, why in holes]
         query = sql(ALL_BELOW, rows=joined(rows), queries=joined(queries), state=self.state)
         refusal = self.dialect.where(sql("finding IS NOT NULL"), self.dialect.raised(word("finding")))
         return [sql("EXECUTE {query} INTO finding", query=body(query)), refusal]
+
+    def letters_of_identity(self):
+        """How the server and the table of the log call what is told of rows."""
+        return {"whole": text("f"), "default": text("d"), "by_key": text("key")}

@@ -6,13 +6,14 @@ has a key, a row that leaves and one that comes with it are one that changes. A 
 
 from functools import cached_property
 
-from whtools.live.culprits import Culprits
+from whtools.live.culprits import LiveCulprits
 from whtools.live.digests import Digests
 from whtools.live.history import SwiftHistory
 from whtools.live.opening import Opening
 from whtools.live.script import LiveScript
 from whtools.live.swift_groups import SwiftGroups
 from whtools.sql.catalogued import WIDEST_INDEX
+from whtools.sql.comments import Comments
 from whtools.sql.dialect import COUNT, MOST
 from whtools.sql.keys import Keys
 from whtools.sql.lean import LOOK_UPS, LeanComps
@@ -33,11 +34,13 @@ def without(made, *ways):
     return [*switched("off", *ways), *made, *switched("on", *ways)]
 
 
+# A night in which nothing changed waits for no disk: a crash may take away that it was there, and nothing else.
+UNWAITED = sql("SET LOCAL synchronous_commit = off")
 # How many rows a change has is all that is asked of its statistics, for which few of them are enough. Whole tables are not sorted for a night.
 OF_NIGHTS = [sql("SET LOCAL default_statistics_target = 1"), *switched("off", "mergejoin")]
 
 
-class SwiftScript(SwiftGroups, Culprits, Digests, Opening, LeanComps, LiveScript):
+class SwiftScript(SwiftGroups, LiveCulprits, Digests, Opening, LeanComps, LiveScript):
     """The statements of a night whose tables are all its own."""
 
     def __init__(self, catalogue, dialect, prefix=""):
@@ -52,8 +55,7 @@ class SwiftScript(SwiftGroups, Culprits, Digests, Opening, LeanComps, LiveScript
         whole = [sql("{said} pg_catalog.int8", said=said) for said in [*numbers, word("lost")]]
         refusals = [sql("{told} pg_catalog.text", told=self.counter("told", v)) for v in range(len(self.views))]
         refusals += [sql("{there} pg_catalog.bool", there=self.counter("there", v)) for v in self.steps.base()]
-        others = ["moments pg_catalog.timestamptz[]", "own pg_catalog.oid[]", "captured pg_catalog.oid[]", "places pg_catalog.tid[]", "seen pg_catalog.text",
-                  "tonight pg_catalog.int8"]  # fmt: skip
+        others = ["moments pg_catalog.timestamptz[]", "own pg_catalog.oid[]", "captured pg_catalog.oid[]", "places pg_catalog.tid[]", "seen pg_catalog.text"]
         return [*PostgreSQL.variables, *whole, *refusals, *map(sql, others)]
 
     @cached_property
@@ -272,20 +274,37 @@ class SwiftScript(SwiftGroups, Culprits, Digests, Opening, LeanComps, LiveScript
         """Which base views have changes, asked at once."""
         base = self.steps.base()
         tests = [sql("EXISTS (SELECT 1 FROM {changes} AS d)", changes=self.table(v, "~changes")) for v in base]
-        return [*OF_NIGHTS, sql("SELECT {tests} INTO {there}", tests=joined(tests), there=joined([self.counter("there", v) for v in base]))]
+        taken = self.captures.log.taken_by_night()
+        return [*taken, sql("SELECT {tests} INTO {there}", tests=joined(tests), there=joined([self.counter("there", v) for v in base]))]
 
-    def whole(self, before, steps, after, comment, _=None):
+    def night(self, strategy, comment):
+        """A night in which nothing changed is only noted."""
+        steps, works = self.steps.night(strategy), Comments(self.catalogue)
+        told = [works.expression(step) for step in steps], [works.predicted(step) for step in steps]
+        carried = self.carried(steps, comment)
+        carried = [*self.kept_for(carried), *carried, *self.dialect.settled(), *self.history.ended(*told)]
+        # How far the log was read is on the disk before the slot is moved, also where nothing in it was captured.
+        unwaited = self.dialect.where(sql("NOT {is_there}", is_there=self.captures.log.is_there()), UNWAITED)
+        quiet = [unwaited, *self.history.ended_quietly(*told)]
+        is_there = joined([self.counter("there", v) for v in self.steps.base()], "OR")
+        choice = sql("IF {there} THEN {carried} ELSE {quiet} END IF", there=is_there, carried=statements(carried, 1), quiet=statements(quiet, 2))
+        return self.whole([*OF_NIGHTS, *self.looked_at(), *self.history.began(), choice], steps)
+
+    def kept_for(self, made):
+        """The settings that are another for some of these statements."""
+        return KEPT if any(word("collapsed").tokens[0] in each.tokens for each in made) else []
+
+    def whole(self, made, steps):
         """The tables are judged where they are not as they were when they last passed: nothing else than the night makes use of them. A night
         wants views that are filled as the catalogue has them, too."""
         tables = [self.table(v) for v in range(len(self.views))]
         checks = self.dialect.block([*self.checked.statements(tables), *self.captures.judged()])
         opened = self.captures.opened() if steps else []
         judged = [self.once(checks), *self.captures.whole(), *opened, *self.captures.others_unfilled(), *self.captures.noted_as_judged()]
-        judged = [*self.captures.looked_at(), *self.then(self.captures.is_changed(), judged)]
-        made = before + self.carried(steps, comment) + after
-        kept = KEPT if any(word("collapsed").tokens[0] in each.tokens for each in made) else []
+        mended = [*self.captures.parting.mended(), *self.captures.looked_at()] if steps else []
+        judged = [*self.captures.looked_at(), *self.then(self.captures.is_changed(), [*mended, *judged])]
         self.dialect.variables = self.variables()
         try:
-            return self.dialect.program(self.checked.lock(tables), [], [LOOK_UPS, *judged, *kept, *made])
+            return self.dialect.program(self.checked.lock(tables), [], [LOOK_UPS, *judged, *made])
         finally:
             del self.dialect.variables

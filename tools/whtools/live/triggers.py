@@ -10,8 +10,12 @@ from whtools.sql.dialect import COUNT
 from whtools.sql.postgresql import PATH
 from whtools.sql.tokens import END_OF_STATEMENT, body, joined, name, number, sql, statements, text, word
 
+# Says within a session that the event trigger for parts has nothing to do, since a capture or itself is at work; what it leaves so the next night tells.
+PARTING = "whview.parting"
 # How often a table is tried that somebody is writing to, and how many milliseconds it is left alone in between: a minute in all.
 TRIES, PAUSE = 1200, 50
+# How long a lock is waited for that others' changes of a table hold.
+WAITED = "60s"
 # A source, its partitions and its heirs, as b. Whatever has no rows of its own is not truncated by itself.
 BELOW = (
     "(WITH RECURSIVE below (root, relation) AS (SELECT c.source::oid, c.source::oid FROM {state} AS c WHERE c.view = {view} UNION SELECT b.root,"
@@ -23,8 +27,12 @@ FIRED = "(SELECT count(*) FROM pg_trigger AS t WHERE t.tgrelid = {relation} AND 
 JUDGED = (
     "SELECT CASE WHEN NOT EXISTS (SELECT 1 FROM {noted} AS n WHERE n.view = {view} AND n.part = TG_RELID) AND NOT EXISTS (SELECT 1 FROM "
     + BELOW + " WHERE b.relation = TG_RELID) THEN {strange} WHEN (SELECT count(*) FROM pg_attribute AS a WHERE a.attrelid = TG_RELID AND a.attnum > 0"
-    " AND ({fits})) <> {many} THEN {unlike} WHEN EXISTS (SELECT 1 FROM pg_inherits AS i WHERE i.inhparent = TG_RELID) THEN {parent} END"
+    " AND ({fits})) <> {many} OR (SELECT count(*) FROM {state} AS c JOIN pg_attribute AS a ON a.attrelid = c.source AND ({placed}) WHERE c.view = {view}) <> {many}"
+    " THEN {unlike} WHEN EXISTS (SELECT 1 FROM pg_inherits AS i WHERE i.inhparent = TG_RELID) THEN {parent} END"
 )
+# The rows of each kind of statement, by the tables that a trigger has of them, and how often these count.
+GONE, COME = ("gone", -1), ("come", 1)
+ROWS = {"UPDATE": (GONE, COME), "INSERT": (COME,), "DELETE": (GONE,)}
 # A command that is known not to be a MERGE: by the statement that fired the trigger, where a client sent it or a function carried it out. A statement
 # that was prepared may be any.
 MERGING = (
@@ -49,6 +57,11 @@ WHY = {
     "isolation": "it was truncated at another isolation than READ COMMITTED, which does not see all rows that go",
     "hidden": "it was truncated, and its rows are hidden from whoever owns the function of its triggers",
     "applied": "rows were written by logical replication, for which no statement is captured",
+    "parting": "a partition came or left, and that could not be noted",
+    "moved": "rows came or left with a partition at another isolation than READ COMMITTED, which does not see all of them",
+    "apart": "rows came or left with a partition, and are hidden from whoever owns the function of its triggers",
+    "called": "rows came or left with a partition whose indexes or checks call a function that is no superuser's",
+    "strange": "rows came or left with a partition whose columns are not as they were captured",
 }
 BUSY = "somebody is writing to %s all the time, and its triggers wait for a moment without: run the script again"
 
@@ -65,6 +78,14 @@ class Event(NamedTuple):
     mode: str = "ALWAYS"
 
 
+class Unread(NamedTuple):
+    """Why rows that come or leave at once are not read, by the words of WHY."""
+
+    isolation: str
+    hidden: str
+    calls: str
+
+
 def of_statement(tables=""):
     return sql(f"{tables} FOR EACH STATEMENT")
 
@@ -73,6 +94,9 @@ class Triggers:
     """The statements about the triggers of a script's captures."""
 
     def events(self, source):
+        return self.events_of(source.is_parted)
+
+    def events_of(self, is_parted):
         """The triggers of a source's tables. A row that a MERGE moves from one partition to another is in none of the tables of a statement's
         rows, so that where a command may be one, rows are noted one by one."""
         found = [
@@ -82,7 +106,7 @@ class Triggers:
             Event("truncate", "BEFORE TRUNCATE ON ", of_statement(), is_ordinary=True),
             Event("applied", "AFTER INSERT OR UPDATE OR DELETE ON ", sql("FOR EACH ROW"), "applied", True, "REPLICA"),
         ]
-        if source.is_parted:
+        if is_parted:
             each = sql("FOR EACH ROW WHEN ({test})", test=self.by_rows(0))
             found.append(Event("way", "BEFORE UPDATE ON ", of_statement(), "way"))
             found.append(Event("rows", "AFTER INSERT OR UPDATE OR DELETE ON ", each, "rows", True))
@@ -107,30 +131,42 @@ class Triggers:
         )  # fmt: skip
         made = sql("CREATE OR REPLACE FUNCTION {function}() RETURNS trigger LANGUAGE plpgsql SECURITY DEFINER SET search_path = " + PATH + " AS {program}",
                    function=self.function(v), program=body(program))  # fmt: skip
-        return [made, sql("REVOKE ALL ON FUNCTION {function}() FROM PUBLIC", function=self.function(v))]
+        return [made, sql("REVOKE ALL ON FUNCTION {function}() FROM PUBLIC", function=self.function(v)), *self.parting.noting(v, source)]
 
     def as_ever(self, v, source):
-        """What nearly all statements need: where the table is called as it was, its columns too, and rows have the types that they had, they are noted
-        at once. None of this is asked of tables of the server's catalogue, which is slow, and by a snapshot that may be old. A table in parts, and
-        a domain, which may allow NULL by now, want a closer look."""
+        """What nearly all statements need: where the table is the one that was captured, its columns are as they were, and nobody inherits from it, rows
+        are noted at once. A table in parts, and a domain, which may allow NULL by now, want a closer look."""
         if source.is_parted or any(column.told.is_domain for column in source.columns):
             return sql("")
-        known = [sql("pg_describe_object(1259, TG_RELID, {place}) = {described}", place=number(column.told.place), described=text(column.told.described))
-                 for column in source.columns]  # fmt: skip
-        filled = source._replace(columns=[column._replace(said=column.filled) for column in source.columns])
         return sql(
-            "IF TG_NARGS = 0 AND TG_OP <> {truncate} AND {known} THEN\n  IF TG_OP = {delete} THEN finding := ({gone}){end} ELSE finding := ({come}){end}"
-            " END IF{end}\n  IF finding IS NULL THEN RETURN NULL{end} END IF{end}\n  IF finding = {types} THEN\n  {noted}\n  END IF{end}\n  RETURN NULL{end}\n  END IF{end}\n"
-            "  END IF{end}\n  ", truncate=text("TRUNCATE"), known=joined(known, "AND"), delete=text("DELETE"), gone=self.types_of(source, "gone"),
-            come=self.types_of(source, "come"), types=text(",".join(str(column.told.own_number) for column in source.columns)),
-            noted=sql("IF FALSE THEN NULL{end}\n  {noted}", noted=self.of_statement(v, filled), end=END_OF_STATEMENT), end=END_OF_STATEMENT,
+            "IF TG_RELID = {number} AND TG_NARGS = 0 AND {fits} AND {alone} THEN\n  {noted}\n  END IF{end}\n  END IF{end}\n  ", number=number(source.number),
+            fits=self.fitted.fits(source), alone=self.fitted.is_alone(source), noted=self.noted_at_once(v, source), end=END_OF_STATEMENT,
         )  # fmt: skip
 
-    def types_of(self, source, rows):
-        """The numbers of the types of a statement's rows, and whether others inherit from the table; NULL where there are no rows."""
-        types = joined([sql("pg_typeof(r.{column})::oid", column=name(column.name)) for column in source.columns])
-        return sql("SELECT concat_ws({comma}, {types}, CASE WHEN EXISTS (SELECT 1 FROM pg_inherits AS i WHERE i.inhparent = TG_RELID) THEN {parent} END)"
-                   " FROM {rows} AS r LIMIT 1", comma=text(","), types=types, parent=text("parent"), rows=word(rows))  # fmt: skip
+    def noted_at_once(self, v, source):
+        """What is noted so, with as few expressions as can be: PostgreSQL gets each ready in each transaction anew, also NULL. What such a trigger returns
+        is nothing to anybody."""
+        first, *others = self.by_statement(v, self.at_once(source), sql("RETURN OLD{end}", end=END_OF_STATEMENT))
+        return sql("IF {first} {others}", first=first, others=joined([sql("\n  ELSIF {other}", other=other) for other in others], None))
+
+    def by_statement(self, v, rows, after=sql("")):
+        """What is done of each kind of statement."""
+        one = "TG_OP = {said} THEN {insert} {rows}{end} {after}"
+        return [sql(one, said=text(said), insert=self.insert(v), rows=rows(*some), end=END_OF_STATEMENT, after=after) for said, some in ROWS.items()]
+
+    def at_once(self, source):
+        """How the rows of a statement are turned: of an UPDATE those of both tables in one list of columns, since PostgreSQL gets each function
+        of it ready for each statement anew."""
+        columns = joined([*(name(column.name) for column in source.columns), COUNT])
+        low, shown = (joined([said(column) for column in source.columns]) for said in (lambda column: column.below, lambda column: column.above))
+
+        def rows(*parts):
+            both = joined([sql("SELECT {low}, {sign}::bigint FROM {rows} AS r", low=low, sign=text(str(sign)), rows=word(rows)) for rows, sign in parts], "UNION ALL")
+            # One list would become part of the other, and what is written there more than once would be computed as often.
+            both = sql("{both} OFFSET 0", both=both) if len(parts) == 1 and any(column.is_computed_below for column in source.columns) else both
+            return sql("SELECT {shown}, r.{count} FROM ({both}) AS r ({columns})", shown=shown, count=COUNT, both=both, columns=columns)
+
+        return rows
 
     def is_current(self):
         """Whether each statement of a trigger sees what is there now."""
@@ -146,12 +182,16 @@ class Triggers:
 
     def judged_by(self, v, source):
         fits = joined([sql("({fits})", fits=column.fits) for column in source.columns], "OR")
-        return self.query(v, JUDGED, fits=fits, many=number(len(source.columns)), **{said: text(said) for said in ("strange", "unlike", "parent")})
+        # Two columns of one type may have each other's names; those of parts and heirs, which may stand in another order, have those of the source.
+        placed = joined([sql("a.attname = {name} AND a.attnum = {place}", name=text(column.name), place=number(column.told.place)) for column in source.columns], "OR")
+        return self.query(v, JUDGED, fits=fits, placed=placed, many=number(len(source.columns)), **{said: text(said) for said in ("strange", "unlike", "parent")})
 
-    def torn(self, v, why):
-        """A mark that a table is not captured as it was. It stands once, as far as the transaction sees: nobody waits for another's."""
-        there = self.query(v, "SELECT 1 FROM {torn} AS o WHERE o.view = {view} AND o.why = {why}", torn=self.torn_table, why=text(WHY[why]))
-        return self.query(v, "INSERT INTO {torn} SELECT {view}, {why} WHERE NOT EXISTS ({there})", torn=self.torn_table, why=text(WHY[why]), there=there)
+    def torn(self, v, why, more=None):
+        """A mark that a table is not captured as it was, and perhaps what was told of it. It stands once, as far as the transaction sees: nobody waits
+        for another's."""
+        why = sql("concat_ws({colon}, {why}, {more})", colon=text(": "), why=text(WHY[why]), more=more) if more else text(WHY[why])
+        there = self.query(v, "SELECT 1 FROM {torn} AS o WHERE o.view = {view} AND o.why = {why}", torn=self.torn_table, why=why)
+        return self.query(v, "INSERT INTO {torn} SELECT {view}, {why} WHERE NOT EXISTS ({there})", torn=self.torn_table, why=why, there=there)
 
     def part_unnoted(self, v):
         """What a trigger does first: for a table that is none of the source's nothing, and where a table has parts or heirs one that nobody noted is,
@@ -193,13 +233,19 @@ class Triggers:
 
     def truncated(self, v, source):
         """The rows of a table that is emptied, where all of them can be seen."""
-        before, after = sql("{insert} SELECT {shown}, -1 FROM ONLY", insert=self.insert(v), shown=source.shown), sql("AS r")
+        return sql("\n    IF {rows}\n    END IF{end}", rows=self.rows_read(v, source, word("TG_RELID"), -1, Unread("isolation", "hidden", "calls")),
+                   end=END_OF_STATEMENT)  # fmt: skip
+
+    def rows_read(self, v, source, relation, sign, unread):
+        """What notes all rows of a table that come or leave at once, where they can be read; else the table is torn. It is the rest of an IF."""
+        template, after = "{insert} SELECT {shown}, {sign} FROM ONLY", sql("AS r")
+        before = sql(template, insert=self.insert(v), shown=source.shown, sign=number(sign))
         return sql(
-            "\n    IF NOT {current} THEN {alone}{end}\n    ELSIF row_security_active(TG_RELID) OR NOT"
-            " has_table_privilege(TG_RELID, {select}) OR NOT has_schema_privilege((SELECT k.relnamespace FROM pg_class AS k WHERE k.oid = TG_RELID), {usage})"
-            " THEN {hidden}{end}\n    ELSIF {calls} THEN {called}{end}\n    ELSE EXECUTE concat({before}, TG_RELID::regclass, {after}){end}\n    END IF{end}",
-            current=self.is_current(), alone=self.torn(v, "isolation"), select=text("SELECT"),
-            usage=text("USAGE"), hidden=self.torn(v, "hidden"), calls=self.calls(word("TG_RELID")), called=self.torn(v, "calls"),
+            "NOT {current} THEN {alone}{end}\n    ELSIF row_security_active({relation}) OR NOT"
+            " has_table_privilege({relation}, {select}) OR NOT has_schema_privilege((SELECT k.relnamespace FROM pg_class AS k WHERE k.oid = {relation}), {usage})"
+            " THEN {hidden}{end}\n    ELSIF {calls} THEN {called}{end}\n    ELSE EXECUTE concat({before}, {relation}::regclass, {after}){end}",
+            current=self.is_current(), alone=self.torn(v, unread.isolation), select=text("SELECT"),
+            usage=text("USAGE"), hidden=self.torn(v, unread.hidden), calls=self.calls(relation), called=self.torn(v, unread.calls), relation=relation,
             before=text(self.dialect.written([before])[0] + " "), after=text(" " + self.dialect.written([after])[0]), end=END_OF_STATEMENT,
         )  # fmt: skip
 
@@ -212,14 +258,12 @@ class Triggers:
 
     def of_statement(self, v, source):
         """The rows of a statement. What an UPDATE leaves as it was leaves and comes: nights add it up, and writers do not wait for that."""
-        insert = self.insert(v)
-        come, gone = (sql("SELECT {shown}, {sign} FROM {rows} AS r", shown=source.shown, sign=number(sign), rows=word(rows))
-                      for rows, sign in (("come", 1), ("gone", -1)))  # fmt: skip
-        both = sql("{gone} UNION ALL {come}", gone=gone, come=come)
-        parts = {f"{said}_rows": sql("{insert} {rows}", insert=insert, rows=rows) for said, rows in (("insert", come), ("delete", gone), ("update", both))}
-        words = {said.lower(): text(said) for said in ("INSERT", "DELETE", "UPDATE")}
-        return sql("ELSIF TG_OP = {insert} THEN {insert_rows}{end}\n  ELSIF TG_OP = {delete} THEN {delete_rows}{end}\n"
-                   "  ELSIF TG_OP = {update} THEN {update_rows}{end}", **words, **parts, end=END_OF_STATEMENT)  # fmt: skip
+        return joined([sql("\n  ELSIF {other}", other=other) for other in self.by_statement(v, self.one_by_each(source))], None)
+
+    def one_by_each(self, source):
+        """How rows are turned, those of each table by themselves."""
+        one = "SELECT {shown}, {sign} FROM {rows} AS r"
+        return lambda *parts: joined([sql(one, shown=source.shown, sign=number(sign), rows=word(rows)) for rows, sign in parts], "UNION ALL")
 
     # ---- how triggers come and go
 
@@ -283,11 +327,12 @@ class Triggers:
         busy = self.dialect.where(sql("tries > {most}", most=number(TRIES)), self.dialect.raised(sql("format({busy}, part)", busy=text(BUSY))))
         kinds = {"part": "regclass", "made": "regprocedure", "tries": "int4", "path": "text", "finding": "text"}
         program = sql(
-            "\nDECLARE {variables}\nBEGIN\npath := pg_catalog.current_setting({key}){end}\nPERFORM pg_catalog.set_config({key}, {own}, FALSE){end}\n"
+            "\nDECLARE {variables}\nBEGIN\npath := pg_catalog.current_setting({key}){end}\n"
+            "PERFORM pg_catalog.set_config({key}, {own}, FALSE), pg_catalog.set_config({parting}, {on}, FALSE){end}\n"
             "made := to_regprocedure({function}){end}\nFOR part IN {relations} LOOP\n{judged}\ntries := 0{end}\n"
             "WHILE {test} LOOP\nBEGIN{made}\nEXCEPTION WHEN lock_not_available THEN\ntries := tries + 1{end}\n{busy}{end}\n"
-            "PERFORM pg_sleep({pause} / 1000.0){end}\nEND{end}\nEND LOOP{end}\nCOMMIT{end}\nEND LOOP{end}\nPERFORM set_config({key}, path, FALSE){end}\nEND{end}",
-            variables=joined([sql("{said} pg_catalog.{kind}{end}", said=word(said), kind=word(kind), end=END_OF_STATEMENT) for said, kind in kinds.items()], None),
+            "PERFORM pg_sleep({pause} / 1000.0){end}\nEND{end}\nEND LOOP{end}\nCOMMIT{end}\nEND LOOP{end}\nPERFORM set_config({key}, path, FALSE), set_config({parting}, {none}, FALSE){end}\nEND{end}",
+            parting=text(PARTING), on=text("on"), none=text(""), variables=joined([sql("{said} pg_catalog.{kind}{end}", said=word(said), kind=word(kind), end=END_OF_STATEMENT) for said, kind in kinds.items()], None),
             key=text("search_path"), own=text(PATH), function=function, relations=relations, judged=statements(judged, 1), test=test,
             made=statements([lock, *made], 2), busy=busy, pause=number(PAUSE), end=END_OF_STATEMENT,
         )  # fmt: skip

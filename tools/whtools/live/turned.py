@@ -20,8 +20,8 @@ TOO_WIDE = "whose values need not fit 64 bits: make it numeric(p,s) with p up to
 class Told(NamedTuple):
     """What a database says of a column: its name, its type in words and by its bare name, its digits and places, whether it may be NULL, and
     whether its collation takes unequal texts for equal ones. PostgreSQL tells the number of its type below all domains, too, that of the domain, if
-    it is one, its place, how the server describes it, and what modifies the type. Of a day or a moment in SQLite is told how the first one is
-    written, digits as 0."""
+    it is one, its place, how the server describes it, what modifies the type, and the number of its table. Of a day or a moment in SQLite is told
+    how the first one is written, digits as 0."""
 
     name: str
     shown: str
@@ -36,6 +36,7 @@ class Told(NamedTuple):
     described: str = ""
     modifier: int = -1
     form: str | None = None
+    relation: int | None = None
 
     @property
     def is_domain(self):
@@ -45,7 +46,8 @@ class Told(NamedTuple):
 class Turned(NamedTuple):
     """How a column is turned: into which kind, from the cell of a row r, whether it may be NULL, and whether unequal values stay unequal; in
     PostgreSQL also a test of whether a row a of the server's attributes is this column, and still of the type that is turned so; how it is turned
-    where it may be of another type by now, and then is nothing; the same where it may be NULL by now; and what the database says of it."""
+    where it may be of another type by now, and then is nothing; how it is turned in two steps where it may be NULL by now, below and above; and what the
+    database says of it."""
 
     name: str
     kind: str
@@ -54,8 +56,14 @@ class Turned(NamedTuple):
     is_apart: bool
     fits: Sql | None = None
     sure: Sql | None = None
-    filled: Sql | None = None
+    below: Sql | None = None
+    above: Sql | None = None
     told: Told | None = None
+
+    @property
+    def is_computed_below(self):
+        """Whether the lower step calls a function."""
+        return self.kind == "text" and self.told.type not in ("text", "varchar")
 
 
 class Unturned(NamedTuple):
@@ -77,6 +85,12 @@ def apart_from_null(said):
     """A text, with one backslash more where it is one or more of them and an N: none is what stands for NULL."""
     template = "CASE WHEN ltrim({said}, {slash}) = {last} AND {said} <> {last} THEN {slash} || {said} ELSE {said} END"
     return sql(template, said=said, slash=text("\\"), last=text("N"))
+
+
+def apart_from_null_at_once(said):
+    """The same where hardly any text begins with a backslash, which is found out sooner: byte by byte, whatever the column's collation is by then."""
+    template = "CASE WHEN starts_with({said} COLLATE {bytes}, {slash}) AND ltrim({said}, {slash}) = {last} THEN {slash} || {said} ELSE {said} END"
+    return sql(template, said=said, slash=text("\\"), last=text("N"), bytes=name("C"))
 
 
 def literal_apart(said):
@@ -144,26 +158,43 @@ def of_postgresql(told):
     if isinstance(found, Unturned) or told.number is None:
         return found
     sure = sql("CASE WHEN pg_typeof({cell}) = {own}::regtype THEN {said} END", cell=cell(told), own=text(str(told.own_number)), said=found.said)
-    null = whole(NULL["int"]) if found.kind == "int" else sql("{said}::text", said=text(NULL["text"]))
-    filled = found.said if told.may_be_null else sql("coalesce({said}, {null})", said=found.said, null=null)
-    return found._replace(fits=fits(told), sure=sure, filled=filled, told=told)
+    is_text = found.kind == "text"
+    below, above = (soon_as_text(told), apart_from_null_at_once(cell(told))) if is_text else (cell(told), as_number(told)(cell(told)))
+    above = sql("coalesce({above}, {null})", above=above, null=null_of(found.kind))
+    return found._replace(fits=fits(told), sure=sure, below=below, above=above, told=told)
+
+
+def null_of(kind):
+    """What stands for NULL."""
+    return whole(NULL["int"]) if kind == "int" else sql("{said}::text", said=text(NULL["text"]))
+
+
+def as_text(told):
+    """A column as a text."""
+    return sql("textin(enum_out({cell}))" if told.type == "enum" else "{cell}::text", cell=cell(told))
+
+
+def soon_as_text(told):
+    """The same of a char(n) in a third of the time: its blanks are told from the rest byte by byte, and not letter by letter."""
+    said = "left(textin(bpcharout({cell})), length({cell}))"
+    return sql(said, cell=cell(told)) if told.type == "bpchar" else as_text(told)
+
+
+def as_number(told):
+    """How a column is turned into a whole number, or None."""
+    return units(told.digits, told.places) if told.type == "numeric" else NUMBERS.get(told.type)
 
 
 def how_of_postgresql(told):
-    found = NUMBERS.get(told.type)
-    if told.type == "numeric":
-        most = MOST_DIGITS["postgresql"]
-        if told.digits is None or not 0 <= told.places <= told.digits <= most:
-            return refused(told, TOO_WIDE.format(most=most))
-        found = units(told.digits, told.places)
+    most = MOST_DIGITS["postgresql"]
+    if told.type == "numeric" and (told.digits is None or not 0 <= told.places <= told.digits <= most):
+        return refused(told, TOO_WIDE.format(most=most))
     if told.type in TEXTS:
-        if told.is_folded:
-            return refused(told, FOLDED)
-        said = "textin(enum_out({cell}))" if told.type == "enum" else "{cell}::text"
-        return turned(told, "text", sql(said, cell=cell(told)), sql("{said}::text", said=text(NULL["text"])))
+        return refused(told, FOLDED) if told.is_folded else turned(told, "text", as_text(told), null_of("text"))
+    found = as_number(told)
     if found is None:
-        return refused(told, NEITHER if told.type in ("float4", "float8", "numeric", "money") else OTHER)
-    return turned(told, "int", found(cell(told)), whole(NULL["int"]), found is not SECONDS)
+        return refused(told, NEITHER if told.type in ("float4", "float8", "money") else OTHER)
+    return turned(told, "int", found(cell(told)), null_of("int"), found is not SECONDS)
 
 
 def turned(told, kind, said, null, is_apart=True):

@@ -25,6 +25,11 @@ COLUMNS = {
         "ALTER TABLE orders RENAME id TO old_id; ALTER TABLE orders RENAME note TO id; INSERT INTO orders (id, old_id, day) VALUES ('text', 901, '2026-02-02');"
         " ALTER TABLE orders RENAME id TO note; ALTER TABLE orders RENAME old_id TO id;", refused="while its columns were not as they were captured",
     ),
+    "columns of one type that change their names": Case(
+        "ALTER TABLE lines RENAME id TO of; ALTER TABLE lines RENAME pieces TO id; ALTER TABLE lines RENAME of TO pieces; INSERT INTO lines (id, product, pieces)"
+        " VALUES (3, 'product 3', 4); ALTER TABLE lines RENAME id TO of; ALTER TABLE lines RENAME pieces TO id; ALTER TABLE lines RENAME of TO pieces;",
+        made="ALTER TABLE lines ALTER pieces TYPE int;", refused="while its columns were not as they were captured",
+    ),
     "a column that is dropped": Case(
         "ALTER TABLE lines DROP COLUMN pieces; INSERT INTO lines VALUES (3, 'product 3'); DELETE FROM lines WHERE id = 5;"
         " ALTER TABLE lines ADD COLUMN pieces smallint NOT NULL DEFAULT 2;", refused="its column pieces is of another type",

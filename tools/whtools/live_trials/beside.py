@@ -5,6 +5,7 @@ import re
 import sqlite3
 import subprocess
 import threading
+import time
 from pathlib import Path
 
 from whtools.databases.engines import Broken, Session
@@ -93,7 +94,8 @@ def alone_mistakes(live):
     """The block of a night without the lines before it: it is refused, and changes nothing."""
     wrong = live.fresh()
     live.database.asked("UPDATE lines SET pieces = pieces + 1;")
-    before, block = live.pending(), live.script[live.script.index("\nDO ") : live.script.rindex("COMMIT")]
+    begun_at = live.script.index("\nBEGIN ")
+    before, block = live.pending(), live.script[live.script.index("\nDO ", begun_at) : live.script.rindex("COMMIT")]
     told = live.database.run(block)
     wrong += [] if told and "run the whole script" in told and live.pending() == before else [f"the block alone was told {told!r}"]
     return wrong + [f"{told}" for told in [live.night()] if told] + live.mistakes()
@@ -102,7 +104,7 @@ def alone_mistakes(live):
 def part_mistakes(live):
     """Two writers after a part has come that is not captured: neither waits for the other one."""
     database, wrong = live.database, live.fresh(PARTED)
-    database.asked("CREATE TABLE more PARTITION OF lines FOR VALUES FROM (2000) TO (3000);")
+    database.asked('DROP EVENT TRIGGER "whview wh"; CREATE TABLE more PARTITION OF lines FOR VALUES FROM (2000) TO (3000);')
     first, second = (Session(database.server, database.name) for _ in range(2))
     first.asked("BEGIN;" + NEW_ORDER + NEW_LINES)
     try:
@@ -117,6 +119,75 @@ def part_mistakes(live):
     told = live.capture() or live.night()
     wrong += [told] if told else live.mistakes()
     return [f"writers after a part has come: {text}" for text in wrong]
+
+
+# What a writer does before an heir comes, so that its session knows the table, and in which transaction the heir comes; then the heir's row changes
+# through the table.
+HEIR = "CREATE TABLE more () INHERITS (lines); INSERT INTO more VALUES (5, 'product 2', 5);"
+BESIDE_HEIRS = {
+    "a statement": ("UPDATE lines SET pieces = pieces + 1 WHERE id = 3 AND (SELECT count(*) FROM pg_sleep(1)) = 1;", ""),
+    "a transaction of one snapshot": ("BEGIN ISOLATION LEVEL REPEATABLE READ; SELECT 1;", "UPDATE lines SET pieces = pieces + 1 WHERE id = 3; COMMIT;"),
+    "a transaction of one snapshot that is the first": ("BEGIN ISOLATION LEVEL REPEATABLE READ; UPDATE lines SET pieces = 1 WHERE id = 3;", "COMMIT;"),
+}
+
+
+def heir_mistakes(live):
+    """A session that has found out that nobody inherits from a table, or was about to, when an heir comes: that the heir was there is noted."""
+    return [f"{said} beside an heir: {text}" for said, (before, after) in BESIDE_HEIRS.items() for text in heir_mistakes_of(live, before, after)]
+
+
+def heir_mistakes_of(live, before, after):
+    database, wrong = live.database, live.fresh()
+    first, second = (Session(database.server, database.name) for _ in range(2))
+    first.asked("UPDATE lines SET pieces = pieces WHERE id = 4;" if after != "COMMIT;" else "SELECT 1;")
+    begun = threading.Thread(target=lambda: first.asked(before))
+    begun.start()
+    time.sleep(0.3)
+    second.asked(HEIR)
+    begun.join()
+    first.asked(after + "UPDATE lines SET pieces = pieces + 1 WHERE id = 5; DROP TABLE more;")
+    for session in (first, second):
+        session.close()
+    told = live.night()
+    wrong += [] if "more is no part of it any more" in (told or "") else [f"the night was told {told!r}"]
+    told = live.capture() or live.night()
+    return wrong + ([told] if told else live.mistakes())
+
+
+def altered_mistakes(live):
+    """A session that has found out how a table is, when another one alters it: it finds out anew."""
+    database, wrong = live.database, live.fresh()
+    first = Session(database.server, database.name)
+    first.asked("UPDATE lines SET pieces = pieces + 1 WHERE id = 4;")
+    database.asked("ALTER TABLE lines RENAME pieces TO amount;")
+    first.asked("INSERT INTO lines (id, product, amount) VALUES (3, 'product 3', 3);")
+    database.asked("ALTER TABLE lines RENAME amount TO pieces;")
+    first.asked("INSERT INTO lines (id, product, pieces) VALUES (3, 'product 3', 4);")
+    first.close()
+    told = live.night()
+    wrong += [] if "while its columns were not as they were captured" in (told or "") else [f"the night was told {told!r}"]
+    told = live.capture() or live.night()
+    return [f"a session beside another one that alters: {text}" for text in wrong + ([told] if told else live.mistakes())]
+
+
+# Of the last two nights how many views and steps they tell of, the rows of these views that are otherwise than they were counted, and what changed.
+LAST_TWO = (
+    "SELECT (SELECT count(*) FROM wh.\"~sizes\" WHERE night > m - 2), (SELECT count(DISTINCT step) FROM wh.\"~steps\" WHERE night = m), (SELECT count(*) FROM"
+    " wh.\"~sizes\" WHERE night > m - 2 AND (change <> 0 OR pre <> post)) FROM (SELECT max(night) AS m FROM wh.\"~nights\" WHERE ended >= began) AS n"
+)
+
+
+def quiet_mistakes(live):
+    """Nights in which nothing changed are in the history as all others are, and the next one goes on from there."""
+    wrong = live.fresh()
+    live.database.asked("UPDATE lines SET pieces = pieces + 1 WHERE id = 4;")
+    wrong += [told for told in [live.night(), live.night(), live.night()] if told]
+    ((sizes, steps, changed),) = live.database.answers(LAST_TWO)[0]
+    ((views, of_all),) = live.database.answers('SELECT count(DISTINCT view), (SELECT count(DISTINCT step) FROM wh."~steps") FROM wh."~sizes"')[0]
+    wrong += [] if (sizes, steps, changed) == (2 * views, of_all, 0) else [f"{sizes} sizes of {views} views, {steps} steps of {of_all}, {changed} that changed"]
+    live.database.asked("DELETE FROM lines WHERE id = 4;")
+    told = live.night()
+    return [f"nights in which nothing changed: {text}" for text in wrong + ([told] if told else live.mistakes())]
 
 
 # ---- a thousand small transactions

@@ -3,6 +3,7 @@
 from whtools.databases.engines import Broken
 from whtools.live_trials.altered import COLOURS, COLUMNS, PARTED, PARTS
 from whtools.live_trials.case import Case
+from whtools.live_trials.parted import COMING
 
 NEW_ORDER = "INSERT INTO orders (id, day, paid, region) VALUES (900, '2026-02-02', TRUE, 'region 9');"
 # What is written where tables have been captured anew.
@@ -41,12 +42,6 @@ BOTH = {
     "dates before 1970": Case("UPDATE orders SET day = '1969-12-30' WHERE id = 7; UPDATE orders SET day = '1901-05-06', at = '1960-01-01 01:02:03' WHERE id = 9;"),
 }  # fmt: skip
 
-HOSTILE = """"a'; DROP TABLE lines; --%s $night$ ""part""\\" """.strip()
-ATTACHED = (
-    "CREATE TABLE more (id int NOT NULL, product text NOT NULL, pieces smallint NOT NULL); INSERT INTO more VALUES (2000, 'product 2', 5), (2001, 'product 3', 6);"
-    " ALTER TABLE lines ATTACH PARTITION more FOR VALUES FROM (2000) TO (3000);"
-    " INSERT INTO orders (id, day, region) VALUES (2000, '2026-03-03', 'region 7'), (2001, '2026-03-03', 'region 7');"
-)
 ANEW = "CREATE TABLE lines (id int NOT NULL, product text NOT NULL, pieces smallint NOT NULL);"
 HEIRS = "CREATE TABLE special_lines (why text) INHERITS (lines); INSERT INTO special_lines VALUES (3, 'product 3', 3, 'gift');"
 OF_POSTGRESQL = {
@@ -77,6 +72,12 @@ OF_POSTGRESQL = {
         "CREATE FUNCTION public.floor(numeric) RETURNS numeric LANGUAGE sql AS 'SELECT 0.0'; SET search_path = public, pg_catalog;"
         " UPDATE orders SET at = at + INTERVAL '1 day'; RESET search_path; DROP FUNCTION public.floor(numeric);"
     ),
+    "texts that are filled with blanks": Case(
+        "INSERT INTO orders (id, day, region) SELECT 900 + n, '2026-02-02', r FROM unnest(ARRAY['', 'žluťoučký', ' a b ', '\\N', 'region 3   ', NULL]) WITH ORDINALITY"
+        " AS l (r, n); INSERT INTO orders (id, day, region) VALUES (910, '2026-02-02', 'žlutý'); DELETE FROM orders WHERE id = 903;"
+        " UPDATE orders SET region = 'region 2' WHERE id > 904; UPDATE orders SET region = NULL WHERE id = 3;",
+        made="ALTER TABLE orders ALTER region TYPE char(12);",
+    ),
     "a trigger that writes on": Case(
         NEW_ORDER + "UPDATE orders SET paid = TRUE;",
         made="CREATE FUNCTION f() RETURNS trigger LANGUAGE plpgsql AS $f$ BEGIN INSERT INTO lines VALUES (NEW.id, 'product 1', 1); RETURN NULL; END $f$;"
@@ -94,26 +95,6 @@ OF_POSTGRESQL = {
         made=PARTED,
     ),
     "TRUNCATE of a table in parts": Case("TRUNCATE lines; INSERT INTO lines VALUES (3, 'product 3', 3);", made=PARTED),
-    "a part whose name is hostile": Case(
-        f"INSERT INTO lines VALUES (3500, 'product 2', 1); UPDATE {HOSTILE} SET pieces = 2; TRUNCATE {HOSTILE}; INSERT INTO {HOSTILE} VALUES"
-        f" (3501, 'product 3', 4); ALTER TABLE lines DETACH PARTITION {HOSTILE};",
-        made=PARTED + f"CREATE TABLE {HOSTILE} PARTITION OF lines FOR VALUES FROM (3000) TO (4000);", refused="DROP TABLE lines",
-    ),
-    "a part that is attached": Case(ATTACHED, made=PARTED, refused="more has no triggers"),
-    "a part that is attached, and written to": Case(
-        ATTACHED + "INSERT INTO lines VALUES (2000, 'product 4', 1); DELETE FROM more WHERE id = 2001;", made=PARTED, refused="more has no triggers"
-    ),
-    "a part that is attached, written to and detached again": Case(
-        ATTACHED + "INSERT INTO lines VALUES (2000, 'product 4', 1); ALTER TABLE lines DETACH PARTITION more; DROP TABLE more;", made=PARTED,
-        refused="more is no part of it any more",
-    ),
-    "a new part": Case("CREATE TABLE more PARTITION OF lines FOR VALUES FROM (2000) TO (3000); INSERT INTO more VALUES (2000, 'product 2', 5);",
-                       made=PARTED, refused="more has no triggers"),
-    "a part that is detached": Case("ALTER TABLE lines DETACH PARTITION low;", made=PARTED, refused="low is no part of it any more"),
-    "a part that is detached, and written to": Case(
-        "ALTER TABLE lines DETACH PARTITION low; INSERT INTO low VALUES (1, 4, 'product 4');", made=PARTED, refused="low is no part of it any more"
-    ),
-    "a part that is dropped": Case("DROP TABLE low;", made=PARTED, refused="low is no part of it any more"),
     "heirs": Case("UPDATE lines SET pieces = pieces + 1; INSERT INTO special_lines VALUES (4, 'product 4', 4, 'gift'); DELETE FROM ONLY lines WHERE id < 4;"
                   " TRUNCATE ONLY lines;", made=HEIRS),
     "a trigger that is disabled": Case("ALTER TABLE lines DISABLE TRIGGER ALL; DELETE FROM lines WHERE id = 3;", refused="lines has no triggers"),
@@ -250,7 +231,7 @@ OF_SQLITE = {
              " INSERT INTO lines (rowid, id, product, pieces) VALUES (old.rowid, old.id, 'product 4', 2); END;",
     ),
 }  # fmt: skip
-OF = {"postgresql": {**BOTH, **OF_POSTGRESQL, **COLUMNS, **PARTS}, "sqlite": {**BOTH, **OF_SQLITE}}
+OF = {"postgresql": {**BOTH, **OF_POSTGRESQL, **COLUMNS, **PARTS, **COMING}, "sqlite": {**BOTH, **OF_SQLITE}}
 
 
 def said(live, text, fails):

@@ -4,10 +4,10 @@ import random
 from collections import Counter
 from unittest import mock
 
-from whtools.live import digests
 from whtools.live.history import History
 from whtools.live.postgresql import CAPTURED, COLUMNS, JUDGED, PARTS, TORN, LivePostgreSQL
 from whtools.live.swift import SwiftScript
+from whtools.sql import digests
 from whtools.sql.nights import Carried, Night
 from whtools.sql.server import SCHEMA
 from whtools.sql.tokens import END_OF_STATEMENT, sql

@@ -33,7 +33,9 @@ def caught(live, told):
 
 def cast_mistakes(live):
     """Types of the seller's in a captured column, with casts that tell by whom they are called: by a writer, a capture or a night."""
-    wrong = of_later(live) + of_colour(live) + viewed(live) + of_before(live) + indexed(live)
+    live.as_whom = ("--without-role",)
+    wrong = of_later(live) + of_colour(live) + viewed(live) + of_before(live) + indexed(live) + unsafe(live)
+    live.as_whom = ()
     return [f"what is the seller's: {text}" for text in wrong]
 
 
@@ -42,7 +44,7 @@ def of_later(live):
     wrong = []
     for kind, column, value in (("bigint", "pieces", "(3, 'product 3', ROW(1)::mine)"), ("text", "product", "(3, ROW(1)::mine, 1)")):
         wrong += live.fresh(OWNED)
-        script = live.words("--capture")
+        script = live.words("--capture", *live.as_whom)
         live.database.asked(MINE.format(kind=kind, column=column) + f"INSERT INTO lines VALUES {value}; UPDATE lines SET id = id; DELETE FROM lines WHERE id = 5;"
                             " TRUNCATE lines;" + f"INSERT INTO lines VALUES {value};" + ENDS)  # fmt: skip
         told = [live.database.run(script), live.night()]
@@ -61,10 +63,19 @@ def of_colour(live):
     return wrong + live.mistakes()
 
 
+def unsafe(live):
+    """A superuser's capture of the seller's table is refused and leaves nothing, unless a role is named or it is said that it does not matter."""
+    wrong = live.fresh(OWNED) + [told for told in [live.database.run(live.words("--uncapture"))] if told]
+    before = live.database.state()
+    told = live.database.run(live.words("--capture"))
+    wrong += [] if "public.lines is owned by seller" in (told or "") and "--role whview" in told else [f"a capture without a role is told {told!r}"]
+    return wrong + before.differences(live.database.state())
+
+
 def viewed(live):
     """A view of the seller's in the place of a table that is to be captured."""
     wrong = live.fresh(OWNED)
-    script = live.words("--capture")
+    script = live.words("--capture", *live.as_whom)
     live.database.asked(VIEWED + ENDS)
     told = live.database.run(script)
     return wrong + caught(live, "a view in the table's place") + ([] if told else ["a view in the table's place was captured"])
@@ -105,6 +116,35 @@ def indexed(live):
         wrong += [each for each in caught(live, "the condition of an index") if f"by {ROLE}" not in each] + ([told] if told else [])
         live.database.asked(GONE)
     return wrong
+
+
+# All that the owner of a table may put on it which calls a function of his. That one leaves for another role where it may.
+LEAVES = (
+    "SET ROLE seller; CREATE FUNCTION notes(text) RETURNS int LANGUAGE plpgsql AS $f$ BEGIN BEGIN PERFORM pg_catalog.set_config('role', 'none', FALSE); EXCEPTION WHEN"
+    " OTHERS THEN NULL; END; INSERT INTO public.caught VALUES ($1, current_user); RETURN 1; END $f$; CREATE FUNCTION one(text) RETURNS int IMMUTABLE LANGUAGE plpgsql AS"
+    " $f$ BEGIN RETURN public.notes($1); END $f$; CREATE INDEX ON lines (id) WHERE one('index') = 1; ALTER TABLE lines ADD CHECK (one('check') = 1);"
+    " CREATE STATISTICS of_lines ON (one('statistics')), pieces FROM lines; CREATE INDEX ON lines ((one('expression')));"
+    " CREATE DOMAIN few AS smallint CHECK (one('domain') = 1); SET ROLE seller; ALTER TABLE lines ALTER pieces TYPE few; SET ROLE seller; ANALYZE lines; RESET ROLE;"
+)
+STEPS = (["--capture", "--role", "keeper"], ["--live", "--open"], ["--live"], ["--check"], ["--check", "--repair"], ["--capture", "--role", "keeper"], ["--live"],
+         ["--capture", "--changed", "--role", "keeper"], ["--uncapture"])  # fmt: skip
+
+
+def owned_mistakes(live):
+    """Captures, checks, repairs and nights of a role over such a table: nothing of its owner's is called as a superuser, whatever it tries."""
+    wrong = live.fresh() + [told for told in [live.database.run(live.words("--uncapture"))] if told]
+    live.database.asked(OWNED + LEAVES)
+    for step in STEPS:
+        live.database.asked("SET ROLE seller; UPDATE lines SET id = id WHERE id < 9; RESET ROLE; DELETE FROM caught;")
+        if "--check" in step:
+            live.database.asked("UPDATE wh.lines SET pieces = pieces + 1 WHERE id = 5; UPDATE wh.sales SET cost = 1 WHERE cost = 0; DELETE FROM caught;")
+        made = written("--database", live.database.address, *step, live.path)
+        told = made.told if made.status > 1 or "Traceback" in made.told else "" if "--check" in step else live.database.run(made.text)
+        wrong += [f"{step}: {told}"] if told else []
+        wrong += [f"{step}: {each}" for each in live.database.asked("SELECT DISTINCT called || ' by ' || whose FROM caught WHERE whose NOT IN ('seller', 'keeper');")]
+        wrong += [f"{step}: {each}" for each in (live.mistakes() if step == ["--live"] else [])]
+    live.database.asked(GONE)
+    return [f"what an owner puts on his table: {text}" for text in wrong]
 
 
 FORGED = (
@@ -203,9 +243,9 @@ def supers(live):
     wrong += [] if "is a superuser" in (told or "") else [f"a superuser as the role is told {told!r}"]
     wrong += before.differences(live.database.state())
     told = written("--live", "--role", ROLE, live.path).told
-    return wrong + ([] if "--role goes with --capture" in told else [f"--live --role is told {told!r}"])
+    return wrong + ([] if "go with --capture" in told else [f"--live --role is told {told!r}"])
 
 
 def mistakes(live):
     """All of these."""
-    return [f"{live.engine}: {text}"[:900] for tried in (cast_mistakes, forged_mistakes, schema_mistakes, role_mistakes) for text in tried(live)]
+    return [f"{live.engine}: {text}"[:900] for tried in (cast_mistakes, owned_mistakes, forged_mistakes, schema_mistakes, role_mistakes) for text in tried(live)]

@@ -53,6 +53,10 @@ class Killed:
     def write(self, number):
         self.live.database.asked("".join(said.format(n=number) for said in self.source.sample(WRITES, 3)))
 
+    def uncarried(self):
+        """What waits for the next night otherwise than it should."""
+        return uncarried(self.live)
+
     def backend(self):
         """The process that carries out the night, or None where it is over."""
         query = "SELECT pid FROM pg_stat_activity WHERE datname = current_database() AND pid <> pg_backend_pid() AND query LIKE 'DO %';"
@@ -113,15 +117,15 @@ class Killed:
             writer.close()
         self.again()
         self.ends[who] += 1
-        wrong = uncarried(self.live)
+        wrong = self.uncarried()
         told = self.live.night()
         wrong += [f"the night again: {told}"] if told else self.live.mistakes()
         return [f"after a kill of {who}: {text}" for text in wrong]
 
 
-def kill_mistakes(live, times, seed):
+def kill_mistakes(live, times, seed, kind=Killed):
     """What so many kills leave, and who was killed."""
-    killed = Killed(live, seed)
+    killed = kind(live, seed)
     wrong = live.fresh()
     killed.write(0)
     seconds, told = killed.seconds()

@@ -29,6 +29,16 @@ def blocks():
     return list(zip(("postgresql", "sqlite"), (first, second), found["cron"], (planned, ""))), found[""][0]
 
 
+def sections_mistakes(folder, server):
+    """What the commands of the sections about partitions and large sums print otherwise than the page says."""
+    wrong = []
+    for heading in ("Partitions that come and leave", "A sum beyond 64 bits"):
+        found = blocks_of(heading)
+        ran = run(found["sh"][0], folder, server)
+        wrong += [] if (ran.stdout, ran.returncode) == (found[""][0], 0) else [f"{heading}: {ran.stdout}{ran.stderr}"]
+    return wrong
+
+
 def later_mistakes(folder, planned, server):
     """What the commands after the walk do otherwise than the page says: one plan for all nights, a check with its line of cron, and a view more."""
     checks, changes = blocks_of("Checks"), blocks_of("A catalogue that changes")
@@ -69,8 +79,16 @@ def walk_mistakes(engine, commands, cron, planned, printed, started, server):
         line = line.replace(WHERE, folder)
         ran = run(line + "; cat live/nights.log", folder, server)
         wrong += [] if ran.returncode == 0 and "certified all work" in ran.stdout and "rror" not in ran.stdout else [f"cron: {ran.stdout}{ran.stderr}"]
-        wrong += later_mistakes(folder, planned, server) if planned else []
+        wrong += later_mistakes(folder, planned, server) + sections_mistakes(folder, server) if planned else []
     return [f"docs/SQL.md by {engine}: {text}"[:1500] for text in wrong]
+
+
+def log_page_mistakes(started, server):
+    """The same of the walk whose tables are captured from the log, and of what follows it."""
+    (captures,), (walks, printed) = blocks_of("From the server's log")["sh"], blocks()
+    _, commands, cron, planned = walks[0]
+    own = next(line for line in commands.splitlines() if "--capture" in line)
+    return walk_mistakes("postgresql from the log", commands.replace(own, captures.strip()), cron, planned, printed, started, server)
 
 
 def page_mistakes(started, server):

@@ -105,7 +105,7 @@ def shown(engine, column):
 def asked(live, *words, program=None):
     """What tools/sql says for words about the folder."""
     more = ["--program", program] if program else []
-    return written("--engine", live.engine, "--database", live.database.address, *more, *words)
+    return written("--engine", live.engine, "--database", live.database.address, *more, *live.captured_by(words))
 
 
 def told(live, *words, program=None):

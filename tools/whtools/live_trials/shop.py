@@ -118,21 +118,27 @@ class Live:
     def __init__(self, database, path, rows=40):
         self.database, self.path, self.engine, self.rows = database, folder(path), database.engine, rows
         self.columns = {view.name: [name for name, _ in view.columns] for view in views_of(CATALOGUE)}
+        # What a capture says of roles.
+        self.as_whom = ()
         self.script = self.words("--live")
 
     def words(self, *words):
         """What tools/sql writes; a fault of it is told as one."""
-        made = written("--engine", self.engine, "--database", self.database.address, *words, self.path)
+        made = written("--engine", self.engine, "--database", self.database.address, *self.captured_by(words), self.path)
         if made.status:
             raise ValueError(made.told)
         return made.text
+
+    def captured_by(self, words):
+        """The words by which tables are captured, where these capture them."""
+        return words
 
     def alone(self, *words):
         """What tools/sql writes without a database at hand."""
         return written("--engine", self.engine, *words, self.path).text
 
     def capture(self):
-        return self.database.run(self.words("--capture"))
+        return self.database.run(self.words("--capture", *self.as_whom))
 
     def fresh(self, *more):
         """The tables, captured, with their views filled."""

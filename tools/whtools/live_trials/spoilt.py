@@ -4,11 +4,13 @@ from unittest import mock
 
 from whtools.databases.engines import Broken
 from whtools.live import command
+from whtools.live.parting import Parting
+from whtools.live.postgresql import LivePostgreSQL
 from whtools.live.sqlite import Captures as SQLiteCaptures
 from whtools.live.swift import SwiftScript
 from whtools.live.triggers import Triggers
 from whtools.live_trials import beside, cases, intruders
-from whtools.sql.tokens import sql
+from whtools.sql.tokens import END_OF_STATEMENT, sql
 
 
 class TableByTable(SwiftScript):
@@ -99,7 +101,10 @@ def unnoticed_intruders(live):
     live.script = live.words("--live")
     with mock.patch.object(Triggers, "judged_by", lambda *_: sql("SELECT NULL")), mock.patch.object(Triggers, "as_ever", lambda *_: sql("")):
         tried = {"tables of others": intruders.forged_mistakes, "types of others": intruders.of_later}
-        return [f"{live.engine}: {said} are not noticed" for said, mistakes in tried.items() if not is_noticed(mistakes, live)]
+        found = [f"{live.engine}: {said} are not noticed" for said, mistakes in tried.items() if not is_noticed(mistakes, live)]
+    with mock.patch.object(LivePostgreSQL, "block_apart", LivePostgreSQL.block):
+        found += [] if is_noticed(intruders.owned_mistakes, live) else [f"{live.engine}: tables that are read by a role that was only taken on are not noticed"]
+    return found
 
 
 def is_noticed(mistakes, live):
@@ -113,11 +118,14 @@ def unnoticed(live):
     """The spoilt scripts of an engine that nothing notices."""
     if live.engine == "postgresql":
         found = unnoticed_beside(live, TableByTable)
-        for kind, case in ((NotLookedAt, "a part that is dropped"), (NoGroupChanges, "rows change")):
+        for kind, case in ((NotLookedAt, "a new part where an event trigger is disabled"), (NoGroupChanges, "rows change")):
             with mock.patch.object(command, "SwiftScript", kind):
                 found += unnoticed_case(live, kind.__name__, case)
         with mock.patch.object(Triggers, "torn", lambda *_: sql("PERFORM 1")):
             found += unnoticed_case(live, "what no trigger notes is not marked", "a column that gets another name")
+        for name, spoilt, case in (("rows", sql("NULL{end}", end=END_OF_STATEMENT), "a part that is attached"), ("compared", [], "a part that is dropped")):
+            with mock.patch.object(Parting, name, lambda *_, made=spoilt: made):
+                found += unnoticed_case(live, f"parts without {name}", case)
         live.script = live.words("--live")
         found += absent_mistakes(live) + trigger_mistakes(live) + unnoticed_intruders(live)
     else:

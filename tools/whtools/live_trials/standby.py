@@ -1,8 +1,11 @@
 """A standby of a server with captured tables: it shows each night at once, carries none out, and goes on where the server is gone."""
 
+import os
 from time import monotonic, sleep
+from unittest import mock
 
 from whtools.databases.engines import Server
+from whtools.databases.nights import written
 from whtools.live_trials.places import LivePostgreSQL
 from whtools.live_trials.shop import Live
 
@@ -51,6 +54,13 @@ def same(first, second):
     return True
 
 
+def checked(followed, word):
+    """A check on the standby that says otherwise: it tells what differs, but for a superuser over what is another's."""
+    with mock.patch.dict(os.environ, PGHOST=str(followed.database.server.folder)):
+        found = written("--database", followed.database.address, "--check", followed.path)
+    return [] if word in found.text + found.told else [f"a check on the standby: {found.text}{found.told}"]
+
+
 def standby_mistakes(live, path):
     """What a standby shows, refuses and takes over, where it is otherwise than it should be."""
     wrong, first = live.fresh(), live.database
@@ -62,6 +72,11 @@ def standby_mistakes(live, path):
         wrong += followed.mistakes()
         told = followed.night()
         wrong += [] if told and "recovery" in told else [f"a night on the standby was told {told!r}"]
+        wrong += checked(followed, "all 7 agree")
+        first.asked("CREATE ROLE keeper; GRANT ALL ON ALL TABLES IN SCHEMA wh TO keeper; ALTER SCHEMA wh OWNER TO keeper;")
+        same(first, followed.database)
+        wrong += checked(followed, "is checked as a member of the role")
+        first.asked("ALTER SCHEMA wh OWNER TO postgres; DROP OWNED BY keeper; DROP ROLE keeper;")
         first.asked("UPDATE products SET price = 17 WHERE product = 'product 4';")
         same(first, followed.database)
         standby.promote()

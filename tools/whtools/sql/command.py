@@ -21,7 +21,8 @@ LIVE = ("live", "capture", "uncapture", "catalogue", "sizes", "sizes-after", "pl
 # So many letters of a message stand in a script that raises it.
 MOST_TOLD = 600
 # What goes with these, and not alone.
-BESIDE = {"measured": ("plan", "dry"), "repair": ("check",), "in-turn": ("check",), "line": ("history",), "changed": ("capture", "open"), "drop": ("capture",)}
+BESIDE = {"measured": ("plan", "dry"), "repair": ("check",), "in-turn": ("check",), "line": ("history",), "changed": ("capture", "open"), "drop": ("capture",),
+          "without-role": ("capture",), "from-log": ("capture",)}  # fmt: skip
 
 
 class Words(argparse.ArgumentParser):

@@ -6,11 +6,13 @@ A step without changes runs no statement. Tables may be partitioned, and have tr
 looked at where somebody else's trigger could have changed it, and whether other rows were touched in any case."""
 
 from whtools.sql.acts import CHANGED, COMES, LEAVES, RECOUNTED, becomes
+from whtools.sql.culprits import Culprits
 from whtools.sql.dialect import COUNT, MOST
 from whtools.sql.lean import LARGE, LOOK_UPS, LeanComps, joins
 from whtools.sql.placed_checks import PlacedChecks
 from whtools.sql.placed_groups import PlacedGroups
 from whtools.sql.placed_opening import PlacedOpening
+from whtools.sql.placed_texts import PlacedTexts
 from whtools.sql.postgresql import PostgreSQL
 from whtools.sql.script import Script
 from whtools.sql.tokens import END_OF_STATEMENT, Sql, body, joined, name, number, sql, text, word
@@ -41,7 +43,7 @@ def filled(query, key):
     return joined(found, "||")
 
 
-class PlacedScript(PlacedGroups, PlacedOpening, LeanComps, Script):
+class PlacedScript(PlacedGroups, PlacedOpening, PlacedTexts, Culprits, LeanComps, Script):
     """The statements of such a night."""
 
     def __init__(self, catalogue, dialect, plain=(), keyed=()):
@@ -143,9 +145,13 @@ class PlacedScript(PlacedGroups, PlacedOpening, LeanComps, Script):
         return [*self.judged(v), *self.spared(v), *self.cascades(v)]
 
     def judged(self, v):
-        """A refusal by what was told where the rows were counted."""
-        told = self.counter("told", v)
-        return [self.dialect.where(sql("{told} IS NOT NULL", told=told), self.dialect.raised(told))]
+        """A refusal by what was told where the rows were counted; of groups whose sums leave 64 bits with the rows that did it."""
+        told, beyond = self.counter("told", v), text(self.told_range(v))
+        culprits = [(sql("{told} = {beyond} AND {test}", told=told, beyond=beyond, test=test), query) for test, query in self.culprits(v)] if self.shape.is_summary(v) else []
+        return self.dialect.only_where(sql("{told} IS NOT NULL", told=told), self.raised_with(told, culprits))
+
+    def told_by(self, v):
+        return self.keyed.get(v) or self.said_keys.get(v)
 
     def comp(self, step):
         """What the changes of a view's sources make of it: of a view over one other its change at once."""

@@ -1,6 +1,7 @@
 """What is known of the tables of one's own that a night in PostgreSQL works on, asked in one statement and kept in variables: a table for each
 thing that is known would take longer than a night of few changes."""
 
+from whtools.sql.digests import LONG
 from whtools.sql.postgresql_checks import TOUCHED, Checks, cast, rows_of
 from whtools.sql.tokens import body, joined, number, sql, text, word
 
@@ -11,6 +12,9 @@ VARIABLES = {
     "below_numbers": "int4[]", "below_relations": "oid[]", "key_columns": "text[]", "spare_columns": "text[]", "is_referred": "bool[]",
     "is_found": "bool[]", "is_indexed": "bool[]", "pages": "int8[]", "had_written": "int8[]", "had_removed": "int8[]", "watched": "bool",
 }  # fmt: skip
+# An expression of an index as the server writes it, however it sets lines and backslashes; and what that of a digest of a column is.
+BARE = "replace(regexp_replace({said}, {blanks}, {blank}, {all}), {slash}, {none})"
+DIGEST = f"( CASE WHEN (octet_length(%s) < {LONG}) THEN %s ELSE encode(sha256((replace(%s, '\\'::text, '\\\\'::text))::bytea), 'hex'::text) END)"
 # Tables that are made while it is asked: those that are expected and their columns; those below them; which columns of the server's are which of
 # the catalogue's; all their indexes with such of their columns as tell a row from others; and tables to which a foreign key acts.
 MADE = {
@@ -21,11 +25,17 @@ MADE = {
     "kinds": "SELECT b.number, b.relation, b.top, k.relkind FROM below AS b JOIN pg_class AS k ON k.oid = b.relation",
     "fields": "SELECT b.number, b.relation, w.place, a.attnum FROM below AS b JOIN pg_attribute AS a ON a.attrelid = b.relation JOIN wanted AS w"
     " ON w.number = b.number AND w.said = a.attname AND w.said <> {count} WHERE b.role <> {changes}",
+    "digests": "SELECT f.number, f.relation, f.place, i.indexrelid, k FROM fields AS f JOIN pg_index AS i ON i.indrelid = f.relation AND i.indexprs IS NOT NULL"
+    " JOIN pg_attribute AS a ON a.attrelid = f.relation AND a.attnum = f.attnum CROSS JOIN generate_series(0, i.indnkeyatts - 1) AS k WHERE i.indkey[k] = 0"
+    " AND " + BARE.replace("{said}", "pg_get_indexdef(i.indexrelid, k + 1, FALSE)") + " = " + BARE.replace("{said}", "replace({digest}, {hole}, quote_ident(a.attname))"),
     "indexes": "SELECT b.number, b.role, b.relation, b.telling, b.relation = b.top AND i.indisunique AND i.indisvalid AND i.indpred IS NULL"
-    " AND i.indexprs IS NULL AS is_unique, i.indisunique OR i.indisexclusion AS is_strict, i.indisvalid AND i.indpred IS NULL AND m.amname IN {equal}"
-    " AND EXISTS (SELECT 1 FROM fields AS f WHERE f.relation = b.relation AND f.attnum = i.indkey[0]) AS is_looked_up, i.indexrelid, i.indisprimary,"
+    " AND (i.indexprs IS NULL OR NOT EXISTS (SELECT 1 FROM generate_series(0, i.indnkeyatts - 1) AS k WHERE i.indkey[k] = 0 AND NOT EXISTS (SELECT 1"
+    " FROM digests AS g WHERE g.indexrelid = i.indexrelid AND g.k = k.k))) AS is_unique, i.indisunique OR i.indisexclusion AS is_strict, i.indisvalid AND i.indpred IS NULL AND m.amname IN {equal}"
+    " AND EXISTS (SELECT 1 FROM fields AS f WHERE f.relation = b.relation AND (f.attnum = i.indkey[0] OR EXISTS (SELECT 1"
+    " FROM digests AS g WHERE g.indexrelid = i.indexrelid AND g.k = 0))) AS is_looked_up, i.indexrelid, i.indisprimary,"
     " i.indnkeyatts, ARRAY(SELECT f.place FROM fields AS f WHERE f.relation = b.relation AND f.place <= b.telling AND NOT i.indisexclusion"
-    " AND f.attnum IN (SELECT i.indkey[k] FROM generate_series(0, i.indnkeyatts - 1) AS k)) AS places"
+    " AND (f.attnum IN (SELECT i.indkey[k] FROM generate_series(0, i.indnkeyatts - 1) AS k) OR EXISTS (SELECT 1 FROM digests AS g WHERE g.place = f.place"
+    " AND g.indexrelid = i.indexrelid))) AS places"
     " FROM below AS b JOIN pg_index AS i ON i.indrelid = b.relation JOIN pg_class AS x ON x.oid = i.indexrelid JOIN pg_am AS m ON m.oid = x.relam"
     " WHERE b.role <> {changes}",
     "spare (view, told)": "{spare}",
@@ -102,7 +112,7 @@ class PlacedChecks(Checks):
         """What is refused of the tables, and all that steps ask of them, of each view in the order of the views."""
         views = range(len(self.script.views))
         acts = sql("({c}, {n}, {d})", c=text("c"), n=text("n"), d=text("d"))
-        said = {"count": "#", "foreign": "f", "derived": "derived", "changes": "changes", "ordinary": "r", "cell": "p.c", "comma": ", "}
+        said = {"blanks": r"\s+", "blank": " ", "all": "g", "slash": "\\", "none": "", "digest": DIGEST, "hole": "%s", "count": "#", "foreign": "f", "derived": "derived", "changes": "changes", "ordinary": "r", "cell": "p.c", "comma": ", "}
         holes = {"tables": rows_of(self.tables()), "columns": rows_of(self.columns()), "spare": self.asking.spare(), "acts": acts,
                  "equal": sql("({btree}, {hash})", btree=text("btree"), hash=text("hash")), "keyed": joined(self.keyed(), ""),
                  "paired": joined([number(v) for v in views if self.script.has_pairs(v)] or [number(-1)]),

@@ -1,7 +1,7 @@
 """Summaries in nights over tables of one's own: each group that changes is found once, with its sums before and after and its place."""
 
 from whtools.sql.acts import COMES, LEAVES, RECOUNTED, becomes
-from whtools.sql.tokens import body, joined, number, sql, statements, word
+from whtools.sql.tokens import body, joined, number, sql, statements, text, word
 
 
 class PlacedGroups:
@@ -116,7 +116,7 @@ class PlacedGroups:
 
     def groups_made(self, v, counted):
         """The groups that change; where an output has no value, it is told."""
-        lost = [self.refused_where(sql("lost > 0"), self.told_range(v))] if self.shape.checked(v) else []
+        lost = self.dialect.only_where(sql("lost > 0"), self.raised_with(text(self.told_range(v)), self.culprits(v))) if self.shape.checked(v) else []
         return [self.made(v, "beside", self.beside_columns(v)), counted, *lost]
 
     def groups_directly(self, v):
@@ -153,3 +153,17 @@ class PlacedGroups:
             beside=self.working(v, "beside"), table=self.table(v), same=self.same(v, groups),
             equal=joined([sql("{held} = {sum}", held=held, sum=each) for held, each in sums], "AND"),
         )  # fmt: skip
+
+    # ---- what is told of groups that are refused
+
+    def groups_beyond(self, v):
+        """The groups whose sums leave 64 bits, of those that were kept."""
+        cells = self.cells(v, "d")[: self.shape.groups(v)]
+        beyond = joined([self.dialect.is_lost(each) for each in self.summed_columns(v, "a", "d")], "OR")
+        return sql("SELECT {shown} FROM {beside} AS d WHERE {beyond}", shown=joined(cells or [number(1)]), beside=self.working(v, "beside"), beyond=beyond)
+
+    def range(self, v, query):
+        """A refusal of an output without a value, with the rows that did it."""
+        cells = joined(self.cells(v, "d")[: self.shape.groups(v)] or [number(1)])
+        lost = sql("SELECT {cells} FROM {pending} AS d WHERE d.lost > 0", cells=cells, pending=self.working(v, "pending"))
+        return self.dialect.only_where(sql("EXISTS ({query})", query=query), self.raised_with(text(self.told_range(v)), self.culprits(v, lost)))

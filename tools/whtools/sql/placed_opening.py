@@ -1,9 +1,21 @@
 """Opening over tables of one's own in PostgreSQL: each derived view is filled by one statement, and apart, as Script does it, where a trigger
 may change what is installed, a column has no value, or a number leaves 64 bits or its column."""
 
+from whtools.sql.culprits import Culprits
 from whtools.sql.dialect import COUNT
 from whtools.sql.script import Script
 from whtools.sql.tokens import END_OF_STATEMENT, joined, name, sql, statements, text, word
+
+
+class OpenedApart(Culprits, Script):
+    """The script that fills them in several statements."""
+
+    def told_by(self, v):
+        return self.keyed.get(v) or self.said_keys.get(v)
+
+    def range(self, v, query):
+        """A refusal with the rows that did it."""
+        return self.dialect.only_where(sql("EXISTS ({query})", query=query), self.raised_with(text(self.told_range(v)), [(sql("TRUE"), self.culprits_of(v, 0, False))]))
 
 
 class PlacedOpening:
@@ -11,7 +23,7 @@ class PlacedOpening:
 
     def opened_apart(self):
         """The script that fills them in several statements."""
-        found = Script(self.catalogue, self.dialect, self.shape.plain, self.keyed)
+        found = OpenedApart(self.catalogue, self.dialect, self.shape.plain, self.keyed)
         found.checked = self.checked
         return found
 

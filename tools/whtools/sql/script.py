@@ -99,9 +99,13 @@ class Script(Comps, Changes, Insts, Catalogued):
             found.append(sql("{count} {kind} NOT NULL DEFAULT 1 CHECK ({check})", count=name("#"), kind=kind, check=check))
         elif self.shape.is_summary(v):
             found.append(sql("CHECK ({count} > 0)", count=self.users(v)[self.shape.groups(v)]))
-        if (places or v not in self.shape.plain) and 0 < len(columns) <= WIDEST_INDEX:
-            found.append(sql("CONSTRAINT {key} UNIQUE ({columns})", key=name(self.said(v, "~key")), columns=joined(columns)))
-        return found
+        is_once = (places or v not in self.shape.plain) and 0 < len(columns) <= WIDEST_INDEX
+        constraint = self.constraint_of(v, columns) if is_once else None
+        return [*found, constraint] if constraint else found
+
+    def constraint_of(self, v, columns):
+        """That these columns stand once."""
+        return sql("CONSTRAINT {key} UNIQUE ({columns})", key=name(self.said(v, "~key")), columns=joined(columns))
 
     def indexes(self):
         """An index for the columns by which a table is joined with another one."""
