@@ -19,6 +19,8 @@ FIRST, NIGHT, ROLLBACK, TAKEN_OVER = "first", "night", "rollback", "taken over"
 HEAD = re.compile(rb"manifest 1\nfolder ([0-9a-f]{32})\nversion (0|[1-9][0-9]{0,18})\n")
 # How much of a manifest has its head.
 BEGINNING = 128
+# The sums of files that this process has read, by how they looked.
+READ: dict[tuple[int, ...], str] = {}
 
 
 @dataclass(frozen=True, slots=True)
@@ -214,19 +216,19 @@ def found_manifest(version: Path) -> Manifest | None:
 # ---- what differs
 
 
-def differing(version: Path, manifest: Manifest, reads_all: bool = False, sums: dict | None = None) -> list[Difference]:
+def differing(version: Path, manifest: Manifest, reads_all: bool = False) -> list[Difference]:
     """The files of a version that are not what its manifest says, and those that it does not name. A file that looks as it was kept is read
-    only where all are; `sums` has those of files that were read already, by what tells files apart.
+    only where all are.
     """
     there, found = files_of(version), []
     for name, entry in manifest.files.items():
-        how = how_it_differs(there[name], entry, reads_all, {} if sums is None else sums) if name in there else "it is not there"
+        how = how_it_differs(there[name], entry, reads_all) if name in there else "it is not there"
         if how:
             found.append(Difference(name, how))
     return found + [Difference(name, "its manifest does not name it") for name in there if name not in manifest.files]
 
 
-def how_it_differs(path: Path, entry: Entry, reads_all: bool, sums: dict) -> str:
+def how_it_differs(path: Path, entry: Entry, reads_all: bool) -> str:
     """How a file differs from its entry; an empty text where it does not."""
     try:
         look = os.stat(path)
@@ -236,9 +238,14 @@ def how_it_differs(path: Path, entry: Entry, reads_all: bool, sums: dict) -> str
             return "it is no file"
         if look.st_size != entry.size:
             return f"it has {look.st_size:,} bytes, and had {entry.size:,}"
-        known = look.st_dev, look.st_ino
-        if known not in sums:
-            sums[known] = sum_of(path)
+        return "" if sum_once(path, look) == entry.sum else "it has other bytes than it had"
     except OSError as error:
         return f"it cannot be read: {error.strerror}"
-    return "" if sums[known] == entry.sum else "it has other bytes than its night gave it"
+
+
+def sum_once(path: Path, look: os.stat_result) -> str:
+    """The SHA-256 of a file, which is read once as long as it looks the same, under whatever name."""
+    known = look.st_dev, look.st_ino, look.st_size, look.st_mtime_ns, look.st_ctime_ns
+    if known not in READ:
+        READ[known] = sum_of(path)
+    return READ[known]
