@@ -6,7 +6,6 @@ strategy.txt of the folder stay as they are.
 """
 
 import os
-from dataclasses import replace
 from pathlib import Path
 
 from . import lock
@@ -69,7 +68,7 @@ def decided(folder: Path, older: Manifest, identity: Identity, interrupts: Inter
         try:
             known = lay(place(folder, older.version), part, older, told)
             keep(part)
-            made = replace(blank(identity, number, ROLLBACK), of=older.version, parent=current, parent_sum=before.sum if before else "")
+            made = blank(identity, number, ROLLBACK)._replace(of=older.version, parent=current, parent_sum=before.sum if before else "")
             vouch(part, made, known)
             point(folder, number)
             lock.judge(folder)
