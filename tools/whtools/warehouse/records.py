@@ -7,7 +7,7 @@ from collections import Counter
 from functools import cached_property
 from itertools import chain
 
-from . import by_lines, quotes
+from . import by_lines, looks, quotes
 from .by_lines import changed, counted, has_whole_lines, is_in_lines, is_sound, places, row_of
 from .finding import MARK, Finding, Place
 from .numbers import NUMBER, number_of
@@ -20,7 +20,6 @@ LEAST, MOST = -(2**63), 2**63 - 1
 SHOWN = 80
 # What is often meant by a cell that is no number; in docs/WAREHOUSE.md are the recipes.
 CURES = [
-    (re.compile(r"[+-]?[0-9]+[.,][0-9]+"), "keep cents"),
     (re.compile(r" *|NULL|null|Null|NIL|nil|None|NaN|nan|N/A|n/a|\\N|-"), "there is no NULL; see the recipe NULL in docs/WAREHOUSE.md"),
     (re.compile(r"[0-9]{1,4}([-/.])[0-9]{1,2}\1[0-9]{1,4}([ T].*)?"), "see the recipe Dates in docs/WAREHOUSE.md"),
 ]
@@ -256,10 +255,11 @@ class Reading:
 
     def find_length(self, record, wanted, line):
         """A record of another length than the header; where a cell goes over lines, its quote may be what is wrong."""
-        over, text = quotes.over_lines(record), f"this record has {len(record)} cells and the header has {wanted}"
+        over = quotes.over_lines(record)
         if over is None:
-            self.find(line, 1, text)
+            self.find(line, 1, quotes.unlike(len(record), wanted))
         else:
+            text = f"this record has {len(record)} cells and the header has {wanted}"
             self.find(*self.place_of(line, over), f"the quote that opens here is closed in a later line, and {text}; {quotes.CURE}")
 
     def starts(self):
@@ -274,8 +274,8 @@ class Reading:
         if value is not None:
             return value
         cause = "does not fit into 64 bits" if NUMBER.fullmatch(cell) else "is not a whole number"
-        cure = next((f" ({text})" for form, text in CURES if form.fullmatch(cell)), "")
-        self.find(*self.place_of(line, number), f'"{cell[:SHOWN]}" {cause}{cure}')
+        cure = looks.cure(cell) or next((text for form, text in CURES if form.fullmatch(cell)), "")
+        self.find(*self.place_of(line, number), f'"{cell[:SHOWN]}" {cause}{f" ({cure})" * bool(cure)}')
         return None
 
     def place_of(self, line, number):
