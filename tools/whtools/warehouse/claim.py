@@ -1,5 +1,5 @@
-"""What a night takes for its own: files of changes/, and tables of data/ that no version has. A file that goes back never lies over
-another one.
+"""What a night takes for its own: files of changes/, with the notes of their batches, and tables of data/ that no version has. A file that
+goes back never lies over another one.
 """
 
 import errno
@@ -10,12 +10,13 @@ from collections import Counter
 from contextlib import suppress
 from importlib import import_module
 
+from .batches import TAKEN, WAITING
 from .disk import remove, sync, writable
 from .finding import Failure
 from .status import AT_WORK, BAD_INPUT
 
 # The folders of a version that is being made, and where their files come from.
-HOMES = {"changes": "changes", "given": "data"}
+HOMES = {"changes": "changes", "given": "data", TAKEN: WAITING}
 
 
 def is_being_written(file):

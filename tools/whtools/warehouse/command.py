@@ -16,7 +16,7 @@ from .streams import drop, opened
 
 HELPS = ("-h", "--help", "help")
 COMMANDS = ("pack", "unpack", "night", "lint", "check", "plan", "certify", "sizes", "diff", "explain", "graph")
-COMMANDS += ("report", "read", "serve", "init")
+COMMANDS += ("report", "read", "serve", "init", "put")
 KINDS = ("cells", "bytes")
 WITH_A_VALUE = ("--program", "--keep", "--weights", "--comp-cost", "--inst-cost", "--budget", "--workers", "--readers", "--page-keys")
 WEIGHED = ("night", "check", "plan", "certify", "sizes", "explain", "graph")
@@ -27,6 +27,7 @@ RANGES |= dict.fromkeys(("--comp-cost", "--inst-cost"), (1, 1_000_000))
 OPTIONS = {
     "read": ("--version", "--where", "--limit", "--format"),
     "serve": ("--port", "--address", "--promise"),
+    "put": ("--batch", "--as"),
 }
 # How many words a command takes besides its options, and what they are; where it is not one folder.
 OPERANDS = {
@@ -34,9 +35,10 @@ OPERANDS = {
     "report": (1, 2, "a folder, and perhaps a version or the word new"),
     "read": (2, 2, "a folder and a view"),
     "init": (2, sys.maxsize, "a folder and CSV files"),
+    "put": (2, sys.maxsize, "a folder and files of changes, or - for standard input"),
 }
-# Commands that judge their folder themselves, and those that read versions, which a night under way or a stopped one do not change.
-JUDGE_THEMSELVES, READ_VERSIONS = ("unpack", "diff", "init"), ("night", "report", "read", "serve")
+# Commands that judge their folder themselves, and those that a night under way or a stopped one do not hinder, such as who reads versions.
+JUDGE_THEMSELVES, READ_VERSIONS = ("unpack", "diff", "init"), ("night", "report", "read", "serve", "put")
 GOES_THROUGH = {
     "night": ("--workers", "--readers", "--page-keys"),
     "check": ("--comp-cost", "--inst-cost"),
@@ -107,7 +109,7 @@ class Words:
             self.through += [word, number_of(word, given.pop(0), self.through)]
         elif word in OPTIONS.get(self.command, ()):
             self.options.setdefault(word, []).append(given.pop(0))
-        elif word.startswith("-"):
+        elif word.startswith("-") and word != "-":
             raise Failure(BAD_WORDS, f"{self.command} has no option {word}{nearest(word, options_of(self.command))}")
         else:
             folders.append(word)

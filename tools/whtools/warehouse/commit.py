@@ -4,6 +4,7 @@ import os
 from itertools import islice
 
 from . import lock
+from .batches import NAMES, TAKEN, names_after, waiting
 from .carried import carried
 from .catalogue import Catalogue
 from .check import strategy_of
@@ -11,7 +12,9 @@ from .claim import Claim
 from .disk import keep, put, remove, sync, write
 from .finding import Failure, of_system, warn
 from .folder import Folder, judged
+from .gate import Gate
 from .inputs import Inputs
+from .puts import settle as settle_puts
 from .status import BAD_INPUT, NOT_WRITTEN
 from .strategy import FILE as STRATEGY
 from .takeover import begin, is_new, take_over
@@ -29,7 +32,15 @@ def to_take(folder):
         judged(Folder(folder))
     if faults:
         raise Failure(BAD_INPUT, *faults)
-    return inputs.to_take([view.name for view in catalogue.views if view.is_base])
+    notes = [(TAKEN, source) for source in waiting(folder)]
+    return inputs.to_take([view.name for view in catalogue.views if view.is_base]) + notes
+
+
+def take(claim):
+    """Takes all that waits. No put is half there meanwhile: one that was stopped is finished first."""
+    with Gate(claim.folder):
+        warn(settle_puts(claim.folder))
+        claim.take(to_take(claim.folder))
 
 
 def write_deltas(folder, deltas):
@@ -56,8 +67,12 @@ def write_version(part, night):
     files = {file: text.encode() for file, text in texts.items() if text}
     for file, content in (files | {"catalogue.toml": night.folder.catalogue.content}).items():
         put(part / file, content, last / file)
-    if not os.listdir(part / "given"):
-        os.rmdir(part / "given")
+    batches = names_after(last, part)
+    if batches:
+        put(part / NAMES, batches.encode(), last / NAMES)
+    for kind in ("given", TAKEN):
+        if not os.listdir(part / kind):
+            os.rmdir(part / kind)
     return report
 
 
@@ -65,9 +80,11 @@ def undo(claim):
     """Gives the changes back. Where that cannot be done, the next night does it."""
     try:
         remove(claim.folder / TURNED)
-        claim.undo()
-    except OSError as error:
-        warn([f"the changes cannot be put back: {of_system(error)}; they lie in {claim.part}, and the next night puts them back"])
+        with Gate(claim.folder):
+            claim.undo()
+    except (Failure, OSError) as error:
+        why = of_system(error) if isinstance(error, OSError) else error.lines[0]
+        warn([f"the changes cannot be put back: {why}; they lie in {claim.part}, and the next night puts them back"])
 
 
 def decided(words, interrupts, number, judged):
@@ -78,7 +95,7 @@ def decided(words, interrupts, number, judged):
     claim = Claim(words.folder, part)
     try:
         try:
-            claim.take(to_take(words.folder))
+            take(claim)
             night = carried(Folder(words.folder, part, judged=judged, for_night=True), words)
             if night.folder.state.number is None:
                 begin(night.folder, interrupts)

@@ -3,6 +3,8 @@
 from .claim import put_back
 from .disk import remove, sync
 from .finding import of_system
+from .gate import Gate
+from .puts import settled
 from .versions import GONE, PART, TURNED, VERSIONS, ending, named, point, turn, whole
 
 FINISHED = "a night that was stopped is finished"
@@ -42,6 +44,7 @@ def settle(folder):
         remove(folder / "new")
         said.append(FINISHED)
     for part in ending(folder, PART):
-        put_back(folder, part)
+        with Gate(folder):
+            put_back(folder, part)
         said.append(UNDONE)
-    return said
+    return said + settled(folder)
