@@ -10,6 +10,7 @@ from collections import Counter
 from contextlib import redirect_stderr, suppress
 from itertools import count
 from pathlib import Path
+from types import SimpleNamespace
 from unittest import mock
 
 from whtools.tables import records_of
@@ -227,7 +228,7 @@ class Disturbed(Putting):
                 break
             with self.subTest(number=number):
                 claim = Claim(self.folder, self.folder / "versions/1.part")
-                take(claim)
+                take(SimpleNamespace(folder=self.folder, options={}), claim)
                 self.judge_all_or_none(rows_in(claim.part / "changes"))
                 self.assertEqual(self.waiting(), Counter())
                 undo(claim)
@@ -251,7 +252,7 @@ class Disturbed(Putting):
             claim = Claim(self.folder, self.folder / "versions/1.part")
             with held_up(words, number) as put, mock.patch.object(gate, "PATIENCE", 0):
                 with suppress(Failure):
-                    take(claim)
+                    take(SimpleNamespace(folder=self.folder, options={}), claim)
             self.assertEqual(put.status, 0, number)
             took = rows_in(claim.part / "changes")
             self.judge_all_or_none(took)

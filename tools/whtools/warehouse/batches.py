@@ -5,7 +5,7 @@ changes: to the folder of a night under way, to a version, or back. A version ha
 import re
 
 from .inputs import Source
-from .versions import PART, VERSIONS, ending, place, whole
+from .versions import PART, VERSIONS, ending, newest, place, whole
 
 WAITING, TAKEN, NAMES = "changes/.batches", "batches", "batches.txt"
 NAME = re.compile(r"[A-Za-z0-9_+=@:-][A-Za-z0-9_+=@:.-]{0,127}")
@@ -42,11 +42,11 @@ def found(folder, name):
 
 
 def found_in_versions(folder, name):
-    """The same of the newest version and those before it."""
-    numbers = whole(folder)
-    if not numbers or name not in names_in(place(folder, numbers[-1])):
+    """The same of the version that counts and those that it was made from."""
+    current = newest(folder)
+    if current is None or name not in names_in(place(folder, current)):
         return None
-    for number in reversed(numbers):
+    for number in filter(lambda number: number <= current, reversed(whole(folder))):
         note = place(folder, number) / TAKEN / name
         if note.is_file():
             return f"is in {VERSIONS}/{number}", note

@@ -1,5 +1,6 @@
 """A night as it is carried out: judged, with its strategy, every view's table after it, and its report."""
 
+import re
 import time
 from typing import NamedTuple
 
@@ -54,7 +55,7 @@ class Night:
 
     def __init__(self, folder, chosen, kept, answer, again, began):
         self.folder, self.chosen, self.kept, self.answer, self.again, self.began = folder, chosen, kept, answer, again, began
-        self.changed, self.rows = answer.changed(), {}
+        self.changed, self.rows, self.sizes = answer.changed(), {}, {}
 
     def tables(self):
         """Each view with its table after the night."""
@@ -79,15 +80,27 @@ class Night:
         printed = self.answer.table(name)
         return made([printed], self.kept.files[name], rows_of(printed))
 
-    def sizes(self):
+    def sizes_of_all(self):
         """How many rows each view had, where that is known, has, and changed."""
         base = base_sizes(self.folder)
         derived = {name: (self.kept.rows.get(name, ""), rows, self.changed[name]) for name, rows in self.rows.items()}
         return {view.name: base[view.name] if view.is_base else derived[view.name] for view in self.folder.views}
 
+    @property
+    def changes(self):
+        """How many rows changed of each view of which some did, once the report is made."""
+        return {name: changed for name, (_, _, changed) in self.sizes.items() if changed}
+
+    @property
+    def work(self):
+        """The work, as the program counted it, or None where it tells none."""
+        told = re.search(r"^work ([0-9]+)$", self.answer.head, re.MULTILINE)
+        return int(told[1]) if told else None
+
     def report(self):
         """What the night did: how its strategy was come by, the rows of each expression, what readers saw, and the views' sizes."""
-        sizes, answer = self.sizes(), self.answer
+        sizes, answer = self.sizes_of_all(), self.answer
+        self.sizes = sizes
         lines = [self.chosen.how, headlines.work(answer.head, sizes), headlines.time(answer.seconds, time.monotonic() - self.began)]
         lines += self.kept.anew
         return "\n".join([*lines, answer.head, *answer.readers, sized(sizes)])

@@ -16,7 +16,8 @@ from .streams import drop, opened
 
 HELPS = ("-h", "--help", "help")
 COMMANDS = ("pack", "unpack", "night", "lint", "check", "plan", "certify", "sizes", "diff", "explain", "graph")
-COMMANDS += ("report", "read", "serve", "init", "put")
+COMMANDS += ("report", "read", "serve", "init", "verify", "rollback", "log")
+COMMANDS += ("put",)
 KINDS = ("cells", "bytes")
 WITH_A_VALUE = ("--program", "--keep", "--weights", "--comp-cost", "--inst-cost", "--budget", "--workers", "--readers", "--page-keys")
 WEIGHED = ("night", "check", "plan", "certify", "sizes", "explain", "graph")
@@ -27,6 +28,8 @@ RANGES |= dict.fromkeys(("--comp-cost", "--inst-cost"), (1, 1_000_000))
 OPTIONS = {
     "read": ("--version", "--where", "--limit", "--format"),
     "serve": ("--port", "--address", "--promise"),
+    "night": ("--accept", "--drop"),
+    "log": ("--format",),
     "put": ("--batch", "--as"),
 }
 # How many words a command takes besides its options, and what they are; where it is not one folder.
@@ -35,10 +38,14 @@ OPERANDS = {
     "report": (1, 2, "a folder, and perhaps a version or the word new"),
     "read": (2, 2, "a folder and a view"),
     "init": (2, sys.maxsize, "a folder and CSV files"),
+    "verify": (1, 2, "a folder, and perhaps a version"),
+    "rollback": (2, 2, "a folder and a version"),
     "put": (2, sys.maxsize, "a folder and files of changes, or - for standard input"),
 }
-# Commands that judge their folder themselves, and those that a night under way or a stopped one do not hinder, such as who reads versions.
-JUDGE_THEMSELVES, READ_VERSIONS = ("unpack", "diff", "init"), ("night", "report", "read", "serve", "put")
+# Commands that judge their folder themselves, and those that read versions, which a night under way or a stopped one do not change.
+JUDGE_THEMSELVES, READ_VERSIONS = ("unpack", "diff", "init"), ("night", "report", "read", "serve", "verify", "rollback", "log")
+# Changes come in beside a night too.
+READ_VERSIONS += ("put",)
 GOES_THROUGH = {
     "night": ("--workers", "--readers", "--page-keys"),
     "check": ("--comp-cost", "--inst-cost"),
@@ -53,7 +60,7 @@ class Words:
     def __init__(self, words):
         given = list(words)
         self.named, self.unproved, self.commit, self.keep, self.lenient, self.through = None, False, False, None, False, []
-        self.always = False
+        self.always, self.adopts = False, False
         self.weights, self.options = None, {}
         self.command = given.pop(0) if given else ""
         if self.command not in COMMANDS:
@@ -73,6 +80,8 @@ class Words:
             raise Failure(BAD_WORDS, "--keep goes with --commit, which makes the versions")
         if self.always and not self.commit:
             raise Failure(BAD_WORDS, "--always goes with --commit, which makes no version where nothing changed")
+        if "--drop" in self.options and not self.commit:
+            raise Failure(BAD_WORDS, "--drop goes with --commit, which makes a version without the table")
 
     @cached_property
     def program(self):
@@ -93,6 +102,8 @@ class Words:
             self.commit = True
         elif word == "--always" and self.command == "night":
             self.always = True
+        elif word == "--adopt" and self.command in ("night", "rollback"):
+            self.adopts = True
         elif word == "--lenient" and self.command == "lint":
             self.lenient = True
         elif word in (*WITH_A_VALUE, *OPTIONS.get(self.command, ())) and not given:
@@ -149,8 +160,7 @@ def judge_folder(words):
     if who:
         warn([f"{who}; what is told here is without the changes that it has taken"])
     elif stopped and is_stopped(words.folder):
-        told = f"a night was stopped in {words.folder}; `tools/warehouse night {words.folder} --commit` finishes or undoes it"
-        raise Failure(BAD_INPUT, told)
+        raise Failure(BAD_INPUT, import_module("whtools.warehouse.stopped").told(words.folder))
 
 
 def is_stopped(folder):

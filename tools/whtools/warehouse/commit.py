@@ -4,6 +4,7 @@ import os
 from itertools import islice
 
 from . import lock
+from .accepted import judge_accepted, judge_dropped
 from .batches import NAMES, TAKEN, names_after, waiting
 from .carried import carried
 from .catalogue import Catalogue
@@ -13,34 +14,39 @@ from .disk import keep, put, remove, sync, write
 from .finding import Failure, of_system, warn
 from .folder import Folder, judged
 from .gate import Gate
+from .identity import identity_of
 from .inputs import Inputs
 from .puts import settle as settle_puts
 from .status import BAD_INPUT, NOT_WRITTEN
 from .strategy import FILE as STRATEGY
 from .takeover import begin, is_new, take_over
-from .versions import DELTAS, PART, TURNED, VERSIONS, place, point, prune, turn, whole
+from .versions import DELTAS, TURNED, VERSIONS, coming, part_of, place, point, prune, turn
+from .vouching import give_up_name, vouch_for_night, vouch_for_parent, with_name
 
 
-def to_take(folder):
-    """The files that the night takes. What is no such file in changes/ or data/ ends the command before anything is moved; of a folder
-    without versions all faults are told then.
+def to_take(words):
+    """The files that the night takes. What is no such file in changes/ or data/, and a table that would be lost without a word, ends the
+    command before anything is moved; of a folder without versions all faults are told then.
     """
-    inputs, catalogue = Inputs(folder), Catalogue(folder)
+    accepted = words.options.get("--accept", ())
+    inputs, catalogue = Inputs(words.folder, accepted=accepted), Catalogue(words.folder)
+    bases = [view.name for view in catalogue.views if view.is_base]
     faults = [finding for finding in catalogue.findings + inputs.findings(catalogue) if not finding.warns]
     inputs.state.release()
     if faults and inputs.state.number is None:
-        judged(Folder(folder))
+        judged(Folder(words.folder))
     if faults:
         raise Failure(BAD_INPUT, *faults)
-    notes = [(TAKEN, source) for source in waiting(folder)]
-    return inputs.to_take([view.name for view in catalogue.views if view.is_base]) + notes
+    judge_dropped(inputs, bases, words.options.get("--drop", ()))
+    judge_accepted(inputs, accepted)
+    return inputs.to_take(bases) + [(TAKEN, source) for source in waiting(words.folder)]
 
 
-def take(claim):
+def take(words, claim):
     """Takes all that waits. No put is half there meanwhile: one that was stopped is finished first."""
     with Gate(claim.folder):
         warn(settle_puts(claim.folder))
-        claim.take(to_take(claim.folder))
+        claim.take(to_take(words))
 
 
 def write_deltas(folder, deltas):
@@ -87,21 +93,24 @@ def undo(claim):
         warn([f"the changes cannot be put back: {why}; they lie in {claim.part}, and the next night puts them back"])
 
 
-def decided(words, interrupts, number, judged):
+def decided(words, interrupts, identity, number, judged):
     """Carries the night out up to the rename that decides. Whatever ends it before has the changes put back. Answers the report. The tables
-    that a first night began with become a version before, once the night is carried out.
+    that a first night began with become a version before, once the night is carried out. The manifest is written last.
     """
-    part = words.folder / VERSIONS / f"{number}{PART}"
+    part = part_of(words.folder, number, identity)
     claim = Claim(words.folder, part)
     try:
         try:
-            take(claim)
-            night = carried(Folder(words.folder, part, judged=judged, for_night=True), words)
+            take(words, claim)
+            accepted = words.options.get("--accept", ())
+            night = carried(Folder(words.folder, part, judged=judged, for_night=True, accepted=accepted), words)
             if night.folder.state.number is None:
-                begin(night.folder, interrupts)
+                begin(night.folder, identity, interrupts)
             report = write_version(part, night)
             claim.own()
             keep(part)
+            vouch_for_parent(night.folder.inputs, identity)
+            vouch_for_night(part, number, identity, night)
             point(words.folder, number)
             claim.judge()
             lock.judge(words.folder)
@@ -113,6 +122,21 @@ def decided(words, interrupts, number, judged):
         raise
     night.folder.state.release()
     return report
+
+
+def kept(words, interrupts, judged):
+    """Carries a night out that is kept. Answers its report and its number. A folder that gets its name for it, and in which nothing was
+    kept, is without it again.
+    """
+    before = identity_of(words.folder)
+    identity = with_name(words.folder, before)
+    number = coming(words.folder, identity)
+    try:
+        return decided(words, interrupts, identity, number, judged), number
+    except BaseException:
+        if not before.name and not before.is_copy:
+            give_up_name(words.folder, identity)
+        raise
 
 
 def finish(words, number):
@@ -169,7 +193,6 @@ def commit(words, interrupts):
         if words.keep:
             prune(words.folder, words.keep)
         return told
-    number = max(whole(words.folder), default=0) + 1
-    report = decided(words, interrupts, number, sound)
+    report, number = kept(words, interrupts, sound)
     finish(words, number)
     return report

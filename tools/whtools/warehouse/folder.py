@@ -19,12 +19,13 @@ LONG_TEXTS = (b"\\", b'"""', b"'''")
 class Folder:
     """What a folder holds. Where it has faults, what is read may be cut short. A night under way has taken its changes to a folder
     of its own, `taken`. The tables that were `judged` already, by the names of their views, are not judged again. Of a folder that is
-    `for_night` tables wait for the program, where they can, which judges them as it reads them.
+    `for_night` tables wait for the program, where they can, which judges them as it reads them. Files of the version that were `accepted`
+    are taken as they are.
     """
 
-    def __init__(self, path, taken=None, lenient=False, judged=(), for_night=False):
-        self.judged, self.taken, self.for_night = dict(judged), taken, for_night
-        self.path, self.catalogue, self.inputs = path, Catalogue(path, lenient), Inputs(path, taken)
+    def __init__(self, path, taken=None, lenient=False, judged=(), for_night=False, accepted=()):
+        self.judged, self.taken, self.for_night, self.accepted = dict(judged), taken, for_night, accepted
+        self.path, self.catalogue, self.inputs = path, Catalogue(path, lenient), Inputs(path, taken, accepted)
         self.views, self.state = self.catalogue.views, self.inputs.state
         self.findings = self.catalogue.findings + self.inputs.findings(self.catalogue)
         self.data, self.changes, self.tables, self.absent = {}, {}, {}, []
@@ -51,7 +52,7 @@ class Folder:
 
     def wholly(self):
         """The folder with all tables judged."""
-        return Folder(self.path, self.taken) if self.waits else self
+        return Folder(self.path, self.taken, accepted=self.accepted) if self.waits else self
 
     @property
     def faults(self):

@@ -3,12 +3,17 @@
 from importlib import import_module
 
 WORDS = {"diff": "OLD NEW", "unpack": "FOLDER < ANSWER", "init": "FOLDER FILES..", "read": "FOLDER VIEW", "report": "FOLDER [VERSION | new]"}
+WORDS |= {"verify": "FOLDER [VERSION]", "rollback": "FOLDER VERSION"}
 WORDS |= {"put": "FOLDER FILES.."}
-WITHOUT_PROGRAM = ("lint", "pack", "unpack", "diff", "init", "read", "serve", "put")
+WITHOUT_PROGRAM = ("lint", "pack", "unpack", "diff", "init", "read", "serve", "verify", "rollback", "log")
+WITHOUT_PROGRAM += ("put",)
 OPTIONS = [
     ("--commit", ("night",), "keeps the night: takes the changes and makes a version"),
     ("--keep K", ("night",), "with --commit: the newest K versions stay, 1 or more; without it all do"),
     ("--always", ("night",), "with --commit: makes a version also where nothing changed"),
+    ("--drop NAME", ("night",), "with --commit: the table of this view, which is no base view any more, is not carried on; it may stand several times"),
+    ("--accept FILE", ("night",), "takes a file of the current version as it is that is not as it was made, such as data/orders.csv; it may stand several times"),
+    ("--adopt", ("night", "rollback"), "in a copy of a folder: what a stopped night of the original had taken is this folder's own"),
     ("--lenient", ("lint",), "has keys that the program does not look at as warnings"),
     ("--workers N", ("night",), "how many workers compute at once, 1 to 16; without it 1"),
     ("--readers N", ("night",), "how many readers go through the tables of before meanwhile, 0 to 16: a trial of the promise, and no service"),
@@ -21,6 +26,7 @@ OPTIONS = [
     ("--where COLUMN=VALUE", ("read",), "only rows with this value; it may stand several times"),
     ("--limit N", ("read",), "so many rows at most"),
     ("--format KIND", ("read",), "csv or json; without it csv"),
+    ("--format KIND", ("log",), "text or json; without it text"),
     ("--port PORT", ("serve",), "the port, 0 for a free one; without it 8000"),
     ("--address ADDRESS", ("serve",), "the address; without it 127.0.0.1, which this machine alone reaches"),
     ("--promise SECONDS", ("serve",), "how long a session pins its version, 1 to 86,400; without it 900"),

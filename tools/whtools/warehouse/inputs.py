@@ -6,6 +6,7 @@ from typing import NamedTuple
 
 from .finding import Finding, Place, nearest
 from .versions import State
+from .vouched import Vouched
 
 TABLE, CHANGES = re.compile(r"(.+)\.csv"), re.compile(r"([A-Za-z_][A-Za-z0-9_]*)(?:\.([1-9][0-9]*))?\.csv")
 FORMS = {"data": "NAME.csv", "changes": "NAME.csv, NAME.1.csv, NAME.2.csv and so on"}
@@ -46,12 +47,13 @@ def tables(folder, told):
 class Inputs:
     """The files of a folder's next night. A night that is under way has taken them to where its version is made."""
 
-    def __init__(self, folder, part=None):
+    def __init__(self, folder, part=None, accepted=()):
         self.folder, self.state = folder, State(folder)
+        self.vouched = Vouched(folder, self.state, accepted)
         self.places = {"data": part / "given", "changes": part / "changes"} if part else {kind: folder / kind for kind in FORMS}
         self.changes = by_view(self.places["changes"], "changes", CHANGES)
         self.carried = tables(self.state.root / "data", self.state.told)
-        self.later = self.written_later()
+        self.later = self.vouched.later
         if self.state.number and self.is_catalogue_as_before() and not self.later:
             self.carried = {name: source._replace(is_made=True) for name, source in self.carried.items()}
         self.given = {} if self.state.number is None else tables(self.places["data"], "data")
@@ -60,13 +62,6 @@ class Inputs:
         """Whether the catalogue is that of the version, so that its tables have been judged by it."""
         files = [folder / "catalogue.toml" for folder in (self.folder, self.state.root)]
         return all(file.is_file() for file in files) and files[0].read_bytes() == files[1].read_bytes()
-
-    def written_later(self):
-        """The tables of the version that somebody wrote after its night: they are newer than its folder, in which they were made."""
-        root = self.state.root
-        made = root.stat().st_mtime_ns if self.state.number else 0
-        files = [path for kind in ("data", "views") for path in entries(root / kind)] if self.state.number else []
-        return [path.relative_to(self.folder) for path in files if path.is_file() and path.stat().st_mtime_ns > made]
 
     def table(self, name):
         """The table of a base view, or None."""
@@ -88,16 +83,20 @@ class Inputs:
     def findings(self, catalogue):
         """Files that nothing reads, and tables that no night carries on."""
         bases = [view.name for view in catalogue.views if view.is_base]
-        text = "this was written after its night, and a version never changes; it is judged again, and all derived views are made anew"
-        found = [Finding(Place(str(path)), text, True) for path in self.later] + self.unread()
+        found = self.vouched.findings(bases) + self.unread()
         for kind, form in (("data", TABLE), ("changes", CHANGES)):
             for path in entries(self.places[kind]):
                 found += filter(None, [self.judge(kind, form, path, bases, catalogue.names)])
-        for name in self.carried if self.state.number is not None and bases else ():
-            if name not in bases:
-                text = f"{name} is no base view; its table stays in {self.state.told.removesuffix('/data')} and is not carried on"
-                found.append(Finding(Place(self.carried[name].told), text, True))
+        found += [Finding(Place(self.carried[name].told), self.not_carried_on(name), True) for name in self.left(bases)]
         return found
+
+    def left(self, bases):
+        """The tables of the version that are of no base view any more, by their names."""
+        return [name for name in self.carried if name not in bases] if self.state.number is not None and bases else []
+
+    def not_carried_on(self, name):
+        """What is told of such a table."""
+        return f"{name} is no base view; its table is not carried on, and no night is kept but with `--drop {name}`"
 
     def unread(self):
         """A strategy or sizes that stand there, and are no file, such as a link that leads nowhere: a night must not go on without them."""

@@ -2,7 +2,8 @@
 version.
 
 A strategy.txt is taken where there is one; else a plan is made, of sizes that are given or told by the last report, and certified. Where
-nothing tells of sizes, since there was no night or a view is defined otherwise, it goes view by view. A refused night changes no file.
+nothing tells of sizes, since there was no night or a view is defined otherwise, it goes view by view. A refused night changes no file. A
+file of the current version that is not as it was made is made anew, or ends the night where it is a base view's table.
 """
 
 import os
@@ -18,12 +19,13 @@ from .lock import Lock
 from .status import BAD_INPUT, DONE, NOT_WRITTEN
 from .stopped import settle
 from .takeover import is_pending
-from .versions import CURRENT
+from .versions import CURRENT, strays
 
 
 def preview(words):
     """Writes new/ whole, by a rename. Answers the report."""
-    night, part, new = carried(Folder(words.folder, for_night=True), words), words.folder / "new.part", words.folder / "new"
+    folder = Folder(words.folder, for_night=True, accepted=words.options.get("--accept", ()))
+    night, part, new = carried(folder, words), words.folder / "new.part", words.folder / "new"
     try:
         os.makedirs(part)
         for view, table in night.tables():
@@ -54,7 +56,8 @@ def run(words):
         if is_pending(words.folder) and not words.commit:
             again = f"`tools/warehouse night {words.folder} --commit` finishes or undoes it"
             raise Failure(BAD_INPUT, f"a commit was stopped in {words.folder}; {again}")
-        warn(settle(words.folder))
+        warn(settle(words.folder, words.commit, words.adopts))
+        warn(strays(words.folder))
         report = commit(words, interrupts) if words.commit else preview(words)
     tell(words, report)
     return DONE

@@ -1,25 +1,32 @@
-"""What a night that was stopped has left, told from what is there; the next night finishes or undoes it."""
+"""What a stopped night has left, told from what is there; the next night finishes or undoes it."""
 
 from .claim import put_back
+from .copied import judge_copy
 from .disk import remove, sync
-from .finding import of_system
+from .finding import Failure, of_system
 from .gate import Gate
+from .identity import identity_of
 from .puts import settled
-from .versions import GONE, PART, TURNED, VERSIONS, ending, named, point, turn, whole
+from .status import BAD_INPUT
+from .versions import GONE, PART, TURNED, VERSIONS, ending, named, newest, point, turn
 
 FINISHED = "a night that was stopped is finished"
 UNDONE = "a night that was stopped is undone; its changes lie in changes/ again"
 
 
-def is_behind(folder):
+def is_behind(folder, identity=None):
     """Whether a version that counts is newer than the one that `current` names."""
-    found, current = whole(folder), named(folder)
-    return bool(found) and (current is None or found[-1] > current)
+    return newest(folder, identity) != named(folder)
 
 
 def is_stopped(folder):
     """Whether a night was begun and is neither finished nor undone."""
     return is_behind(folder) or bool(ending(folder, PART))
+
+
+def told(folder):
+    """That a night was stopped, and what sees to it."""
+    return f"a night was stopped in {folder}; `tools/warehouse night {folder} --commit` finishes or undoes it"
 
 
 def unremoved(scrap):
@@ -31,19 +38,23 @@ def unremoved(scrap):
     return []
 
 
-def settle(folder):
-    """Finishes a night that was decided, undoes one that was not, and says so."""
-    said = []
+def settle(folder, turns=True, adopts=False):
+    """Finishes a night that was decided, where `current` may be turned, undoes one that was not, and says so."""
+    said, identity = [], identity_of(folder)
+    is_late = is_behind(folder, identity)
+    if is_late and not turns:
+        raise Failure(BAD_INPUT, told(folder))
+    judge_copy(folder, identity, adopts)
     remove(folder / TURNED)
-    for scrap in [*ending(folder, GONE), folder / "new.part", folder / "new.old", folder / "versions.part"]:
+    for scrap in [*ending(folder, GONE, identity), folder / "new.part", folder / "new.old", folder / "versions.part"]:
         said += unremoved(scrap)
-    if is_behind(folder):
+    if is_late:
         sync(folder / VERSIONS)
-        point(folder, whole(folder)[-1])
+        point(folder, newest(folder, identity))
         turn(folder)
         remove(folder / "new")
         said.append(FINISHED)
-    for part in ending(folder, PART):
+    for part in ending(folder, PART, identity):
         with Gate(folder):
             put_back(folder, part)
         said.append(UNDONE)

@@ -9,6 +9,7 @@ in this order, each from the folder to commit/old/ and from commit/ to the folde
 import os
 from collections import Counter
 from contextlib import suppress
+from dataclasses import replace
 from pathlib import Path
 from typing import NamedTuple
 
@@ -17,10 +18,13 @@ from .claim import give_back, look
 from .disk import copy, has_pieces, is_same, keep, remove, sync, write
 from .finding import Failure, warn
 from .folder import Folder, judged
+from .identity import identity_of
 from .inputs import Source, entries
+from .manifest import FIRST, TAKEN_OVER
 from .records import Records
 from .status import BAD_INPUT
-from .versions import VERSIONS, State, named, place, point, turn, whole
+from .versions import VERSIONS, State, free, named, place, point, turn, whole
+from .vouching import blank, vouch, with_name
 
 PENDING, SCRAP, BEFORE, MADE = "commit", "commit.part", "before", "versions.part"
 OLD = (BEFORE, PENDING, "views", "report.txt")
@@ -140,11 +144,14 @@ def lay(stage, version):
 
 
 def make(folder, part):
-    """Makes the versions, and the link to the newest."""
-    found = stages(folder)
+    """Makes the versions, each with its manifest, and the link to the newest."""
+    found, identity, parent = stages(folder), with_name(folder, identity_of(folder)), {}
     for number, stage in enumerate(found):
         lay(stage, part / str(number))
     keep(part)
+    for number in range(len(found)):
+        made = vouch(part / str(number), replace(blank(identity, number, TAKEN_OVER), **parent))
+        parent = {"parent": number, "parent_sum": made.sum}
     point(folder, len(found) - 1)
 
 
@@ -162,9 +169,9 @@ def decide(folder, interrupts):
         turn(folder)
 
 
-def begin(new, interrupts):
+def begin(new, identity, interrupts):
     """Makes a version of the tables of a new folder, as they were read. It counts by a rename, and then they are the folder's."""
-    folder, part = new.path, new.path / MADE
+    folder, part, number = new.path, new.path / MADE, free(new.path, 0)
     remove(part)
     try:
         for name in ("data", "views", "changes"):
@@ -172,16 +179,17 @@ def begin(new, interrupts):
         for name, records in new.data.items():
             write(part / f"0/data/{name}.csv", [records.content])
         keep(part)
-        point(folder, 0)
+        vouch(part / "0", blank(identity, number, FIRST))
+        point(folder, number)
     except BaseException:
         remove(part)
         raise
     with interrupts.put_off():
-        os.rename(part / "0", place(folder, 0))
+        os.rename(part / "0", place(folder, number))
         sync(folder / VERSIONS)
         turn(folder)
     os.rmdir(part)
-    new.state = State(folder)
+    new.state = new.inputs.state = State(folder)
     for name, records in new.data.items():
         if has_pieces(folder / f"data/{name}.csv", [records.content]):
             remove_kept(folder / f"data/{name}.csv")

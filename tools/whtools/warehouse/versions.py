@@ -1,20 +1,26 @@
 """The versions of a folder, and the state that its next night starts from.
 
-`current` is a link to the version that counts. A folder without it has its tables in data/ itself.
+`current` is a link to the version that counts. A folder without it has its tables in data/ itself. What lies in versions/ and is none of
+the folder's versions is a stray: it is told, and neither read nor removed.
 """
 
 import fcntl
 import os
 import re
 import time
+from contextlib import nullcontext
 
 from .disk import remove, sync
-from .finding import Failure
+from .finding import Failure, Finding, Place
+from .identity import Identity, identity_of, numbers
+from .manifest import NoManifest, found_manifest, read_manifest
 from .status import AT_WORK, BAD_INPUT
 
 CURRENT, TURNED, VERSIONS, DELTAS = "current", "current.part", "versions", "deltas"
-NUMBER, LINK = re.compile(r"0|[1-9][0-9]*"), re.compile(r"versions/(0|[1-9][0-9]*)/?")
+LINK = re.compile(r"versions/(0|[1-9][0-9]*)/?")
+# What is being made, and what is being removed: the number, the folder's name where it had one then, and the ending.
 PART, GONE = ".part", ".gone"
+REST = re.compile(r"(?:0|[1-9][0-9]*)(?:\.([0-9a-f]{32}))?(\.part|\.gone)")
 # What a version is opened with that there is not; one that may not be read is told as such.
 NOT_THERE = (FileNotFoundError, NotADirectoryError)
 # For how many seconds a version is waited for that somebody holds alone, how long at a time, and what is told then.
@@ -31,18 +37,117 @@ def is_shared(handle):
     return True
 
 
-def whole(folder):
-    """The numbers of the versions that are whole, rising."""
-    return sorted(int(path.name) for path in (folder / VERSIONS).glob("*") if NUMBER.fullmatch(path.name) and path.is_dir())
+def whole(folder, identity=None):
+    """The numbers of the folder's versions, rising."""
+    known = identity or identity_of(folder)
+    return [number for number in numbers(folder) if known.owns(place(folder, number), number)]
 
 
-def ending(folder, end):
-    """What there is of versions with this ending of their names."""
-    return sorted((folder / VERSIONS).glob(f"*{end}"))
+def is_rest(name, identity, end):
+    """Whether a name is that of a version of the folder that is being made or removed. Before it had a name, they were without it."""
+    found = REST.fullmatch(name)
+    if not found or found[2] != end:
+        return False
+    return found[1] in identity.names if found[1] else not identity.name and not identity.is_copy
+
+
+def ending(folder, end, identity=None):
+    """What there is of the folder's versions with this ending of their names."""
+    known = identity or identity_of(folder)
+    return sorted(path for path in (folder / VERSIONS).glob(f"*{end}") if is_rest(path.name, known, end))
 
 
 def place(folder, number):
     return folder / VERSIONS / str(number)
+
+
+def part_of(folder, number, identity):
+    """Where a version is made."""
+    return folder / VERSIONS / f"{number}.{identity.name}{PART}"
+
+
+def free(folder, least):
+    """The first number from a least one on that nothing in versions/ has."""
+    number = least
+    while os.path.lexists(place(folder, number)):
+        number += 1
+    return number
+
+
+def coming(folder, identity):
+    """The number of the next version: above those of all that there are, so that none is taken for one that was made from it. A folder
+    without versions begins with one of its tables as they are.
+    """
+    current = named(folder)
+    there = [*whole(folder, identity), *([] if current is None else [current])]
+    return free(folder, max(there, default=free(folder, 0)) + 1)
+
+
+# ---- which version counts
+
+
+def newest(folder, identity=None):
+    """The number of the version that `current` is to name: the newest that was made from the one that it names, or from one made from
+    that. Without `current` it is the newest one.
+    """
+    known, current = identity or identity_of(folder), named(folder)
+    above = [number for number in whole(folder, known) if current is None or number > current]
+    if current is None:
+        return next((number for number in reversed(above) if vouches(place(folder, number), number, known)), None)
+    for number in above:
+        current = number if is_made_from(folder, number, current, known) else current
+    return current
+
+
+def vouches(version, number, identity):
+    """Whether a version of the folder has a manifest that is whole, or is of before there were any."""
+    return found_manifest(version) is not None or number <= identity.unvouched
+
+
+def is_made_from(folder, number, current, identity):
+    """Whether a newer version was made from the current one. Of versions before manifests that cannot be told."""
+    made, before = found_manifest(place(folder, number)), found_manifest(place(folder, current))
+    if made is None and number <= identity.unvouched:
+        version = f"{VERSIONS}/{number}"
+        told = f"{version} is newer than {CURRENT}, and was made before versions had manifests, so it does not tell where it comes from"
+        cure = f"if a night was stopped there, `ln -sfn {version} {folder / CURRENT}` finishes it; if not, move it away"
+        raise Failure(BAD_INPUT, f"{told}: {cure}")
+    return made is not None and made.parent == current and made.parent_sum == (before.sum if before else "")
+
+
+def strays(folder, identity=None):
+    """What lies in versions/ and is none of the folder's versions, a warning each."""
+    known = identity or identity_of(folder)
+    counts = newest(folder, known)
+    with os.scandir(folder / VERSIONS) if (folder / VERSIONS).is_dir() else nullcontext(()) as entries:
+        found = [(name, stray(folder, name, known, counts)) for name in sorted(entry.name for entry in entries)]
+    text = "and is left alone: no night goes on from it or removes it; move it away"
+    return [Finding(Place(f"{VERSIONS}/{name}"), f"{why}, {text}", True) for name, why in found if why]
+
+
+def stray(folder, name, identity, counts):
+    """Why something in versions/ is none of the folder's versions, or an empty text."""
+    path = folder / VERSIONS / name
+    if name.startswith(".") or any(is_rest(name, identity, end) for end in (PART, GONE)):
+        return ""
+    if not path.is_dir() or path.is_symlink():
+        return "this is no version but a file"
+    if not name.isdecimal() or int(name) not in numbers(folder):
+        return "this is no version of this folder"
+    if not identity.owns(path, int(name)):
+        return why_not_own(path, int(name))
+    if counts is not None and int(name) > counts:
+        return f"this was not made from version {counts}"
+    return ""
+
+
+def why_not_own(version, number):
+    """Why a folder with a number as its name is no version of the folder."""
+    try:
+        manifest = read_manifest(version)
+    except NoManifest as cause:
+        return f"this does not vouch for itself ({cause})"
+    return f"this is version {manifest.version}" if manifest.version != number else "this is a version of another folder"
 
 
 def named(folder):
@@ -123,19 +228,19 @@ class State:
 
 
 def prune(folder, count):
-    """Removes all versions but the newest ones, as many as are to stay; also those stay that a reader holds."""
-    current = named(folder)
-    for number in whole(folder)[:-count]:
-        if number != current:
-            remove_unheld(place(folder, number))
+    """Removes all versions but the newest ones up to the current one, as many as are to stay; also those stay that a reader holds."""
+    identity, current = identity_of(folder), named(folder)
+    there = [number for number in whole(folder, identity) if number <= current]
+    for number in there[:-count]:
+        remove_unheld(place(folder, number), identity)
 
 
-def remove_unheld(version):
+def remove_unheld(version, identity: Identity):
     """Removes a version that nobody holds: a rename takes it away from readers, whose lock on it would come too late."""
     handle = os.open(version, os.O_RDONLY | os.O_DIRECTORY)
     try:
         fcntl.flock(handle, fcntl.LOCK_EX | fcntl.LOCK_NB)
-        gone = version.with_name(version.name + GONE)
+        gone = version.with_name(f"{version.name}.{identity.name}{GONE}" if identity.name else version.name + GONE)
         os.rename(version, gone)
         remove(gone)
     except BlockingIOError:
