@@ -219,7 +219,8 @@ class Laid(Kept):
         self.night()
         self.edit("catalogue.toml", 'columns = ["product:text", "price"]', 'columns = ["product:text", "price", "kind:text"]')
         has = "products has the header #,product,price,kind; this is #,product,price"
-        cure = "a kept table has the columns of its night: name the view anew, such as products_2, with a table in data/"
+        rows = 'say what its rows have in the new ones, such as fill = {kind = ""} below the view\'s columns'
+        cure = f"a kept table has the columns of its night: {rows}, or name the view anew, such as products_2, with a table in data/"
         self.assertEqual(self.ran("lint"), (3, [f"versions/1/data/products.csv:1:1: {has}; {cure}"]))
         text = (self.folder / "catalogue.toml").read_text().replace('"products"', '"products_2"').replace("products.", "products_2.")
         (self.folder / "catalogue.toml").write_text(text)

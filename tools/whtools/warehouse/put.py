@@ -148,7 +148,7 @@ def not_there(folder, changes):
 def lacking(inputs, files, changes):
     records = import_module("whtools.warehouse.records")
     table = inputs.table(changes.view.name)
-    data = records.Records(table, changes.view, False) if table else None
+    data = records.Records(table, changes.view, False, changes.view.name in inputs.kept) if table else None
     wait = Changes(files.get(changes.view.name, []), changes.view)
     if data is None or data.findings or wait.findings:
         return

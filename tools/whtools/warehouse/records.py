@@ -7,7 +7,7 @@ from collections import Counter
 from functools import cached_property
 from itertools import chain
 
-from . import by_lines, looks, quotes
+from . import by_lines, fill, looks, quotes
 from .by_lines import changed, counted, has_whole_lines, is_in_lines, is_sound, places, row_of
 from .finding import MARK, Finding, Place
 from .numbers import NUMBER, number_of
@@ -28,13 +28,15 @@ CURES = [
 class Records:
     """The rows of a table or of changes, how often each stands in it, the line of each one's first record, and the findings. Where all
     is seen at once to be sound, no record is read before somebody asks for its row. A table whose records are lines can wait for the
-    program, which judges it too; once that took it, it is sound.
+    program, which judges it too; once that took it, it is sound. A kept table gets the columns that its view has more, where it `grows`.
     """
 
-    def __init__(self, source, view, are_changes):
+    def __init__(self, source, view, are_changes, grows=False):
         self.file, self.view, self.are_changes, self.is_made = source.told, view, are_changes, source.is_made
         self.content, self.looked_for, self.found = source.path.read_bytes(), None, {}
         self.waits, self.is_taken, self.seen = False, False, None
+        grown = fill.filled(self.content, view) if grows else None
+        self.content, self.new_columns = grown or (self.content, [])
 
     def copied(self, source):
         """These records as those of a copy, or None where that has other bytes."""
@@ -210,10 +212,15 @@ class Reading:
 
     def cure_of(self, header, columns):
         """What is often meant by another header, or what to do about it."""
+        new = fill.new_columns(self.view, header[header[:1] == ["#"] :])
         if self.file.startswith("versions/"):
-            return f"; a kept table has the columns of its night: name the view anew, such as {self.view.name}_2, with a table in data/"
+            anew = f"name the view anew, such as {self.view.name}_2, with a table in data/"
+            rows = f"say what its rows have in the new ones, such as {fill.example(self.view, new)} below the view's columns, or " if new else ""
+            return f"; a kept table has the columns of its night: {rows}{anew}"
         if len(header) == 1 and any(mark in header[0] for mark in ";\t"):
             return "; part the cells by commas"
+        if self.are_changes and new and header[:1] == ["#"]:
+            return f"; write {', '.join(new)} into the rows too, or carry them out by the catalogue of before first"
         if self.are_changes and header == columns:
             return "; # is how many of a row come, or with - leave"
         return "; put the columns in that order" if sorted(header) == sorted(["#", *columns]) else ""
