@@ -49,6 +49,12 @@ def look(file):
     return found.st_ino, found.st_size, found.st_mtime_ns
 
 
+def judge_written(path, told, room):
+    """Refuses a file that somebody writes, as far as its file system can tell: that is tried in a folder of ours on the same one."""
+    if path.stat().st_dev == room.stat().st_dev and tells_of_writers(room) and is_being_written(path):
+        raise Failure(AT_WORK, f"{told} is still being written; try again when it is whole")
+
+
 class Claim:
     """The files that a night took, in the folder where its version is made."""
 

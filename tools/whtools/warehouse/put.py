@@ -11,8 +11,8 @@ from pathlib import Path
 
 from . import batches, puts
 from .catalogue import Catalogue
-from .claim import is_being_written, look, names, tells_of_writers
-from .disk import blocks_of, write
+from .claim import judge_written, look, names
+from .disk import blocks_of, copy, write
 from .finding import Failure, of_system, warn
 from .gate import Gate
 from .inputs import CHANGES, Source, by_view, stranger
@@ -70,26 +70,24 @@ def batch_of(words) -> str | None:
 
 def fill(put, given) -> list[tuple[Given, Source]]:
     """Copies what is given into a put, each under a name of its own."""
-    filled, tells = [], tells_of_writers(put.files)
+    filled = []
     for each in given:
         free = next(name for name in names(f"{each.view.name}.csv") if not (put.files / name).exists())
         if each.path is None:
             write(put.files / free, iter(lambda: sys.stdin.buffer.read(2**18), b""))
         else:
-            copy(each, put.files / free, tells)
+            copy_whole(each, put.files / free)
         filled.append((each, Source(put.files / free, each.told)))
     return filled
 
 
-def copy(each, to, tells):
-    """Copies a file that nobody writes meanwhile, as far as the file system can tell."""
+def copy_whole(each, to):
+    """Copies a file that nobody writes meanwhile."""
     seen = look(each.path)
-    is_known = tells and each.path.stat().st_dev == to.parent.stat().st_dev
-    if not (is_known and is_being_written(each.path)):
-        write(to, blocks_of(each.path))
-        if look(each.path) == seen:
-            return
-    raise Failure(AT_WORK, f"{each.told} is still being written; try again when it is whole")
+    judge_written(each.path, each.told, to.parent)
+    copy(each.path, to)
+    if look(each.path) != seen:
+        raise Failure(AT_WORK, f"{each.told} was written meanwhile; try again when it is whole")
 
 
 def sums(files) -> str:
