@@ -13,6 +13,7 @@ from unittest import mock
 
 from whtools.warehouse import lock, stopped
 from whtools.warehouse.finding import Failure
+from whtools.warehouse.identity import identity_of
 
 from .shop import SHOP, TOOLS, Shop, contents
 
@@ -41,6 +42,10 @@ class Kept(Shop):
 
     def versions(self):
         return sorted(os.listdir(self.folder / "versions"))
+
+    def rest(self, number, end="part"):
+        """Where a version of the folder is being made, or is removed."""
+        return self.folder / f"versions/{number}.{identity_of(self.folder).name}.{end}"
 
     def put(self, content=NEXT, name="orders.csv"):
         (self.folder / "changes").mkdir(exist_ok=True)
@@ -84,7 +89,7 @@ class Laid(Kept):
         made = set(contents(self.folder / "versions/1"))
         tables = {f"views/{name}.csv" for name in ("sales", "daily_by_product", "daily_by_region")}
         tables |= {f"{kind}/{name}.csv" for kind in ("data", "changes") for name in ("orders", "lines", "products")}
-        self.assertEqual(made, tables | {"catalogue.toml", "strategy.txt", "report.txt"})
+        self.assertEqual(made, tables | {"catalogue.toml", "strategy.txt", "report.txt", "manifest.txt"})
         modes = {path.stat().st_mode & 0o222 for path in (self.folder / "versions").rglob("*") if path.is_file()}
         self.assertEqual(modes, {0})
 
@@ -189,10 +194,11 @@ class Laid(Kept):
         self.assertEqual((self.folder / "current/given/colours.csv").read_text(), "name\nred\n")
         self.assertEqual(self.ran("lint"), (0, []))
 
-    def test_the_table_of_a_view_that_is_none_any_more_is_told_and_stays(self):
+    def test_the_table_of_a_view_that_is_none_any_more_is_told(self):
         self.night()
         self.edit("catalogue.toml", '[[view]]\nname = "orders"\ncolumns = ["id", "day:text", "region:text"]\n', "")
-        told = "versions/1/data/orders.csv:1:1: warning: orders is no base view; its table stays in versions/1 and is not carried on"
+        text = "orders is no base view; its table is not carried on, and no night is kept but with `--drop orders`"
+        told = f"versions/1/data/orders.csv:1:1: warning: {text}"
         self.assertIn(told, self.ran("lint")[1])
 
     def test_versions_that_are_not_to_stay_go_but_for_one_that_a_reader_holds(self):
@@ -227,7 +233,8 @@ class Laid(Kept):
         (self.folder / "strategy.txt").unlink()
         (self.folder / "data").mkdir(exist_ok=True)
         (self.folder / "data/products_2.csv").write_text("product,price,kind\njam,450,sweet\n")
-        told = "versions/1/data/products.csv:1:1: warning: products is no base view; its table stays in versions/1 and is not carried on"
+        text = "products is no base view; its table is not carried on, and no night is kept but with `--drop products`"
+        told = f"versions/1/data/products.csv:1:1: warning: {text}"
         self.assertEqual(self.ran("lint"), (0, [told]))
 
     def test_the_example_of_a_reader(self):
@@ -371,9 +378,8 @@ class Begun(Kept):
         (self.folder / "versions/1.part/changes").mkdir(parents=True)
         os.rename(self.folder / "changes/orders.csv", self.folder / "versions/1.part/changes/orders.csv")
 
-    def judge(self, *told):
-        """A preview undoes it, and the next night is a first one, or the one after the tables."""
-        self.assertEqual(self.ran("night"), (0, [*told]))
+    def judge(self):
+        """The next night is a first one, or the one after the tables."""
         self.assertEqual(contents(self.folder / "changes"), contents(SHOP / "changes"))
         self.assertFalse((self.folder / "versions.part").exists())
         self.night()
@@ -385,7 +391,8 @@ class Begun(Kept):
         (self.folder / "versions.part/0/data").mkdir(parents=True)
         (self.folder / "versions.part/0/data/orders.csv").write_bytes(b"id\n")
         self.assertEqual(self.ran("lint")[0], 3)
-        self.judge(Settled.UNDONE)
+        self.assertEqual(self.ran("night"), (0, [Settled.UNDONE]))
+        self.judge()
 
     def test_once_the_tables_were_a_version(self):
         for name in ("data", "views", "changes"):
@@ -393,7 +400,11 @@ class Begun(Kept):
         for file in (self.folder / "data").iterdir():
             (self.folder / "versions/0/data" / file.name).write_bytes(file.read_bytes())
         (self.folder / "versions.part").mkdir()
-        self.judge(Settled.FINISHED, Settled.UNDONE)
+        self.assertEqual(self.ran("night")[0], 3)
+        self.answers(b"refused range sales\n", 1)
+        self.assertEqual(self.ran("night", "--commit"), (1, [Settled.FINISHED, Settled.UNDONE, "refused range sales"]))
+        self.answer_as_the_shop()
+        self.judge()
 
 
 class Settled(Kept):
@@ -408,7 +419,7 @@ class Settled(Kept):
 
     def stopped(self, *files):
         """Makes what a night has that was stopped before it was decided."""
-        part = self.folder / "versions/2.part"
+        part = self.rest(2)
         for file in ("data/orders.csv", *files):
             (part / file).parent.mkdir(parents=True, exist_ok=True)
             (part / file).write_bytes(NEXT)
@@ -434,13 +445,13 @@ class Settled(Kept):
 
     def test_a_file_with_a_hidden_name_beside_it_comes_back(self):
         self.stopped("changes/orders.csv")
-        os.link(self.folder / "versions/2.part/changes/orders.csv", self.folder / "changes/.orders.csv")
+        os.link(self.rest(2) / "changes/orders.csv", self.folder / "changes/.orders.csv")
         self.assertEqual(self.ran("night"), (0, [self.UNDONE]))
         self.assertEqual((self.folder / "changes/orders.csv").read_bytes(), NEXT)
 
     def test_of_two_names_of_a_file_one_of_which_came_back_the_other_comes_back_too(self):
         self.stopped("changes/orders.csv")
-        taken = self.folder / "versions/2.part/changes"
+        taken = self.rest(2) / "changes"
         os.link(taken / "orders.csv", taken / "orders.1.csv")
         os.link(taken / "orders.csv", self.folder / "changes/orders.csv")
         self.assertEqual(self.ran("night"), (0, [self.UNDONE]))
@@ -448,13 +459,13 @@ class Settled(Kept):
 
     def test_a_file_that_was_on_its_way_back_comes_back_once(self):
         self.stopped("changes/orders.csv")
-        os.link(self.folder / "versions/2.part/changes/orders.csv", self.folder / "changes/orders.csv")
+        os.link(self.rest(2) / "changes/orders.csv", self.folder / "changes/orders.csv")
         self.assertEqual(self.ran("night"), (0, [self.UNDONE]))
         self.assertEqual(self.changes(), {"orders.csv": NEXT})
 
     def test_files_that_are_one_on_the_disk_all_come_back(self):
         self.stopped("changes/orders.csv")
-        os.link(self.folder / "versions/2.part/changes/orders.csv", self.folder / "versions/2.part/changes/orders.1.csv")
+        os.link(self.rest(2) / "changes/orders.csv", self.rest(2) / "changes/orders.1.csv")
         self.assertEqual(self.ran("night"), (0, [self.UNDONE]))
         self.assertEqual(self.changes(), {"orders.csv": NEXT, "orders.1.csv": NEXT})
 
@@ -464,14 +475,16 @@ class Settled(Kept):
         os.unlink(self.folder / "current")
         os.symlink("versions/1", self.folder / "current")
         os.symlink("versions/2", self.folder / "current.part")
-        (self.folder / "versions/0").rename(self.folder / "versions/0.gone")
-        self.assertEqual(self.ran("lint")[0], 3)
-        self.assertEqual(self.ran("night"), (0, [self.FINISHED]))
+        (self.folder / "versions/0").rename(self.rest(0, "gone"))
+        for command in ("lint", "night"):
+            self.assertEqual(self.ran(command)[0], 3)
+        self.assertEqual(os.readlink(self.folder / "current"), "versions/1")
+        self.assertEqual(self.ran("night", "--commit")[1][0], self.FINISHED)
         self.assertEqual((os.readlink(self.folder / "current"), self.versions()), ("versions/2", ["1", "2"]))
         self.assertFalse((self.folder / "current.part").is_symlink())
 
     def test_a_rest_that_cannot_be_removed_is_told_and_ends_no_night(self):
-        rest = self.folder / "versions/0.gone"
+        rest = self.rest(0, "gone")
         (self.folder / "versions/0").rename(rest)
         with mock.patch.object(stopped, "remove", side_effect=PermissionError(13, "Permission denied", f"{rest}/data")):
             told = stopped.unremoved(rest)

@@ -71,7 +71,7 @@ class TakenOver(Kept):
         self.assertEqual(self.without_seconds(made), self.without_seconds(self.derived))
         self.assertEqual(os.readlink(self.folder / "current"), f"versions/{newest}")
         left = {path.name for path in self.folder.iterdir()}
-        self.assertEqual(left, {"catalogue.toml", "changes", "current", "strategy.txt", "versions"})
+        self.assertEqual(left, {".identity", "catalogue.toml", "changes", "current", "strategy.txt", "versions"})
 
     def without_seconds(self, files):
         """Files by their names, of which a report tells no seconds, which differ each time."""

@@ -65,5 +65,5 @@ def of_last_night(state):
 
 def anew(version, is_by_another):
     """Why the derived views were computed anew after a version: by another catalogue, or over tables that are not those of its night."""
-    another, later = f"the catalogue is another one than that of version {version}", f"tables of version {version} were written after its night"
+    another, later = f"the catalogue is another one than that of version {version}", f"files of version {version} are not as they were made"
     return f"{ANEW}{another if is_by_another else later}{COUNTED}"

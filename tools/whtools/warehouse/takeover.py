@@ -24,6 +24,7 @@ from .manifest import FIRST, TAKEN_OVER
 from .records import Records
 from .status import BAD_INPUT
 from .versions import VERSIONS, State, free, named, place, point, turn, whole
+from .vouched import Vouched
 from .vouching import blank, vouch, with_name
 
 PENDING, SCRAP, BEFORE, MADE = "commit", "commit.part", "before", "versions.part"
@@ -190,6 +191,7 @@ def begin(new, identity, interrupts):
         turn(folder)
     os.rmdir(part)
     new.state = new.inputs.state = State(folder)
+    new.inputs.vouched = Vouched(folder, new.state)
     for name, records in new.data.items():
         if has_pieces(folder / f"data/{name}.csv", [records.content]):
             remove_kept(folder / f"data/{name}.csv")
