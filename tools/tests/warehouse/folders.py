@@ -237,14 +237,6 @@ class Laid(Kept):
         told = f"versions/1/data/products.csv:1:1: warning: {text}"
         self.assertEqual(self.ran("lint"), (0, [told]))
 
-    def test_the_example_of_a_reader(self):
-        """The commands of docs/WAREHOUSE.md as they are written."""
-        self.night()
-        page = (TOOLS.parent / "docs/WAREHOUSE.md").read_text()
-        block = page.partition("**By files.**")[2].partition("```\n")[2].partition("```")[0]
-        ran = subprocess.run(["bash", "-e", "-c", block], cwd=self.folder.parent, capture_output=True, check=True)
-        self.assertEqual(ran.stdout, (self.folder / "versions/1/views/daily_by_region.csv").read_bytes())
-
 
 class Locked(Kept):
     def test_of_two_nights_at_once_one_is_done_and_the_other_says_who_is_at_work(self):
