@@ -15,7 +15,7 @@ from whtools.warehouse import gate
 from whtools.warehouse.identity import identity_of
 from whtools.warehouse.versions import whole
 
-from .disturbed import carried_out, held_up, killed
+from .disturbed import carried_out, held_up, hindered, killed
 from .folders import NEXT, Kept
 from .puts import rows_in
 from .shop import contents
@@ -203,6 +203,19 @@ class Disturbed(Backed):
             if not is_killed:
                 break
         self.assertGreater(number, LEAST)
+
+    def test_on_a_disk_that_is_full_at_each_call_nothing_is_made(self):
+        self.backup()
+        for words, made in ((["backup", self.folder, self.to.with_name("other")], self.to.with_name("other")), (["restore", self.to, self.new], self.new)):
+            for number in count(1):
+                status = hindered(words, number)
+                if status is None:
+                    break
+                # That a folder is there already is no error.
+                self.assertIn((status, made.exists()), ((5, False), (0, True)), number)
+                shutil.rmtree(made, ignore_errors=True)
+                self.assertEqual([path.name for path in self.folder.parent.glob(".*")], [])
+            self.assertGreater(number, LEAST)
 
     def test_a_restored_folder_is_whole_or_not_there(self):
         self.backup()

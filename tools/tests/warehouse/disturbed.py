@@ -1,5 +1,6 @@
-"""Commands that are killed, or held up, before one of the calls by which they change files."""
+"""Commands that are killed, held up, or find a full disk, before one of the calls by which they change files."""
 
+import errno
 import io
 import os
 import signal
@@ -11,7 +12,7 @@ from whtools.warehouse import command
 
 CHANGING = {"os.rename", "os.link", "os.symlink", "os.remove", "os.mkdir", "os.rmdir", "os.chmod", "os.utime", "fcntl.flock"}
 WRITES = os.O_WRONLY | os.O_RDWR | os.O_CREAT
-FAULT = 99
+FAULT, UNDISTURBED = 99, 98
 
 
 def changes_files(event, args):
@@ -20,16 +21,19 @@ def changes_files(event, args):
 
 
 def disturb(number, what):
-    """Has a signal come before the call of this number."""
+    """Has a signal come, or an error of the system, before the call of this number. Answers how many calls are left until then."""
     left = [number]
 
     def hook(event, args):
         if changes_files(event, args):
             left[0] -= 1
+            if left[0] == 0 and isinstance(what, OSError):
+                raise what
             if left[0] == 0:
                 os.kill(os.getpid(), what)
 
     sys.addaudithook(hook)
+    return left
 
 
 def carried_out(words, given=b""):
@@ -53,8 +57,9 @@ def begun(words, number, what):
     if pid:
         return pid
     try:
-        disturb(number, what)
-        os._exit(carried_out(words)[0])
+        left = disturb(number, what)
+        status = carried_out(words)[0]
+        os._exit(UNDISTURBED if left[0] > 0 else status)
     finally:
         os._exit(FAULT)
 
@@ -62,9 +67,16 @@ def begun(words, number, what):
 def killed(words, number):
     """Whether a command was killed before its call of this number; it has that many no more where it was not."""
     status = os.waitstatus_to_exitcode(os.waitpid(begun(words, number, signal.SIGKILL), 0)[1])
-    if status not in (0, -signal.SIGKILL):
+    if status not in (UNDISTURBED, -signal.SIGKILL):
         raise AssertionError(f"the command ends with {status}")
-    return status != 0
+    return status != UNDISTURBED
+
+
+def hindered(words, number):
+    """The status of a command whose call of this number finds no room, or None where it has fewer calls."""
+    full = OSError(errno.ENOSPC, os.strerror(errno.ENOSPC))
+    status = os.waitstatus_to_exitcode(os.waitpid(begun(words, number, full), 0)[1])
+    return None if status == UNDISTURBED else status
 
 
 @contextmanager
@@ -81,3 +93,4 @@ def held_up(words, number):
             os.kill(pid, signal.SIGCONT)
             _, status = os.waitpid(pid, 0)
         found.status = os.waitstatus_to_exitcode(status)
+        found.status = 0 if found.status == UNDISTURBED else found.status

@@ -19,7 +19,7 @@ from whtools.warehouse.claim import Claim
 from whtools.warehouse.commit import take, undo
 from whtools.warehouse.finding import Failure
 
-from .disturbed import carried_out, held_up, killed
+from .disturbed import carried_out, held_up, hindered, killed
 from .folders import NEXT, Kept
 from .shop import TOOLS
 
@@ -155,6 +155,13 @@ class Refused(Putting):
         self.assertEqual(os.listdir(self.room), ["orders.csv"])
 
 
+    def test_where_nothing_can_be_printed_the_changes_are_in(self):
+        command = [sys.executable, TOOLS / "warehouse", "put", self.folder, self.export()]
+        with open("/dev/full", "wb") as full:
+            self.assertEqual(subprocess.run(command, stdout=full, stderr=full).returncode, 0)
+        self.assertEqual(self.seen(), {"orders.csv": NEXT})
+
+
 class Batches(Putting):
     def again(self, where, *told):
         before = self.seen()
@@ -245,6 +252,20 @@ class Disturbed(Putting):
                 break
             self.assertEqual((carried_out(words)[0], self.waiting()), (0, self.given()), number)
             self.assertEqual(os.listdir(self.folder / "changes/.put"), [])
+
+    def test_on_a_disk_that_is_full_at_each_call_it_is_whole_or_not_there(self):
+        """What was taken and could not be brought in is told, and the next put does it."""
+        for number in count(1):
+            words = self.fresh()
+            status = hindered(words, number)
+            if status is None:
+                break
+            self.assertIn(status, (0, 5), number)
+            if status == 0:
+                self.assertEqual(self.waiting(), self.given(), number)
+            self.assertEqual((carried_out(words)[0], self.waiting()), (0, self.given()), number)
+            self.assertEqual(os.listdir(self.folder / "changes/.put"), [])
+        self.assertGreater(number, LEAST)
 
     def test_a_night_that_takes_changes_at_each_call_takes_all_or_none(self):
         for number in count(1):

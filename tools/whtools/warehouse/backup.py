@@ -23,9 +23,11 @@ from .numbers import MOST
 from .packing import OWN
 from .reading import catalogue_of, whole_number
 from .status import AT_WORK, BAD_INPUT, BAD_WORDS, DONE
+from .streams import say
 from .versions import CURRENT, PART, VERSIONS, ending, newest, place, whole
 
-TRIES = 20
+# Where a folder keeps what nights put aside; and how often a moment is tried for.
+ASIDE, TRIES = "quarantine", 20
 
 
 # ---- what waits
@@ -43,6 +45,8 @@ def copy_waiting(folder: Path, part: Path, copier: Copier) -> None:
         for night in nights:
             copy_files(night / homes, part / kind, copier, folder / kind)
     os.makedirs(part / CHANGES, exist_ok=True)
+    if (folder / ASIDE).is_dir():
+        copier.folder(folder / ASIDE, part / ASIDE)
 
 
 def copy_files(home: Path, to: Path, copier: Copier, other: Path | None = None) -> None:
@@ -120,7 +124,7 @@ def run(words):
         point(part, numbers[-1])
         write_backup(part, found_in(part, numbers[-1], numbers))
     what = f"versions {', '.join(map(str, numbers))}" if len(numbers) > 1 else f"version {numbers[0]}"
-    print(f"{made} has {what} of {folder}; `tools/warehouse restore {made} NEW` makes a folder of it")
+    say([f"{made} has {what} of {folder}; `tools/warehouse restore {made} NEW` makes a folder of it"])
     return DONE
 
 

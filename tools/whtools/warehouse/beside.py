@@ -2,7 +2,7 @@
 
 import fcntl
 import os
-from contextlib import contextmanager
+from contextlib import contextmanager, suppress
 from pathlib import Path
 
 from .disk import copy, link, remove, sync
@@ -34,8 +34,12 @@ def begun(part: Path) -> int:
         os.close(handle)
     # Nobody else reads what is not compared with its sums yet.
     os.mkdir(part, 0o700)
-    handle = os.open(part, os.O_RDONLY | os.O_DIRECTORY)
-    fcntl.flock(handle, fcntl.LOCK_EX | fcntl.LOCK_NB)
+    try:
+        handle = os.open(part, os.O_RDONLY | os.O_DIRECTORY)
+        fcntl.flock(handle, fcntl.LOCK_EX | fcntl.LOCK_NB)
+    except OSError:
+        os.rmdir(part)
+        raise
     return handle
 
 
@@ -60,10 +64,13 @@ def beside(made: Path):
         sync(part)
         judged(made, part)
         os.rename(part, made)
-        sync(made.parent)
+    except BaseException:
+        with suppress(OSError):
+            remove(part)
+        raise
     finally:
-        remove(part)
         os.close(handle)
+    sync(made.parent)
 
 
 class Copier:

@@ -19,6 +19,7 @@ from .inputs import CHANGES, Source, by_view, stranger
 from .limits import over_the_limit
 from .records import Changes, shown
 from .status import AT_WORK, BAD_INPUT, BAD_WORDS, DONE, NOT_WRITTEN, REFUSED
+from .streams import say
 from .versions import PART, ending, named
 
 INPUT = "-"
@@ -169,7 +170,7 @@ def is_known(words, batch, given):
     if not found:
         return False
     where, note = found
-    print(f"batch {batch} was put before, and {where}: nothing is changed")
+    say([f"batch {batch} was put before, and {where}: nothing is changed"])
     files = [(f"{each.view.name}.csv", each.path) for each in given if each.path]
     if note and len(files) == len(given) and not note.read_text().endswith(f"\n{sums(files)}"):
         warn([f"batch {batch} has other bytes than when it was put before; another batch needs another name"])
@@ -224,5 +225,5 @@ def run(words):
 def tell(filled, changes, brought):
     """Prints where each file lies, and how many rows change."""
     rows = {records.file: sum(map(abs, records.rows.values())) for each in changes for records in each.files}
-    for each, source in filled:
-        print(f"changes/{brought[source.path.name]}: {rows[each.told]} row{'s' * (rows[each.told] != 1)} of {each.told}")
+    counted = [(brought[source.path.name], rows[each.told], each.told) for each, source in filled]
+    say([f"changes/{name}: {count} row{'s' * (count != 1)} of {told}" for name, count, told in counted])

@@ -50,17 +50,18 @@ class Put:
         (folder_like(self.path / TAKEN, self.home) / batch).write_text(text)
 
     def decide(self):
-        """Has the put count, by a rename."""
+        """Has the put count, by a rename: what fails after it undoes nothing."""
         for path in [*self.path.rglob("*"), self.path, self.path.parent]:
             sync(path)
         decided = self.path.with_name(self.path.name.removesuffix(PART))
         os.rename(self.path, decided)
-        sync(self.path.parent)
         return decided
 
     def leave(self):
-        """Removes what was written, unless it counts."""
-        remove(self.path)
+        """Removes what was written, unless it counts; where that cannot be, the next put does."""
+        with suppress(OSError):
+            if self.path.is_dir():
+                remove(self.path)
         os.close(self.handle)
 
 
@@ -95,6 +96,7 @@ def finish(decided, home):
     """Brings the files of a put that counts into changes/, and its note to those of the batches. What is there already stays so. Answers
     the names of the files by those that they have in the put.
     """
+    sync(decided.parent)
     there, brought = identities(home), {}
     for file in filter(lambda file: CHANGES.fullmatch(file.name), regular(decided / HOME)):
         if not there[identity(file.lstat())]:

@@ -12,6 +12,7 @@ from .finding import Failure
 from .gate import CHANGES
 from .identity import NONE, identity_of, sign
 from .status import BAD_INPUT, DONE
+from .streams import say
 from .versions import CURRENT, VERSIONS, place, whole
 
 
@@ -48,5 +49,5 @@ def run(words):
             raise Failure(BAD_INPUT, *found, f"{backup} is not as its {FILE} says, and no folder is made of it")
         own_name(part)
     waits = len([name for name in said.files if name.startswith(f"{CHANGES}/") and name.endswith(".csv")])
-    print(f"{made} is made, with version {said.current} of {said.time} and {waits} file{'s' * (waits != 1)} of changes for its next night")
+    say([f"{made} is made, with version {said.current} of {said.time} and {waits} file{'s' * (waits != 1)} of changes for its next night"])
     return DONE
