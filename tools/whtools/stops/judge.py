@@ -1,6 +1,7 @@
 """What has to hold of a folder, whatever happened to a night of it."""
 
 import os
+import re
 import subprocess
 import traceback
 from collections import Counter
@@ -64,6 +65,13 @@ def state(folder):
     return folder if number is None else folder / f"versions/{number}"
 
 
+def rolled_back_to(version):
+    """The version whose tables one has again, where its manifest says so, or None."""
+    file = version / "manifest.txt"
+    found = re.search(r"^kind rollback ([0-9]+)$", file.read_text(), re.MULTILINE) if file.is_file() else None
+    return int(found[1]) if found else None
+
+
 class Judge:
     """Judges one copy of a start against what is known of the start."""
 
@@ -97,7 +105,10 @@ class Judge:
         there = versions(self.folder)
         for number, was in self.before.items():
             if number in there:
-                demand(contents(there[number]) == was, f"versions/{number} is not what it was")
+                found = contents(there[number])
+                # The current version of before there were manifests gets one.
+                added = {} if "manifest.txt" in was else {"manifest.txt": found.get("manifest.txt", b"")}
+                demand(found in (was, was | added), f"versions/{number} is not what it was")
             else:
                 demand(self.start.keep, f"versions/{number} is gone")
 
@@ -112,6 +123,9 @@ class Judge:
     def judge_new(self, number, path, known):
         if number == 0:
             demand(any(known[0] == history.first for history in self.start.histories), "versions/0 is not what the folder began with")
+        elif (of := rolled_back_to(path)) is not None:
+            demand(known[number] == known.get(of, known[number]), f"versions/{number} has not the tables of versions/{of}")
+            demand(not changes_in(path / "changes"), f"versions/{number} is a rollback, and has changes")
         elif number - 1 in known:
             changes = changes_in(path / "changes")
             demand(known[number] == after(known[number - 1], changes), f"versions/{number} is not the one before it with its changes")
@@ -174,8 +188,19 @@ class Judge:
         lost = all_given - lying - carried
         demand(not lost or self.start.keep, f"lost: {list(lost)[:3]}")
         if there:
-            tables = after(history.first, all_given - lying)
+            tables = self.tables_of(there, history, all_given - lying)
             demand(base_tables(there[max(there)]) == tables, "the tables are not the first ones with all changes that were carried out")
+
+    def tables_of(self, there, history, carried):
+        """What the newest version's tables have to be: the first ones with all changes that were carried out, where none was gone back to."""
+        if not any(rolled_back_to(path) is not None for path in there.values()):
+            return after(history.first, carried)
+        tables = {0: history.first}
+        for number, path in there.items():
+            if number:
+                of = rolled_back_to(path)
+                tables[number] = after(tables[number - 1], changes_in(path / "changes")) if of is None else tables[of]
+        return tables[max(there)]
 
     def history(self, there):
         """Which of the histories that the start can be told with the folder's first version has."""

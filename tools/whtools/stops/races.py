@@ -30,9 +30,9 @@ def two_nights(room, source):
     """Two nights that are started together, with changes that arrive meanwhile at drawn moments."""
     tool = source.choice([room.tool, slowed(room, f"sleep {SLOW}")])
     commands = []
-    second = [room.start.options, room.start.options, () if room.start.fresh else room.start.options]
-    for options in (room.start.options, source.choice(second)):
-        commands.append(tool.started("night", room.folder, *options))
+    first = room.start.words
+    for words in (first, source.choice([first, first, ("night",) if room.start.fresh else first])):
+        commands.append(tool.started(words[0], room.folder, *words[1:]))
         time.sleep(source.choice([0, 0, source.uniform(0, LATER)]))
     for view in source.sample(["orders", "orders", "products", "lines"], source.randint(0, 3)):
         time.sleep(source.uniform(0, LATER))

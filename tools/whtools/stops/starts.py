@@ -9,6 +9,7 @@ from pathlib import Path
 from typing import NamedTuple
 
 from whtools.stops import old_layout
+from whtools.warehouse.identity import identity_of, sign
 from whtools.stops.shop import SHOP, Hand, base_tables
 
 # A night of a trial makes its version also where an earlier one took all changes.
@@ -35,6 +36,7 @@ class Start:
     given: Counter
     histories: list
     options: tuple = COMMIT
+    command: str = "night"
     statuses: tuple = (0,)
     # A file that somebody still writes; tables of views that are new; how many versions are to stay.
     written: str = ""
@@ -44,9 +46,17 @@ class Start:
     whole: bool = True
     fresh: bool = True
 
+    @property
+    def words(self):
+        """The command and its options."""
+        return (self.command, *self.options)
+
     def copied(self, place):
-        """A copy of the folder; what is one file under two names stays so."""
+        """A copy of the folder, which is it as far as it can tell; what is one file under two names stays so."""
         subprocess.run(["cp", "-a", self.folder, place], check=True)
+        identity = identity_of(self.folder)
+        if identity.name:
+            sign(place, identity)
         return place
 
 
@@ -139,6 +149,26 @@ class Starts:
         self.start("file of two names", self.with_two_names())
         self.start("preview", self.filled("preview", 1), options=())
         self.start("a view is new", self.with_a_new_view(), added=STORES)
+        self.start("before manifests", self.without_manifests())
+        self.start("rollback", self.filled("rollback", 3), options=("1",), command="rollback")
+        self.start("rollback twice", self.rolled_back(), options=("1",), command="rollback")
+
+    def without_manifests(self):
+        """A folder as nights left it before versions had manifests."""
+        hand = self.filled("before manifests", 2)
+        for file in [hand.folder / ".identity", *hand.folder.glob("versions/*/manifest.txt")]:
+            file.unlink()
+        return hand
+
+    def rolled_back(self):
+        """A folder in which a version was gone back to already, and another night was kept."""
+        hand = self.filled("rollback twice", 2)
+        for words in (("rollback", "1"), ("night", *COMMIT)):
+            told = self.tool.run(words[0], hand.folder, *words[1:])
+            if told.status:
+                raise ValueError(f"{words} ends with {told.status}: {told.told}")
+        hand.put("orders")
+        return hand
 
     def with_two_names(self):
         """A folder where a file of changes has a second name beside."""

@@ -13,8 +13,8 @@ from whtools.stops.trials import CAN_FAIL, ERRORS, Trial, hindrances, listed, st
 ALL = sys.maxsize
 OLD = "commit stopped"
 RACES = 20
-STOPPED_IN = ("first night", "committed twice", "later night", "keeping 2")
-COMMITTED = (*STOPPED_IN, "planned night", "several files", "file of two names", "a view is new")
+STOPPED_IN = ("first night", "committed twice", "later night", "keeping 2", "rollback", "before manifests")
+COMMITTED = (*STOPPED_IN, "planned night", "several files", "file of two names", "a view is new", "rollback twice")
 STEPS = ("rename", "link", "unlink", "unlinkat", "symlink", "mkdir", "rmdir")
 
 

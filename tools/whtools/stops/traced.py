@@ -131,13 +131,13 @@ def finished(strace):
     strace.communicate()
 
 
-def places(tool, folder, options, trace):
+def places(tool, folder, words, trace):
     """The calls by which a night changes the folder, in their order, and how it ended; without strace the milliseconds that it took."""
     if not installed():
         began = time.monotonic()
-        told = tool.run("night", folder, *options)
+        told = tool.run(words[0], folder, *words[1:])
         return [Place(TIME, number) for number in range(int(1000 * (time.monotonic() - began)))], told
-    command = tool.started("night", folder, *options, stopped=True)
+    command = tool.started(words[0], folder, *words[1:], stopped=True)
     strace = followed(command, ["-y", "-s", "0", "-o", trace, "-e", f"trace={known_calls()}"])
     told = command.ended()
     finished(strace)
@@ -174,34 +174,34 @@ def changes_something(call, line, folder):
     return "F_SETLEASE" in line if call == "fcntl" else call not in OPENS or any(way in line for way in WRITES)
 
 
-def disturbed(tool, folder, options, place, what):
+def disturbed(tool, folder, words, place, what):
     """A night at one place of which something is done: a signal comes, or the call fails."""
     if place.call == TIME:
-        command = tool.started("night", folder, *options)
+        command = tool.started(words[0], folder, *words[1:])
         time.sleep(place.nth / 1000)
         command.signal(getattr(signal, f"SIG{what.removeprefix('signal=')}"))
         return command.ended()
-    command, strace = at_place(tool, folder, options, place, what)
+    command, strace = at_place(tool, folder, words, place, what)
     told = command.ended()
     finished(strace)
     return told
 
 
-def at_place(tool, folder, options, place, what):
+def at_place(tool, folder, words, place, what):
     """A night to which strace does something at a place."""
-    command = tool.started("night", folder, *options, stopped=True)
+    command = tool.started(words[0], folder, *words[1:], stopped=True)
     inject = ["-e", f"trace={place.call}", "-e", f"inject={place.call}:{what}:when={place.nth}"]
     return command, followed(command, ["-o", "/dev/null", *inject])
 
 
-def held_up(tool, folder, options, place, meanwhile, kill):
+def held_up(tool, folder, words, place, meanwhile, kill):
     """A night that is held up after one place while something else is done, and then goes on or is killed."""
     if place.call == TIME:
-        command, strace = tool.started("night", folder, *options), None
+        command, strace = tool.started(words[0], folder, *words[1:]), None
         time.sleep(place.nth / 1000)
         command.signal(signal.SIGSTOP)
     else:
-        command, strace = at_place(tool, folder, options, place, "signal=STOP")
+        command, strace = at_place(tool, folder, words, place, "signal=STOP")
     is_held = command.is_held()
     try:
         if is_held:

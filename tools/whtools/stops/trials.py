@@ -62,7 +62,7 @@ class Room:
     def second_night(self):
         """A second night: where it does not come first, it ends for the other one, says so and changes nothing."""
         before = contents(self.folder)
-        told = self.tool.run("night", self.folder, *self.start.options)
+        told = self.tool.run(self.start.command, self.folder, *self.start.options)
         self.judge.said(told, (*self.start.statuses, AT_WORK))
         if told.status not in self.start.statuses:
             demand("a night is at work" in told.told, f"a night that ends for another does not say so: {told.told}")
@@ -93,7 +93,7 @@ class Room:
     def untouched(self):
         """Nothing of what there was is changed."""
         was, there = contents(self.start.folder), contents(self.folder)
-        changed = [name for name in was if there.get(name) != was[name] and name != ".lock"]
+        changed = [name for name in was if there.get(name) != was[name] and name not in (".lock", ".identity")]
         demand(not changed, f"a refused folder is touched: {changed}")
 
     def was_ended(self, told, may_stay=False):
@@ -113,50 +113,50 @@ def keeping(start):
 
 def nothing(room, _):
     """A night to which nothing happens."""
-    told = room.tool.run("night", room.folder, *room.start.options)
+    told = room.tool.run(room.start.command, room.folder, *room.start.options)
     room.judge.said(told, room.start.statuses)
     room.was_ended(told)
 
 
 def killed(room, place):
-    disturbed(room.tool, room.folder, room.start.options, place, "signal=KILL")
+    disturbed(room.tool, room.folder, room.start.words, place, "signal=KILL")
     room.judge.readable()
     if place.nth % EACH == 0:
         room.reading_what_is_stopped()
 
 
 def killed_after_arrivals(room, place):
-    held_up(room.tool, room.folder, room.start.options, place, room.arrivals, True)
+    held_up(room.tool, room.folder, room.start.words, place, room.arrivals, True)
     room.judge.readable()
 
 
 def arrivals(room, place):
-    told = held_up(room.tool, room.folder, room.start.options, place, room.arrivals, False)
+    told = held_up(room.tool, room.folder, room.start.words, place, room.arrivals, False)
     room.judge.said(told, room.start.statuses)
     room.judge.readable()
 
 
 def a_reader_beside(room, place):
-    told = held_up(room.tool, room.folder, room.start.options, place, room.reading, False)
+    told = held_up(room.tool, room.folder, room.start.words, place, room.reading, False)
     room.judge.said(told, room.start.statuses)
     room.judge.readable()
 
 
 def a_second_night(room, place):
-    told = held_up(room.tool, room.folder, room.start.options, place, room.second_night, False)
+    told = held_up(room.tool, room.folder, room.start.words, place, room.second_night, False)
     room.judge.said(told, room.start.statuses)
     room.judge.readable(2)
 
 
 def sent(signal):
-    return lambda room, place: room.was_ended(disturbed(room.tool, room.folder, room.start.options, place, f"signal={signal}"))
+    return lambda room, place: room.was_ended(disturbed(room.tool, room.folder, room.start.words, place, f"signal={signal}"))
 
 
 def failing(error):
     """Where a night is sent back, what fails may be what gives its changes back."""
 
     def happens(room, place):
-        told = disturbed(room.tool, room.folder, room.start.options, place, f"error={error}")
+        told = disturbed(room.tool, room.folder, room.start.words, place, f"error={error}")
         room.was_ended(told, room.start.statuses != (0,))
 
     return happens
@@ -197,7 +197,7 @@ def listed(tool, start, folder):
     def work():
         room = Room(tool, start, folder)
         with room.writer():
-            calls, told = places(tool, folder, start.options, folder.with_suffix(".trace"))
+            calls, told = places(tool, folder, start.words, folder.with_suffix(".trace"))
         found.extend(calls)
         room.judge.said(told, start.statuses)
         room.was_ended(told)
@@ -210,6 +210,6 @@ def stopped(tool, item, folder):
     """The start of a night that finds one stopped, and newer changes under the names of those that were taken."""
     start, place = item
     room = Room(tool, start, folder)
-    disturbed(tool, folder, start.options, place, "signal=KILL")
+    disturbed(tool, folder, start.words, place, "signal=KILL")
     room.hand.put("orders")
     return replace(start, name=f"{start.name} stopped at {place}", folder=folder, given=room.hand.given, fresh=False)

@@ -72,6 +72,6 @@ def in_order(tool, start, folder):
     """What does not hold of the order in which a night is written, or None."""
 
     def work():
-        follow(places(tool, Room(tool, start, folder).folder, start.options, Path(f"{folder}.trace"))[0])
+        follow(places(tool, Room(tool, start, folder).folder, start.words, Path(f"{folder}.trace"))[0])
 
     return judged(f"written through, {start.name}", folder, work)[1]

@@ -158,13 +158,14 @@ def quiet(words):
     """Where a night would change nothing, what is told of it, and else None: the version is of this catalogue and has all tables as they
     were made, and no file of changes has a row. Files with a header alone stay where they are.
     """
-    inputs = Inputs(words.folder)
+    accepted = words.options.get("--accept", ())
+    inputs = Inputs(words.folder, accepted=accepted)
     files = [source for sources in inputs.changes.values() for source in sources]
     inputs.state.release()
     is_quiet = inputs.state.report.is_file() and inputs.is_catalogue_as_before() and not any(map(has_rows, files))
-    if words.always or not is_quiet:
+    if words.always or accepted or not is_quiet:
         return None
-    folder = judged(Folder(words.folder))
+    folder = judged(Folder(words.folder, accepted=accepted))
     folder.state.release()
     tables = [folder.state.root / f"views/{view.name}.csv" for view in folder.views if not view.is_base]
     if any(not records.is_made for records in folder.data.values()) or not all(table.is_file() for table in tables):

@@ -8,6 +8,7 @@ from .limits import after, sizes_after
 from .nulls import null_findings
 from .status import BAD_INPUT, DONE
 from .strategy import FILE, Strategy
+from .versions import strays
 
 
 def strategy_findings(folder):
@@ -32,7 +33,7 @@ def run(words):
     if not any(not finding.warns for finding in folder.catalogue.findings):
         folder.findings += null_findings(folder.catalogue)
     findings = folder.findings + strategy_findings(folder) + GivenSizes(folder.path, folder.views).findings
-    findings += after(sizes_after(folder))
+    findings += after(sizes_after(folder)) + strays(words.folder)
     warn(sorted(findings))
     if not any(not finding.warns for finding in folder.catalogue.findings):
         shape = shape_of(folder.views)

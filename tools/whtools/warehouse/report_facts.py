@@ -12,6 +12,7 @@ from .finding import Failure
 from .headlines import ANEW, COUNTED, TIME
 from .held import Held
 from .inputs import CHANGES, by_view
+from .manifest import ROLLBACK, found_manifest
 from .reading import catalogue_of, records
 from .sizes import HEADER
 from .status import BAD_INPUT, BAD_WORDS
@@ -81,6 +82,7 @@ class Night:
             raise Failure(BAD_INPUT, without_night(folder, is_preview))
         if self.number is not None:
             self.kept.enter_context(Held(folder, self.number))
+            judge_kind(folder, self.number)
         self.number_before = number_before(folder, self.number)
         self.before = None if self.number_before is None else self.held(self.number_before)
         self.report = self.root / "report.txt"
@@ -187,6 +189,17 @@ def without_night(folder, is_preview):
     return f"there is no night in {folder} yet; `tools/warehouse night {folder} --commit` carries one out"
 
 
+def judge_kind(folder, number):
+    """That a rollback has no night of its own to tell of."""
+    manifest = found_manifest(place(folder, number))
+    if manifest and manifest.kind == ROLLBACK:
+        told = f"version {number} of {folder} is a rollback to version {manifest.of}, and no night"
+        raise Failure(BAD_WORDS, f"{told}; `tools/warehouse report {folder} {manifest.of}` tells of that version's, `log` of all")
+
+
 def number_before(folder, number):
     """The number of the version before a night, which is the current one before a preview."""
-    return named(folder) if number is None else number - 1 if number else None
+    if number is None:
+        return named(folder)
+    manifest = found_manifest(place(folder, number))
+    return manifest.parent if manifest else number - 1 if number else None

@@ -25,6 +25,7 @@ REST = re.compile(r"(?:0|[1-9][0-9]*)(?:\.([0-9a-f]{32}))?(\.part|\.gone)")
 NOT_THERE = (FileNotFoundError, NotADirectoryError)
 # For how many seconds a version is waited for that somebody holds alone, how long at a time, and what is told then.
 PATIENCE, PAUSE = 5, 0.01
+LEFT_ALONE = "and is left alone: no night goes on from it or removes it; move it away"
 ALONE = "is held by somebody alone; readers hold it by flock --shared"
 
 
@@ -121,8 +122,7 @@ def strays(folder, identity=None):
     counts = newest(folder, known)
     with os.scandir(folder / VERSIONS) if (folder / VERSIONS).is_dir() else nullcontext(()) as entries:
         found = [(name, stray(folder, name, known, counts)) for name in sorted(entry.name for entry in entries)]
-    text = "and is left alone: no night goes on from it or removes it; move it away"
-    return [Finding(Place(f"{VERSIONS}/{name}"), f"{why}, {text}", True) for name, why in found if why]
+    return [Finding(Place(f"{VERSIONS}/{name}"), why, True) for name, why in found if why]
 
 
 def stray(folder, name, identity, counts):
@@ -131,13 +131,15 @@ def stray(folder, name, identity, counts):
     if name.startswith(".") or any(is_rest(name, identity, end) for end in (PART, GONE)):
         return ""
     if not path.is_dir() or path.is_symlink():
-        return "this is no version but a file"
+        return f"this is no version but a file, {LEFT_ALONE}"
     if not name.isdecimal() or int(name) not in numbers(folder):
-        return "this is no version of this folder"
+        return f"this is no version of this folder, {LEFT_ALONE}"
+    if int(name) == named(folder):
+        return ""
     if not identity.owns(path, int(name)):
-        return why_not_own(path, int(name))
+        return f"{why_not_own(path, int(name))}, {LEFT_ALONE}"
     if counts is not None and int(name) > counts:
-        return f"this was not made from version {counts}"
+        return f"this was not made from version {counts}, and no night goes on from it; `rollback` goes back to it, or move it away"
     return ""
 
 
