@@ -1,14 +1,22 @@
 """`diff`, from two exports."""
 
+import io
+import random
 import shutil
 import subprocess
 import sys
 import tempfile
 import unittest
+from collections import Counter
 from pathlib import Path
+from types import SimpleNamespace
+from unittest import mock
 
+from whtools.warehouse import diff
+from whtools.warehouse.finding import Failure
 from whtools.warehouse.folder import Folder
-from whtools.warehouse.records import table_text
+from whtools.warehouse.inputs import Source
+from whtools.warehouse.records import Records, table_text
 
 from .shop import SHOP, TOOLS
 
@@ -53,6 +61,19 @@ class Differences(unittest.TestCase):
             with self.subTest(after=after):
                 self.assertEqual(self.ran(before, after), (0, changes, []))
 
+    def test_a_carriage_return_alone_ends_a_record_and_inside_quotes_is_data(self):
+        changes = b"#,x,y\n1,3,4\n"
+        self.assertEqual(self.ran(b"x,y\n1,2\n", b"x,y\r1,2\n3,4\n"), (0, changes, []))
+        self.assertEqual(self.ran(b"x,y\r1,2\n", b"x,y\n1,2\r3,4\n"), (0, changes, []))
+        self.assertEqual(self.ran(b"\r\nx,y\n1,2\n", b"\nx,y\n\n1,2\r\r3,4\n"), (0, changes, []))
+        self.assertEqual(self.ran(b'x,y\n"a\rb",2\n', b'x,y\n"a\rb",3\n'), (0, b'#,x,y\n-1,"a\rb",2\n1,"a\rb",3\n', []))
+
+    def test_quotes_that_are_not_as_they_are_to_be_are_refused(self):
+        cure = "a quote within a cell is written twice, and the cell is put in quotes"
+        for text, why in ((b'x,y\n1,"a"b\n', "',' expected after '\"'"), (b'x,y\n1,"a\n2,b\n', "unexpected end of data")):
+            told = f"new.csv:2:1: the record that begins here is not CSV: {why}; {cure}"
+            self.assertEqual(self.ran(b"x,y\n", text), (3, b"", [told]))
+
     def test_mistakes(self):
         told = "new.csv:1:1: the header is x,z, and it was x,y"
         self.assertEqual(self.ran(b"x,y\n", b"x,z\n"), (3, b"", [told]))
@@ -67,3 +88,73 @@ class Differences(unittest.TestCase):
                 status, printed, _ = self.ran((folder.path / f"data/{view.name}.csv").read_bytes(), after)
                 (folder.path / f"changes/{view.name}.csv").write_bytes(printed)
                 self.assertEqual((status, Folder(folder.path).rolled(view)), (0, folder.rolled(view)))
+
+
+class Drawn(unittest.TestCase):
+    """Exports that are drawn: their changes lead from the one to the other."""
+
+    COLUMNS = [("x", "text"), ("y", "text")]
+    TEXTS = ["", "a", " b", "a,b", 'a "q"', '"', "two\nlines", "back\r", "\rfirst", "both\r\n", "\u00e9", "7", "#", "\0"]
+    ENDS = ["\n", "\r\n", "\r", "\n\n", "\r\r", "\r\n\r\n"]
+
+    def cell(self, source, text):
+        """A cell, in quotes where it has to be, or where that is drawn."""
+        is_quoted = set(text) & set(',"\r\n') or source.random() < 0.2
+        return '"' + text.replace('"', '""') + '"' if is_quoted else text
+
+    def export(self, source, rows):
+        """A text with these rows, of drawn line ends."""
+        ends = source.choice([["\n"], ["\r\n"], ["\r"], ["\n", "\r"], self.ENDS])
+        counted = source.random() < 0.3
+        records = [("#", "x", "y") if counted else ("x", "y")]
+        for row, count in rows.items():
+            records += [(str(count), *row)] if counted else [row] * count
+        written = [",".join(self.cell(source, text) for text in record) for record in records]
+        text = "".join(line + source.choice(ends) for line in written)
+        return source.choice(["", "", "\n", "\r"]) + (text if source.random() < 0.8 else text.rstrip("\r\n"))
+
+    def rows(self, source):
+        drawn = ((source.choice(self.TEXTS), source.choice(self.TEXTS)) for _ in range(source.randint(0, 6)))
+        return Counter({row: source.choice([1, 1, 2]) for row in drawn})
+
+    def changes(self, room, before, after):
+        """What `diff` prints."""
+        for name, text in (("old.csv", before), ("new.csv", after)):
+            (room / name).write_bytes(text.encode())
+        with mock.patch("sys.stdout", SimpleNamespace(buffer=io.BytesIO())) as printed:
+            diff.run(SimpleNamespace(folders=[room / "old.csv", room / "new.csv"]))
+        return printed.buffer.getvalue()
+
+    def read(self, room, content, are_changes):
+        (room / "v.csv").write_bytes(content)
+        view = SimpleNamespace(name="v", columns=self.COLUMNS)
+        return Records(Source(room / "v.csv", "v.csv"), view, are_changes)
+
+    def test_a_night_of_the_changes_makes_the_rows_of_the_newer_export(self):
+        source = random.Random(29)
+        with tempfile.TemporaryDirectory() as name:
+            for _ in range(600):
+                old, new = self.rows(source), self.rows(source)
+                before, after = self.export(source, old), self.export(source, new)
+                changes = self.read(Path(name), self.changes(Path(name), before, after), True)
+                self.assertEqual(changes.findings, [])
+                old.update(changes.rows)
+                self.assertEqual({row: count for row, count in old.items() if count}, new, (before, after))
+
+    def test_of_a_spoilt_export_it_gives_the_rows_that_a_night_reads_or_none(self):
+        source, refused = random.Random(31), 0
+        with tempfile.TemporaryDirectory() as name:
+            for _ in range(600):
+                text = self.export(source, self.rows(source))
+                place = source.randrange(len(text) + 1)
+                text = text[:place] + source.choice(['"', "\r", "\n", ",", ""]) + text[place + source.choice([0, 1]) :]
+                found = self.read(Path(name), text.encode(), False)
+                try:
+                    changes = self.changes(Path(name), "x,y\n", text)
+                except Failure:
+                    refused += 1
+                    continue
+                # A header that is written otherwise is read by its names.
+                if not any("has the header" in finding.text for finding in found.findings):
+                    self.assertEqual((found.findings, found.rows), ([], self.read(Path(name), changes, True).rows), text)
+        self.assertGreater(refused, 100)

@@ -68,9 +68,38 @@ class First(Room):
         views, told = self.made(t=text)
         kinds = ["whole", "code:text", "cents:text", "gap:text", "seen:text", "never:text", "day"]
         self.assertEqual(views["t"]["columns"], kinds)
-        self.assertIn("    cents has parts behind the point, so it is a text; keep cents, such as 1250, to add it up", told)
-        self.assertIn("    seen has dates as texts, which compare for equality alone; write them as yyyymmdd to sort them", told)
+        self.assertIn("    cents has parts behind the point, so it is a text; keep cents, such as 1250 for 12.50, to add it up", told)
+        self.assertIn("    seen has dates as texts, which compare for equality alone; write them as yyyymmdd, such as 20260102 for 2026-01-02, to sort them", told)
         self.assertIn("# gap has empty cells, so it is a text", (self.room / "folder/catalogue.toml").read_text())
+
+    def noted(self, *cells):
+        """What is told of a column of these cells."""
+        return Column("x", cells).note
+
+    def test_money_is_told_as_it_is_written_with_what_to_write(self):
+        cents = "x has parts behind the {}, so it is a text; keep cents, such as {} for {}, to add it up"
+        self.assertEqual(self.noted("12,50", "3"), cents.format("comma", "1250", "12,50"))
+        self.assertEqual(self.noted("1,250.00", "12.5", "7"), cents.format("point", "125000", "1,250.00"))
+        self.assertEqual(self.noted("1.250,00", "-3,5"), cents.format("comma", "125000", "1.250,00"))
+        self.assertEqual(self.noted("1,250", "12.50"), cents.format("point", "1250", "12.50"))
+        commas = "x has commas within its numbers, so it is a text; write {} for {} to add it up"
+        self.assertEqual(self.noted("1,250", "999"), commas.format("1250", "1,250"))
+        self.assertEqual(self.noted("-12,300,400"), commas.format("-12300400", "-12,300,400"))
+        self.assertEqual((self.noted("12", "7"), self.noted("1,25,0"), self.noted("007")), ("", "", ""))
+
+    def test_dates_are_told(self):
+        dates = "x has dates as texts, which compare for equality alone; write them as yyyymmdd{} to sort them"
+        self.assertEqual(self.noted("2026-11-28"), dates.format(", such as 20261128 for 2026-11-28,"))
+        self.assertEqual(self.noted("28.11.2026", "1/2/2026"), dates.format(""))
+        self.assertEqual(self.noted("2026-11-28 12:00"), dates.format(""))
+
+    def test_empty_cells_are_told_of_every_column_that_has_some(self):
+        number = "put a number that nothing else has"
+        self.assertEqual(self.noted("7", ""), f"x has empty cells, so it is a text; {number} into them to have numbers")
+        for cell in ("12,50", "1,250", "2026-11-28"):
+            self.assertEqual(self.noted(cell, ""), f"{self.noted(cell)}; into its empty cells {number}")
+        self.assertEqual(self.noted("jam", ""), "x has empty cells, which are a text like others, equal to each other; where can leave them out")
+        self.assertEqual((self.noted("", ""), self.noted("jam")), ("", ""))
 
     def test_joins_are_proposed_where_names_and_values_agree(self):
         orders = "id,customer_id,shop,note\n1,7,north,x\n2,8,south,x\n3,7,north,y\n4,7,north,y\n"
@@ -184,6 +213,8 @@ class Faults(Room):
     def test_what_is_no_table(self):
         self.judge("ROOM/t.csv:1:1: this file is empty; a table has a header at least", t="")
         self.judge("ROOM/t.csv:4:1: this record has 1 cells and the header has 2", t='a,b\n1,"x\ny"\n1\n')
+        comma = "put a cell that has a comma in it, such as 12,50, in quotes"
+        self.judge(f"ROOM/t.csv:2:1: this record has 3 cells and the header has 2; {comma}", t="a,b\n1,12,50\n")
         cure = "a quote within a cell is written twice, and the cell is put in quotes"
         told = f"ROOM/t.csv:2:1: the record that begins here is not CSV: unexpected end of data; {cure}"
         self.judge(told, t='a,b\n1,"x\n2,y\n3,z\n')

@@ -225,7 +225,8 @@ class Laid(Kept):
         self.night()
         self.edit("catalogue.toml", 'columns = ["product:text", "price"]', 'columns = ["product:text", "price", "kind:text"]')
         has = "products has the header #,product,price,kind; this is #,product,price"
-        cure = "a kept table has the columns of its night: name the view anew, such as products_2, with a table in data/"
+        rows = 'say what its rows have in the new ones, such as fill = {kind = ""} below the view\'s columns'
+        cure = f"a kept table has the columns of its night: {rows}, or name the view anew, such as products_2, with a table in data/"
         self.assertEqual(self.ran("lint"), (3, [f"versions/1/data/products.csv:1:1: {has}; {cure}"]))
         text = (self.folder / "catalogue.toml").read_text().replace('"products"', '"products_2"').replace("products.", "products_2.")
         (self.folder / "catalogue.toml").write_text(text)
@@ -235,14 +236,6 @@ class Laid(Kept):
         text = "products is no base view; its table is not carried on, and no night is kept but with `--drop products`"
         told = f"versions/1/data/products.csv:1:1: warning: {text}"
         self.assertEqual(self.ran("lint"), (0, [told]))
-
-    def test_the_example_of_a_reader(self):
-        """The commands of docs/WAREHOUSE.md as they are written."""
-        self.night()
-        page = (TOOLS.parent / "docs/WAREHOUSE.md").read_text()
-        block = page.partition("**By files.**")[2].partition("```\n")[2].partition("```")[0]
-        ran = subprocess.run(["bash", "-e", "-c", block], cwd=self.folder.parent, capture_output=True, check=True)
-        self.assertEqual(ran.stdout, (self.folder / "versions/1/views/daily_by_region.csv").read_bytes())
 
 
 class Locked(Kept):

@@ -32,6 +32,12 @@ class Told(Shop):
                 (self.folder / "data/products.csv").write_text(f"product,price\njam,450\nbread,{cell}\n")
                 self.assertEqual(self.ran("lint"), (3, [f'data/products.csv:3:7: "{cell}" is not a whole number ({cure})']))
 
+    def test_what_is_meant_by_a_number_with_commas(self):
+        for cell, cure in {"12,50": "keep cents", "1,250": "write 1250", "-1,250,000": "write -1250000", "1,250.00": "keep cents"}.items():
+            with self.subTest(cell=cell):
+                (self.folder / "data/products.csv").write_text(f'product,price\njam,"{cell}"\n')
+                self.assertEqual(self.ran("lint"), (3, [f'data/products.csv:2:5: "{cell}" is not a whole number ({cure})']))
+
     def test_quotes_that_are_wrong(self):
         cure = "a quote within a cell is written twice, and the cell is put in quotes"
         never = f"the quote that opens here is never closed; {cure}"

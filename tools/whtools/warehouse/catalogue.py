@@ -3,12 +3,13 @@
 import re
 import tomllib
 
+from . import fill
 from .finding import MARK, MARKED, Finding, Place, nearest
 from .formulas import MOST, MOST_COLUMNS, NAME, Formulas
 from .toml_places import places, top_place
 
 FILE = "catalogue.toml"
-OF_BASE, OF_JOINED = ("name", "columns", "nulls", "key"), ("name", "over", "join", "where", "keep")
+OF_BASE, OF_JOINED = ("name", "columns", "nulls", "key", "fill"), ("name", "over", "join", "where", "keep")
 OF_SUMMARY = ("name", "over", "join", "where", "group", "count", "sum")
 KEYS = tuple(dict.fromkeys(OF_BASE + OF_JOINED + OF_SUMMARY))
 # More digits than these no number of a catalogue has.
@@ -180,6 +181,8 @@ class Catalogue:
             if not NAME.fullmatch(name) or kind not in ("", "int", "text") or column.endswith(":"):
                 self.find(view.place("columns", number), f'{view.name}: "{column}" is no column; it is "x", "x:int" or "x:text"')
             self.add_column(view, view.place("columns", number), name, kind or "int")
+        for fault in fill.faults(view):
+            self.find(view.place(fill.KEY), f"{view.name}: {fault}", self.lenient)
 
     def judge_width(self, view, key, width):
         if width > MOST_COLUMNS:

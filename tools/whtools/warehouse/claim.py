@@ -1,5 +1,5 @@
-"""What a night takes for its own: files of changes/, and tables of data/ that no version has. A file that goes back never lies over
-another one.
+"""What a night takes for its own: files of changes/, with the notes of their batches, and tables of data/ that no version has. A file that
+goes back never lies over another one.
 """
 
 import errno
@@ -10,12 +10,13 @@ from collections import Counter
 from contextlib import suppress
 from importlib import import_module
 
+from .batches import TAKEN, WAITING
 from .disk import remove, sync, writable
 from .finding import Failure
 from .status import AT_WORK, BAD_INPUT
 
 # The folders of a version that is being made, and where their files come from.
-HOMES = {"changes": "changes", "given": "data"}
+HOMES = {"changes": "changes", "given": "data", TAKEN: WAITING}
 
 
 def is_being_written(file):
@@ -46,6 +47,12 @@ def look(file):
     """By what a file that was written meanwhile is told."""
     found = file.stat()
     return found.st_ino, found.st_size, found.st_mtime_ns
+
+
+def judge_written(path, told, room):
+    """Refuses a file that somebody writes, as far as its file system can tell: that is tried in a folder of ours on the same one."""
+    if path.stat().st_dev == room.stat().st_dev and tells_of_writers(room) and is_being_written(path):
+        raise Failure(AT_WORK, f"{told} is still being written; try again when it is whole")
 
 
 class Claim:

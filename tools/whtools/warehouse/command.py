@@ -17,6 +17,7 @@ from .streams import drop, opened
 HELPS = ("-h", "--help", "help")
 COMMANDS = ("pack", "unpack", "night", "lint", "check", "plan", "certify", "sizes", "diff", "explain", "graph")
 COMMANDS += ("report", "read", "serve", "init", "verify", "rollback", "log")
+COMMANDS += ("put", "backup", "restore")
 KINDS = ("cells", "bytes")
 WITH_A_VALUE = ("--program", "--keep", "--weights", "--comp-cost", "--inst-cost", "--budget", "--workers", "--readers", "--page-keys")
 WEIGHED = ("night", "check", "plan", "certify", "sizes", "explain", "graph")
@@ -29,6 +30,8 @@ OPTIONS = {
     "serve": ("--port", "--address", "--promise"),
     "night": ("--accept", "--drop"),
     "log": ("--format",),
+    "put": ("--batch", "--as"),
+    "backup": ("--version",),
 }
 # How many words a command takes besides its options, and what they are; where it is not one folder.
 OPERANDS = {
@@ -38,9 +41,14 @@ OPERANDS = {
     "init": (2, sys.maxsize, "a folder and CSV files"),
     "verify": (1, 2, "a folder, and perhaps a version"),
     "rollback": (2, 2, "a folder and a version"),
+    "put": (2, sys.maxsize, "a folder and files of changes, or - for standard input"),
+    "backup": (2, 2, "a folder, and one that is to be made"),
+    "restore": (2, 2, "a backup, and a folder that is to be made"),
 }
 # Commands that judge their folder themselves, and those that read versions, which a night under way or a stopped one do not change.
 JUDGE_THEMSELVES, READ_VERSIONS = ("unpack", "diff", "init"), ("night", "report", "read", "serve", "verify", "rollback", "log")
+# Changes come in, and copies are made, beside a night too.
+READ_VERSIONS += ("put", "backup", "restore")
 GOES_THROUGH = {
     "night": ("--workers", "--readers", "--page-keys"),
     "check": ("--comp-cost", "--inst-cost"),
@@ -56,6 +64,7 @@ class Words:
         given = list(words)
         self.named, self.unproved, self.commit, self.keep, self.lenient, self.through = None, False, False, None, False, []
         self.always, self.adopts = False, False
+        self.everything = False
         self.weights, self.options = None, {}
         self.command = given.pop(0) if given else ""
         if self.command not in COMMANDS:
@@ -99,6 +108,8 @@ class Words:
             self.always = True
         elif word == "--adopt" and self.command in ("night", "rollback"):
             self.adopts = True
+        elif word == "--all" and self.command == "backup":
+            self.everything = True
         elif word == "--lenient" and self.command == "lint":
             self.lenient = True
         elif word in (*WITH_A_VALUE, *OPTIONS.get(self.command, ())) and not given:
@@ -115,7 +126,7 @@ class Words:
             self.through += [word, number_of(word, given.pop(0), self.through)]
         elif word in OPTIONS.get(self.command, ()):
             self.options.setdefault(word, []).append(given.pop(0))
-        elif word.startswith("-"):
+        elif word.startswith("-") and word != "-":
             raise Failure(BAD_WORDS, f"{self.command} has no option {word}{nearest(word, options_of(self.command))}")
         else:
             folders.append(word)

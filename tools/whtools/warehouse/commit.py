@@ -5,6 +5,7 @@ from itertools import islice
 
 from . import lock
 from .accepted import judge_accepted, judge_dropped
+from .batches import NAMES, TAKEN, names_after, waiting
 from .carried import carried
 from .catalogue import Catalogue
 from .check import strategy_of
@@ -12,8 +13,10 @@ from .claim import Claim
 from .disk import keep, put, remove, sync, write
 from .finding import Failure, of_system, warn
 from .folder import Folder, judged
+from .gate import Gate
 from .identity import identity_of
 from .inputs import Inputs
+from .puts import settle as settle_puts
 from .status import BAD_INPUT, NOT_WRITTEN
 from .strategy import FILE as STRATEGY
 from .takeover import begin, is_new, take_over
@@ -36,7 +39,14 @@ def to_take(words):
         raise Failure(BAD_INPUT, *faults)
     judge_dropped(inputs, bases, words.options.get("--drop", ()))
     judge_accepted(inputs, accepted)
-    return inputs.to_take(bases)
+    return inputs.to_take(bases) + [(TAKEN, source) for source in waiting(words.folder)]
+
+
+def take(words, claim):
+    """Takes all that waits. No put is half there meanwhile: one that was stopped is finished first."""
+    with Gate(claim.folder):
+        warn(settle_puts(claim.folder))
+        claim.take(to_take(words))
 
 
 def write_deltas(folder, deltas):
@@ -63,8 +73,12 @@ def write_version(part, night):
     files = {file: text.encode() for file, text in texts.items() if text}
     for file, content in (files | {"catalogue.toml": night.folder.catalogue.content}).items():
         put(part / file, content, last / file)
-    if not os.listdir(part / "given"):
-        os.rmdir(part / "given")
+    batches = names_after(last, part)
+    if batches:
+        put(part / NAMES, batches.encode(), last / NAMES)
+    for kind in ("given", TAKEN):
+        if not os.listdir(part / kind):
+            os.rmdir(part / kind)
     return report
 
 
@@ -72,20 +86,22 @@ def undo(claim):
     """Gives the changes back. Where that cannot be done, the next night does it."""
     try:
         remove(claim.folder / TURNED)
-        claim.undo()
-    except OSError as error:
-        warn([f"the changes cannot be put back: {of_system(error)}; they lie in {claim.part}, and the next night puts them back"])
+        with Gate(claim.folder):
+            claim.undo()
+    except (Failure, OSError) as error:
+        why = of_system(error) if isinstance(error, OSError) else error.lines[0]
+        warn([f"the changes cannot be put back: {why}; they lie in {claim.part}, and the next night puts them back"])
 
 
 def decided(words, interrupts, identity, number, judged):
     """Carries the night out up to the rename that decides. Whatever ends it before has the changes put back. Answers the report. The tables
     that a first night began with become a version before, once the night is carried out. The manifest is written last.
     """
-    part, sources = part_of(words.folder, number, identity), to_take(words)
+    part = part_of(words.folder, number, identity)
     claim = Claim(words.folder, part)
     try:
         try:
-            claim.take(sources)
+            take(words, claim)
             accepted = words.options.get("--accept", ())
             night = carried(Folder(words.folder, part, judged=judged, for_night=True, accepted=accepted), words)
             if night.folder.state.number is None:

@@ -10,13 +10,14 @@ import io
 import sys
 from collections import Counter
 from functools import cached_property
-from itertools import repeat
+from itertools import islice, repeat
 
 from .by_lines import has_whole_lines, is_formed
 from .exports import Export as FreeExport
 from .exports import name_of
 from .finding import MARK, Failure
 from .numbers import MOST, is_between
+from .quotes import CURE
 from .status import BAD_INPUT, BAD_WORDS, DONE
 from .written import text_of
 
@@ -29,21 +30,31 @@ class Export:
             raise Failure(BAD_WORDS, f"there is no file {path}")
         self.path, content = path, path.read_bytes().removeprefix(MARK)
         self.content = content.replace(b"\r\n", b"\n") if has_whole_lines(content) else content
-        header = next(self.records(), [])
+        _, header = next(self.records(), (1, []))
         self.is_counted = header[:1] == ["#"]
         self.columns, self.width = header[self.is_counted :], len(header)
 
     def records(self):
-        """The records, the header first, and where each ends."""
-        text = self.content.decode(errors="surrogateescape")
-        self.reader = csv.reader(io.StringIO(text, newline=""))
-        return self.reader
+        """The records that are not empty, the header first, each with the line that it begins at. As for the program, a carriage return
+        alone ends a line.
+        """
+        text, line = self.content.decode(errors="surrogateescape"), 1
+        reader = csv.reader(io.StringIO(text, newline=""), strict=True)
+        try:
+            for record in reader:
+                if record:
+                    yield line, record
+                line = reader.line_num + 1
+        except csv.Error as error:
+            raise Failure(BAD_INPUT, f"{self.path}:{line}:1: the record that begins here is not CSV: {error}; {CURE}") from None
 
     @cached_property
     def has_lines(self):
-        """Whether it is seen at once that each record is a line with the header's cells."""
+        """Whether it is seen at once that each record is a line with the header's cells, and the first line the header alone."""
         start = self.content.find(b"\n") + 1
-        return start > 0 and has_whole_lines(self.content) and is_formed(self.content, start, len(self.columns), self.is_counted)
+        if b"\r" in self.content[:start] or not self.content[:start].rstrip(b"\n") or not has_whole_lines(self.content):
+            return False
+        return is_formed(self.content, start, len(self.columns), self.is_counted)
 
     def drop_counts(self):
         """Leaves `#` out, where each record is a line, is no less without it, and counts once."""
@@ -57,12 +68,10 @@ class Export:
     def rows(self):
         """The rows, and how often each stands, record by record."""
         rows = Counter()
-        line = next(self.records(), None) and self.reader.line_num + 1
-        for record in filter(None, self.reader):
+        for line, record in islice(self.records(), 1, None):
             if len(record) != self.width or (self.is_counted and not is_between(record[0], 1, MOST - 1)):
                 raise Failure(BAD_INPUT, f"{self.path}:{line}:1: this record has not the header's cells, or no count")
             rows[tuple(record[self.is_counted :])] += int(record[0]) if self.is_counted else 1
-            line = self.reader.line_num + 1
         return rows
 
     def rows_of(self, lines):

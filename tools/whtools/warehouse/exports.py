@@ -8,15 +8,14 @@ from functools import cached_property
 
 from .finding import Failure
 from .formulas import MOST_COLUMNS, NAME
+from .looks import WHOLE
+from .looks import told as looks_of
 from .numbers import MOST, is_between
 from .packing import MARK
-from .quotes import CURE
+from .quotes import CURE, unlike
 from .status import BAD_INPUT
 from .written import text_of
 
-# A whole number that is written as nights write it again: with zeros before it, or a plus, it is a text, such as a postcode.
-WHOLE, DECIMAL = re.compile(r"0|-?[1-9][0-9]{0,18}"), re.compile(r"[+-]?[0-9]+[.,][0-9]+")
-DATE = re.compile(r"[0-9]{4}-[0-9]{2}-[0-9]{2}([ T].*)?|[0-9]{1,2}[./][0-9]{1,2}[./][0-9]{4}")
 DAY = re.compile(r"(19|20)[0-9]{2}(0[1-9]|1[0-2])(0[1-9]|[12][0-9]|3[01])")
 DELIMITERS, FIRST_LINE = ",;\t|", re.compile("[\r\n]*([^\r\n]*)")
 # What a text of 16 bits a letter begins with.
@@ -77,17 +76,16 @@ class Column:
 
     @cached_property
     def note(self):
-        """What a reader of the catalogue should know of a text that looks like a number or a date."""
+        """What a reader of the catalogue should know of a text that looks like a number or a date, or has empty cells."""
         filled = self.values - {""}
         if self.kind == "int" or not filled:
             return ""
-        if "" in self.values and all(map(WHOLE.fullmatch, filled)):
+        looks, gaps = looks_of(filled), "" in self.values
+        if looks:
+            return f"{self.name} {looks}" + "; into its empty cells put a number that nothing else has" * gaps
+        if gaps and all(map(WHOLE.fullmatch, filled)):
             return f"{self.name} has empty cells, so it is a text; put a number that nothing else has into them to have numbers"
-        if all(DECIMAL.fullmatch(cell) or WHOLE.fullmatch(cell) for cell in filled) and any(map(DECIMAL.fullmatch, filled)):
-            return f"{self.name} has parts behind the point, so it is a text; keep cents, such as 1250, to add it up"
-        if all(map(DATE.fullmatch, filled)):
-            return f"{self.name} has dates as texts, which compare for equality alone; write them as yyyymmdd to sort them"
-        return ""
+        return f"{self.name} has empty cells, which are a text like others, equal to each other; where can leave them out" if gaps else ""
 
 
 class Export:
@@ -102,7 +100,7 @@ class Export:
         self.is_counted, width, rows = header[:1] == ["#"], len(header), []
         for line, record in self.numbered(records):
             if len(record) != width:
-                raise Failure(BAD_INPUT, f"{path}:{line}:1: this record has {len(record)} cells and the header has {width}")
+                raise Failure(BAD_INPUT, f"{path}:{line}:1: {unlike(len(record), width)}")
             rows.append(record)
         if width - self.is_counted > MOST_COLUMNS or width == self.is_counted:
             raise Failure(BAD_INPUT, f"{path}:1:1: this file has {width - self.is_counted} columns; a view has 1 to {MOST_COLUMNS}")

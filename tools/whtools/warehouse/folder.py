@@ -3,6 +3,7 @@
 from collections import Counter
 
 from ..bundle import part_pieces
+from . import fill
 from .catalogue import Catalogue
 from .finding import Failure, Finding, Place
 from .inputs import Inputs
@@ -75,7 +76,8 @@ class Folder:
             self.findings.append(Finding(view.place("name", 0), text))
         if table and is_small:
             judged = view.name in self.judged and self.judged[view.name].copied(table)
-            records = self.data[view.name] = judged or Records(table, view, False)
+            records = self.data[view.name] = judged or Records(table, view, False, view.name in self.inputs.kept)
+            self.findings += grown(records)
             if judged or not (self.for_night and records.wait()):
                 self.findings += records.findings
         if changes and is_small:
@@ -107,7 +109,7 @@ class Folder:
     def is_unchanged(self, view):
         """Whether a base view's table is one that a night has made, and stays."""
         records = self.data[view.name]
-        if any(self.changes[view.name].rows.values() if view.name in self.changes else ()):
+        if records.new_columns or any(self.changes[view.name].rows.values() if view.name in self.changes else ()):
             return False
         return records.is_made and records.header[0] or records.own is records.content
 
@@ -124,6 +126,12 @@ class Folder:
             for name, records in kept.items():
                 parts += part_pieces(f"{kind} {name}", records.content)
         return parts + part_pieces("strategy", strategy.encode())
+
+
+def grown(records):
+    """What is told of the columns that come to a kept table, a warning each."""
+    view, text = records.view, "{} is new in {}; its rows that stand have {!r} in it"
+    return [Finding(view.place(fill.KEY), text.format(name, view.name, view.table[fill.KEY][name]), True) for name in records.new_columns]
 
 
 def judged(folder):

@@ -4,7 +4,9 @@ from importlib import import_module
 
 WORDS = {"diff": "OLD NEW", "unpack": "FOLDER < ANSWER", "init": "FOLDER FILES..", "read": "FOLDER VIEW", "report": "FOLDER [VERSION | new]"}
 WORDS |= {"verify": "FOLDER [VERSION]", "rollback": "FOLDER VERSION"}
+WORDS |= {"put": "FOLDER FILES..", "backup": "FOLDER TO", "restore": "BACKUP FOLDER"}
 WITHOUT_PROGRAM = ("lint", "pack", "unpack", "diff", "init", "read", "serve", "verify", "rollback", "log")
+WITHOUT_PROGRAM += ("put", "backup", "restore")
 OPTIONS = [
     ("--commit", ("night",), "keeps the night: takes the changes and makes a version"),
     ("--keep K", ("night",), "with --commit: the newest K versions stay, 1 or more; without it all do"),
@@ -28,6 +30,10 @@ OPTIONS = [
     ("--port PORT", ("serve",), "the port, 0 for a free one; without it 8000"),
     ("--address ADDRESS", ("serve",), "the address; without it 127.0.0.1, which this machine alone reaches"),
     ("--promise SECONDS", ("serve",), "how long a session pins its version, 1 to 86,400; without it 900"),
+    ("--batch ID", ("put",), "a name of these changes, which are taken once: put again they change nothing"),
+    ("--as NAME", ("put",), "the view of the one file, or of standard input"),
+    ("--version N", ("backup",), "copies this version; an older one alone, without changes that wait"),
+    ("--all", ("backup",), "copies all versions"),
 ]
 PROGRAM = [
     ("--unproved", "by the program that is built without its proof, within minutes"),

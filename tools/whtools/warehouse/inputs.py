@@ -63,6 +63,11 @@ class Inputs:
         files = [folder / "catalogue.toml" for folder in (self.folder, self.state.root)]
         return all(file.is_file() for file in files) and files[0].read_bytes() == files[1].read_bytes()
 
+    @property
+    def kept(self):
+        """The tables that nights have kept, by the names of their views."""
+        return {} if self.state.number is None else self.carried
+
     def table(self, name):
         """The table of a base view, or None."""
         return self.carried.get(name) or self.given.get(name)

@@ -12,6 +12,7 @@ from collections import Counter
 
 from ..bundle import part
 from .catalogue import Catalogue
+from .fill import filled
 from .finding import MARK
 from .inputs import CHANGES, Inputs, by_view
 from .written import text_of
@@ -20,7 +21,7 @@ AFTER = ("sizes.csv", "plan.txt", "schedule.txt")
 READ = ("catalogue.toml", "strategy.txt", *AFTER, "graph.dot", "graph.svg")
 # What the nights make, those of before there were versions too; and what is judged by itself.
 OWN = ("data", "changes", "versions", "versions.part", "current", "current.part", "new", "new.part", "new.old")
-OWN += ("views", "before", "commit", "commit.part", "reports")
+OWN += ("views", "before", "commit", "commit.part", "reports", "backup.txt")
 
 
 def merged(contents):
@@ -63,11 +64,19 @@ def tables(folder, inputs):
     return {name: source for name, source in sorted(found.items()) if is_taken or name in bases}
 
 
+def grown(folder, inputs, name, content):
+    """A table with the columns that its view has more, where it is a kept one."""
+    view = next((view for view in Catalogue(folder).views if view.name == name and view.columns), None)
+    found = filled(content, view) if view and name in inputs.kept else None
+    return found[0] if found else content
+
+
 def pack(folder):
     """The bundle of a folder."""
     inputs = Inputs(folder)
     parts = file_part(folder / "catalogue.toml")
-    parts += [part(f"data {name}", source.path.read_bytes()) for name, source in tables(folder, inputs).items()]
+    for name, source in tables(folder, inputs).items():
+        parts.append(part(f"data {name}", grown(folder, inputs, name, source.path.read_bytes())))
     parts += night_parts(inputs.changes, folder / "strategy.txt")
     for name in AFTER:
         parts += file_part(folder / name)

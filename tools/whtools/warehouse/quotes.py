@@ -35,6 +35,12 @@ def told(text, starts, line):
     return line, place - starts[line - 1] + 1, f"the quote that opens here {ended}; {CURE}"
 
 
+def unlike(cells, wanted):
+    """What is told of a record of another length than the header."""
+    cure = "; put a cell that has a comma in it, such as 12,50, in quotes" if cells > wanted else ""
+    return f"this record has {cells} cells and the header has {wanted}{cure}"
+
+
 def over_lines(record):
     """The number of the first cell of a record that goes over lines, or None."""
     return next((number for number, cell in enumerate(record) if "\n" in cell or "\r" in cell), None)

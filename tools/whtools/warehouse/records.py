@@ -7,7 +7,7 @@ from collections import Counter
 from functools import cached_property
 from itertools import chain
 
-from . import by_lines, quotes
+from . import by_lines, fill, looks, quotes
 from .by_lines import changed, counted, has_whole_lines, is_in_lines, is_sound, places, row_of
 from .finding import MARK, Finding, Place
 from .numbers import NUMBER, number_of
@@ -20,7 +20,6 @@ LEAST, MOST = -(2**63), 2**63 - 1
 SHOWN = 80
 # What is often meant by a cell that is no number; in docs/WAREHOUSE.md are the recipes.
 CURES = [
-    (re.compile(r"[+-]?[0-9]+[.,][0-9]+"), "keep cents"),
     (re.compile(r" *|NULL|null|Null|NIL|nil|None|NaN|nan|N/A|n/a|\\N|-"), "there is no NULL; see the recipe NULL in docs/WAREHOUSE.md"),
     (re.compile(r"[0-9]{1,4}([-/.])[0-9]{1,2}\1[0-9]{1,4}([ T].*)?"), "see the recipe Dates in docs/WAREHOUSE.md"),
 ]
@@ -29,13 +28,15 @@ CURES = [
 class Records:
     """The rows of a table or of changes, how often each stands in it, the line of each one's first record, and the findings. Where all
     is seen at once to be sound, no record is read before somebody asks for its row. A table whose records are lines can wait for the
-    program, which judges it too; once that took it, it is sound.
+    program, which judges it too; once that took it, it is sound. A kept table gets the columns that its view has more, where it `grows`.
     """
 
-    def __init__(self, source, view, are_changes):
+    def __init__(self, source, view, are_changes, grows=False):
         self.file, self.view, self.are_changes, self.is_made = source.told, view, are_changes, source.is_made
         self.content, self.looked_for, self.found = source.path.read_bytes(), None, {}
         self.waits, self.is_taken, self.seen = False, False, None
+        grown = fill.filled(self.content, view) if grows else None
+        self.content, self.new_columns = grown or (self.content, [])
 
     def copied(self, source):
         """These records as those of a copy, or None where that has other bytes."""
@@ -211,10 +212,15 @@ class Reading:
 
     def cure_of(self, header, columns):
         """What is often meant by another header, or what to do about it."""
+        new = fill.new_columns(self.view, header[header[:1] == ["#"] :])
         if self.file.startswith("versions/"):
-            return f"; a kept table has the columns of its night: name the view anew, such as {self.view.name}_2, with a table in data/"
+            anew = f"name the view anew, such as {self.view.name}_2, with a table in data/"
+            rows = f"say what its rows have in the new ones, such as {fill.example(self.view, new)} below the view's columns, or " if new else ""
+            return f"; a kept table has the columns of its night: {rows}{anew}"
         if len(header) == 1 and any(mark in header[0] for mark in ";\t"):
             return "; part the cells by commas"
+        if self.are_changes and new and header[:1] == ["#"]:
+            return f"; write {', '.join(new)} into the rows too, or carry them out by the catalogue of before first"
         if self.are_changes and header == columns:
             return "; # is how many of a row come, or with - leave"
         return "; put the columns in that order" if sorted(header) == sorted(["#", *columns]) else ""
@@ -256,10 +262,11 @@ class Reading:
 
     def find_length(self, record, wanted, line):
         """A record of another length than the header; where a cell goes over lines, its quote may be what is wrong."""
-        over, text = quotes.over_lines(record), f"this record has {len(record)} cells and the header has {wanted}"
+        over = quotes.over_lines(record)
         if over is None:
-            self.find(line, 1, text)
+            self.find(line, 1, quotes.unlike(len(record), wanted))
         else:
+            text = f"this record has {len(record)} cells and the header has {wanted}"
             self.find(*self.place_of(line, over), f"the quote that opens here is closed in a later line, and {text}; {quotes.CURE}")
 
     def starts(self):
@@ -274,8 +281,8 @@ class Reading:
         if value is not None:
             return value
         cause = "does not fit into 64 bits" if NUMBER.fullmatch(cell) else "is not a whole number"
-        cure = next((f" ({text})" for form, text in CURES if form.fullmatch(cell)), "")
-        self.find(*self.place_of(line, number), f'"{cell[:SHOWN]}" {cause}{cure}')
+        cure = looks.cure(cell) or next((text for form, text in CURES if form.fullmatch(cell)), "")
+        self.find(*self.place_of(line, number), f'"{cell[:SHOWN]}" {cause}{f" ({cure})" * bool(cure)}')
         return None
 
     def place_of(self, line, number):

@@ -23,7 +23,7 @@ from .vouching import blank, vouch, with_name
 
 REPORT = "report.txt"
 # What the new version does not have: the changes of the night that made the older one, and the tables that this was given.
-LEFT = ("changes", "deltas", "given")
+LEFT = ("changes", "deltas", "given", "batches")
 
 
 def sound(folder: Path, number: int, identity: Identity) -> Manifest:

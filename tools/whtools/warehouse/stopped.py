@@ -4,7 +4,9 @@ from .claim import put_back
 from .copied import judge_copy
 from .disk import remove, sync
 from .finding import Failure, of_system
+from .gate import Gate
 from .identity import identity_of
+from .puts import settled
 from .status import BAD_INPUT
 from .versions import GONE, PART, TURNED, VERSIONS, ending, named, newest, point, turn
 
@@ -53,6 +55,7 @@ def settle(folder, turns=True, adopts=False):
         remove(folder / "new")
         said.append(FINISHED)
     for part in ending(folder, PART, identity):
-        put_back(folder, part)
+        with Gate(folder):
+            put_back(folder, part)
         said.append(UNDONE)
-    return said
+    return said + settled(folder)

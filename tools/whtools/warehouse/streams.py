@@ -18,6 +18,16 @@ def opened():
     sys.stdout.reconfigure(errors="surrogateescape" if sys.stdout.encoding == "utf-8" else "backslashreplace")
 
 
+def say(lines):
+    """Prints what was done. Where that cannot be printed it is done all the same, which the status tells."""
+    try:
+        for line in lines:
+            print(line)
+        sys.stdout.flush()
+    except OSError:
+        drop(sys.stdout)
+
+
 def drop(stream):
     """Has what a stream still holds, and could not write, be no further trouble as the process ends."""
     os.dup2(os.open(os.devnull, os.O_WRONLY), stream.fileno())

@@ -1,0 +1,158 @@
+"""`backup`: copies a folder to another one that was not there, as it is at one moment, also beside a night: its current version, catalogue,
+strategy and sizes, and all changes that wait, those too that a night has in its hands. `--all` copies all versions. `--version N` copies
+an older one alone with its catalogue: changes that wait are not for it. What is copied is compared with the versions' manifests.
+"""
+
+import os
+from contextlib import ExitStack
+from pathlib import Path
+
+from . import puts
+from .backups import found_in, version_faults, write_backup
+from .batches import TAKEN, WAITING
+from .beside import Copier, beside, judged
+from .catalogue import FILE as CATALOGUE
+from .claim import identities, identity, judge_written, names
+from .disk import is_same, remove, write
+from .finding import Failure, warn
+from .gate import CHANGES, Gate
+from .held import Held, hold
+from .inputs import entries
+from .manifest import files_of, found_manifest
+from .numbers import MOST
+from .packing import OWN
+from .reading import catalogue_of, whole_number
+from .status import AT_WORK, BAD_INPUT, BAD_WORDS, DONE
+from .streams import say
+from .versions import CURRENT, PART, VERSIONS, ending, newest, place, whole
+
+# Where a folder keeps what nights put aside; and how often a moment is tried for.
+ASIDE, TRIES = "quarantine", 20
+
+
+# ---- what waits
+
+
+def copy_waiting(folder: Path, part: Path, copier: Copier) -> None:
+    """Copies what the next night reads beside the version: texts, tables of new views, and changes with the notes of their batches."""
+    for path in entries(folder):
+        if path.is_file() and path.name not in OWN and path.suffix not in (".dot", ".svg"):
+            judge_written(path, path, part)
+            copier.file(path, part / path.name)
+    nights = ending(folder, PART)
+    for kind, homes in (("data", "given"), (CHANGES, CHANGES), (WAITING, TAKEN)):
+        copy_files(folder / kind, part / kind, copier)
+        for night in nights:
+            copy_files(night / homes, part / kind, copier, folder / kind)
+    os.makedirs(part / CHANGES, exist_ok=True)
+    if (folder / ASIDE).is_dir():
+        copier.folder(folder / ASIDE, part / ASIDE)
+
+
+def copy_files(home: Path, to: Path, copier: Copier, other: Path | None = None) -> None:
+    """Copies the files of a folder, each under a name that is free, but for those that the other folder has too."""
+    there = identities(other) if other and other.is_dir() else {}
+    for path in entries(home):
+        if path.is_file() and not there.get(identity(path.stat())):
+            os.makedirs(to, exist_ok=True)
+            judge_written(path, path, to)
+            copier.file(path, to / next(name for name in names(path.name) if not (to / name).exists()))
+
+
+def cut(folder: Path, part: Path, copier: Copier) -> tuple[int, int]:
+    """Copies what waits, and answers the version that it waits for and the handle that holds it. Nobody takes changes meanwhile; where a night is decided
+    meanwhile it is done again.
+    """
+    for _ in range(TRIES):
+        number = newest(folder)
+        if number is None:
+            raise Failure(BAD_INPUT, f"{folder} has no version yet; `tools/warehouse night {folder} --commit` makes the first ones")
+        copy_waiting(folder, part, copier)
+        handle = hold(place(folder, number))
+        if handle is not None and newest(folder) == number:
+            return number, handle
+        if handle is not None:
+            os.close(handle)
+        clear(part, copier)
+    raise Failure(AT_WORK, f"{folder} changes all the time; try again later")
+
+
+def clear(part: Path, copier: Copier) -> None:
+    """Begins anew."""
+    copier.copies.clear()
+    for path in part.iterdir():
+        remove(path)
+
+
+# ---- the versions
+
+
+def copy_version(folder: Path, number: int, part: Path, copier: Copier) -> None:
+    """Copies a version that is held, and compares the copy with its manifest, or where it has none with its files."""
+    version, made = place(folder, number), place(part, number)
+    os.makedirs(made.parent, exist_ok=True)
+    copier.folder(version, made)
+    found = [f"{version}/{line}" for line in version_faults(made)]
+    if found_manifest(version) is None:
+        warn([f"{version} has no manifest: its copy is compared with its files as they are now"])
+        found = [f"{version / name}: it changed meanwhile" for name, path in files_of(version).items() if not is_same(made / name, path)]
+    if found:
+        raise Failure(BAD_INPUT, *found, f"{version} is not as it was made, so no backup is made of it; `--version N` takes another one")
+
+
+def older(folder: Path, part: Path, number: int) -> None:
+    """Puts the catalogue beside a version that is copied alone."""
+    write(part / CATALOGUE, [catalogue_of(folder, number).content])
+    os.mkdir(part / CHANGES)
+
+
+def point(part: Path, number: int) -> None:
+    os.symlink(f"{VERSIONS}/{number}", part / CURRENT)
+
+
+# ---- what is asked for
+
+
+def run(words):
+    folder, made = words.folder, judged(Path(words.operands[1]), words.folder)
+    asked = words.option("--version")
+    if asked is not None and words.everything:
+        raise Failure(BAD_WORDS, "--all copies all versions; give it or --version N")
+    number = None if asked is None else whole_number(asked, "--version", 0, MOST - 1)
+    with beside(made) as part, ExitStack() as held:
+        numbers = copied(folder, part, number, words.everything, held)
+        point(part, numbers[-1])
+        write_backup(part, found_in(part, numbers[-1], numbers))
+    what = f"versions {', '.join(map(str, numbers))}" if len(numbers) > 1 else f"version {numbers[0]}"
+    say([f"{made} has {what} of {folder}; `tools/warehouse restore {made} NEW` makes a folder of it"])
+    return DONE
+
+
+def copied(folder: Path, part: Path, number: int | None, everything: bool, held: ExitStack) -> list[int]:
+    """Copies what is asked for, and answers the numbers of its versions, the current one last."""
+    copier = Copier()
+    if number is not None:
+        held.enter_context(Held(folder, number))
+    if number is not None and number != newest(folder):
+        numbers = [number]
+        older(folder, part, number)
+    else:
+        with Gate(folder):
+            warn(puts.settle(folder))
+            current, handle = cut(folder, part, copier)
+        held.callback(os.close, handle)
+        numbers = [*held_before(folder, current, held), current] if everything else [current]
+    for each in numbers:
+        copy_version(folder, each, part, copier)
+    return numbers
+
+
+def held_before(folder: Path, current: int, held: ExitStack) -> list[int]:
+    """The versions before the current one, which are held; those that a night removes meanwhile are left out."""
+    found = []
+    for number in (number for number in whole(folder) if number < current):
+        handle = hold(place(folder, number))
+        if handle is not None:
+            held.callback(os.close, handle)
+            found.append(number)
+    return found
