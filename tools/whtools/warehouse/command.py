@@ -16,7 +16,7 @@ from .streams import drop, opened
 
 HELPS = ("-h", "--help", "help")
 COMMANDS = ("pack", "unpack", "night", "lint", "check", "plan", "certify", "sizes", "diff", "explain", "graph")
-COMMANDS += ("report", "read", "serve", "init")
+COMMANDS += ("report", "read", "serve", "sql", "init")
 KINDS = ("cells", "bytes")
 WITH_A_VALUE = ("--program", "--keep", "--weights", "--comp-cost", "--inst-cost", "--budget", "--workers", "--readers", "--page-keys")
 WEIGHED = ("night", "check", "plan", "certify", "sizes", "explain", "graph")
@@ -25,18 +25,20 @@ RANGES = {"--workers": (1, 16), "--readers": (0, 16), "--page-keys": (1, 256), "
 RANGES |= dict.fromkeys(("--comp-cost", "--inst-cost"), (1, 1_000_000))
 # The options with a value that a command takes itself, each as often as it stands.
 OPTIONS = {
-    "read": ("--version", "--where", "--limit", "--format"),
+    "read": ("--version", "--where", "--order", "--columns", "--limit", "--format", "--output"),
     "serve": ("--port", "--address", "--promise"),
+    "sql": ("--version", "--format"),
 }
 # How many words a command takes besides its options, and what they are; where it is not one folder.
 OPERANDS = {
     "diff": (2, 2, "two files"),
     "report": (1, 2, "a folder, and perhaps a version or the word new"),
     "read": (2, 2, "a folder and a view"),
+    "sql": (1, 2, "a folder, and perhaps a query as one word"),
     "init": (2, sys.maxsize, "a folder and CSV files"),
 }
 # Commands that judge their folder themselves, and those that read versions, which a night under way or a stopped one do not change.
-JUDGE_THEMSELVES, READ_VERSIONS = ("unpack", "diff", "init"), ("night", "report", "read", "serve")
+JUDGE_THEMSELVES, READ_VERSIONS = ("unpack", "diff", "init"), ("night", "report", "read", "serve", "sql")
 GOES_THROUGH = {
     "night": ("--workers", "--readers", "--page-keys"),
     "check": ("--comp-cost", "--inst-cost"),
