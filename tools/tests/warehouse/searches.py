@@ -3,6 +3,8 @@
 import json
 import os
 import socket
+import subprocess
+import sys
 import threading
 import time
 from contextlib import contextmanager
@@ -10,13 +12,14 @@ from http.client import HTTPConnection
 from pathlib import Path
 from unittest import mock
 
-from whtools.warehouse import answers, pages, reading, scans, serve
+from whtools.warehouse import answers, pages, reading, room, scans, serve
 from whtools.warehouse.answers import Answers, Request
 from whtools.warehouse.scans import Busy, Scans, Worker
 from whtools.warehouse.sessions import SHARE, Full, Sessions, owner_of
 
 from .folders import Kept
 from .serving import Served
+from .shop import TOOLS
 
 ROWS = 30_000
 
@@ -175,7 +178,7 @@ class Beside(Large):
         self.assertEqual(len(self.found("/lines?where=id=1")["rows"]), 1)
 
     def test_processes_end_with_the_server(self):
-        searches = Scans()
+        searches = Scans(room.Room())
         searches.give_back(Worker())
         worker = searches.free[0]
         searches.close()
@@ -183,6 +186,38 @@ class Beside(Large):
         late = Worker()
         searches.give_back(late)
         self.assertIsNotNone(late.process.poll())
+
+
+    def test_a_search_that_waits_has_no_room(self):
+        free, waiting = self.server.answers.room.left, []
+        with self.busy():
+            for _ in range(20):
+                waiting.append(socket.create_connection(self.server.server_address))
+                waiting[-1].sendall(b"GET /lines?where=id=1 HTTP/1.1\r\nHost: localhost\r\n\r\n")
+            due = time.monotonic() + 20
+            while self.server.answers.scans.waiting < 20 and time.monotonic() < due:
+                time.sleep(0.01)
+            self.assertEqual((self.server.answers.scans.waiting, self.server.answers.room.left), (20, free))
+            self.assertEqual(len(self.found("/lines?limit=256")["rows"]), 256)
+            for connection in waiting:
+                connection.close()
+
+
+class Killed(Large):
+    def test_processes_end_with_a_server_that_was_killed(self):
+        command = [sys.executable, TOOLS / "warehouse", "serve", self.folder, "--port", "0"]
+        with subprocess.Popen(command, stdout=subprocess.PIPE, text=True) as running:
+            port = int(running.stdout.readline().partition("127.0.0.1:")[2].partition("/")[0])
+            connection = HTTPConnection("127.0.0.1", port, timeout=20)
+            connection.request("GET", "/lines?where=id=7")
+            self.assertEqual(json.loads(connection.getresponse().read())["rows"][0]["id"], 7)
+            every = [pid for task in Path(f"/proc/{running.pid}/task").iterdir() for pid in (task / "children").read_text().split()]
+            running.kill()
+        self.assertEqual(len(every), 1)
+        due = time.monotonic() + 20
+        while Path(f"/proc/{every[0]}").exists() and time.monotonic() < due:
+            time.sleep(0.02)
+        self.assertFalse(Path(f"/proc/{every[0]}").exists() and "Z" not in Path(f"/proc/{every[0]}/stat").read_text())
 
 
 class Bounded(Large):
@@ -222,26 +257,27 @@ class Bounded(Large):
 
     def test_clients_that_do_not_read_hold_a_page_each_and_are_let_go(self):
         self.fill(self.WIDE)
-        free = self.server.room.left
+        free = self.server.answers.room.left
         with mock.patch.object(serve, "STALLED", 1.5):
             self.unread(6)
             self.until(lambda: len(self.server.begun) == 6)
-            self.assertGreaterEqual(self.server.room.left, free - 6 * serve.SHARE)
+            self.assertGreaterEqual(self.server.answers.room.left, free - 6 * answers.SHARE)
             self.assertEqual(self.found("/orders?limit=1")["version"], 2)
             self.until(lambda: not self.server.begun)
-        self.until(lambda: self.server.room.left == free)
+        self.until(lambda: self.server.answers.room.left == free)
 
     def test_who_reads_slowly_makes_room_for_others(self):
         self.fill(self.WIDE)
-        self.server.room.left = 2 * serve.SHARE
+        self.server.answers.room.left = 2 * answers.SHARE
         with mock.patch.object(serve, "SLOW", 0.2):
             self.unread(2)
             self.until(lambda: len(self.server.begun) == 2)
             self.assertEqual(self.found("/orders?limit=1")["version"], 2)
-        self.server.room.left = 0
-        with mock.patch.object(serve, "CROWDED", 0.2):
-            self.refused("/orders", 503, "there is no room; try again")
-        self.server.room.left = serve.ROOM
+        self.server.answers.room.left = 0
+        with mock.patch.object(room, "PATIENCE", 0.2):
+            self.refused("/orders", 503, "there is no room for the answer; try again")
+            self.refused("/lines?where=pieces=1&limit=1", 503, "there is no room for the answer; try again")
+        self.server.answers.room.left = room.ALL
 
     def test_an_answer_on_a_kept_connection_waits_for_no_acknowledgement(self):
         connection = HTTPConnection(*self.server.server_address, timeout=20)

@@ -18,8 +18,9 @@ from .blocks import Damaged, opened
 from .choosing import Choice, choice_of
 from .finding import Failure, of_system
 from .held import Held
-from .pages import CSV, FORMS, JSON, LINES, Page, Unfit, page_of
+from .pages import CSV, FORMS, JSON, LINES, MOST_BYTES, Page, Unfit, page_of
 from .reading import Far, Missing, Tables, identity_of, whole_number
+from .room import Crowded, Room
 from .scans import Busy, Scans
 from .serve_page import is_page_of, page_of_versions
 from .sessions import Full, Over, Sessions
@@ -27,10 +28,11 @@ from .status import BAD_WORDS
 from .versions import named, place, whole
 
 # How many pages of rows are made at once; each takes memory, and one processor makes them all. A table of so few bytes is searched at once.
-AT_ONCE, SMALL = 16, 2**18
+AT_ONCE, SMALL = 8, 2**18
 USUAL, MOST, MOST_FIELDS, SHOWN = 1_000, 10_000, 20, 80
-# How large a report is at most that is given, and when what there is no room or place for is asked for again, in seconds.
-MOST_OF_A_REPORT, AGAIN = 2**22, {"Retry-After": "1"}
+# How large a report is at most that is given, how much room is taken for a page or a report while it is made, and when what there is no
+# room or place for is asked for again, in seconds.
+MOST_OF_A_REPORT, SHARE, AGAIN = 2**22, MOST_BYTES + 2**16, {"Retry-After": "1"}
 FIELDS, SEVERAL = ("version", "after", "limit", "format", "session", "where", "order", "columns"), ("where",)
 REPORT = re.compile(r"/reports/((?:0|[1-9][0-9]{0,18}|preview)\.html)")
 SESSION = re.compile(r"/session/([A-Za-z0-9_-]{1,64})")
@@ -58,12 +60,13 @@ class Request(NamedTuple):
 
 
 class Answer(NamedTuple):
-    """An answer: its status, what its body is, the body, and further headers."""
+    """An answer: its status, what its body is, the body, further headers, and how much room is to be given back when it was sent."""
 
     status: int
     kind: str
     body: bytes
     headers: dict = {}
+    held: int = 0
 
 
 def as_json(status, found, **headers):
@@ -122,6 +125,8 @@ def refusing():
         raise Refused(HTTPStatus.SERVICE_UNAVAILABLE, str(unfit)) from None
     except Busy:
         raise Refused(HTTPStatus.SERVICE_UNAVAILABLE, "there are as many searches as there may be; try again", **AGAIN) from None
+    except Crowded:
+        raise Refused(HTTPStatus.SERVICE_UNAVAILABLE, "there is no room for the answer; try again", **AGAIN) from None
     except Failure as failure:
         status = HTTPStatus.BAD_REQUEST if failure.status == BAD_WORDS else HTTPStatus.SERVICE_UNAVAILABLE
         raise Refused(status, str(failure.lines[0])) from None
@@ -132,7 +137,8 @@ class Answers:
 
     def __init__(self, folder, promise):
         self.folder, self.sessions, self.kept, self.places = folder, Sessions(folder, promise), {}, BoundedSemaphore(AT_ONCE)
-        self.scans = Scans()
+        self.room = Room()
+        self.scans = Scans(self.room)
 
     def answer(self, request):
         """The answer to a request, whatever it is."""
@@ -278,15 +284,17 @@ class Answers:
         if page.following is not None:
             again = {**fields, "version": held.number, "after": page.following, "limit": limit}
             headers |= {"X-Next": str(page.following), "Link": f'</{name}?{urlencode(again, doseq=True)}>; rel="next"'}
-        return Answer(HTTPStatus.OK, KINDS[form], page.body, headers)
+        return Answer(HTTPStatus.OK, KINDS[form], page.body, headers, len(page.body))
 
     def made(self, choice: Choice, form: str, limit: int, held: Held) -> Page | None:
         """The page of rows that are soon found; None of others."""
         if not choice.is_plain and choice.table.size > SMALL:
             return None
         try:
-            with self.places:
-                return page_of(choice, form, limit, held.number, is_near=choice.is_plain)
+            with self.places, self.room.share(SHARE) as share:
+                page = page_of(choice, form, limit, held.number, is_near=choice.is_plain)
+                share.kept = len(page.body)
+                return page
         except Far:
             return None
 
@@ -328,16 +336,18 @@ class Answers:
         try:
             if version.is_dir() and not is_page_of(file, version):
                 raise FileNotFoundError
-            with opened(file, os.O_NOFOLLOW) as found:
-                body = found.read(MOST_OF_A_REPORT + 1)
+            found = opened(file, os.O_NOFOLLOW)
         except (OSError, Damaged):
             asked = "new" if version.name == "preview" else version.name
             made = f"`tools/warehouse report {self.folder} {asked}` makes it"
             raise Refused(HTTPStatus.NOT_FOUND, f"there is no report {name}; {made}") from None
-        if len(body) > MOST_OF_A_REPORT:
-            text = f"report {name} has more than {MOST_OF_A_REPORT:,} bytes; read it by its file"
-            raise Refused(HTTPStatus.SERVICE_UNAVAILABLE, text)
-        return Answer(HTTPStatus.OK, HTML, body)
+        with found, refusing(), self.room.share(SHARE) as share:
+            body = found.read(MOST_OF_A_REPORT + 1)
+            if len(body) > MOST_OF_A_REPORT:
+                text = f"report {name} has more than {MOST_OF_A_REPORT:,} bytes; read it by its file"
+                raise Refused(HTTPStatus.SERVICE_UNAVAILABLE, text)
+            share.kept = len(body)
+        return Answer(HTTPStatus.OK, HTML, body, {}, len(body))
 
     def close(self):
         """Ends the searches."""

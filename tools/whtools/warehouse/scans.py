@@ -15,6 +15,7 @@ from threading import BoundedSemaphore, Lock
 
 from .blocks import Damaged
 from .pages import DEADLINE, Unfit
+from .room import Room
 
 # How many searches there are at once and how many wait, for how many seconds at most; and how long a process may be late.
 AT_ONCE, WAITING, PATIENCE, GRACE = max(1, min(4, (os.cpu_count() or 2) // 2)), 64, 5, 5
@@ -49,16 +50,19 @@ class Worker:
         self.process = subprocess.Popen(words, stdin=subprocess.PIPE, stdout=subprocess.PIPE, bufsize=0)
         self.output = self.process.stdout.fileno()
 
-    def ask(self, job: dict, connection: socket.socket | None) -> tuple[dict, bytes]:
-        """What it tells of a job, and the body that it made."""
+    def ask(self, job: dict, connection: socket.socket | None, room: Room) -> tuple[dict, bytes]:
+        """What it tells of a job, and the body that it made, for which room is kept."""
         due = time.monotonic() + DEADLINE + GRACE
         try:
             self.process.stdin.write(json.dumps(job).encode() + b"\n")
         except BrokenPipeError:
             raise Unfit("this search ended before its time; try again") from None
         head = self.received(2 * LENGTH, connection, due)
-        told = self.received(int(head[:LENGTH]), connection, due)
-        return json.loads(told), self.received(int(head[LENGTH:]), connection, due)
+        told, size = self.received(int(head[:LENGTH]), connection, due), int(head[LENGTH:])
+        with room.share(size) as share:
+            body = self.received(size, connection, due)
+            share.kept = size
+        return json.loads(told), body
 
     def received(self, size: int, connection: socket.socket | None, due: float) -> bytes:
         """So many bytes of its output."""
@@ -94,8 +98,9 @@ class Worker:
 class Scans:
     """The searches of a server, and the processes that wait for the next one."""
 
-    def __init__(self):
+    def __init__(self, room: Room):
         self.places, self.lock, self.waiting, self.free, self.is_closed = BoundedSemaphore(AT_ONCE), Lock(), 0, [], False
+        self.room = room
 
     def page(self, job: dict, connection: socket.socket | None) -> tuple[dict, bytes]:
         """What is told of the page of a job, and its body."""
@@ -137,7 +142,7 @@ class Scans:
             worker = self.free.pop() if self.free else None
         worker = worker or Worker()
         try:
-            found = worker.ask(job, connection)
+            found = worker.ask(job, connection, self.room)
         except BaseException:
             worker.end()
             raise

@@ -20,12 +20,10 @@ from http import HTTPStatus
 from http.server import BaseHTTPRequestHandler, ThreadingHTTPServer
 from urllib.parse import urlsplit
 
-from .answers import AGAIN, Answer, Answers, Request, as_json
+from .answers import Answer, Answers, Request, as_json
 from .finding import Failure, warn
 from .numbers import is_between
-from .pages import MOST_BYTES
 from .reading import whole_number
-from .room import Room
 from .scans import Gone
 from .status import DONE, NOT_WRITTEN
 
@@ -34,9 +32,8 @@ LOOPBACK = ("127.0.0.1", "::1", "localhost")
 # A request has to be there within so many seconds after the one before it, its answer to be taken within so many more, and each piece of it
 # within fewer. From so many connections on, a new one ends the one that has waited longest; from twice as many on it is ended itself.
 MOST_BODY, PATIENCE, TAKING, STALLED, MOST_CONNECTIONS = 4096, 30, 60, 15, 128
-# How many bytes all answers have together that are made or sent, and one that is made; how many are sent at a time; for how many seconds room
-# is waited for; and after how many a client that takes its answer slowly has to make room.
-ROOM, SHARE, PIECE, CROWDED, SLOW = 2**26, MOST_BYTES + 2**16, 2**18, 5, 3
+# How many bytes are sent at a time, and after how many seconds a client that takes its answer slowly has to make room.
+PIECE, SLOW = 2**18, 3
 # How many bytes a thread's stack has; and how many heaps the C library makes, which are one for each thread otherwise, 64 MB of addresses
 # each, and by what number it is told so.
 STACK, HEAPS, MOST_HEAPS = 2**19, 2, -8
@@ -64,17 +61,16 @@ class Handler(BaseHTTPRequestHandler):
         """A request's answer. What it takes of the room for answers is given back when it was sent."""
         if not self.server.wait(self.connection, TAKING):
             return
-        share = SHARE if self.server.take_room(SHARE) else 0
         try:
-            answer = self.answer() if share else as_json(HTTPStatus.SERVICE_UNAVAILABLE, {"error": "there is no room; try again"}, **AGAIN)
-            self.server.room.give(share - len(answer.body))
-            share = len(answer.body)
-            self.server.wait(self.connection, TAKING)
-            self.send(answer)
+            answer = self.answer()
         except Gone:
             self.close_connection = True
+            return
+        try:
+            self.server.wait(self.connection, TAKING)
+            self.send(answer)
         finally:
-            self.server.room.give(share)
+            self.server.answers.room.give(answer.held)
 
     do_HEAD = do_POST = do_DELETE = do_PUT = do_PATCH = do_OPTIONS = do_GET
 
@@ -148,7 +144,7 @@ class Server(ThreadingHTTPServer):
     def __init__(self, address, port, answers, clock=time.monotonic):
         self.address_family = socket.AF_INET6 if ":" in address else socket.AF_INET
         self.answers, self.address, self.clock, self.due, self.lock = answers, address, clock, {}, threading.Lock()
-        self.room, self.begun = Room(ROOM), {}
+        self.begun, answers.room.press = {}, self.press
         super().__init__((address, port), Handler)
 
     def service_actions(self):
@@ -197,16 +193,11 @@ class Server(ThreadingHTTPServer):
                 self.due[connection] = self.clock() + seconds
             return is_there
 
-    def take_room(self, size: int) -> bool:
-        """Takes room for an answer. Where there is none for a while, who takes his own most slowly has to make some."""
-        until = self.clock() + CROWDED
-        while not self.room.take(size, 0.2):
-            slow = [connection for connection, since in list(self.begun.items()) if since + SLOW < self.clock()]
-            if slow:
-                self.end(min(slow, key=lambda each: self.begun.get(each, math.inf)))
-            elif self.clock() > until:
-                return False
-        return True
+    def press(self) -> None:
+        """Ends the connection that takes its answer most slowly."""
+        slow = [(since, connection) for connection, since in list(self.begun.items()) if since + SLOW < self.clock()]
+        if slow:
+            self.end(min(slow, key=lambda each: each[0])[1])
 
     @contextmanager
     def sending(self, connection: socket.socket):
