@@ -141,10 +141,22 @@ class Forms(Kept):
         made = []
         writer = mock.MagicMock()
         writer.__enter__.return_value.write_table = made.append
-        arrow = types.SimpleNamespace(schema=list, int64=lambda: "int64", string=lambda: "string", table=lambda columns, schema: (columns, schema))
+        made_of = types.SimpleNamespace(from_arrays=lambda arrays, schema: (arrays, schema))
+        arrow = types.SimpleNamespace(schema=list, int64=lambda: "int64", string=lambda: "string", array=lambda cells, type: (type, cells), Table=made_of)
         with mock.patch.object(parquet, "pyarrow", lambda name="": arrow if not name else mock.MagicMock(ParquetWriter=lambda *_: writer)):
             parquet.write_parquet(None, ["#", "text"], ["int", "text"], [(1, "a"), (2, "b")])
-        self.assertEqual(made, [([[1, 2], ["a", "b"]], [("#", "int64"), ("text", "string")])])
+        self.assertEqual(made, [([("int64", [1, 2]), ("string", ["a", "b"])], [("#", "int64"), ("text", "string")])])
+        words = [TOOLS / "warehouse", "read", self.folder, "products", "--format", "parquet", "--output", self.folder.parent / "p.parquet"]
+        with mock.patch.dict(os.environ, PYTHONPATH=str(self.without_pyarrow())):
+            told = subprocess.run(words, capture_output=True, text=True)
+        self.assertEqual((told.returncode, "needs pyarrow" in told.stderr, (self.folder.parent / "p.parquet").exists()), (2, True, False))
+
+    def without_pyarrow(self):
+        """A folder from which pyarrow cannot be imported."""
+        room = self.folder.parent / "room"
+        room.mkdir()
+        (room / "pyarrow.py").write_text("raise ImportError")
+        return room
 
     def test_who_reads_the_beginning_alone_is_told_nothing(self):
         self.night()

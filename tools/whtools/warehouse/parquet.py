@@ -9,7 +9,7 @@ from .finding import Failure
 from .forms import batches
 from .status import BAD_WORDS
 
-PARQUET, AT_A_TIME = "parquet", 100
+PARQUET = "parquet"
 
 
 def pyarrow(name: str = "pyarrow"):
@@ -22,10 +22,12 @@ def pyarrow(name: str = "pyarrow"):
 
 
 def write_parquet(file: BinaryIO, names: list[str], kinds: list[str], rows: Iterable[tuple]) -> None:
-    """Writes rows, some thousand at a time, numbers as 64 bits and texts as strings."""
+    """Writes rows, many at a time, numbers as 64 bits and texts as strings."""
     arrow, parquet = pyarrow(), pyarrow("pyarrow.parquet")
-    schema = arrow.schema([(name, arrow.int64() if kind == "int" else arrow.string()) for name, kind in zip(names, kinds)])
+    types = [arrow.int64() if kind == "int" else arrow.string() for kind in kinds]
+    schema = arrow.schema(list(zip(names, types)))
     with parquet.ParquetWriter(file, schema) as writer:
         for batch in batches(batches(rows)):
             columns = zip(*(row for part in batch for row in part))
-            writer.write_table(arrow.table([list(column) for column in columns], schema=schema))
+            arrays = [arrow.array(list(column), type=kind) for column, kind in zip(columns, types)]
+            writer.write_table(arrow.Table.from_arrays(arrays, schema=schema))

@@ -16,7 +16,7 @@ from .reading import Tables, identity_of
 from .versions import place
 
 # How much memory it may take, by how much it steps back behind those who read pages, and of how many versions it keeps what it knows.
-MEMORY, BEHIND, KEPT = 2**30, 5, 4
+MEMORY, BEHIND, KEPT = 2**30, 2, 4
 
 
 def tables_of(kept: dict, folder: Path, number: int, identity: list) -> Tables:
