@@ -67,7 +67,10 @@ class Client:
         """What so many answers took, or as many as there are in a while."""
         took, until = [], time.monotonic() + LONGEST
         while len(took) < count and (not took or time.monotonic() < until):
-            took.append(self.get(path)[0] * 1e3)
+            try:
+                took.append(self.get(path)[0] * 1e3)
+            except TimeoutError:
+                return f"none within {PATIENCE} s"
         took.sort()
         return f"{took[len(took) // 2]:.1f} ms ({took[len(took) * 99 // 100]:.1f})"
 

@@ -18,7 +18,7 @@ from .status import BAD_INPUT
 # How much of a file is looked at a time.
 BLOCK = 2**17
 RETURN = re.compile(rb"\r(?!\n)")
-BLANK_FIRST, BLANK = (b"\n", b"\r\n"), (b"\n\n", b"\n\r\n")
+BLANK_FIRST, BLANK, BLANK_RETURN = (b"\n", b"\r\n"), b"\n\n", b"\n\r\n"
 KINDS = {stat.S_ISFIFO: "a FIFO", stat.S_ISDIR: "a folder", stat.S_ISSOCK: "a socket", stat.S_ISCHR: "a device", stat.S_ISBLK: "a device"}
 
 
@@ -160,7 +160,9 @@ Block = InLines | InRecords
 
 def is_in_lines(content: bytes) -> bool:
     """Whether each line is seen to be one record, and none is empty."""
-    if content.startswith(BLANK_FIRST) or any(blank in content for blank in BLANK) or (b"\r" in content and RETURN.search(content)):
+    if content.startswith(BLANK_FIRST) or BLANK in content:
+        return False
+    if b"\r" in content and (BLANK_RETURN in content or RETURN.search(content)):
         return False
     return b'"' not in content or QUOTES.match(b"\n" + content).end() == len(content) + 1
 

@@ -2,8 +2,9 @@
 
 import json
 import re
-from collections.abc import Iterable, Iterator
+from collections.abc import Callable, Iterable, Iterator
 from itertools import chain, islice
+from json.encoder import encode_basestring
 
 from .finding import Failure, nearest
 from .status import BAD_WORDS
@@ -30,9 +31,15 @@ def batches(rows: Iterable[tuple]) -> Iterator[list]:
         yield batch
 
 
-def as_object(names: list[str], row: tuple) -> str:
-    """A row as a JSON object."""
-    return json.dumps(dict(zip(names, row)), ensure_ascii=False)
+def as_value(cell) -> str:
+    """A cell as JSON has it."""
+    return encode_basestring(cell) if type(cell) is str else json.dumps(cell)
+
+
+def object_writer(names: list[str]) -> Callable[[tuple], str]:
+    """What writes a row as a JSON object."""
+    keys = [f"{encode_basestring(name)}: " for name in names]
+    return lambda row: "{" + ", ".join([key + (str(cell) if type(cell) is int else as_value(cell)) for key, cell in zip(keys, row)]) + "}"
 
 
 def as_csv(names: list[str], rows: Iterable[tuple]) -> Iterator[str]:
@@ -41,15 +48,15 @@ def as_csv(names: list[str], rows: Iterable[tuple]) -> Iterator[str]:
 
 def as_lines(names: list[str], rows: Iterable[tuple]) -> Iterator[str]:
     """A JSON object in each line."""
-    return (as_object(names, row) + "\n" for row in rows)
+    return (found + "\n" for found in map(object_writer(names), rows))
 
 
 def as_json(names: list[str], rows: Iterable[tuple], about: dict) -> Iterator[str]:
     """One JSON object with what it is about, and its rows, each in a line."""
     yield json.dumps({**about, "rows": []}, ensure_ascii=False).removesuffix("]}")
     between = "\n"
-    for row in rows:
-        yield between + as_object(names, row)
+    for found in map(object_writer(names), rows):
+        yield between + found
         between = ",\n"
     yield "\n]}\n"
 

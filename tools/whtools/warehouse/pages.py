@@ -6,7 +6,7 @@ from collections.abc import Callable, Iterable, Iterator
 from dataclasses import dataclass
 
 from .choosing import Choice, Numbered
-from .forms import as_object
+from .forms import object_writer
 from .written import text_of
 
 # How many bytes the rows of a page have at most, and how long is searched for them.
@@ -31,8 +31,8 @@ def written_by(form: str, names: list[str]) -> Callable[[tuple], bytes]:
     """What writes a row in a form."""
     if form == CSV:
         return lambda row: text_of([row]).encode()
-    end = "\n" if form == LINES else ""
-    return lambda row: (as_object(names, row) + end).encode()
+    write, end = object_writer(names), "\n" if form == LINES else ""
+    return lambda row: (write(row) + end).encode()
 
 
 class Filling:

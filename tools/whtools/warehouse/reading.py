@@ -83,11 +83,7 @@ class Table:
         if wanted not in (None, names):
             raise Damaged(f"{path}:1:1: the header is {','.join(header)}, and the columns of {name} are {','.join(wanted)}")
         self.columns, self.marks = Columns(names, [kinds.get(column, "text") for column in names], counted), [(0, start)]
-
-    @property
-    def width(self) -> int:
-        """How many cells a record has."""
-        return len(self.columns.names) + self.columns.counted
+        self.width = len(header)
 
     @contextmanager
     def telling(self):
@@ -157,8 +153,8 @@ class Table:
         self.judge_width(record, at)
         count = 1
         if self.columns.counted:
-            count = number_of(record.pop(0))
-            if count is None or not 0 < count < MOST:
+            count = value_of(record.pop(0), "int")
+            if not isinstance(count, int) or not 0 < count < MOST:
                 raise Fault(at, "this record has no count")
         return count, tuple(map(value_of, record, self.columns.kinds))
 
