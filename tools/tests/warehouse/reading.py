@@ -11,9 +11,10 @@ from pathlib import Path
 from threading import Thread
 from unittest import mock
 
-from whtools.warehouse import held, versions
+from whtools.warehouse import blocks, held, reading, versions
 from whtools.warehouse.finding import Failure
-from whtools.warehouse.reading import STEP, Table, selected
+from whtools.warehouse.choosing import choice_of
+from whtools.warehouse.reading import Table
 
 from .folders import Kept
 from .shop import SHOP, TOOLS
@@ -88,10 +89,10 @@ class Reads(Kept):
             ("sales", "--limit", "1" * 30): (2, f"--limit is a number from 0 to {2**63 - 1:,}, and not '{'1' * 30}'"),
             ("sales", "--limit", "1", "--limit", "2"): (2, "--limit stands twice"),
             ("sales", "--limit"): (2, "--limit wants a value"),
-            ("sales", "--where", "day"): (2, "a column and its value are asked for as COLUMN=VALUE, and not as 'day'"),
+            ("sales", "--where", "day"): (2, "a column and its value are asked for as COLUMN=VALUE, or by !=, <, <=, > or >=, and not as 'day'"),
             ("sales", "--where", "dya=x"): (2, "sales has no column 'dya'; it has day, region, product, pieces, cost; did you mean day?"),
             ("sales", "--where", "cost=1.5"): (2, "cost is a whole number of 64 bits, and '1.5' is none"),
-            ("sales", "--format", "xml"): (2, "--format is csv or json, and not 'xml'"),
+            ("sales", "--format", "xml"): (2, "--format is csv, json, jsonl, table or parquet, and not 'xml'"),
             (): (2, "read takes a folder and a view"),
         }
         for words, (status, line) in cases.items():
@@ -106,33 +107,52 @@ class Reads(Kept):
             self.assertEqual(self.read("orders"), (self.folder / "versions/1/data/orders.csv").read_text())
 
 
+# Cells as tables may have them.
+CELLS = ["x", "tea, black", "two\nlines", 'a "quote"', "", "a\rreturn", "two\r\nends", "\u00e4"]
+
+
+def lines_of(rows, cells):
+    """Records, those with these cells in quotes."""
+    quoted = ((number, '"' + text.replace('"', '""') + '"' if text in cells else text) for number, text in rows)
+    return "#,number,text\n" + "".join(f"2,{number},{text}\n" for number, text in quoted)
+
+
 class Pages(Kept):
-    """Pages of a table, from whatever row on."""
+    """Pages of a table, from whatever row on, by blocks so small that there are many."""
+
+    def setUp(self):
+        super().setUp()
+        for module in (blocks, reading):
+            small = mock.patch.object(module, "BLOCK", 512)
+            small.start()
+            self.addCleanup(small.stop)
 
     def table(self, text):
         file = Path(self.program.parent) / "table.csv"
         file.write_bytes(text.encode())
         return Table("table", file, {"number": "int"})
 
+    def some(self, table, where=(), after=0, limit=None):
+        return list(choice_of(table, where, after=after).rows(limit))
+
     def test_pages_from_any_row_on_make_the_whole(self):
-        source = random.Random(12)
-        cells = ["x", "tea, black", "two\nlines", "a \"quote\"", "", "a\rreturn", "two\r\nends", "ä"]
-        rows = [(number, source.choice(cells)) for number in range(3 * STEP + 5)]
-        quoted = ('"' + text.replace('"', '""') + '"' for _, text in rows)
-        text = "#,number,text\n" + "".join(f"2,{number},{cell}\n" for (number, _), cell in zip(rows, quoted))
-        table = self.table(text)
-        for after in (0, 1, STEP - 1, STEP, STEP + 1, 2 * STEP, 3 * STEP + 4, 3 * STEP + 5, 10**9, 5, STEP):
-            found = list(selected(table, [], after, 7))
-            self.assertEqual(found, [(number + 1, (2, rows[number])) for number in range(after, min(after + 7, len(rows)))])
-        self.assertEqual([row for _, (_, row) in table.rows()], rows)
+        source, count = random.Random(12), 3000
+        for cells in (CELLS[:2] + CELLS[3:5], CELLS, ["x", "y"]):
+            rows = [(number, source.choice(cells)) for number in range(count)]
+            table = self.table(lines_of(rows, cells if len(cells) > 2 else []))
+            for after in (0, 1, 99, 100, 1000, count - 1, count, 10**9, 5, 1500):
+                found = self.some(table, (), after, 7)
+                self.assertEqual(found, [(number + 1, (2, rows[number])) for number in range(after, min(after + 7, count))])
+            self.assertEqual([row for _, (_, row) in table.rows()], rows)
+            self.assertGreater(len(table.marks), 10)
 
     def test_a_table_of_a_first_version_is_read_as_it_was_written(self):
         table = self.table("\ufeffnumber,text\r\n1,a\r\n\r\n+2,b\r3,c\r\n")
         self.assertEqual([each for _, each in table.rows()], [(1, (1, "a")), (1, (2, "b")), (1, (3, "c"))])
-        self.assertEqual([each for _, each in selected(table, ["number=2"])], [(1, (2, "b"))])
+        self.assertEqual([each for _, each in self.some(table, ["number=2"])], [(1, (2, "b"))])
 
     def test_many_threads_share_a_table(self):
-        rows = 4 * STEP
+        rows = 4000
         table = self.table("#,number,text\n" + "".join(f"1,{number},t\n" for number in range(rows)))
         wrong = []
 
@@ -140,7 +160,7 @@ class Pages(Kept):
             source = random.Random(seed)
             for _ in range(10):
                 after = source.randrange(rows)
-                number, (_, row) = next(iter(selected(table, [], after, 1)))
+                number, (_, row) = self.some(table, (), after, 1)[0]
                 if (number, row[0]) != (after + 1, after):
                     wrong.append((after, number, row))
 
@@ -149,7 +169,7 @@ class Pages(Kept):
             thread.start()
         for thread in threads:
             thread.join()
-        self.assertEqual(wrong, [])
+        self.assertEqual((wrong, table.marks), ([], sorted(table.marks)))
 
 
 class Holding(Kept):

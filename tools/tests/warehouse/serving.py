@@ -18,7 +18,7 @@ from unittest import mock
 from whtools.warehouse import serve
 from whtools.warehouse.answers import Answers, Request
 from whtools.warehouse.serve import Server
-from whtools.warehouse.sessions import MOST, Full, Over, Sessions
+from whtools.warehouse.sessions import MOST, SHARE, Full, Over, Sessions
 
 from .folders import Kept
 from .reports import Page
@@ -220,9 +220,9 @@ class Pinned(Served):
 
     def test_sessions_are_bounded_and_of_their_names_nothing_can_be_guessed(self):
         sessions = Sessions(self.folder, 5, lambda: 0.0)
-        names = {sessions.begin().name for _ in range(MOST)}
+        names = {sessions.begin(f"10.0.0.{number // SHARE}").name for number in range(MOST)}
         self.assertEqual((len(names), min(map(len, names)), len(sessions.pins)), (MOST, 24, 1))
-        self.assertRaises(Full, sessions.begin)
+        self.assertRaises(Full, sessions.begin, "10.0.1.0")
         sessions.clock = lambda: 6.0
         sessions.begin()
         self.assertEqual((len(sessions.open), [pin.sessions for pin in sessions.pins.values()]), (1, [1]))
@@ -261,11 +261,11 @@ class Hostile(Served):
             "/orders?limit=0": (400, "limit is a number from 1 to 10,000, and not '0'"),
             "/orders?limit=10001": (400, "limit is a number from 1 to 10,000, and not '10001'"),
             "/orders?limit=1&limit=2": (400, "limit stands twice"),
-            "/orders?format=xml": (400, "format is json or csv, and not 'xml'"),
-            "/orders?x=1": (400, "there is no field 'x'; there are version, after, limit, format, session, where"),
+            "/orders?format=xml": (400, "format is json, csv or jsonl, and not 'xml'"),
+            "/orders?x=1": (400, "there is no field 'x'; there are version, after, limit, format, session, where, order, columns"),
             "/orders?limit": (400, "the query is not NAME=VALUE&NAME=VALUE, or has too many of these"),
             "/orders?" + "where=id=1&" * 30 + "limit=1": (400, "the query is not NAME=VALUE&NAME=VALUE, or has too many of these"),
-            "/orders?where=id": (400, "a column and its value are asked for as COLUMN=VALUE, and not as 'id'"),
+            "/orders?where=id": (400, "a column and its value are asked for as COLUMN=VALUE, or by !=, <, <=, > or >=, and not as 'id'"),
             "/orders?where=id%3Dx": (400, "id is a whole number of 64 bits, and 'x' is none"),
             "/orders?where=nr%3D1": (404, "orders has no column 'nr'; it has id, day, region"),
             "/%ff": (400, "the target is no path with a query"),

@@ -3,33 +3,41 @@
 A path is a view's name or one of a few others; it never leads to a file by itself.
 """
 
-import io
 import json
 import os
 import re
+import socket
 from contextlib import contextmanager
 from http import HTTPStatus
 from http.cookies import CookieError, SimpleCookie
-from itertools import islice
 from threading import BoundedSemaphore
 from typing import NamedTuple
 from urllib.parse import parse_qsl, unquote, urlencode, urlsplit
 
+from .blocks import Damaged, opened
+from .choosing import Choice, choice_of
 from .finding import Failure, of_system
 from .held import Held
-from .reading import Missing, Tables, as_object, csv_lines, selected, whole_number
-from .serve_page import is_page_of, page_of
+from .pages import CSV, FORMS, JSON, LINES, MOST_BYTES, Page, Unfit, page_of
+from .reading import Far, Missing, Tables, identity_of, whole_number
+from .room import Crowded, Room
+from .scans import Busy, Scans
+from .serve_page import is_page_of, page_of_versions
 from .sessions import Full, Over, Sessions
 from .status import BAD_WORDS
 from .versions import named, place, whole
 
-# How many pages of rows are made at once; each takes memory, and one processor makes them all.
-AT_ONCE = 16
+# How many pages of rows are made at once; each takes memory, and one processor makes them all. A table of so few bytes is searched at once.
+AT_ONCE, SMALL = 8, 2**18
 USUAL, MOST, MOST_FIELDS, SHOWN = 1_000, 10_000, 20, 80
-FIELDS, SEVERAL = ("version", "after", "limit", "format", "session", "where"), ("where",)
+# How large a report is at most that is given, how much room is taken for a page or a report while it is made, and when what there is no
+# room or place for is asked for again, in seconds.
+MOST_OF_A_REPORT, SHARE, AGAIN = 2**22, MOST_BYTES + 2**16, {"Retry-After": "1"}
+FIELDS, SEVERAL = ("version", "after", "limit", "format", "session", "where", "order", "columns"), ("where",)
 REPORT = re.compile(r"/reports/((?:0|[1-9][0-9]{0,18}|preview)\.html)")
 SESSION = re.compile(r"/session/([A-Za-z0-9_-]{1,64})")
-JSON, CSV, HTML = "application/json", "text/csv; charset=utf-8; header=present", "text/html; charset=utf-8"
+KIND, HTML = "application/json", "text/html; charset=utf-8"
+KINDS = {JSON: KIND, CSV: "text/csv; charset=utf-8; header=present", LINES: "application/jsonl"}
 
 
 class Refused(Exception):
@@ -41,30 +49,42 @@ class Refused(Exception):
 
 
 class Request(NamedTuple):
-    """A request: its method, its target, and the headers that are looked at."""
+    """A request: its method, its target, the headers that are looked at, whence it comes, and the connection, which may end before."""
 
     method: str
     target: str
     cookie: str = ""
     accept: str = ""
+    address: str = ""
+    connection: socket.socket | None = None
 
 
 class Answer(NamedTuple):
-    """An answer: its status, what its body is, the body, and further headers."""
+    """An answer: its status, what its body is, the body, further headers, and how much room is to be given back when it was sent."""
 
     status: int
     kind: str
     body: bytes
     headers: dict = {}
+    held: int = 0
 
 
 def as_json(status, found, **headers):
-    return Answer(status, JSON, (json.dumps(found, ensure_ascii=False) + "\n").encode(), headers)
+    return Answer(status, KIND, (json.dumps(found, ensure_ascii=False) + "\n").encode(), headers)
 
 
 def shown(text):
     """A text of the request as a line of an answer has it."""
     return repr(text[:SHOWN])
+
+
+def parts_of(target: str) -> tuple[str, str]:
+    """The path and the query of a target. What comes is bytes, a character each; they are UTF-8, also where they are not quoted."""
+    try:
+        parts = urlsplit(target.encode("latin-1").decode())
+        return unquote(parts.path, errors="strict"), parts.query
+    except ValueError:
+        raise Refused(HTTPStatus.BAD_REQUEST, "the target is no path with a query") from None
 
 
 def fields_of(query):
@@ -99,6 +119,14 @@ def refusing():
         yield
     except Missing as failure:
         raise Refused(HTTPStatus.NOT_FOUND, str(failure.lines[0])) from None
+    except Damaged as failure:
+        raise Refused(HTTPStatus.INTERNAL_SERVER_ERROR, str(failure.lines[0])) from None
+    except Unfit as unfit:
+        raise Refused(HTTPStatus.SERVICE_UNAVAILABLE, str(unfit)) from None
+    except Busy:
+        raise Refused(HTTPStatus.SERVICE_UNAVAILABLE, "there are as many searches as there may be; try again", **AGAIN) from None
+    except Crowded:
+        raise Refused(HTTPStatus.SERVICE_UNAVAILABLE, "there is no room for the answer; try again", **AGAIN) from None
     except Failure as failure:
         status = HTTPStatus.BAD_REQUEST if failure.status == BAD_WORDS else HTTPStatus.SERVICE_UNAVAILABLE
         raise Refused(status, str(failure.lines[0])) from None
@@ -109,20 +137,18 @@ class Answers:
 
     def __init__(self, folder, promise):
         self.folder, self.sessions, self.kept, self.places = folder, Sessions(folder, promise), {}, BoundedSemaphore(AT_ONCE)
+        self.room = Room()
+        self.scans = Scans(self.room)
 
     def answer(self, request):
         """The answer to a request, whatever it is."""
         try:
-            # What comes is bytes, a character each; they are UTF-8, also where they are not quoted.
-            parts = urlsplit(request.target.encode("latin-1").decode())
-            path = unquote(parts.path, errors="strict")
-            return self.route(request, path, fields_of(parts.query))
+            path, query = parts_of(request.target)
+            return self.route(request, path, fields_of(query))
         except Refused as refused:
             return as_json(refused.status, {"error": refused.text}, **refused.headers)
         except Over as over:
             return as_json(HTTPStatus.GONE, {"error": self.over_text(over), "version": over.version}, **cookie("", 0))
-        except ValueError:
-            return as_json(HTTPStatus.BAD_REQUEST, {"error": "the target is no path with a query"})
 
     def route(self, request, path, fields):
         """Finds what is asked for by the path and the method."""
@@ -152,9 +178,10 @@ class Answers:
         """Opens a session at the current version."""
         try:
             with refusing():
-                session = self.sessions.begin()
+                session = self.sessions.begin(request.address)
         except Full:
-            raise Refused(HTTPStatus.SERVICE_UNAVAILABLE, "there are as many sessions as there may be; try again later") from None
+            text = "there are as many sessions as there may be, or as one address may have; try again later"
+            raise Refused(HTTPStatus.SERVICE_UNAVAILABLE, text, **AGAIN) from None
         headers = cookie(session.name, int(self.sessions.promise))
         if "text/html" in request.accept:
             return Answer(HTTPStatus.SEE_OTHER, HTML, b"", headers | {"Location": "/"})
@@ -232,8 +259,7 @@ class Answers:
 
     def tables(self, held):
         """The tables of a held version, which are the same as long as it is there."""
-        found = os.fstat(held.handle)
-        key = held.number, found.st_dev, found.st_ino, found.st_ctime_ns
+        key = held.number, *identity_of(os.fstat(held.handle))
         if key not in self.kept:
             there = set(whole(self.folder))
             self.kept = {each: tables for each, tables in list(self.kept.items()) if each[0] in there}
@@ -247,28 +273,39 @@ class Answers:
         with refusing():
             after = whole_number(fields.get("after", "0"), "after", 0, 2**63 - 1)
             limit = whole_number(fields.get("limit", str(USUAL)), "limit", 1, MOST)
-        kind = fields.get("format", "csv" if "text/csv" in request.accept else "json")
-        if kind not in ("json", "csv"):
-            raise Refused(HTTPStatus.BAD_REQUEST, f"format is json or csv, and not {shown(kind)}")
-        with self.held(request, fields) as held:
-            with refusing():
-                table = self.tables(held).table(name)
-            with self.places, refusing():
-                found = list(islice(selected(table, fields.get("where", ()), after), limit + 1))
-                following = found[limit - 1][0] if len(found) > limit else None
-                return self.page_of_rows(held.number, table, found[:limit], (fields, after, limit, following), kind)
+        form = fields.get("format", CSV if "text/csv" in request.accept else JSON)
+        if form not in FORMS:
+            raise Refused(HTTPStatus.BAD_REQUEST, f"format is {', '.join(FORMS[:-1])} or {FORMS[-1]}, and not {shown(form)}")
+        with self.held(request, fields) as held, refusing():
+            table = self.tables(held).table(name)
+            choice = choice_of(table, fields.get("where", ()), fields.get("order"), fields.get("columns"), after)
+            page = self.made(choice, form, limit, held) or self.searched(request, fields, choice, form, limit, held)
+        headers = {"X-Version": str(held.number)}
+        if page.following is not None:
+            again = {**fields, "version": held.number, "after": page.following, "limit": limit}
+            headers |= {"X-Next": str(page.following), "Link": f'</{name}?{urlencode(again, doseq=True)}>; rel="next"'}
+        return Answer(HTTPStatus.OK, KINDS[form], page.body, headers, len(page.body))
 
-    def page_of_rows(self, version, table, found, asked, kind):
-        """The answer that has these rows."""
-        fields, after, limit, following = asked
-        headers = {"X-Version": str(version)}
-        if following is not None:
-            again = {**fields, "version": version, "after": following, "limit": limit}
-            headers |= {"X-Next": str(following), "Link": f'</{table.name}?{urlencode(again, doseq=True)}>; rel="next"'}
-        if kind == "csv":
-            return Answer(HTTPStatus.OK, CSV, "".join(csv_lines(table, found)).encode(), headers)
-        rows = [as_object(table, counted) for _, counted in found]
-        return as_json(HTTPStatus.OK, {"view": table.name, "version": version, "after": after, "next": following, "rows": rows}, **headers)
+    def made(self, choice: Choice, form: str, limit: int, held: Held) -> Page | None:
+        """The page of rows that are soon found; None of others."""
+        if not choice.is_plain and choice.table.size > SMALL:
+            return None
+        try:
+            with self.places, self.room.share(SHARE) as share:
+                page = page_of(choice, form, limit, held.number, is_near=choice.is_plain)
+                share.kept = len(page.body)
+                return page
+        except Far:
+            return None
+
+    def searched(self, request: Request, fields: dict, choice: Choice, form: str, limit: int, held: Held) -> Page:
+        """The page of rows that are searched for, by a process of its own. What it learns of places in the table is kept."""
+        job = {"folder": str(self.folder), "version": held.number, "identity": identity_of(os.fstat(held.handle)), "view": choice.table.name}
+        job |= {"where": fields.get("where", ()), "order": fields.get("order"), "columns": fields.get("columns")}
+        told, body = self.scans.page(job | {"after": choice.after, "limit": limit, "form": form}, request.connection)
+        if told["mark"]:
+            choice.table.mark(*told["mark"])
+        return Page(body, told["following"])
 
     def versions(self, request, fields):
         """The versions that there are, and the views of the one that is read."""
@@ -290,7 +327,7 @@ class Answers:
         with self.held(request, fields) as held, refusing():
             left = self.sessions.left(session) if session else None
             told = self.over_text(over) if over else ""
-            text = page_of(self.folder, self.tables(held), left, self.sessions.promise, told)
+            text = page_of_versions(self.folder, self.tables(held), left, self.sessions.promise, told)
         return Answer(HTTPStatus.OK, HTML, text.encode(), cookie("", 0) if over else {})
 
     def report(self, name):
@@ -299,13 +336,22 @@ class Answers:
         try:
             if version.is_dir() and not is_page_of(file, version):
                 raise FileNotFoundError
-            handle = os.open(file, os.O_RDONLY | os.O_NOFOLLOW)
-        except OSError:
+            found = opened(file, os.O_NOFOLLOW)
+        except (OSError, Damaged):
             asked = "new" if version.name == "preview" else version.name
             made = f"`tools/warehouse report {self.folder} {asked}` makes it"
             raise Refused(HTTPStatus.NOT_FOUND, f"there is no report {name}; {made}") from None
-        with io.FileIO(handle) as file:
-            return Answer(HTTPStatus.OK, HTML, file.readall())
+        with found, refusing(), self.room.share(SHARE) as share:
+            body = found.read(MOST_OF_A_REPORT + 1)
+            if len(body) > MOST_OF_A_REPORT:
+                text = f"report {name} has more than {MOST_OF_A_REPORT:,} bytes; read it by its file"
+                raise Refused(HTTPStatus.SERVICE_UNAVAILABLE, text)
+            share.kept = len(body)
+        return Answer(HTTPStatus.OK, HTML, body, {}, len(body))
+
+    def close(self):
+        """Ends the searches."""
+        self.scans.close()
 
 
 def cookie(name, seconds):

@@ -16,7 +16,7 @@ from .streams import drop, opened
 
 HELPS = ("-h", "--help", "help")
 COMMANDS = ("pack", "unpack", "night", "lint", "check", "plan", "certify", "sizes", "diff", "explain", "graph")
-COMMANDS += ("report", "read", "serve", "init", "verify", "rollback", "log")
+COMMANDS += ("report", "read", "serve", "sql", "init", "verify", "rollback", "log")
 COMMANDS += ("put", "backup", "restore")
 KINDS = ("cells", "bytes")
 WITH_A_VALUE = ("--program", "--keep", "--weights", "--comp-cost", "--inst-cost", "--budget", "--workers", "--readers", "--page-keys")
@@ -26,18 +26,20 @@ RANGES = {"--workers": (1, 16), "--readers": (0, 16), "--page-keys": (1, 256), "
 RANGES |= dict.fromkeys(("--comp-cost", "--inst-cost"), (1, 1_000_000))
 # The options with a value that a command takes itself, each as often as it stands.
 OPTIONS = {
-    "read": ("--version", "--where", "--limit", "--format"),
+    "read": ("--version", "--where", "--order", "--columns", "--limit", "--format", "--output"),
     "serve": ("--port", "--address", "--promise"),
     "night": ("--accept", "--drop"),
     "log": ("--format",),
     "put": ("--batch", "--as"),
     "backup": ("--version",),
+    "sql": ("--version", "--format"),
 }
 # How many words a command takes besides its options, and what they are; where it is not one folder.
 OPERANDS = {
     "diff": (2, 2, "two files"),
     "report": (1, 2, "a folder, and perhaps a version or the word new"),
     "read": (2, 2, "a folder and a view"),
+    "sql": (1, 2, "a folder, and perhaps a query as one word"),
     "init": (2, sys.maxsize, "a folder and CSV files"),
     "verify": (1, 2, "a folder, and perhaps a version"),
     "rollback": (2, 2, "a folder and a version"),
@@ -46,7 +48,7 @@ OPERANDS = {
     "restore": (2, 2, "a backup, and a folder that is to be made"),
 }
 # Commands that judge their folder themselves, and those that read versions, which a night under way or a stopped one do not change.
-JUDGE_THEMSELVES, READ_VERSIONS = ("unpack", "diff", "init"), ("night", "report", "read", "serve", "verify", "rollback", "log")
+JUDGE_THEMSELVES, READ_VERSIONS = ("unpack", "diff", "init"), ("night", "report", "read", "serve", "sql", "verify", "rollback", "log")
 # Changes come in, and copies are made, beside a night too.
 READ_VERSIONS += ("put", "backup", "restore")
 GOES_THROUGH = {

@@ -3,9 +3,9 @@
 from importlib import import_module
 
 WORDS = {"diff": "OLD NEW", "unpack": "FOLDER < ANSWER", "init": "FOLDER FILES..", "read": "FOLDER VIEW", "report": "FOLDER [VERSION | new]"}
-WORDS |= {"verify": "FOLDER [VERSION]", "rollback": "FOLDER VERSION"}
+WORDS |= {"verify": "FOLDER [VERSION]", "rollback": "FOLDER VERSION", "sql": "FOLDER [QUERY]"}
 WORDS |= {"put": "FOLDER FILES..", "backup": "FOLDER TO", "restore": "BACKUP FOLDER"}
-WITHOUT_PROGRAM = ("lint", "pack", "unpack", "diff", "init", "read", "serve", "verify", "rollback", "log")
+WITHOUT_PROGRAM = ("lint", "pack", "unpack", "diff", "init", "read", "serve", "sql", "verify", "rollback", "log")
 WITHOUT_PROGRAM += ("put", "backup", "restore")
 OPTIONS = [
     ("--commit", ("night",), "keeps the night: takes the changes and makes a version"),
@@ -22,11 +22,14 @@ OPTIONS = [
     ("--comp-cost N", ("check", "plan", "certify"), "what a row that a Comp reads costs, 1 to 1,000,000; without it 1"),
     ("--inst-cost N", ("check", "plan", "certify"), "the same of a row that an Inst puts"),
     ("--budget N", ("plan",), "how many nodes a search opens at most, 1 to 9,223,372,036,854,775,807; without it 1,000,000"),
-    ("--version N", ("read",), "reads this version; without it the current one"),
-    ("--where COLUMN=VALUE", ("read",), "only rows with this value; it may stand several times"),
+    ("--version N", ("read", "sql"), "reads this version; without it the current one"),
+    ("--where COLUMN=VALUE", ("read",), "only rows with this value, or with !=, <, <=, >, >=; it may stand several times"),
+    ("--order COLUMN", ("read",), "by this column, or by -COLUMN with the largest first; with --limit in the memory of so many rows"),
+    ("--columns A,B", ("read",), "only these columns, in this order"),
     ("--limit N", ("read",), "so many rows at most"),
-    ("--format KIND", ("read",), "csv or json; without it csv"),
+    ("--format KIND", ("read", "sql"), "csv, json, jsonl (an object in each line) or table (for eyes), and of read parquet; without it csv"),
     ("--format KIND", ("log",), "text or json; without it text"),
+    ("--output FILE", ("read",), "into this file, which must not be there"),
     ("--port PORT", ("serve",), "the port, 0 for a free one; without it 8000"),
     ("--address ADDRESS", ("serve",), "the address; without it 127.0.0.1, which this machine alone reaches"),
     ("--promise SECONDS", ("serve",), "how long a session pins its version, 1 to 86,400; without it 900"),

@@ -1,25 +1,33 @@
 """The tables of a version, read row by row: all of them, those that are asked for, or a page of them."""
 
 import csv
-import io
-from itertools import chain, islice
+import os
+from bisect import bisect_right, insort
+from collections.abc import Iterator
+from contextlib import contextmanager
+from pathlib import Path
 from typing import NamedTuple
 
+from .blocks import BLOCK, Block, Damaged, Fault, blocks, line_at, opened
+from .blocks import records as records_from
 from .catalogue import Catalogue
 from .finding import Failure, nearest
-from .inputs import tables
+from .inputs import TABLE, tables
+from .numbers import MOST, number_of
 from .packing import MARK
-from .numbers import number_of
 from .status import BAD_WORDS
 from .versions import place, whole
-from .written import lines_of
 
-# At each how many rows the place in a file is noted, from which a later page goes on.
-STEP = 1024
+# Within how many blocks behind a known place a row has to stand, to be read without a search.
+NEAR = 8
 
 
 class Missing(Failure):
     """There is no view or column of a name."""
+
+
+class Far(Exception):
+    """A row stands so far behind what is known of a table that finding it is a search."""
 
 
 class Columns(NamedTuple):
@@ -28,25 +36,6 @@ class Columns(NamedTuple):
     names: list
     kinds: list
     counted: bool
-
-
-class Lines:
-    """The lines of an open file as text, and how many bytes have been taken; None within a line that a carriage return alone ends."""
-
-    def __init__(self, file, at):
-        file.seek(at)
-        self.file, self.at = file, at
-
-    def __iter__(self):
-        at = self.at
-        for line in self.file:
-            at += len(line)
-            pieces = [line.decode()] if b"\r" not in line[:-2] else list(io.StringIO(line.decode(), newline=""))
-            for piece in pieces[:-1]:
-                self.at = None
-                yield piece
-            self.at = at
-            yield pieces[-1]
 
 
 def records(content):
@@ -66,39 +55,107 @@ def records(content):
 
 def value_of(cell, kind):
     """A cell of a column of this kind. A table of before its column had numbers may have other texts in it."""
-    value = number_of(cell) if kind == "int" else None
+    if kind != "int":
+        return cell
+    if len(cell) < 19 and cell.isascii() and cell.isdecimal():
+        return int(cell)
+    value = number_of(cell)
     return cell if value is None else value
 
 
 class Table:
-    """A table in a file that does not change. `starts` has where the rows behind each 1,024th begin, as far as that is known."""
+    """A table in a file that does not change. `marks` has places of the file, each with how many rows stand before it, as far as they are
+    known. A night ends each table that it writes with a line feed, and its catalogue has the columns, where they are known.
+    """
 
-    def __init__(self, name, path, kinds):
+    def __init__(self, name, path, kinds, is_of_a_night=False, wanted=None):
         self.name, self.path = name, path
-        with path.open("rb") as file:
+        with opened(path) as file, self.telling():
             begin = len(MARK) if file.read(len(MARK)) == MARK else 0
-            header = next(filter(None, csv.reader(iter(Lines(file, begin)))), [])
-            self.starts = {0: begin}
+            _, start, header = next(records_from(file, begin), (0, 0, None))
+            if header is None:
+                raise Fault(0, "this table has no header")
+            self.size = os.fstat(file.fileno()).st_size
+            if is_of_a_night and os.pread(file.fileno(), 1, self.size - 1) != b"\n":
+                raise Fault(self.size, "the last line is cut off")
         counted = header[:1] == ["#"]
         names = header[counted:]
-        self.columns = Columns(names, [kinds.get(column, "text") for column in names], counted)
+        if wanted not in (None, names):
+            raise Damaged(f"{path}:1:1: the header is {','.join(header)}, and the columns of {name} are {','.join(wanted)}")
+        self.columns, self.marks = Columns(names, [kinds.get(column, "text") for column in names], counted), [(0, start)]
+        self.width = len(header)
 
-    def rows(self, after=0):
+    @contextmanager
+    def telling(self):
+        """Has what is wrong at a place of the file be told with its line."""
+        try:
+            yield
+        except Fault as fault:
+            raise Damaged(f"{self.path}:{line_at(self.path, fault.at)}:1: {fault.text}") from None
+
+    @contextmanager
+    def judging(self, block: Block):
+        """Has what is wrong in a block be told with its line."""
+        try:
+            yield
+        except (Fault, ValueError, csv.Error):
+            self.judge(block)
+            raise Damaged(f"{self.path}: what stands from byte {block.at:,} on is no table") from None
+
+    def judge(self, block: Block) -> None:
+        """Reads a block record by record, and tells what is wrong in it."""
+        with opened(self.path) as file, self.telling():
+            for start, end, record in records_from(file, block.at):
+                self.row(record, start)
+                if end >= block.end:
+                    return
+
+    def mark(self, before: int, at: int) -> None:
+        """Notes the place of a row, where none is known nearby."""
+        found = bisect_right(self.marks, (before, at))
+        near = self.marks[max(found - 1, 0) : found + 1]
+        if all(abs(at - other) >= BLOCK // 2 for _, other in near):
+            insort(self.marks, (before, at))
+
+    def place_before(self, after: int) -> tuple[int, int]:
+        """The last known place before the row behind the first so many, and how many rows stand before it."""
+        return self.marks[bisect_right(self.marks, (after, self.size)) - 1]
+
+    def blocks(self, after: int = 0, is_near: bool = False) -> Iterator[Block]:
+        """The blocks from the one with the row behind the first so many on; it may have to be nearby."""
+        before, at = self.place_before(after)
+        with opened(self.path) as file, self.telling():
+            for number, block in enumerate(blocks(file, at, before)):
+                self.mark(block.before, block.at)
+                if block.before + block.count > after:
+                    yield block
+                elif is_near and number >= NEAR:
+                    raise Far
+
+    def rows(self, after: int = 0) -> Iterator[tuple[int, tuple]]:
         """The rows behind the first so many, each with its number, from 1, and its count."""
-        step = min(after // STEP, len(self.starts) - 1)
-        with self.path.open("rb") as file:
-            lines = Lines(file, self.starts[step])
-            # At the beginning the header stands, as if it were row 0.
-            numbered = enumerate(filter(None, csv.reader(iter(lines))), step * STEP + (step > 0))
-            for number, record in numbered:
-                if number % STEP == 0 and lines.at is not None and number // STEP == len(self.starts):
-                    self.starts[number // STEP] = lines.at
-                if number > after:
-                    yield number, self.row(record)
+        for block in self.blocks(after):
+            yield from self.rows_of(block, after)
 
-    def row(self, record):
+    def rows_of(self, block: Block, after: int) -> Iterator[tuple[int, tuple]]:
+        """Those of one block."""
+        with self.judging(block):
+            for number, record in block.from_row(after):
+                yield number, self.row(record)
+
+    def judge_width(self, record: list[str], at: int = 0) -> None:
+        """Judges that a record has the header's cells."""
+        if len(record) != self.width:
+            raise Fault(at, f"this record has {len(record)} cells and the header has {self.width}")
+
+    def row(self, record: list[str], at: int = 0) -> tuple:
         """A record's count and cells; a cell of numbers is one."""
-        count = int(record.pop(0)) if self.columns.counted else 1
+        self.judge_width(record, at)
+        count = 1
+        if self.columns.counted:
+            count = value_of(record.pop(0), "int")
+            if not isinstance(count, int) or not 0 < count < MOST:
+                raise Fault(at, "this record has no count")
         return count, tuple(map(value_of, record, self.columns.kinds))
 
 
@@ -108,13 +165,26 @@ def catalogue_of(folder, number):
     return Catalogue(next((path for path in later if (path / "catalogue.toml").is_file()), folder), lenient=True)
 
 
+def others(folder: Path) -> dict:
+    """What lies in a folder in the place of tables and is no file, by the names of their views."""
+    found = [path for path in (folder.iterdir() if folder.is_dir() else ()) if not path.is_file()]
+    return {match[1]: path for path in found if (match := TABLE.fullmatch(path.name)) and not path.name.startswith(".")}
+
+
+def identity_of(found: os.stat_result) -> tuple[int, int, int]:
+    """By what a version's folder is known: its number may come again."""
+    return found.st_dev, found.st_ino, found.st_ctime_ns
+
+
 class Tables:
     """The tables of a version by the names of their views, in the order of the catalogue. Each is opened when it is first asked for."""
 
     def __init__(self, folder, number):
         version = place(folder, number)
         self.number, self.views = number, {view.name: view for view in catalogue_of(folder, number).views}
-        found = {name: source.path for kind in ("data", "views") for name, source in tables(version / kind, kind).items()}
+        self.has_catalogue = (version / "catalogue.toml").is_file()
+        found = {name: path for kind in ("data", "views") for name, path in others(version / kind).items()}
+        found |= {name: source.path for kind in ("data", "views") for name, source in tables(version / kind, kind).items()}
         self.paths = {name: found[name] for name in [*self.views, *found] if name in found}
         self.opened = {}
 
@@ -124,45 +194,10 @@ class Tables:
             near = nearest(name, list(self.paths))
             raise Missing(BAD_WORDS, f"version {self.number} has no view {name!r}; it has {', '.join(self.paths)}{near}")
         if name not in self.opened:
-            view = self.views.get(name)
-            self.opened[name] = Table(name, self.paths[name], dict(view.columns or []) if view else {})
+            columns = dict((self.views[name].columns if name in self.views else None) or [])
+            wanted = list(columns) if columns and self.has_catalogue else None
+            self.opened[name] = Table(name, self.paths[name], columns, self.number > 0, wanted)
         return self.opened[name]
-
-
-# ---- what is asked for
-
-
-class Test(NamedTuple):
-    """That a column has a value: the column's place among the cells, and the value."""
-
-    place: int
-    value: object
-
-    def holds(self, row):
-        return row[self.place] == self.value
-
-
-def test_of(table, asked):
-    """The test that a text such as `day=Monday` means."""
-    name, sign, value = asked.partition("=")
-    names, kinds, _ = table.columns
-    if not sign:
-        raise Failure(BAD_WORDS, f"a column and its value are asked for as COLUMN=VALUE, and not as {asked!r}")
-    if name not in names:
-        raise Missing(BAD_WORDS, f"{table.name} has no column {name!r}; it has {', '.join(names)}{nearest(name, names)}")
-    if kinds[names.index(name)] == "int":
-        number = number_of(value)
-        if number is None:
-            raise Failure(BAD_WORDS, f"{name} is a whole number of 64 bits, and {value[:40]!r} is none")
-        value = number
-    return Test(names.index(name), value)
-
-
-def selected(table, asked, after=0, limit=None):
-    """The numbered rows behind the first so many that have all values asked for, so many at most."""
-    tests = [test_of(table, each) for each in asked]
-    found = (each for each in table.rows(after) if all(test.holds(each[1][1]) for test in tests))
-    return islice(found, limit)
 
 
 def whole_number(word, what, least, most):
@@ -170,17 +205,3 @@ def whole_number(word, what, least, most):
     if not (word.isascii() and word.isdecimal()) or len(word) > 19 or not least <= int(word) <= most:
         raise Failure(BAD_WORDS, f"{what} is a number from {least:,} to {most:,}, and not {word[:40]!r}")
     return int(word)
-
-
-# ---- how it is written
-
-
-def csv_lines(table, rows):
-    """The rows as CSV, with their counts, a record each."""
-    return lines_of(chain([("#", *table.columns.names)], ((count, *row) for _, (count, row) in rows)))
-
-
-def as_object(table, counted):
-    """A row as JSON has it: its count as `#`, and each column."""
-    count, row = counted
-    return {"#": count, **dict(zip(table.columns.names, row))}

@@ -1,6 +1,11 @@
 """`serve`: a folder for those who read, over HTTP, on the loopback interface unless another address is asked for.
 
-Nothing is written, and no request waits for a night: each holds the version that it reads.
+Nothing is written, and no request waits for a night: each holds the version that it reads. GET /VIEW takes these fields, as `read` does:
+where=COLUMN=VALUE, or with !=, <, <=, > or >=, several times; order=COLUMN or -COLUMN; columns=A,B; limit=L, 1,000 or up to 10,000;
+format=json, csv or jsonl; version=N; session=NAME; after=A, which is the `next` of the page before, or its header X-Next.
+
+A page ends early at 4 MiB, and a search after ten seconds: it goes on behind `next`. Pages never wait for searches, of which there are a few
+at once. Status 503 with Retry-After: try again; 500: a table is damaged, and where; 410: the version or the session is over.
 """
 
 import ctypes
@@ -10,22 +15,25 @@ import sys
 import threading
 import time
 import traceback
-from contextlib import suppress
+from contextlib import contextmanager, suppress
 from http import HTTPStatus
 from http.server import BaseHTTPRequestHandler, ThreadingHTTPServer
 from urllib.parse import urlsplit
 
-from .answers import Answers, Request, as_json
+from .answers import Answer, Answers, Request, as_json
 from .finding import Failure, warn
 from .numbers import is_between
 from .reading import whole_number
+from .scans import Gone
 from .status import DONE, NOT_WRITTEN
 
 USUAL_PORT, USUAL_PROMISE, LONGEST = 8000, 900, 86_400
 LOOPBACK = ("127.0.0.1", "::1", "localhost")
-# A request has to be there within so many seconds after the one before it, and its answer to be taken within so many more. From so many
-# connections on, a new one ends the one that has waited longest; from twice as many on it is ended itself.
-MOST_BODY, PATIENCE, TAKING, MOST_CONNECTIONS = 4096, 30, 120, 128
+# A request has to be there within so many seconds after the one before it, its answer to be taken within so many more, and each piece of it
+# within fewer. From so many connections on, a new one ends the one that has waited longest; from twice as many on it is ended itself.
+MOST_BODY, PATIENCE, TAKING, STALLED, MOST_CONNECTIONS = 4096, 30, 60, 15, 128
+# How many bytes are sent at a time, and after how many seconds a client that takes its answer slowly has to make room.
+PIECE, SLOW = 2**18, 3
 # How many bytes a thread's stack has; and how many heaps the C library makes, which are one for each thread otherwise, 64 MB of addresses
 # each, and by what number it is told so.
 STACK, HEAPS, MOST_HEAPS = 2**19, 2, -8
@@ -40,7 +48,7 @@ HEADERS = {
 class Handler(BaseHTTPRequestHandler):
     """One connection, whose requests come one after another."""
 
-    protocol_version, server_version, sys_version, timeout = "HTTP/1.1", "whview", "", PATIENCE
+    protocol_version, server_version, sys_version, timeout, disable_nagle_algorithm = "HTTP/1.1", "whview", "", PATIENCE, True
 
     def handle_one_request(self):
         """A request and its answer, in time."""
@@ -50,10 +58,19 @@ class Handler(BaseHTTPRequestHandler):
             self.close_connection = True
 
     def do_GET(self):
-        if self.server.wait(self.connection, TAKING):
+        """A request's answer. What it takes of the room for answers is given back when it was sent."""
+        if not self.server.wait(self.connection, TAKING):
+            return
+        try:
             answer = self.answer()
+        except Gone:
+            self.close_connection = True
+            return
+        try:
             self.server.wait(self.connection, TAKING)
             self.send(answer)
+        finally:
+            self.server.answers.room.give(answer.held)
 
     do_HEAD = do_POST = do_DELETE = do_PUT = do_PATCH = do_OPTIONS = do_GET
 
@@ -62,9 +79,11 @@ class Handler(BaseHTTPRequestHandler):
         refused = self.refused()
         if refused:
             return refused
-        asked = Request(self.command, self.path, self.headers.get("Cookie", ""), self.headers.get("Accept", ""))
+        about = self.headers.get("Cookie", ""), self.headers.get("Accept", ""), self.client_address[0], self.connection
         try:
-            return self.server.answers.answer(asked)
+            return self.server.answers.answer(Request(self.command, self.path, *about))
+        except Gone:
+            raise
         except Exception:
             traceback.print_exc()
             return as_json(HTTPStatus.INTERNAL_SERVER_ERROR, {"error": "this could not be read"})
@@ -76,24 +95,42 @@ class Handler(BaseHTTPRequestHandler):
             self.close_connection = True
             return as_json(HTTPStatus.REQUEST_ENTITY_TOO_LARGE, {"error": "no request here has a body"})
         self.rfile.read(int(length))
-        if not self.server.is_own(f"//{self.headers.get('Host', '')}"):
+        hosts = self.headers.get_all("Host", [])
+        if len(hosts) > 1 or (not hosts and self.request_version == "HTTP/1.1"):
+            self.close_connection = True
+            return as_json(HTTPStatus.BAD_REQUEST, {"error": "a request has one Host"})
+        if not self.server.is_own(f"//{''.join(hosts)}"):
             return as_json(HTTPStatus.MISDIRECTED_REQUEST, {"error": "this host is not served here"})
         if self.command in ("POST", "DELETE") and not self.server.is_own(self.headers.get("Origin", "//localhost")):
             return as_json(HTTPStatus.FORBIDDEN, {"error": "this comes from another site"})
         return None
 
-    def send(self, answer):
-        """Sends an answer, without its body where the head alone is asked for."""
-        self.send_response(answer.status)
-        for name, value in (HEADERS | answer.headers).items():
-            self.send_header(name, value)
-        self.send_header("Content-Type", answer.kind)
-        self.send_header("Content-Length", str(len(answer.body)))
-        if self.close_connection:
-            self.send_header("Connection", "close")
-        self.end_headers()
-        if self.command != "HEAD":
-            self.wfile.write(answer.body)
+    def head_of(self, answer: Answer) -> bytes:
+        """The lines before an answer's body."""
+        status = HTTPStatus(answer.status)
+        fields = {"Server": self.version_string(), "Date": self.date_time_string(), **HEADERS, **answer.headers}
+        fields |= {"Content-Type": answer.kind, "Content-Length": str(len(answer.body))}
+        fields |= {"Connection": "close"} if self.close_connection else {}
+        lines = [f"{self.protocol_version} {status.value} {status.phrase}", *(f"{name}: {value}" for name, value in fields.items())]
+        return "".join(f"{line}\r\n" for line in [*lines, ""]).encode("latin-1", "replace")
+
+    def send(self, answer: Answer) -> None:
+        """Sends an answer, without its body where the head alone is asked for. What is short goes in one piece."""
+        head, body = self.head_of(answer), b"" if self.command == "HEAD" else answer.body
+        self.connection.settimeout(STALLED)
+        with self.server.sending(self.connection):
+            if len(body) <= PIECE:
+                self.put(head + body)
+            else:
+                self.put(head)
+                self.put(body)
+        self.connection.settimeout(self.timeout)
+
+    def put(self, content: bytes) -> None:
+        """Sends bytes piece by piece, each of which has to be taken in time."""
+        left = memoryview(content)
+        while left:
+            left = left[self.connection.send(left[:PIECE]) :]
 
     def log_message(self, *_):
         """Requests are not told."""
@@ -107,6 +144,7 @@ class Server(ThreadingHTTPServer):
     def __init__(self, address, port, answers, clock=time.monotonic):
         self.address_family = socket.AF_INET6 if ":" in address else socket.AF_INET
         self.answers, self.address, self.clock, self.due, self.lock = answers, address, clock, {}, threading.Lock()
+        self.begun, answers.room.press = {}, self.press
         super().__init__((address, port), Handler)
 
     def service_actions(self):
@@ -154,6 +192,25 @@ class Server(ThreadingHTTPServer):
             if is_there:
                 self.due[connection] = self.clock() + seconds
             return is_there
+
+    def press(self) -> None:
+        """Ends the connection that takes its answer most slowly."""
+        slow = [(since, connection) for connection, since in list(self.begun.items()) if since + SLOW < self.clock()]
+        if slow:
+            self.end(min(slow, key=lambda each: each[0])[1])
+
+    @contextmanager
+    def sending(self, connection: socket.socket):
+        """While an answer is sent, it is known since when."""
+        self.begun[connection] = self.clock()
+        try:
+            yield
+        finally:
+            self.begun.pop(connection, None)
+
+    def server_close(self):
+        super().server_close()
+        self.answers.close()
 
     def shutdown_request(self, request):
         with self.lock:

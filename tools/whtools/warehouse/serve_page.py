@@ -9,7 +9,9 @@ from .report_page import element, page, row, scrolling, section, table
 from .report_parts import number
 from .versions import named, place, whole
 
-REST = "GET /VIEW?version=N&after=A&limit=L&format=json|csv&where=COLUMN=VALUE"
+REST = "GET /VIEW?version=N&after=A&limit=L&where=COLUMN=VALUE&order=COLUMN&columns=A,B&format=json|jsonl|csv"
+# How many versions are shown.
+SHOWN = 100
 
 
 def report_of(folder, version):
@@ -68,13 +70,13 @@ def session_box(tables, left, promise, said):
     return section("session", "Your session", told_of + element("p", text) + button)
 
 
-def page_of(folder, tables, left, promise, said):
+def page_of_versions(folder, tables, left, promise, said):
     """The page."""
     name, found = os.path.basename(os.path.abspath(folder)), report_of(folder, tables.number)
     sizes, current = found.sizes if found else {}, named(folder)
     views = [view_row(tables, each, sizes) for each in tables.paths]
     heads = ["view", ("rows", "number"), "", "columns", "read"]
-    versions = [version_row(folder, each, current, tables.number) for each in reversed(whole(folder))]
+    versions = [version_row(folder, each, current, tables.number) for each in reversed(whole(folder)[-SHOWN:])]
     rest, following, after = (element("code", escape(text)) for text in (REST, "next", "after"))
     about = element("p", f"Programs read by {rest}; a page's {following} is the {after} of the next one.", class_="soft")
     parts = [section("views", f"The views of version {tables.number}", about + scrolling(table(heads, views), "the views"))]

@@ -3,14 +3,15 @@
 import os
 import secrets
 import time
-from collections import OrderedDict
+from collections import Counter, OrderedDict
+from ipaddress import ip_network
 from threading import Lock
 from typing import NamedTuple
 
 from .held import Held
 
-# How many sessions there are at once, and how many that are over are remembered, so that they can be told so.
-MOST, REMEMBERED = 1000, 10_000
+# How many sessions there are at once, how many of one address, and how many that are over are remembered, so that they can be told so.
+MOST, SHARE, REMEMBERED = 1000, 250, 10_000
 
 
 class Pin:
@@ -25,11 +26,12 @@ class Pin:
 
 
 class Session(NamedTuple):
-    """A session: its name, the version that it pins, and until when, by a clock that nobody turns."""
+    """A session: its name, the version that it pins, until when, by a clock that nobody turns, and whose share it is of."""
 
     name: str
     pin: Pin
     until: float
+    owner: str
 
 
 class Over(Exception):
@@ -44,21 +46,30 @@ class Full(Exception):
     """There are as many sessions as there may be."""
 
 
+def owner_of(address: str) -> str:
+    """Whose share an address is of: its own, or that of its network of 64 bits, in which anybody has any address."""
+    if ":" not in address or "." in address:
+        return address
+    return str(ip_network((address.partition("%")[0], 64), strict=False))
+
+
 class Sessions:
     """The sessions of a folder, each promised so many seconds."""
 
     def __init__(self, folder, promise, clock=time.monotonic):
         self.folder, self.promise, self.clock = folder, promise, clock
-        self.open, self.over, self.pins, self.lock = OrderedDict(), OrderedDict(), {}, Lock()
+        self.open, self.over, self.pins, self.shares, self.lock = OrderedDict(), OrderedDict(), {}, Counter(), Lock()
 
-    def begin(self):
-        """A session that pins the current version."""
+    def begin(self, address=""):
+        """A session that pins the current version, for somebody at an address."""
+        owner = owner_of(address)
         with self.lock:
             self.expire()
-            if len(self.open) >= MOST:
+            if len(self.open) >= MOST or self.shares[owner] >= SHARE:
                 raise Full
-            session = Session(secrets.token_urlsafe(18), self.pin(), self.clock() + self.promise)
+            session = Session(secrets.token_urlsafe(18), self.pin(), self.clock() + self.promise, owner)
             self.open[session.name] = session
+            self.shares[owner] += 1
             return session
 
     def find(self, name):
@@ -113,6 +124,8 @@ class Sessions:
     def end(self, name, has_left):
         session = self.open.pop(name)
         self.let_go(session.pin)
+        self.shares[session.owner] -= 1
+        self.shares += Counter()
         self.over[name] = session.pin.number, has_left
         if len(self.over) > REMEMBERED:
             self.over.popitem(last=False)

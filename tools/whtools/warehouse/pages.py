@@ -1,0 +1,99 @@
+"""A page of rows, as it is answered over the net: bounded in rows, in bytes and in time."""
+
+import json
+import time
+from collections.abc import Callable, Iterable, Iterator
+from dataclasses import dataclass
+
+from .choosing import Choice, Numbered
+from .forms import object_writer
+from .written import text_of
+
+# How many bytes the rows of a page have at most, and how long is searched for them.
+MOST_BYTES, DEADLINE = 2**22, 10
+JSON, CSV, LINES = "json", "csv", "jsonl"
+FORMS = (JSON, CSV, LINES)
+
+
+class Unfit(Exception):
+    """What is asked for takes more room or time than there is."""
+
+
+@dataclass(frozen=True, slots=True)
+class Page:
+    """The body of an answer, and the number of the row behind which the next one begins, if there is one."""
+
+    body: bytes
+    following: int | None
+
+
+def written_by(form: str, names: list[str]) -> Callable[[tuple], bytes]:
+    """What writes a row in a form."""
+    if form == CSV:
+        return lambda row: text_of([row]).encode()
+    write, end = object_writer(names), "\n" if form == LINES else ""
+    return lambda row: (write(row) + end).encode()
+
+
+class Filling:
+    """A page that takes rows as long as they have room."""
+
+    def __init__(self, choice: Choice, form: str, limit: int):
+        self.choice, self.form, self.limit = choice, form, limit
+        self.names = ["#", *choice.names]
+        self.write, self.rows, self.size = written_by(form, self.names), [], 0
+        self.last, self.following = choice.after, None
+
+    def take(self, rows: Iterable[Numbered]) -> bool:
+        """Takes rows, and answers whether there is room for more."""
+        for number, counted in rows:
+            if len(self.rows) == self.limit:
+                self.following = self.last
+                return False
+            count, cells = self.choice.cut(counted)
+            if not self.put(number, self.write((count, *cells))):
+                return False
+        return True
+
+    def put(self, number: int, row: bytes) -> bool:
+        """Puts a row, where it has room."""
+        if self.size + len(row) > MOST_BYTES:
+            if not self.rows:
+                raise Unfit(f"row {number} alone has {len(row):,} bytes, and a page has {MOST_BYTES:,} at most; `tools/warehouse read` gives it")
+            self.following = self.last
+            return False
+        self.rows.append(row)
+        self.size, self.last = self.size + len(row), number
+        return True
+
+    def page(self, version: int) -> Page:
+        """The page."""
+        if self.form == JSON:
+            about = {"view": self.choice.table.name, "version": version, "after": self.choice.after, "next": self.following}
+            head = json.dumps({**about, "rows": []}, ensure_ascii=False).removesuffix("]}").encode()
+            return Page(head + b", ".join(self.rows) + b"]}\n", self.following)
+        head = text_of([self.names]).encode() if self.form == CSV else b""
+        return Page(head + b"".join(self.rows), self.following)
+
+
+def in_time(choice: Choice, due: float) -> Iterator[Numbered]:
+    """All rows that are put in order, as long as there is time."""
+    for _, rows in choice.blocks():
+        if time.monotonic() > due:
+            raise Unfit(f"to put these rows in order takes more than {DEADLINE} seconds; ask for fewer of them by where")
+        yield from rows
+
+
+def page_of(choice: Choice, form: str, limit: int, version: int, is_near: bool = False) -> Page:
+    """The page of these rows. Where their time is over it ends early, with the number of the row behind which to go on."""
+    filling, due = Filling(choice, form, limit), time.monotonic() + DEADLINE
+    if choice.order is not None:
+        filling.take(choice.order.few(in_time(choice, due), limit + 1))
+        return filling.page(version)
+    for block, rows in choice.blocks(is_near):
+        if time.monotonic() > due and block.before > choice.after:
+            filling.following = block.before
+            break
+        if not filling.take(rows):
+            break
+    return filling.page(version)

@@ -1,0 +1,165 @@
+"""Searches of `serve`, each in a process of its own, so that pages never wait for them: a few at once, others wait for a moment, and each ends
+with its client or its time.
+"""
+
+import json
+import os
+import select
+import socket
+import subprocess
+import sys
+import time
+from collections.abc import Callable
+from pathlib import Path
+from threading import BoundedSemaphore, Lock
+
+from .blocks import Damaged
+from .pages import DEADLINE, Unfit
+from .room import Room
+
+# How many searches there are at once and how many wait, for how many seconds at most; and how long a process may be late.
+AT_ONCE, WAITING, PATIENCE, GRACE = max(1, min(4, (os.cpu_count() or 2) // 2)), 64, 5, 5
+TOOLS = Path(__file__).resolve().parents[2]
+PROGRAM = f"import sys; sys.path.insert(0, {str(TOOLS)!r}); from whtools.warehouse.scan_worker import main; main()"
+LEFT = select.POLLRDHUP | select.POLLHUP | select.POLLERR
+LENGTH = 16
+
+
+class Busy(Exception):
+    """There are as many searches as there may be."""
+
+
+class Gone(Exception):
+    """Nobody waits for the answer any more."""
+
+
+def is_gone(connection: socket.socket | None) -> bool:
+    """Whether a client has left."""
+    if connection is None:
+        return False
+    poller = select.poll()
+    poller.register(connection, LEFT)
+    return bool(poller.poll(0))
+
+
+class Worker:
+    """A process that searches."""
+
+    def __init__(self):
+        words = [sys.executable, "-I", "-S", "-c", PROGRAM]
+        self.process = subprocess.Popen(words, stdin=subprocess.PIPE, stdout=subprocess.PIPE, bufsize=0)
+        self.output = self.process.stdout.fileno()
+
+    def ask(self, job: dict, connection: socket.socket | None, room: Room) -> tuple[dict, bytes]:
+        """What it tells of a job, and the body that it made, for which room is kept."""
+        due = time.monotonic() + DEADLINE + GRACE
+        try:
+            self.process.stdin.write(json.dumps(job).encode() + b"\n")
+        except BrokenPipeError:
+            raise Unfit("this search ended before its time; try again") from None
+        head = self.received(2 * LENGTH, connection, due)
+        told, size = self.received(int(head[:LENGTH]), connection, due), int(head[LENGTH:])
+        with room.share(size) as share:
+            body = self.received(size, connection, due)
+            share.kept = size
+        return json.loads(told), body
+
+    def received(self, size: int, connection: socket.socket | None, due: float) -> bytes:
+        """So many bytes of its output."""
+        found = bytearray()
+        while len(found) < size:
+            self.wait(connection, due)
+            piece = os.read(self.output, min(size - len(found), 2**16))
+            if not piece:
+                raise Unfit("this search ended before its time; try again")
+            found += piece
+        return bytes(found)
+
+    def wait(self, connection: socket.socket | None, due: float) -> None:
+        """Waits for output, as long as there is time and somebody who waits for it."""
+        poller = select.poll()
+        poller.register(self.output, select.POLLIN)
+        if connection is not None:
+            poller.register(connection, LEFT)
+        found = dict(poller.poll(max(due - time.monotonic(), 0) * 1000))
+        if not found:
+            raise Unfit(f"this search was stopped after {DEADLINE + GRACE} seconds")
+        if self.output not in found:
+            raise Gone
+
+    def end(self) -> None:
+        """Ends the process."""
+        self.process.kill()
+        self.process.wait()
+        self.process.stdin.close()
+        self.process.stdout.close()
+
+
+class Scans:
+    """The searches of a server, and the processes that wait for the next one."""
+
+    def __init__(self, room: Room):
+        self.places, self.lock, self.waiting, self.free, self.is_closed = BoundedSemaphore(AT_ONCE), Lock(), 0, [], False
+        self.room = room
+
+    def page(self, job: dict, connection: socket.socket | None) -> tuple[dict, bytes]:
+        """What is told of the page of a job, and its body."""
+        self.queue(connection)
+        try:
+            told, body = self.asked(job, connection)
+        finally:
+            self.places.release()
+        if "damaged" in told:
+            raise Damaged(told["damaged"])
+        if "unfit" in told:
+            raise Unfit(told["unfit"])
+        return told, body
+
+    def queue(self, connection: socket.socket | None) -> None:
+        """Waits for a place, where not too many do."""
+        with self.lock:
+            if self.waiting >= WAITING:
+                raise Busy
+            self.waiting += 1
+        try:
+            self.wait(lambda: is_gone(connection))
+        finally:
+            with self.lock:
+                self.waiting -= 1
+
+    def wait(self, is_left: Callable[[], bool]) -> None:
+        """Waits for a place, for a moment, as long as somebody does."""
+        due = time.monotonic() + PATIENCE
+        while not self.places.acquire(timeout=0.1):
+            if is_left():
+                raise Gone
+            if time.monotonic() > due:
+                raise Busy
+
+    def asked(self, job: dict, connection: socket.socket | None) -> tuple[dict, bytes]:
+        """Has a process search. One that did not come to its end is none for the next search."""
+        with self.lock:
+            worker = self.free.pop() if self.free else None
+        worker = worker or Worker()
+        try:
+            found = worker.ask(job, connection, self.room)
+        except BaseException:
+            worker.end()
+            raise
+        self.give_back(worker)
+        return found
+
+    def give_back(self, worker: Worker) -> None:
+        """Keeps a process for the next search."""
+        with self.lock:
+            if not self.is_closed:
+                self.free.append(worker)
+                return
+        worker.end()
+
+    def close(self) -> None:
+        """Ends the processes."""
+        with self.lock:
+            self.is_closed, workers, self.free = True, self.free, []
+        for worker in workers:
+            worker.end()
