@@ -36,10 +36,10 @@ MADE = (
     "SELECT p.oid FROM pg_proc AS p WHERE p.pronamespace = to_regnamespace({schema}) AND p.proname LIKE {like} AND EXISTS (SELECT 1 FROM pg_trigger AS t"
     " WHERE t.tgfoid = p.oid AND t.tgname = concat({whview}, p.oid, {way}))"
 )
-# A function is called only if it is carried out as whoever owns it, and while nobody can make it another one.
+# A function is called only if it is carried out as whoever owns it, gives what needs no cast of anybody's, and while nobody can make it another one.
 SAFE = (
     "SELECT p.oid FROM pg_proc AS p WHERE p.oid = to_regprocedure(concat({schema}, {dot}, quote_ident((SELECT concat(left(o.proname, {short}), {suffix})"
-    " FROM pg_proc AS o WHERE o.oid = made)), {types})) AND p.prosecdef FOR SHARE"
+    " FROM pg_proc AS o WHERE o.oid = made)), {types})) AND p.prosecdef AND p.prorettype = {given}::regtype AND NOT p.proretset FOR SHARE"
 )
 
 
@@ -205,13 +205,15 @@ class Parting:
     def keeper(self):
         """What notes the parts of a table, if it may be called."""
         schema = self.captures.written(name(self.dialect.schema))
-        safe = sql(SAFE, schema=schema, dot=text("."), short=number(-len(OF_CAPTURE)), suffix=text(SUFFIX), types=text("(text)"))
+        safe = sql(SAFE, schema=schema, dot=text("."), short=number(-len(OF_CAPTURE)), suffix=text(SUFFIX), types=text("(text)"),
+                   given=text("oid[]"))  # fmt: skip
         return sql("keeper := ({safe})", safe=safe)
 
     def called(self, act):
-        """It is called with a word for what it is to do."""
-        call = sql("concat({select}, split_part(keeper::text, {open}, 1), {given})", select=text("SELECT "), open=text("("), given=text("($1)"))
-        return sql("EXECUTE {call} INTO gone USING {act}", call=call, act=act)
+        """It is called with a word for what it is to do. Whatever it set, names are looked up afterwards as they were before."""
+        named = sql("(SELECT format({wanted}, p.pronamespace::regnamespace, p.proname) FROM pg_proc AS p WHERE p.oid = keeper)", wanted=text("SELECT %s.%I($1)"))
+        path = sql("PERFORM pg_catalog.set_config({key}, {path}, TRUE)", key=text("search_path"), path=text(PATH))
+        return sql("EXECUTE {named} INTO gone USING {act}{end} {path}", named=named, act=act, path=path, end=END_OF_STATEMENT)
 
     def of_function(self):
         """What is done for the tables of one function of triggers: the parts that come get their triggers, and those that left lose them when their
