@@ -2,6 +2,7 @@
 
 from whtools.live.fitting import Fitting
 from whtools.live.log import FORMER, LOG, Log
+from whtools.live.log_parting import DIFFERS
 from whtools.live.opening import QUIETLY
 from whtools.live.owner import BELOW_SOURCE, Owner
 from whtools.live.parting import SUFFIX, Parting
@@ -282,6 +283,10 @@ class Captures(Triggers, Standing):
     def unnoted(self, v):
         """A test of a part b that nobody noted."""
         return self.query(v, "NOT EXISTS (SELECT 1 FROM {noted} AS n WHERE n.view = {view} AND n.part = b.relation)")
+
+    def differs(self, v):
+        """Whether a part of a source that is captured from the log is otherwise than it was noted."""
+        return self.query(v, DIFFERS, unnoted=self.unnoted(v))
 
     def parts_noted(self, v, only=sql("")):
         """The parts that a source has are noted, so that one that goes is missed."""

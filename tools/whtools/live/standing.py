@@ -106,7 +106,7 @@ class Standing:
         one, the tables are judged once more."""
         both, parts = sql("(own || captured)"), (
             "SELECT concat_ws({comma}, CASE WHEN k.oid = ANY (own) THEN k.xmin END, CASE WHEN k.oid = ANY (captured) THEN concat_ws({comma}, k.relname,"
-            " k.relnamespace, k.relpersistence, k.relreplident, y.xmin, n.xmin) END) FROM pg_class AS k JOIN pg_namespace AS n ON n.oid = k.relnamespace LEFT JOIN"
+            " k.relnamespace, k.relpersistence, k.relreplident, k.relfilenode, y.xmin, n.xmin) END) FROM pg_class AS k JOIN pg_namespace AS n ON n.oid = k.relnamespace LEFT JOIN"
             " pg_type AS y ON y.oid = k.reltype WHERE k.oid = ANY {both}",
             "SELECT a.xmin FROM pg_attribute AS a WHERE a.attrelid = ANY {both} AND a.attnum > 0",
             "SELECT t.xmin FROM pg_trigger AS t WHERE t.tgrelid = ANY {both}",
