@@ -110,9 +110,9 @@ def caught(live, *allowed):
     return [f"what is the seller's was called: {each}" for each in live.database.asked(f"SELECT DISTINCT called || ' by ' || whose FROM caught WHERE whose NOT IN ({names});")]
 
 
-def his_parts(live):
+def his_parts(live, function='wh."lines~capture"()'):
     """Parts of the seller's come and leave, with all of his on them."""
-    (made,) = live.database.asked("SELECT 'wh.\"lines~capture\"()'::regprocedure::oid;")
+    (made,) = live.database.asked(f"SELECT '{function}'::regprocedure::oid;")
     for number, each in enumerate(NAMES, 2):
         live.database.asked("SET ROLE seller;" + HIS.format(more=each, made=made, first=number * 1000, last=number * 1000 + 1000))
     live.database.asked(f"ALTER TABLE lines DETACH PARTITION most; CREATE TABLE his PARTITION OF lines FOR VALUES FROM (8000) TO (9000); DROP TABLE {NAMES[2]};"
