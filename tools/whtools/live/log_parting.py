@@ -55,6 +55,11 @@ class LogParting(Parting):
             *self.captures.since(v),
         ]  # fmt: skip
 
+    def unfit(self, v, source):
+        """Nor is a table compared of which a part is foreign, whose changes are in another server's log."""
+        foreign = self.captures.query(v, "EXISTS (SELECT 1 FROM " + BELOW + " JOIN pg_class AS k ON k.oid = b.relation WHERE k.relkind = {foreign})")
+        return sql("{unfit} OR {foreign}", unfit=super().unfit(v, source), foreign=foreign)
+
     # ---- the event trigger
 
     def watched(self, sources):

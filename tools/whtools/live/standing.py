@@ -7,11 +7,11 @@ from whtools.live.log_standing import OF_LOG, OF_WHOLE
 from whtools.sql.tokens import body, joined, name, sql, statements, text, word
 
 JUDGED = "~judged"
-# A column's place, its type and, of an enumeration, its values: more of them may come behind, and none may get another name. How a type of
-# one's own is called depends on the search path, its number does not; and a value may have a comma.
+# A column's place, its type and, of an enumeration, its values: more of them may come behind, and none may get another name, also for a while, of which its
+# row tells. How a type of one's own is called depends on the search path, its number does not; and a value may have a comma.
 TYPE = (
     "concat(a.attnum, {comma}, CASE WHEN a.atttypid < 16384 THEN format_type(a.atttypid, a.atttypmod) ELSE a.atttypid::text END, {comma},"
-    " (SELECT string_agg(concat(length(e.enumlabel::text), {comma}, e.enumlabel, {comma}), {none} ORDER BY e.oid) FROM pg_enum AS e"
+    " (SELECT string_agg(concat(e.xmin, {comma}, length(e.enumlabel::text), {comma}, e.enumlabel, {comma}), {none} ORDER BY e.oid) FROM pg_enum AS e"
     " WHERE e.enumtypid = a.atttypid))"
 )
 # What tells of a part p of a source whether its triggers are as they were made, where its rows lie, and whether its columns are as they were.
