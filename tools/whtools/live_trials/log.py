@@ -14,6 +14,7 @@ from whtools.live_trials.kills import WRITES, Killed, kill_mistakes
 from whtools.live_trials.log_writers import writers_told
 from whtools.live_trials.page import log_page_mistakes
 from whtools.live_trials.places import LivePostgreSQL
+from whtools.live_trials.planted import planted_mistakes
 from whtools.live_trials.shop import TABLES, Live
 
 DROPPED = "SELECT pg_drop_replication_slot(slot_name) FROM pg_replication_slots WHERE database = current_database() AND NOT active;"
@@ -256,7 +257,7 @@ def prepared_mistakes(live):
 def all_mistakes(live, other, seed):
     wrong = side_mistakes(live, 12, seed) + unmoved_mistakes(live) + start_mistakes(live, 4) + slot_mistakes(live) + gone_mistakes(live) + prepared_mistakes(live)
     wrong += setting_mistakes(live)
-    wrong += refused_mistakes(live, other) + both_mistakes(live) + log_parted.mistakes(live)
+    wrong += refused_mistakes(live, other) + both_mistakes(live) + log_parted.mistakes(live) + planted_mistakes(live)
     wrong += log_places.role_mistakes(live) + log_places.owned_mistakes(live) + log_places.standby_mistakes(live) + log_places.restored_mistakes(live)
     return wrong + log_places.subscribed_mistakes(live) + log_places.beside_mistakes(live, 4)
 
