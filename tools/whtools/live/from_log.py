@@ -201,7 +201,7 @@ class FromLog(Captures):
             " pg_class AS x ON x.oid = i.indexrelid WHERE i.indrelid = k.oid AND i.indisreplident) ELSE {default} END FROM pg_class AS k WHERE k.oid = part)",
             nothing=text("n"), of_nothing=text("NOTHING"), index=text("i"), using=text("USING INDEX "), default=text("DEFAULT"),
         )  # fmt: skip
-        noted = sql("INSERT INTO {former} VALUES (part, coalesce({was}, {default})) ON CONFLICT DO NOTHING", former=self.log.former, was=was, default=text("DEFAULT"))
+        noted = sql("INSERT INTO {former} VALUES (part, coalesce({was}, {default})) ON CONFLICT (relation) DO UPDATE SET was = excluded.was", former=self.log.former, was=was, default=text("DEFAULT"))
         changed = sql("EXECUTE concat({alter}, part, {full})", alter=text("ALTER TABLE ONLY "), full=text(" REPLICA IDENTITY FULL"))
         return self.one_by_one(v, relations, wanted, "ACCESS EXCLUSIVE", [noted, changed], [])
 
