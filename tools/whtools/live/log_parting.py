@@ -16,9 +16,11 @@ DIFFERS = (
     + FILE.replace("{part}", "o.part") + " OR o.attributes <> " + ATTRIBUTES.replace("{part}", "o.part") + " OR o.triggers IS DISTINCT FROM "
     + STAMP.replace("{part}", "o.part") + ")) OR EXISTS (SELECT 1 FROM " + BELOW + " WHERE {unnoted}))"
 )
-# The parts of captured tables that came by this transaction, below a table in parts whose rows are told whole.
+# The parts of captured tables that came by this transaction, below a table in parts whose rows are told whole. One that is published with a list of its columns
+# stays as it is, since its UPDATEs would fail.
 TOLD_KEYED = (
-    "SELECT b.relation FROM {below} AS b JOIN pg_class AS k ON k.oid = b.relation WHERE k.relkind = {ordinary} AND k.relreplident <> {whole}"
+    "SELECT b.relation FROM {below} AS b JOIN pg_class AS k ON k.oid = b.relation WHERE k.relkind = {ordinary} AND k.relreplident <> {whole} AND NOT EXISTS"
+    " (SELECT 1 FROM pg_publication_rel AS r WHERE r.prrelid = b.relation AND r.prattrs IS NOT NULL)"
 )
 ROOTS = "SELECT k.oid, FALSE FROM pg_class AS k JOIN pg_namespace AS s ON s.oid = k.relnamespace WHERE k.relkind = {parted} AND k.relreplident = {whole} AND ({named})"
 PLACED = "s.nspname = {schema} AND k.relname = {table}"

@@ -7,7 +7,7 @@ from pathlib import Path
 from unittest import mock
 
 from whtools.databases.engines import Broken, Server, Session, in_folder
-from whtools.live_trials import again, beside, catalogues, log_cases, log_parted, log_places, long_texts, planning, refused, values
+from whtools.live_trials import again, beside, catalogues, log_cases, log_drawn, log_parted, log_places, long_texts, planning, refused, values
 from whtools.live_trials.beside import WRITER
 from whtools.live_trials.cases import BOTH, OF, mistakes
 from whtools.live_trials.kills import WRITES, Killed, kill_mistakes
@@ -257,7 +257,8 @@ def prepared_mistakes(live):
 def all_mistakes(live, other, seed):
     wrong = side_mistakes(live, 12, seed) + unmoved_mistakes(live) + start_mistakes(live, 4) + slot_mistakes(live) + gone_mistakes(live) + prepared_mistakes(live)
     wrong += setting_mistakes(live)
-    wrong += refused_mistakes(live, other) + both_mistakes(live) + log_parted.mistakes(live) + planted_mistakes(live)
+    wrong += refused_mistakes(live, other) + both_mistakes(live) + log_parted.mistakes(live) + log_drawn.mistakes(live, 8, seed)
+    wrong += planted_mistakes(live)
     wrong += log_places.role_mistakes(live) + log_places.owned_mistakes(live) + log_places.standby_mistakes(live) + log_places.restored_mistakes(live)
     return wrong + log_places.subscribed_mistakes(live) + log_places.beside_mistakes(live, 4)
 

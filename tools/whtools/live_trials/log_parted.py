@@ -29,6 +29,11 @@ HEALED = {
         " UPDATE orders SET paid = NOT paid WHERE id < 4; UPDATE lines SET pieces = 3;"
     ),
     "a part that is emptied alone": Case("TRUNCATE low; UPDATE lines SET pieces = 3 WHERE id > 30; INSERT INTO low VALUES (1, 4, 'product 4');", made=PARTED),
+    "a part that is published with a list of columns": Case(
+        "SET client_min_messages = error; CREATE TABLE more (id int NOT NULL, product text NOT NULL, pieces smallint NOT NULL, PRIMARY KEY (id, product)); CREATE PUBLICATION"
+        " listed FOR TABLE more (id, product); ALTER TABLE lines ATTACH PARTITION more FOR VALUES FROM (2000) TO (3000); INSERT INTO more VALUES (2000, 'product 2', 3); UPDATE"
+        " more SET pieces = 7; DROP PUBLICATION listed;", made=PARTED, refused="are not logged as they were",
+    ),
     "a part that is emptied, and others at once": Case("TRUNCATE low; TRUNCATE lines; INSERT INTO lines VALUES (3, 'product 3', 3); TRUNCATE high;", made=PARTED),
 }  # fmt: skip
 # A day: a new part whose rows come, change and leave; the day after they change by the log alone.
