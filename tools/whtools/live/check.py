@@ -65,7 +65,9 @@ class Check:
     def refusals(self, chosen):
         """Refusals of tables that are not captured as they were. Whether rows changed unnoticed the check finds out by itself."""
         base, captures = [v for v in chosen if v in self.sources], self.script.captures
-        return (captures.whole(base) if self.dialect.takes else captures.stands(base)) if base else []
+        if not self.dialect.takes:
+            return captures.stands(base) if base else []
+        return [*(captures.whole(base) if base else []), *(each for v in base for each in captures.uncalled(self.sources[v]))]
 
     def looked_at(self, session, v, noted):
         told = noted.told(v) if self.script.views[v].over else []

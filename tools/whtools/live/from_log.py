@@ -1,8 +1,10 @@
 """PostgreSQL as tables are captured there from its log: a slot of logical replication keeps what is written, and nothing is put on the tables."""
 
 from whtools.live.log_functions import LogFunctions, Placed
+from whtools.live.log_parting import LogParting
 from whtools.live.log_standing import IDENTIFIED, STAMP
 from whtools.live.owner import BELOW_SOURCE
+from whtools.live.parting import SUFFIX
 from whtools.live.postgresql import Captures
 from whtools.live.standing import UNFIT
 from whtools.live.triggers import BELOW, PAUSE, TRIES
@@ -28,6 +30,11 @@ FOREIGN = ("JOIN pg_class AS k ON k.oid = b.relation WHERE k.relkind = {foreign}
 # An UPDATE of a table whose rows are told whole fails where a publication of it leaves columns out.
 LISTED = (
     "%s is published with a list of its columns, beside which its rows cannot be logged whole: publish all of them, or have its primary key captured as its key"
+)
+# All tables that were made so that their rows are told whole, and those below such a table that came later, of which nothing was noted; these first.
+MADE_WHOLE = (
+    "(SELECT u.relation, bool_or(u.is_known) AS is_known FROM (WITH RECURSIVE below (relation, is_known) AS (SELECT o.relation, TRUE FROM {former} AS o UNION SELECT"
+    " i.inhrelid, FALSE FROM below AS b JOIN pg_inherits AS i ON i.inhparent = b.relation) SELECT b.relation, b.is_known FROM below AS b) AS u GROUP BY u.relation) AS b"
 )
 # What says how rows of a part b of a source are told that change or leave.
 KEYED, WHOLE = "key", "whole"
@@ -66,7 +73,7 @@ class FromLog(Captures):
 
     def __init__(self, script):
         super().__init__(script)
-        self.functions, self.read_tables = LogFunctions(self), []
+        self.functions, self.parting, self.read_tables = LogFunctions(self), LogParting(self), []
 
     def log_role(self):
         """Who owns the functions that read the log: a role that may use slots and nothing else, where nights have one of their own."""
@@ -76,13 +83,10 @@ class FromLog(Captures):
 
     def function_names(self):
         own = [self.script.prefix + said for said in ("~cells", "~take")]
-        return [*own, *(self.script.said(v, "~logged") for v in self.script.steps.base()), *self.fitted.names]
+        return [*own, *(self.script.said(v, suffix) for v in self.script.steps.base() for suffix in ("~logged", SUFFIX)), *self.fitted.names]
 
     def shared_function_names(self):
         return [*super().shared_function_names(), *(self.script.prefix + said for said in ("~cells", "~take", "~read", "~move"))]
-
-    def watched(self, _):
-        return []
 
     def made_before(self):
         parts = {"level": text("wal_level"), "logical": text("logical"), "most": text("max_replication_slots"), "slot": self.log.slot(), "plugin": text("test_decoding")}
@@ -135,8 +139,16 @@ class FromLog(Captures):
         )  # fmt: skip
         listed = self.query(v, "SELECT format({told}, b.relation::regclass) FROM " + BELOW + " JOIN pg_publication_rel AS r ON r.prrelid = b.relation AND r.prattrs IS NOT NULL"
                                " LIMIT 1", told=text(LISTED))  # fmt: skip
-        judged = [] if is_keyed else self.dialect.refuse_with(listed)
-        return [*judged, *self.functions.rows.function(v, source, is_keyed), noted]
+        judged = [] if is_keyed else [*self.dialect.refuse_with(listed), self.whole_before(v)]
+        return [*judged, *self.functions.rows.function(v, source, is_keyed), *self.parting.noting(v, source), noted]
+
+    def whole_before(self, v):
+        """Parts whose rows are told whole already stay so when they are let go. What comes below a table that was made so, is made so by the event trigger."""
+        return self.query(
+            v, "INSERT INTO {former} SELECT b.relation, {full} FROM " + BELOW + " JOIN pg_class AS k ON k.oid = b.relation WHERE k.relreplident = {whole} AND NOT EXISTS"
+            " (SELECT 1 FROM pg_inherits AS i JOIN {former} AS o ON o.relation = i.inhparent WHERE i.inhrelid = b.relation) ON CONFLICT DO NOTHING",
+            former=self.log.former, full=text("FULL"), whole=text("f"),
+        )  # fmt: skip
 
     # In the place of triggers is noted what tells whether a part has had another name.
     stamp = STAMP
@@ -151,7 +163,7 @@ class FromLog(Captures):
         return [*self.made(sources), self.slot_made(), *whole, *let_go, *self.triggers_gone(sources), self.settled(sources), *self.filled(sources), self.log.moved()]
 
     def triggers_gone(self, sources):
-        functions = [each for v in sources for each in (sql("DROP FUNCTION IF EXISTS {function}()", function=self.function(v)), *self.parting.gone(v))]
+        functions = [sql("DROP FUNCTION IF EXISTS {function}()", function=self.function(v)) for v in sources]
         return self.dialect.creation([sql("SET LOCAL client_min_messages = warning"), *functions])
 
     def let_all_go(self, base):
@@ -160,15 +172,17 @@ class FromLog(Captures):
         return [gone, *super().let_all_go(base), self.told_as_before(base[0])]
 
     def told_as_before(self, v):
-        relations = sql("SELECT o.relation::regclass FROM {former} AS o JOIN pg_class AS k ON k.oid = o.relation", former=self.log.former)
-        is_whole = sql("EXISTS (SELECT 1 FROM pg_class AS k WHERE k.oid = part AND k.relreplident = {whole}) AND EXISTS (SELECT 1 FROM {former} AS o WHERE o.relation ="
-                       " part::oid)", whole=text("f"), former=self.log.former)  # fmt: skip
-        was = sql("(SELECT o.was FROM {former} AS o WHERE o.relation = part::oid)", former=self.log.former)
-        changed = sql("EXECUTE concat({alter}, part, {identity}, {was})", alter=text("ALTER TABLE ONLY "), identity=text(" REPLICA IDENTITY "), was=was)
-        return self.one_by_one(v, relations, is_whole, "ACCESS EXCLUSIVE", [changed, self.forgotten()], [])
+        """Those that came below a table that was made so are told by their key again, as they would have been."""
+        below = sql(MADE_WHOLE, former=self.log.former)
+        relations = sql("SELECT b.relation::regclass FROM {below} JOIN pg_class AS k ON k.oid = b.relation ORDER BY b.is_known", below=below)
+        is_whole = sql("EXISTS (SELECT 1 FROM pg_class AS k WHERE k.oid = part AND k.relreplident = {whole}) AND coalesce({was} <> {full}, TRUE)", whole=text("f"),
+                       was=self.was(), full=text("FULL"))  # fmt: skip
+        changed = sql("EXECUTE concat({alter}, part, {identity}, coalesce({was}, {default}))", alter=text("ALTER TABLE ONLY "), identity=text(" REPLICA IDENTITY "),
+                      was=self.was(), default=text("DEFAULT"))  # fmt: skip
+        return self.one_by_one(v, relations, is_whole, "ACCESS EXCLUSIVE", [changed], [])
 
-    def forgotten(self):
-        return sql("DELETE FROM {former} AS o WHERE o.relation = part::oid", former=self.log.former)
+    def was(self):
+        return sql("(SELECT o.was FROM {former} AS o WHERE o.relation = part::oid)", former=self.log.former)
 
     def slot_made(self):
         """The slot, in a transaction that has written nothing; one that was invalidated goes. It waits for transactions that have begun."""
@@ -180,14 +194,14 @@ class FromLog(Captures):
     def identified(self, v):
         """Parts without a key that the log could tell get their rows told whole, at a moment when nobody is using them."""
         relations = self.query(v, "SELECT b.relation::regclass FROM " + BELOW)
-        wanted = sql("EXISTS (SELECT 1 FROM pg_class AS k WHERE k.oid = part AND k.relkind = {ordinary} AND k.relreplident <> {whole})",
-                     ordinary=self.texts["ordinary"], whole=text("f"))  # fmt: skip
+        wanted = sql("EXISTS (SELECT 1 FROM pg_class AS k WHERE k.oid = part AND k.relkind IN ({ordinary}, {parted}) AND k.relreplident <> {whole})",
+                     ordinary=self.texts["ordinary"], parted=self.texts["parted"], whole=text("f"))  # fmt: skip
         was = sql(
             "(SELECT CASE k.relreplident WHEN {nothing} THEN {of_nothing} WHEN {index} THEN (SELECT concat({using}, quote_ident(x.relname)) FROM pg_index AS i JOIN"
             " pg_class AS x ON x.oid = i.indexrelid WHERE i.indrelid = k.oid AND i.indisreplident) ELSE {default} END FROM pg_class AS k WHERE k.oid = part)",
             nothing=text("n"), of_nothing=text("NOTHING"), index=text("i"), using=text("USING INDEX "), default=text("DEFAULT"),
         )  # fmt: skip
-        noted = sql("INSERT INTO {former} VALUES (part, coalesce({was}, {default})) ON CONFLICT DO NOTHING", former=self.log.former, was=was, default=text("DEFAULT"))
+        noted = sql("INSERT INTO {former} VALUES (part, coalesce({was}, {default})) ON CONFLICT (relation) DO UPDATE SET was = excluded.was", former=self.log.former, was=was, default=text("DEFAULT"))
         changed = sql("EXECUTE concat({alter}, part, {full})", alter=text("ALTER TABLE ONLY "), full=text(" REPLICA IDENTITY FULL"))
         return self.one_by_one(v, relations, wanted, "ACCESS EXCLUSIVE", [noted, changed], [])
 

@@ -7,7 +7,6 @@ quotes where they are no plain words, and quotes in them are doubled, as those i
 from typing import NamedTuple
 
 from whtools.live.log_rows import LogRows
-from whtools.live.owner import BELOW_SOURCE
 from whtools.live.triggers import PAUSE, TRIES
 from whtools.sql.postgresql import PATH
 from whtools.sql.tokens import END_OF_STATEMENT, body, joined, number, sql, statements, text, word
@@ -20,12 +19,14 @@ NAME = '(?:"(?:[^"]|"")*"|[a-z0-9_]+)'
 # How a change begins that empties tables ends: no other change ends so.
 EMPTIED = (": TRUNCATE: (no-flags)", ": TRUNCATE: restart_seqs", ": TRUNCATE: cascade", ": TRUNCATE: restart_seqs cascade")
 PARTS = ("old-key:", "new-tuple:")
+HIDDEN = "HIDDEN"
 # The number of a transaction of 32 bits as one of 64, which is less than half of those away from now.
 LONG_NUMBER = "(({now} + (({number}::text::bigint - {now}) % {all} + {all} + {half}) % {all} - {half})::text::xid8)"
 READ = (
     "RETURN QUERY WITH peeked AS MATERIALIZED (SELECT p.lsn, p.xid, p.data, p.place, split_part(p.data, {colon}, 1) AS head FROM"
     " pg_logical_slot_peek_changes({slot}, NULL, NULL, {option}, {no}) WITH ORDINALITY AS p (lsn, xid, data, place)),"
     " names AS (SELECT DISTINCT r.relation::text AS name FROM ({relations}) AS r WHERE {readable}),"
+    " hidden AS (SELECT DISTINCT r.root::text AS name FROM ({relations}) AS r WHERE NOT {readable}),"
     " ended AS (SELECT p.xid, p.lsn FROM peeked AS p WHERE p.data = {committed}),"
     " told AS (SELECT p.xid, p.place, n.name, substr(p.data, length(concat({table}, n.name, {colon})) + 1) AS said FROM peeked AS p JOIN names AS n"
     " ON p.head = concat({table}, n.name) WHERE strpos(n.name, {colon}) = 0 UNION ALL SELECT p.xid, p.place, n.name,"
@@ -37,6 +38,15 @@ READ = (
     " ON e.xid = t.xid WHERE split_part(t.said, {mark}, 1) <> {truncate}"
     " UNION ALL SELECT t.place, e.lsn, {number}, t.name, {truncate}, {none} FROM emptied AS t JOIN names AS n ON n.name = t.name JOIN ended AS e ON e.xid = t.xid"
     " UNION ALL SELECT 0::bigint, max(e.lsn), NULL::xid8, NULL::text, NULL::text, NULL::text FROM ended AS e"
+    " UNION ALL SELECT -1::bigint, NULL::pg_lsn, NULL::xid8, NULL::text, {hiding}, h.name FROM hidden AS h"
+)
+UNREADABLE = "table %s may not be read (SELECT) by %s any more, who is not told its changes: grant it again, or run tools/sql --capture"
+
+
+ALL_PARTS = (
+    "(WITH RECURSIVE below (root, relation) AS (SELECT k.oid, k.oid FROM pg_class AS k JOIN pg_namespace AS n ON n.oid = k.relnamespace WHERE n.nspname = {schema}"
+    " AND k.relname = {table} UNION SELECT b.root, i.inhrelid FROM below AS b JOIN pg_inherits AS i ON i.inhparent = b.relation)"
+    " SELECT b.root::regclass AS root, b.relation::regclass AS relation FROM below AS b)"
 )
 
 
@@ -74,21 +84,21 @@ class LogFunctions:
         ]  # fmt: skip
 
     def relations(self, tables):
-        """The tables with these names, with their parts and heirs, as they are now: found without a right on their schemas."""
-        below = BELOW_SOURCE.replace("{source}::regclass::oid", "k.oid FROM pg_class AS k JOIN pg_namespace AS n ON n.oid = k.relnamespace WHERE n.nspname ="
-                                     " {schema} AND k.relname = {table}")  # fmt: skip
-        found = [sql("SELECT b.relation FROM {below}", below=sql(below, schema=text(each.schema), table=text(each.table))) for each in tables]
+        """The tables with these names, with their parts and heirs, as they are now: found without a right on their schemas. Whoever may read a table may
+        read the rows of its parts."""
+        found = [sql(ALL_PARTS, schema=text(each.schema), table=text(each.table)) for each in tables]
         return joined(found, "UNION ALL")
 
     def read(self, tables, role):
         """The changes of these tables, those alone that whoever owns the schema may read; another one's reading is waited for."""
-        readable = sql("has_table_privilege({role}, r.relation, {select})", role=text(role), select=text("SELECT")) if role else sql("TRUE")
+        readable = sql("has_table_privilege({role}, r.root, {select})", role=text(role), select=text("SELECT")) if role else sql("TRUE")
         now = sql("pg_snapshot_xmax(pg_current_snapshot())::text::bigint")
         number_of = sql(LONG_NUMBER, now=now, number=sql("e.xid"), all=number(2**32), half=number(2**31))
         query = sql(
             READ, slot=self.log.slot(), option=text("include-xids"), no=text("0"), relations=self.relations(tables), readable=readable,
             committed=text("COMMIT"), table=text("table "), colon=text(": "), mark=text(":"), ends=text(array_of(EMPTIED)), each=text(rf"{NAME}\.{NAME}"),
             all=text("g"), number=number_of, truncate=text("TRUNCATE"), none=text(""), emptying=text(": TRUNCATE: "),
+            hiding=text(HIDDEN),
         )  # fmt: skip
         return sql(
             "\n#variable_conflict use_column\nDECLARE tries pg_catalog.int4{end}\nBEGIN\ntries := 0{end}\nLOOP\nBEGIN\n{query}{end}\nRETURN{end}\n"
@@ -163,6 +173,9 @@ class LogFunctions:
             sql("IF NOT is_night THEN {flushed} ELSIF current_setting({key}) = {off} THEN PERFORM set_config({key}, {local}, TRUE){end} END IF",
                 flushed=statements(self.log.flushed(), 2), key=text("synchronous_commit"), off=text("off"), local=text("local"), end=END_OF_STATEMENT),
             sql("CREATE TEMPORARY TABLE {log} ON COMMIT DROP AS SELECT * FROM {read}()", log=self.rows.log_name(), read=self.log.function("read")),
+            sql("finding := (SELECT format({told}, l.said, current_user) FROM {log} AS l WHERE l.act = {hiding} LIMIT 1)", told=text(UNREADABLE), hiding=text(HIDDEN),
+                log=self.rows.log_table()),
+            self.dialect.where(sql("finding IS NOT NULL"), self.dialect.raised(word("finding"))),
             # A night may have moved the slot while a check came to read it.
             sql("IF NOT is_night THEN finding := ({holes}){end} {raised}{end} END IF", holes=self.log.holes(), end=END_OF_STATEMENT,
                 raised=self.dialect.where(sql("finding IS NOT NULL"), self.dialect.raised(word("finding")))),

@@ -4,6 +4,7 @@ Of a table whose rows the log tells whole before they change or leave (REPLICA I
 the key alone, a row leaves as it stood before the night, and comes as it was told last."""
 
 from whtools.live.digests import in_index, same_texts
+from whtools.live.parting import CHANGED
 from whtools.live.turned import how_of_postgresql
 from whtools.sql.dialect import COUNT
 from whtools.sql.postgresql import PATH
@@ -12,7 +13,6 @@ from whtools.sql.tokens import END_OF_STATEMENT, body, joined, name, number, sql
 TOLD = "table %s is not captured as it was: %s; run tools/sql --capture"
 WHY = {
     "unlike": "rows were written while its columns were not as they were captured, or its rows were not logged so",
-    "part": "a part of it was truncated alone, and the log does not tell its rows",
     "missed": "the log does not have all its changes",
 }
 # Types whose values may be stored apart from their rows, which a change that leaves them as they were does not tell again.
@@ -77,7 +77,8 @@ class LogRows:
         return self.dialect.where(sql("EXISTS ({query})", query=query), self.raised(v, why))
 
     def emptied(self, v):
-        """Where all parts of the table were emptied at once, all that stood before leaves; what was written before that is of no account."""
+        """Where all parts of the table were emptied at once, all that stood before leaves; what was written before that is of no account. Of a part that was
+        emptied alone while this night began the log does not tell the rows, and the next night compares the table."""
         read = self.working(v, "read")
         ordinary = sql("JOIN pg_class AS k ON k.oid = {part} AND k.relkind = {kind}", part=sql("p.part"), kind=text("r"))
         some = sql(
@@ -87,7 +88,7 @@ class LogRows:
         return [
             sql("emptied := (SELECT max(r.place) FROM {read} AS r WHERE r.act = {truncate})", read=read, truncate=text("TRUNCATE")),
             sql("IF emptied IS NOT NULL THEN {made} END IF", made=statements([
-                self.refused(v, "part", some),
+                self.dialect.where(sql("EXISTS ({some})", some=some), self.dialect.raised(text(CHANGED % self.script.views[v].name))),
                 self.leave(v, self.standing(v)),
                 sql("DELETE FROM {read} AS r WHERE r.place <= emptied", read=read),
             ], 2)),

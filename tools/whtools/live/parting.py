@@ -36,10 +36,10 @@ MADE = (
     "SELECT p.oid FROM pg_proc AS p WHERE p.pronamespace = to_regnamespace({schema}) AND p.proname LIKE {like} AND EXISTS (SELECT 1 FROM pg_trigger AS t"
     " WHERE t.tgfoid = p.oid AND t.tgname = concat({whview}, p.oid, {way}))"
 )
-# A function is called only if it is carried out as whoever owns it, and while nobody can make it another one.
+# A function is called only if it is carried out as whoever owns it, gives what needs no cast of anybody's, and while nobody can make it another one.
 SAFE = (
     "SELECT p.oid FROM pg_proc AS p WHERE p.oid = to_regprocedure(concat({schema}, {dot}, quote_ident((SELECT concat(left(o.proname, {short}), {suffix})"
-    " FROM pg_proc AS o WHERE o.oid = made)), {types})) AND p.prosecdef FOR SHARE"
+    " FROM pg_proc AS o WHERE o.oid = made)), {types})) AND p.prosecdef AND p.prorettype = {given}::regtype AND NOT p.proretset FOR SHARE"
 )
 
 
@@ -63,8 +63,9 @@ class Parting:
     def noting(self, v, source):
         """The function by which parts of a table are noted, which nobody else may call: it tells those that left, notes what came and what left with
         its rows, or marks the table as torn."""
-        if not source.is_parted:
-            return self.gone(v)
+        return self.made(v, source) if source.is_parted else self.gone(v)
+
+    def made(self, v, source):
         made = sql(
             "CREATE OR REPLACE FUNCTION {function}(act text) RETURNS oid[] LANGUAGE plpgsql SECURITY DEFINER SET search_path = " + PATH + " AS {program}",
             function=self.function(v), program=body(self.program(v, source)),
@@ -117,24 +118,18 @@ class Parting:
     def compared(self, v, source):
         """By a night's snapshot the changes become what differs, as a capture compares it: triggers stand on all other parts and have noted what is after
         that snapshot. What is read has to be the tables that this sees: neither written anew nor other ones since."""
-        said = self.captures.written(source.said)
-        fits = joined([sql("({fits})", fits=column.fits) for column in source.columns], "OR")
-        below = self.captures.query(v, BELOW)
+        said, below = self.captures.written(source.said), self.captures.query(v, BELOW)
         other = sql(
             "EXISTS (SELECT 1 FROM {below} FULL JOIN pg_partition_tree({said}::regclass) AS t ON t.relid = b.relation WHERE t.relid IS NULL OR b.relation IS NULL)"
             " OR EXISTS (SELECT 1 FROM {below} JOIN pg_class AS k ON k.oid = b.relation WHERE k.relfilenode <> coalesce(pg_relation_filenode(k.oid), 0))",
             below=below, said=said)  # fmt: skip
-        unfit = sql("(SELECT count(*) FROM pg_attribute AS a WHERE a.attrelid = {said}::regclass AND a.attnum > 0 AND ({fits})) <> {many}"
-                    " OR EXISTS (SELECT 1 FROM {below} WHERE {calls})", said=said, fits=fits, many=number(len(source.columns)), below=below,
-                    calls=self.captures.calls(sql("b.relation")))  # fmt: skip
         there = "EXISTS (SELECT 1 FROM pg_class AS k WHERE k.oid = {part})"
-        renamed = self.captures.query(v, "to_regclass({said}) IS DISTINCT FROM (SELECT c.source FROM {state} AS c WHERE c.view = {view})", said=said)
         return [
-            self.dialect.where(renamed, sql("RETURN NULL")),
+            self.dialect.where(self.renamed(v, source), sql("RETURN NULL")),
             sql("PERFORM set_config({key}, {waited}, TRUE)", key=text("lock_timeout"), waited=text(WAITED)),
             sql("LOCK TABLE {source} IN ACCESS SHARE MODE", source=source.said),
             self.dialect.where(other, self.dialect.raised(text(CHANGED % source.table))),
-            self.dialect.where(unfit, sql("RETURN NULL")),
+            self.dialect.where(self.unfit(v, source), sql("RETURN NULL")),
             sql("DELETE FROM {changes}", changes=self.script.table(v, "~changes")),
             self.captures.difference(v, source),
             # The lock keeps tables from leaving and from being written anew, and not from coming.
@@ -142,14 +137,27 @@ class Parting:
             self.captures.query(v, "DELETE FROM {noted} AS n WHERE n.view = {view} AND NOT " + there, part=sql("n.part")),
         ]  # fmt: skip
 
+    def renamed(self, v, source):
+        return self.captures.query(v, "to_regclass({said}) IS DISTINCT FROM (SELECT c.source FROM {state} AS c WHERE c.view = {view})",
+                                   said=self.captures.written(source.said))  # fmt: skip
+
+    def unfit(self, v, source):
+        """Whether a table's columns cannot be turned, or its rows cannot be read without that somebody's function is called."""
+        fits = joined([sql("({fits})", fits=column.fits) for column in source.columns], "OR")
+        return sql("(SELECT count(*) FROM pg_attribute AS a WHERE a.attrelid = {said}::regclass AND a.attnum > 0 AND ({fits})) <> {many}"
+                   " OR EXISTS (SELECT 1 FROM {below} WHERE {calls})", said=self.captures.written(source.said), fits=fits, many=number(len(source.columns)),
+                   below=self.captures.query(v, BELOW), calls=self.captures.calls(sql("b.relation")))  # fmt: skip
+
     def mended(self):
-        """What a night does first where a part that was noted is there no more."""
+        """What a night does first where a part that was noted is there no more, or in the log where a part is otherwise than it was noted."""
         found = []
         for v in self.script.steps.base():
             function = self.captures.written(sql("{function}(text)", function=self.function(v)))
-            gone = self.captures.query(v, "to_regprocedure({called}) IS NOT NULL AND EXISTS (SELECT 1 FROM {noted} AS n WHERE n.view = {view} AND NOT EXISTS"
-                                          " (SELECT 1 FROM pg_class AS k WHERE k.oid = n.part))", called=function)  # fmt: skip
-            found.append(self.dialect.where(gone, sql("PERFORM {function}({dropped})", function=self.function(v), dropped=text("dropped"))))
+            wanted = self.captures.query(
+                v, "to_regprocedure({called}) IS NOT NULL AND (CASE WHEN {from_log} THEN {differs} ELSE EXISTS (SELECT 1 FROM {noted} AS n WHERE n.view = {view} AND NOT EXISTS"
+                " (SELECT 1 FROM pg_class AS k WHERE k.oid = n.part)) END)", called=function, from_log=self.captures.log.is_there(), differs=self.captures.differs(v),
+            )  # fmt: skip
+            found.append(self.dialect.where(wanted, sql("PERFORM {function}({dropped})", function=self.function(v), dropped=text("dropped"))))
         return found
 
     # ---- the event trigger
@@ -180,9 +188,9 @@ class Parting:
     def said(self):
         return self.captures.written(sql("{event}()", event=self.event))
 
-    def watcher(self):
-        """The event trigger's function. What fails in it never fails the command that it was fired for."""
-        program = sql(
+    def watcher_program(self):
+        """What fails in the event trigger's function never fails the command that it was fired for."""
+        return sql(
             "\n#variable_conflict use_column\nDECLARE made regprocedure{end}\n  part regclass{end}\n  keeper regprocedure{end}\n  gone oid[]{end}\n"
             "  own bigint{end}\nBEGIN\n  IF current_setting({busy}, TRUE) = {on} THEN RETURN{end} END IF{end}\n  BEGIN\n  IF NOT {concerns} THEN RETURN{end} END IF{end}\n"
             "  PERFORM set_config({busy}, {on}, TRUE){end}\n  own := pg_current_xact_id()::text::bigint{end}\n  FOR made IN {functions} LOOP{parts}\n  END LOOP{end}\n"
@@ -193,7 +201,13 @@ class Parting:
             concerns=sql(CONCERNS, classes=text("pg_class"), whview=text("whview ")), keeper=self.keeper(), told=text(UNNOTED),
             tears=self.called(sql("concat({torn}, left(SQLERRM, 200))", torn=text(TORN))),
         )  # fmt: skip
+
+    def watcher(self):
+        """The event trigger's function. One that is no superuser's, whom whoever owns the schema may have made, goes before."""
+        strange = sql("EXISTS (SELECT 1 FROM pg_proc AS p JOIN pg_roles AS r ON r.oid = p.proowner WHERE p.oid = to_regprocedure({event}) AND NOT r.rolsuper)", event=self.said())
+        program = self.watcher_program()
         return [
+            self.dialect.where(strange, sql("DROP FUNCTION {event}() CASCADE", event=self.event)),
             sql("CREATE OR REPLACE FUNCTION {event}() RETURNS event_trigger LANGUAGE plpgsql SECURITY DEFINER SET search_path = " + PATH + " AS {program}",
                 event=self.event, program=body(program)),
             sql("REVOKE ALL ON FUNCTION {event}() FROM PUBLIC", event=self.event),
@@ -205,13 +219,15 @@ class Parting:
     def keeper(self):
         """What notes the parts of a table, if it may be called."""
         schema = self.captures.written(name(self.dialect.schema))
-        safe = sql(SAFE, schema=schema, dot=text("."), short=number(-len(OF_CAPTURE)), suffix=text(SUFFIX), types=text("(text)"))
+        safe = sql(SAFE, schema=schema, dot=text("."), short=number(-len(OF_CAPTURE)), suffix=text(SUFFIX), types=text("(text)"),
+                   given=text("oid[]"))  # fmt: skip
         return sql("keeper := ({safe})", safe=safe)
 
     def called(self, act):
-        """It is called with a word for what it is to do."""
-        call = sql("concat({select}, split_part(keeper::text, {open}, 1), {given})", select=text("SELECT "), open=text("("), given=text("($1)"))
-        return sql("EXECUTE {call} INTO gone USING {act}", call=call, act=act)
+        """It is called with a word for what it is to do. Whatever it set, names are looked up afterwards as they were before."""
+        named = sql("(SELECT format({wanted}, p.pronamespace::regnamespace, p.proname) FROM pg_proc AS p WHERE p.oid = keeper)", wanted=text("SELECT %s.%I($1)"))
+        path = sql("PERFORM pg_catalog.set_config({key}, {path}, TRUE)", key=text("search_path"), path=text(PATH))
+        return sql("EXECUTE {named} INTO gone USING {act}{end} {path}", named=named, act=act, path=path, end=END_OF_STATEMENT)
 
     def of_function(self):
         """What is done for the tables of one function of triggers: the parts that come get their triggers, and those that left lose them when their

@@ -2,6 +2,7 @@
 
 from whtools.live.fitting import Fitting
 from whtools.live.log import FORMER, LOG, Log
+from whtools.live.log_parting import DIFFERS
 from whtools.live.opening import QUIETLY
 from whtools.live.owner import BELOW_SOURCE, Owner
 from whtools.live.parting import SUFFIX, Parting
@@ -22,7 +23,10 @@ STRANGE = "there is a table %s already, which is none of --capture's: name anoth
 ALONE = "the isolation is not REPEATABLE READ: run the whole script, and not its block alone"
 READ = "%s depends on %s, which would go: drop it before, and run the script again"
 UNKNOWN = "%s is captured too, and is not in this catalogue: a catalogue with all that is captured lets it go"
-CALLED = "%s cannot be read by a superuser: its indexes or checks call a function that is no superuser's; name by --role who reads it"
+CALLED = (
+    "%s is not read as %s: its indexes, checks or statistics call a function that is no superuser's, nor a member's of that role; once you have looked at the"
+    " function, make it a superuser's by ALTER FUNCTION .. OWNER TO"
+)
 OTHERWISE = "%s is otherwise than it was when this script was made: make it anew by tools/sql --capture"
 
 
@@ -174,15 +178,18 @@ class Captures(Triggers, Standing):
     def fitting(self, source):
         """A refusal of a source that is another thing than it was, or has columns of other types: what is read of it calls nothing of others'."""
         fits = joined([sql("({fits})", fits=column.fits) for column in source.columns], "OR")
-        below = sql(BELOW_SOURCE, source=self.written(source.said))
-        called = sql("SELECT format({told}, b.relation) FROM {below} WHERE {calls} LIMIT 1", told=text(CALLED), below=below,
-                     calls=self.calls(sql("b.relation")))  # fmt: skip
         return self.dialect.refuse_with(sql(
             "SELECT format({told}, {source}::text) WHERE NOT EXISTS (SELECT 1 FROM pg_class AS k WHERE k.oid = {source}::regclass"
             " AND k.relkind = {kind}) OR (SELECT count(*) FROM pg_attribute AS a WHERE a.attrelid = {source}::regclass AND a.attnum > 0 AND ({fits}))"
             " <> {many}", told=text(OTHERWISE), source=self.written(source.said), kind=text("p" if source.is_parted else "r"), fits=fits,
             many=number(len(source.columns)),
-        )) + self.dialect.refuse_with(called)  # fmt: skip
+        )) + self.uncalled(source)  # fmt: skip
+
+    def uncalled(self, source):
+        """A refusal of a source that cannot be read without that somebody's function is called whom its reader has no reason to trust."""
+        below = sql(BELOW_SOURCE, source=self.written(source.said))
+        return self.dialect.refuse_with(sql("SELECT format({told}, b.relation, current_user) FROM {below} WHERE {calls} LIMIT 1", told=text(CALLED), below=below,
+                                            calls=self.calls(sql("b.relation"))))  # fmt: skip
 
     def tables_made(self, sources):
         """The tables that are not there yet, each with its columns, and the keys of former ones."""
@@ -276,6 +283,10 @@ class Captures(Triggers, Standing):
     def unnoted(self, v):
         """A test of a part b that nobody noted."""
         return self.query(v, "NOT EXISTS (SELECT 1 FROM {noted} AS n WHERE n.view = {view} AND n.part = b.relation)")
+
+    def differs(self, v):
+        """Whether a part of a source that is captured from the log is otherwise than it was noted."""
+        return self.query(v, DIFFERS, unnoted=self.unnoted(v))
 
     def parts_noted(self, v, only=sql("")):
         """The parts that a source has are noted, so that one that goes is missed."""

@@ -40,7 +40,15 @@ class Source(NamedTuple):
 
 def turned_by(engine, table):
     """The columns of a table, each turned or not, by their names."""
-    return {told.name: TURNS[engine](told) for told in table.columns}
+    return {told.name: turned_one(engine, told) for told in table.columns}
+
+
+def turned_one(engine, told):
+    """A column as it is turned; one whose name cannot be written, such as one of two lines, hinders nobody who leaves it out."""
+    try:
+        return TURNS[engine](told)
+    except Unfit as fault:
+        return turned.Unturned(told.name, f"its column has a name that cannot be written: {fault}")
 
 
 def source(engine, view, schema, table, wanted=()):

@@ -7,11 +7,11 @@ from whtools.live.log_standing import OF_LOG, OF_WHOLE
 from whtools.sql.tokens import body, joined, name, sql, statements, text, word
 
 JUDGED = "~judged"
-# A column's place, its type and, of an enumeration, its values: more of them may come behind, and none may get another name. How a type of
-# one's own is called depends on the search path, its number does not; and a value may have a comma.
+# A column's place, its type and, of an enumeration, its values: more of them may come behind, and none may get another name, also for a while, of which its
+# row tells. How a type of one's own is called depends on the search path, its number does not; and a value may have a comma.
 TYPE = (
     "concat(a.attnum, {comma}, CASE WHEN a.atttypid < 16384 THEN format_type(a.atttypid, a.atttypmod) ELSE a.atttypid::text END, {comma},"
-    " (SELECT string_agg(concat(length(e.enumlabel::text), {comma}, e.enumlabel, {comma}), {none} ORDER BY e.oid) FROM pg_enum AS e"
+    " (SELECT string_agg(concat(e.xmin, {comma}, length(e.enumlabel::text), {comma}, e.enumlabel, {comma}), {none} ORDER BY e.oid) FROM pg_enum AS e"
     " WHERE e.enumtypid = a.atttypid))"
 )
 # What tells of a part p of a source whether its triggers are as they were made, where its rows lie, and whether its columns are as they were.
@@ -106,7 +106,7 @@ class Standing:
         one, the tables are judged once more."""
         both, parts = sql("(own || captured)"), (
             "SELECT concat_ws({comma}, CASE WHEN k.oid = ANY (own) THEN k.xmin END, CASE WHEN k.oid = ANY (captured) THEN concat_ws({comma}, k.relname,"
-            " k.relnamespace, k.relpersistence, k.relreplident, y.xmin, n.xmin) END) FROM pg_class AS k JOIN pg_namespace AS n ON n.oid = k.relnamespace LEFT JOIN"
+            " k.relnamespace, k.relpersistence, k.relreplident, k.relfilenode, y.xmin, n.xmin) END) FROM pg_class AS k JOIN pg_namespace AS n ON n.oid = k.relnamespace LEFT JOIN"
             " pg_type AS y ON y.oid = k.reltype WHERE k.oid = ANY {both}",
             "SELECT a.xmin FROM pg_attribute AS a WHERE a.attrelid = ANY {both} AND a.attnum > 0",
             "SELECT t.xmin FROM pg_trigger AS t WHERE t.tgrelid = ANY {both}",

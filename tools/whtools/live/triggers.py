@@ -41,17 +41,17 @@ MERGING = (
     " ELSE TRUE END)"
 )
 BY_ROWS = "current_setting(concat({way}, pg_trigger_depth() - {depth}), TRUE) = {rows}"
-# Whether a table cannot be read without that functions are called that are no superuser's, by a superuser: PostgreSQL works out what is constant in the
-# conditions of indexes and checks of a table whenever it plans a query of it.
+# Whether a table cannot be read without that functions are called of somebody whom its reader has no reason to trust, who is neither a superuser nor a member
+# of the reader's role: PostgreSQL works out what is constant in the conditions of indexes and checks of a table whenever it plans a query of it.
 CALLS = (
-    "(EXISTS (SELECT 1 FROM pg_roles AS u WHERE u.rolname = current_user AND u.rolsuper) AND EXISTS (SELECT 1 FROM (SELECT o.classid, o.objid FROM pg_depend AS o"
+    "EXISTS (SELECT 1 FROM (SELECT o.classid, o.objid FROM pg_depend AS o"
     " WHERE o.refclassid = {classes}::regclass AND o.refobjid = {relation} AND o.classid IN ({classes}::regclass, {constraints}::regclass, {statistics}::regclass)"
     " UNION ALL SELECT {classes}::regclass, {relation}) AS o JOIN pg_depend AS f ON f.classid = o.classid AND f.objid = o.objid LEFT JOIN pg_operator AS x"
     " ON f.refclassid = {operators}::regclass AND x.oid = f.refobjid JOIN pg_proc AS p ON p.oid = CASE f.refclassid WHEN {functions}::regclass THEN f.refobjid"
-    " ELSE x.oprcode::oid END JOIN pg_roles AS r ON r.oid = p.proowner WHERE NOT r.rolsuper))"
+    " ELSE x.oprcode::oid END JOIN pg_roles AS r ON r.oid = p.proowner WHERE NOT r.rolsuper AND NOT pg_has_role(r.oid, current_user, {member}))"
 )
 WHY = {
-    "calls": "it was truncated, and its indexes or checks call a function that is no superuser's",
+    "calls": "it was truncated, and its indexes or checks call a function that is no superuser's, nor a member's of the role that reads it",
     "unlike": "rows were written while its columns were not as they were captured",
     "early": "rows were written by a transaction that had begun before it was captured",
     "isolation": "it was truncated at another isolation than READ COMMITTED, which does not see all rows that go",
@@ -60,7 +60,7 @@ WHY = {
     "parting": "a partition came or left, and that could not be noted",
     "moved": "rows came or left with a partition at another isolation than READ COMMITTED, which does not see all of them",
     "apart": "rows came or left with a partition, and are hidden from whoever owns the function of its triggers",
-    "called": "rows came or left with a partition whose indexes or checks call a function that is no superuser's",
+    "called": "rows came or left with a partition whose indexes or checks call a function that is no superuser's, nor a member's of the role that reads it",
     "strange": "rows came or left with a partition whose columns are not as they were captured",
 }
 BUSY = "somebody is writing to %s all the time, and its triggers wait for a moment without: run the script again"
@@ -251,7 +251,7 @@ class Triggers:
 
     def calls(self, relation):
         classes = {"classes": "class", "constraints": "constraint", "statistics": "statistic_ext", "operators": "operator", "functions": "proc"}
-        return sql(CALLS, relation=relation, **{said: text(f"pg_{each}") for said, each in classes.items()})
+        return sql(CALLS, relation=relation, member=text("MEMBER"), **{said: text(f"pg_{each}") for said, each in classes.items()})
 
     def insert(self, v):
         return sql("INSERT INTO {changes} ({columns})", changes=self.script.table(v, "~changes"), columns=joined([*self.script.users(v), COUNT]))

@@ -122,6 +122,12 @@ OF_POSTGRESQL = {
         "ALTER TYPE colour RENAME VALUE 'region 1' TO 'region one'; UPDATE orders SET paid = TRUE WHERE id = 1;", made=COLOURS,
         refused="its column region is of another type, or its values have other names",
     ),
+    "an enumeration whose value has another name for a while": Case(
+        "ALTER TYPE colour RENAME VALUE 'region 1' TO 'x'; INSERT INTO orders (id, day, region) VALUES (900, '2026-02-02', 'x'); ALTER TYPE colour RENAME VALUE 'x' TO"
+        " 'region 1';", made=COLOURS, refused="its column region is of another type, or its values have other names",
+    ),
+    "an enumeration that gets a value before others": Case("ALTER TYPE colour ADD VALUE 'red' BEFORE 'region 1'; UPDATE orders SET paid = NOT paid, region = 'red' WHERE id < 9;",
+                                                           made=COLOURS),
     "an enumeration whose value gets a comma": Case(
         "ALTER TYPE colour RENAME VALUE 'region 3' TO 'region 3,region 4'; UPDATE orders SET paid = TRUE WHERE id = 3;", made=COLOURS,
         refused="its column region is of another type, or its values have other names",
@@ -148,6 +154,10 @@ OF_POSTGRESQL = {
         " DELETE FROM orders WHERE id = 7; UPDATE orders SET at = '2031-01-01 00:00Z' WHERE id = 8;"
         " INSERT INTO orders (id, day, at) VALUES (-1, '2026-02-02', '2032-01-01 00:00Z'); UPDATE orders SET at = NULL WHERE id = 9;",
         made="UPDATE orders SET at = '2030-01-01 00:00Z' WHERE id = 7; UPDATE orders SET at = '2032-01-01 00:00Z' WHERE id = 9;",
+    ),
+    "a column whose name is of two lines": Case(
+        "UPDATE lines SET \"a\nb]: '\" = E'x\\n]: y' WHERE id < 5; UPDATE lines SET pieces = 2 WHERE id < 9; INSERT INTO lines VALUES (3, 'product 3', 1, E'\\r');",
+        made="ALTER TABLE lines ADD COLUMN \"a\nb]: '\" text DEFAULT E'q\\nr';",
     ),
     "a table by another name": Case("ALTER TABLE lines RENAME TO positions; INSERT INTO positions VALUES (4, 'product 4', 4); ALTER TABLE positions RENAME TO lines;"),
 }  # fmt: skip

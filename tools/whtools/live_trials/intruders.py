@@ -100,6 +100,8 @@ INDEXED = (
     " CREATE FUNCTION one(int) RETURNS int IMMUTABLE LANGUAGE plpgsql AS $f$ BEGIN RETURN public.notes(); END $f$;"
     " CREATE OPERATOR === (LEFTARG = int, RIGHTARG = int, FUNCTION = {operate}); CREATE INDEX ON lines (id) WHERE {condition};"
 )
+# Whoever is a member of the role that reads has its trust.
+MEMBER = "CREATE ROLE keeper; GRANT keeper TO seller;"
 CONDITIONS = (("int4eq", "one(1) = 1"), ("is_it", "1 === 1"))
 IS_IT = "CREATE FUNCTION is_it(int, int) RETURNS boolean IMMUTABLE LANGUAGE plpgsql AS $f$ BEGIN RETURN public.notes() = 1; END $f$; ALTER FUNCTION is_it OWNER TO seller;"
 
@@ -112,9 +114,24 @@ def indexed(live):
         live.database.asked(INDEXED.format(operate=operate, condition=condition) + "TRUNCATE lines; INSERT INTO lines VALUES (3, 'product 3', 3);" + ENDS)
         told = [live.night(), live.capture()]
         wrong += caught(live, "the condition of an index") + [f"an index that calls is told {each!r}" for each in told if "no superuser's" not in (each or "")]
+        told = live.database.run(live.words("--capture", "--role", ROLE))
+        wrong += caught(live, "the condition of an index") + ([] if "no superuser's" in (told or "") else [f"a role's capture of an index that calls is told {told!r}"])
+        live.database.asked(MEMBER)
         told = live.database.run(live.words("--capture", "--role", ROLE)) or live.night()
         wrong += [each for each in caught(live, "the condition of an index") if f"by {ROLE}" not in each] + ([told] if told else [])
         live.database.asked(GONE)
+    return wrong + checked(live)
+
+
+def checked(live):
+    """A superuser's check and repair of a table of the seller's, on which he puts an index later."""
+    live.as_whom = ("--without-role",)
+    wrong = live.fresh(OWNED + IS_IT)
+    live.database.asked(INDEXED.format(operate="int4eq", condition="one(1) = 1") + ENDS)
+    for words in (["--check"], ["--check", "--repair"]):
+        live.database.asked("DELETE FROM caught;")
+        made = written("--database", live.database.address, *words, live.path)
+        wrong += caught(live, str(words)) + ([] if made.status and "no superuser's" in made.told else [f"{words} is told {made.told!r}"])
     return wrong
 
 
@@ -134,6 +151,9 @@ def owned_mistakes(live):
     """Captures, checks, repairs and nights of a role over such a table: nothing of its owner's is called as a superuser, whatever it tries."""
     wrong = live.fresh() + [told for told in [live.database.run(live.words("--uncapture"))] if told]
     live.database.asked(OWNED + LEAVES)
+    told = live.database.run(live.words("--capture", "--role", ROLE))
+    wrong += caught(live, "a capture") + ([] if "no superuser's" in (told or "") else [f"a capture of what calls is told {told!r}"])
+    live.database.asked(MEMBER)
     for step in STEPS:
         live.database.asked("SET ROLE seller; UPDATE lines SET id = id WHERE id < 9; RESET ROLE; DELETE FROM caught;")
         if "--check" in step:

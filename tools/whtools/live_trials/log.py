@@ -7,13 +7,14 @@ from pathlib import Path
 from unittest import mock
 
 from whtools.databases.engines import Broken, Server, Session, in_folder
-from whtools.live_trials import again, beside, catalogues, log_cases, log_places, long_texts, planning, refused, values
+from whtools.live_trials import again, beside, catalogues, log_cases, log_drawn, log_parted, log_places, long_texts, planning, refused, values
 from whtools.live_trials.beside import WRITER
 from whtools.live_trials.cases import BOTH, OF, mistakes
 from whtools.live_trials.kills import WRITES, Killed, kill_mistakes
 from whtools.live_trials.log_writers import writers_told
 from whtools.live_trials.page import log_page_mistakes
 from whtools.live_trials.places import LivePostgreSQL
+from whtools.live_trials.planted import planted_mistakes
 from whtools.live_trials.shop import TABLES, Live
 
 DROPPED = "SELECT pg_drop_replication_slot(slot_name) FROM pg_replication_slots WHERE database = current_database() AND NOT active;"
@@ -50,7 +51,7 @@ class Logged(Live):
 def case_mistakes(live, only=""):
     """All cases of the triggers, with what is told otherwise, and those of the log; and how many there are."""
     cases = {name: case._replace(refused=log_cases.REFUSED.get(name, case.refused)) for name, case in OF["postgresql"].items() if name not in log_cases.WITHOUT}
-    cases |= log_cases.CASES
+    cases |= {**log_cases.CASES, **log_parted.HEALED}
     tried = {name: case for name, case in cases.items() if only in name}
     return [f"{name}: {text}"[:900] for name, case in tried.items() for text in mistakes(live, case)], len(tried)
 
@@ -256,7 +257,8 @@ def prepared_mistakes(live):
 def all_mistakes(live, other, seed):
     wrong = side_mistakes(live, 12, seed) + unmoved_mistakes(live) + start_mistakes(live, 4) + slot_mistakes(live) + gone_mistakes(live) + prepared_mistakes(live)
     wrong += setting_mistakes(live)
-    wrong += refused_mistakes(live, other) + both_mistakes(live)
+    wrong += refused_mistakes(live, other) + both_mistakes(live) + log_parted.mistakes(live) + log_drawn.mistakes(live, 8, seed)
+    wrong += planted_mistakes(live)
     wrong += log_places.role_mistakes(live) + log_places.owned_mistakes(live) + log_places.standby_mistakes(live) + log_places.restored_mistakes(live)
     return wrong + log_places.subscribed_mistakes(live) + log_places.beside_mistakes(live, 4)
 

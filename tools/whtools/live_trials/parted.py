@@ -110,9 +110,9 @@ def caught(live, *allowed):
     return [f"what is the seller's was called: {each}" for each in live.database.asked(f"SELECT DISTINCT called || ' by ' || whose FROM caught WHERE whose NOT IN ({names});")]
 
 
-def his_parts(live):
+def his_parts(live, function='wh."lines~capture"()'):
     """Parts of the seller's come and leave, with all of his on them."""
-    (made,) = live.database.asked("SELECT 'wh.\"lines~capture\"()'::regprocedure::oid;")
+    (made,) = live.database.asked(f"SELECT '{function}'::regprocedure::oid;")
     for number, each in enumerate(NAMES, 2):
         live.database.asked("SET ROLE seller;" + HIS.format(more=each, made=made, first=number * 1000, last=number * 1000 + 1000))
     live.database.asked(f"ALTER TABLE lines DETACH PARTITION most; CREATE TABLE his PARTITION OF lines FOR VALUES FROM (8000) TO (9000); DROP TABLE {NAMES[2]};"
@@ -136,7 +136,7 @@ def role_mistakes(live):
     wrong = live.fresh(PARTED) + [told for told in [live.database.run(live.words("--uncapture"))] if told]
     live.database.asked(OWNED)
     told = live.database.run(live.words("--capture", "--role", ROLE)) or live.database.run(live.words("--live", "--open"))
-    live.database.asked(NOTES + "RESET ROLE;")
+    live.database.asked(NOTES + "RESET ROLE; GRANT keeper TO seller;")
     his_parts(live)
     told = told or live.night()
     wrong += caught(live, ROLE) + ([told] if told else live.mistakes())
@@ -152,6 +152,49 @@ def role_mistakes(live):
     wrong += [f"--uncapture: {told}"] if told else [f"{each} is left" for each in left]
     live.database.asked(GONE)
     return [f"an owner's parts, by a role: {text}" for text in wrong]
+
+
+def stranger_mistakes(live):
+    """The same where the owner is no member of the role: nothing of his is called as that one, and the night says so."""
+    wrong = live.fresh(PARTED) + [told for told in [live.database.run(live.words("--uncapture"))] if told]
+    live.database.asked(OWNED)
+    told = live.database.run(live.words("--capture", "--role", ROLE)) or live.database.run(live.words("--live", "--open"))
+    live.database.asked(NOTES + "RESET ROLE;")
+    his_parts(live)
+    night = live.night()
+    wrong += caught(live) + ([told] if told else []) + ([] if "is not captured as it was" in (night or "") else [f"the night was told {night!r}"])
+    live.database.asked(GONE)
+    return [f"a stranger's parts, by a role: {text}" for text in wrong]
+
+
+# What the role may do to its own function: a type of its own with a cast, and a path of names that stays.
+CASTS = (
+    "SET ROLE keeper; CREATE TYPE wh.mine AS (x int); CREATE FUNCTION wh.gets(wh.mine) RETURNS oid[] LANGUAGE plpgsql AS $f$ BEGIN PERFORM wh.notes('cast'); RETURN '{}';"
+    ' END $f$; CREATE CAST (wh.mine AS oid[]) WITH FUNCTION wh.gets(wh.mine) AS ASSIGNMENT; DROP FUNCTION wh."lines~parting"(text); CREATE FUNCTION wh."lines~parting"(act'
+    " text) RETURNS wh.mine LANGUAGE plpgsql SECURITY DEFINER AS $f$ BEGIN RETURN ROW(1)::wh.mine; END $f$; RESET ROLE;"
+)
+PATHS = (
+    'SET ROLE keeper; CREATE FUNCTION wh.concat(text, text, text, regclass) RETURNS text LANGUAGE plpgsql AS $f$ BEGIN PERFORM wh.notes(\'path\'); RETURN \'\'; END $f$;'
+    ' CREATE FUNCTION wh.same(oid, oid) RETURNS bool LANGUAGE plpgsql AS $f$ BEGIN PERFORM wh.notes(\'operator\'); RETURN FALSE; END $f$; CREATE OPERATOR wh.= (LEFTARG ='
+    ' oid, RIGHTARG = oid, FUNCTION = wh.same); CREATE OR REPLACE FUNCTION wh."lines~parting"(act text) RETURNS oid[] LANGUAGE plpgsql SECURITY DEFINER AS $f$ BEGIN PERFORM'
+    " pg_catalog.set_config('search_path', 'wh, pg_catalog', FALSE); RETURN ARRAY['public.low'::pg_catalog.regclass::pg_catalog.oid]; END $f$; RESET ROLE;"
+)
+BY_KEEPER = (
+    "CREATE TABLE caught (called text, whose name); GRANT ALL ON caught TO PUBLIC; SET ROLE keeper; CREATE FUNCTION wh.notes(text) RETURNS int LANGUAGE plpgsql AS $f$ BEGIN"
+    " INSERT INTO public.caught VALUES ($1, current_user); RETURN 1; END $f$; RESET ROLE;"
+)
+
+
+def member_mistakes(live):
+    """Whoever is a member of the role may make its functions other ones: the event trigger, which is a superuser's, calls nothing of that for itself."""
+    wrong = []
+    for said in (CASTS, PATHS):
+        wrong += live.fresh(PARTED) + [told for told in [live.database.run(live.words("--uncapture"))] if told]
+        told = live.database.run(live.words("--capture", "--role", ROLE)) or live.database.run(live.words("--live", "--open"))
+        live.database.asked(BY_KEEPER + said + NEW + "SET search_path = public;")
+        wrong += ([told] if told else []) + caught(live, ROLE)
+        live.database.asked(GONE)
+    return [f"a member's function: {text}" for text in wrong]
 
 
 SLOW = (
@@ -258,5 +301,5 @@ def unwatched_mistakes(live):
 
 def mistakes(live):
     """All of these."""
-    tried = (owner_mistakes, role_mistakes, failing_mistakes, busy_mistakes, unwatched_mistakes)
+    tried = (owner_mistakes, role_mistakes, stranger_mistakes, member_mistakes, failing_mistakes, busy_mistakes, unwatched_mistakes)
     return [f"{live.engine}: {text}"[:900] for each in tried for text in each(live)]

@@ -71,7 +71,7 @@ def scripts(live, path):
         for words in CHANGING:
             found.append(written("--database", live.database.address, *words, less(path)).text)
         for words in (["--uncapture"], ["--capture"], ["--live", "--open"], ["--live"], ["--sizes"], ["--sizes-after"], ["--costs"], ["--dry"]):
-            found.append(written("--database", live.database.address, *words, path).text)
+            found.append(written("--database", live.database.address, *live.captured_by(words), path).text)
         found.append(written("--database", live.database.address, "--catalogue").text)
     return found + asked.texts + [written("--schema", "own", words, path).text for words in ("--create", "--open", "--night")]
 
@@ -118,7 +118,7 @@ def told_by(live, before, path, program):
     for words in (["--uncapture"], ["--capture"], ["--live", "--open"], ["--live"], ["--plan"]):
         live.database.asked(f"SET search_path = public, pg_catalog; {WRITES if words == ['--live'] else ''} RESET search_path;")
         more = ["--program", program] if words == ["--plan"] else []
-        made = written("--database", live.database.address, *words, *more, path) if words != ["--plan"] or program else None
+        made = written("--database", live.database.address, *live.captured_by(words), *more, path) if words != ["--plan"] or program else None
         told = made and (made.told if made.status else run(live, made.text, before))
         wrong += [f"{words}: {told}"] if told and not (words == ["--plan"] and "certified" in told) else []
     live.database.asked('UPDATE wh.lines SET pieces = pieces + 1 WHERE id = 5; UPDATE wh.sales SET cost = 1 WHERE cost = 0;')
