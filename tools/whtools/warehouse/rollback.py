@@ -104,4 +104,6 @@ def run(words):
         turn(words.folder)
         remove(words.folder / "new")
     print(f"version {made} has the tables of version {number} and is the current one; what later versions had carried out lies in their changes/")
+    if not any((place(words.folder, made) / "views").iterdir()):
+        print("it has no derived views before the next night, as the tables that the folder began with")
     return DONE
