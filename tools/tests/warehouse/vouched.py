@@ -20,6 +20,7 @@ from .shop import contents
 
 ALONE = "and is left alone: no night goes on from it or removes it; move it away"
 OTHER = NEXT.replace(b"8,Thu", b"9,Thu")
+ANSWER_WITHOUT_VIEWS = b"inst orders: 0\ninst lines: 0\nwork 0\n"
 
 
 class Vouched(Kept):
@@ -317,8 +318,12 @@ class Dropped(Vouched):
         self.assertFalse((self.folder / "current/data/products.csv").exists())
         self.assertEqual(self.ran("lint"), (0, []))
 
-
-ANSWER_WITHOUT_VIEWS = b"inst orders: 0\ninst lines: 0\nwork 0\n"
+    def test_a_catalogue_without_base_views(self):
+        for text in ("", "# nothing\n"):
+            (self.folder / "catalogue.toml").write_text(text)
+            (self.folder / "strategy.txt").unlink(missing_ok=True)
+            status, lines = self.ran("night", "--commit", "--keep", "1")
+            self.assertEqual((status, self.current()), (3, "versions/1"), lines)
 
 
 class Copies(Vouched):
@@ -514,7 +519,8 @@ class RolledBack(Vouched):
         self.change("data/orders.csv", b"south", b"north")
         (self.folder / "current/manifest.txt").unlink()
         self.assertEqual(self.said("rollback", "1")[0], 0)
-        self.assertEqual(self.ran("night", "--commit", "--always"), (0, [f"versions/2:1:1: warning: this does not vouch for itself (it has no manifest.txt), {ALONE}"]))
+        told = f"versions/2:1:1: warning: this does not vouch for itself (it has no manifest.txt), {ALONE}"
+        self.assertEqual(self.ran("night", "--commit", "--always"), (0, [told]))
 
 
 class Logged(Vouched):
