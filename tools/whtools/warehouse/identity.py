@@ -45,6 +45,11 @@ class Identity(NamedTuple):
         return bool(name) and (name == self.name or number <= self.before.get(name, NONE))
 
     @property
+    def mark(self) -> str:
+        """What a name in versions/ has by which it is the folder's; a copy that has no name yet goes by the one of before."""
+        return f".{self.name or next(reversed(self.before))}" if self.names else ""
+
+    @property
     def names(self) -> set[str]:
         """All names by which it is known."""
         return {self.name, *self.before} - {""}
@@ -54,7 +59,7 @@ def numbers(folder: Path) -> list[int]:
     """The numbers that folders in versions/ have as their names, rising, whatever they hold."""
     try:
         with os.scandir(folder / "versions") as entries:
-            return sorted(int(entry.name) for entry in entries if NUMBER.fullmatch(entry.name) and entry.is_dir(follow_symlinks=False))
+            return sorted(int(entry.name) for entry in entries if NUMBER.fullmatch(entry.name) and entry.is_dir())
     except (FileNotFoundError, NotADirectoryError):
         return []
 

@@ -71,10 +71,10 @@ class Difference(NamedTuple):
 
 def sum_of(path: Path) -> str:
     """The SHA-256 of a file's bytes."""
-    found, block = hashlib.sha256(), bytearray(BLOCK)
+    found = hashlib.sha256()
     with open(path, "rb", buffering=0) as file:
-        while size := file.readinto(block):
-            found.update(memoryview(block)[:size])
+        while block := file.read(BLOCK):
+            found.update(block)
     return found.hexdigest()
 
 
