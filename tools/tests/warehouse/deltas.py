@@ -73,7 +73,11 @@ class Deltas(Shop):
         file.write_bytes(b"".join(lines[:1] + [line for line in lines[1:] if b"Monday,south" not in line]))
         os.utime(file, ns=(made, made))
         self.assertLess(len(file.read_bytes().splitlines()), len(lines))
-        self.assertEqual(self.ran("night", "--commit", "--always"), (0, []))
+        # A version of before there were manifests does not tell what its files were.
+        for manifest in [self.folder / ".identity", *self.folder.glob("versions/*/manifest.txt")]:
+            manifest.unlink()
+        taken = "versions/1 is of before versions had manifests: it is taken as it is, and vouches for itself from now on (manifest.txt)"
+        self.assertEqual(self.ran("night", "--commit", "--always"), (0, [taken]))
         self.assertEqual(self.words(), ["night --print changes", "night"])
         self.assertIn(self.view("daily_by_region").read_bytes(), ANSWER.read_bytes())
 
@@ -81,5 +85,6 @@ class Deltas(Shop):
         self.edit("catalogue.toml", "# A small shop", "# A shop")
         self.assertEqual(self.ran("night", "--commit", "--always"), (0, []))
         Path(self.view("sales")).unlink()
-        self.assertEqual(self.ran("night", "--commit", "--always"), (0, []))
+        told = "this is not as its night made it: it is not there; all derived views are made anew"
+        self.assertEqual(self.ran("night", "--commit", "--always"), (0, [f"versions/2/views/sales.csv:1:1: warning: {told}"]))
         self.assertEqual(self.words(), ["night", "night"])

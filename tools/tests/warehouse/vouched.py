@@ -8,7 +8,9 @@ import json
 import os
 import shutil
 from contextlib import redirect_stderr, redirect_stdout
+from unittest import mock
 
+from whtools.warehouse import rollback, verify
 from whtools.warehouse.command import main
 from whtools.warehouse.identity import identity_of
 from whtools.warehouse.manifest import read_manifest, sum_of
@@ -120,6 +122,9 @@ class Strays(Vouched):
         shutil.copytree(self.folder / "versions/1", self.folder / "versions/10")
         self.judge("10", "this is version 1")
         self.assertEqual(self.current(), "versions/2")
+        self.assertEqual(self.said("read", "sales", "--version", "10")[0], 2)
+        self.assertEqual(self.said("read", "sales", "--version", "2")[0], 0)
+        self.assertEqual([each["version"] for each in json.loads("\n".join(self.said("log", "--format", "json")[1]))], [2, 1])
 
     def test_an_empty_folder(self):
         (self.folder / "versions/9").mkdir()
@@ -171,6 +176,14 @@ class Strays(Vouched):
         fcntl.flock(held, fcntl.LOCK_SH)
         self.judge("3", "this was not made from version 1", end)
         self.assertEqual((self.current(), read_manifest(self.folder / "current").parent), ("versions/4", 1))
+
+    def test_a_version_that_lies_elsewhere_and_is_linked(self):
+        self.more()
+        elsewhere = self.folder.with_name("elsewhere")
+        (self.folder / "versions/0").rename(elsewhere)
+        (self.folder / "versions/0").symlink_to(elsewhere)
+        self.assertEqual(self.ran("lint"), (0, []))
+        self.assertEqual(self.said("verify")[0], 0)
 
     def test_a_huge_number(self):
         name = "9" * 30
@@ -275,6 +288,12 @@ class Damaged(Vouched):
         self.assertEqual(self.said("verify", "0")[0], 0)
         self.assertEqual(self.said("verify", "2")[1][0], lines[1])
         self.assertEqual(self.said("verify", "7")[0], 2)
+        held = os.open(self.folder / "versions/0", os.O_RDONLY)
+        self.addCleanup(os.close, held)
+        fcntl.flock(held, fcntl.LOCK_EX)
+        with mock.patch.object(verify, "PATIENCE", 0):
+            told = "versions/0: it is held by somebody alone; readers hold it by flock --shared, and is not read"
+            self.assertEqual(self.said("verify", "0"), (1, [told, "0 versions, 0 files, 0 bytes: 1 differ"], []))
 
 
 class Dropped(Vouched):
@@ -480,6 +499,15 @@ class RolledBack(Vouched):
         status, _, lines = self.said("rollback", "1")
         self.assertEqual((status, self.current(), self.versions()), (3, "versions/2", ["0", "1", "2", "9"]))
         self.assertIn("versions/1/views/sales.csv: it has", lines[1])
+
+    def test_one_that_was_decided_and_not_turned_to_is_finished_by_the_next_night(self):
+        self.more()
+        with mock.patch.object(rollback, "turn", side_effect=OSError(5, "Input/output error", "current")):
+            status, _, lines = self.said("rollback", "1")
+        self.assertEqual((status, self.current()), (5, "versions/2"))
+        self.assertEqual(lines, ["the rollback is done and is version 3, but current: Input/output error; the next night sees to it"])
+        self.assertEqual(self.ran("lint")[0], 3)
+        self.assertEqual((self.night()[0], self.current()), ("a night that was stopped is finished", "versions/4"))
 
     def test_a_current_version_that_is_damaged_is_left_by_it(self):
         self.more()

@@ -6,13 +6,13 @@ from functools import partial
 from itertools import count
 from typing import NamedTuple
 
-from whtools.stops import copies, full_disk, races, single, traced, written_through
+from whtools.stops import copies, full_disk, histories, races, single, traced, written_through
 from whtools.stops.starts import Starts
 from whtools.stops.trials import CAN_FAIL, ERRORS, Trial, hindrances, listed, stopped, tried
 
 ALL = sys.maxsize
 OLD = "commit stopped"
-RACES = 20
+RACES, LANES = 20, 3
 STOPPED_IN = ("first night", "committed twice", "later night", "keeping 2", "rollback", "before manifests")
 COMMITTED = (*STOPPED_IN, "planned night", "several files", "file of two names", "a view is new", "rollback twice")
 STEPS = ("rename", "link", "unlink", "unlinkat", "symlink", "mkdir", "rmdir")
@@ -41,13 +41,14 @@ class Counts(NamedTuple):
     races: int
     signals: tuple
     disks: range
+    seconds: float
 
     @classmethod
-    def of(cls, kills):
-        """For so many kills, or for all."""
+    def of(cls, kills, seconds):
+        """For so many kills, or for all, and histories for so many seconds."""
         if kills == ALL:
-            return cls(ALL, 100, ALL, 1000, ALL, 1000, 200, ("INT", "TERM", "HUP"), range(40))
-        return cls(3, 3, kills - kills // 5, kills // 5, kills // 5, kills // 5, kills // 5, ("INT",), range(0, 40, 10))
+            return cls(ALL, 100, ALL, 1000, ALL, 1000, 200, ("INT", "TERM", "HUP"), range(40), seconds)
+        return cls(3, 3, kills - kills // 5, kills // 5, kills // 5, kills // 5, kills // 5, ("INT",), range(0, 40, 10), seconds)
 
 
 class Sweep:
@@ -73,6 +74,7 @@ class Sweep:
         yield self.try_single()
         yield self.try_written_through()
         yield self.try_full_disks()
+        yield self.try_histories()
 
     def drawn(self, found, number):
         """As many of what was found as are wanted, or all."""
@@ -164,6 +166,13 @@ class Sweep:
         gone_through = sum(each is True for each, _ in found)
         what = f"full disks ({gone_through} of them with room enough)"
         return Figures(what, len(items), [wrong for _, wrong in found if wrong])
+
+    def try_histories(self):
+        """Drawn histories, a process each for the seconds that they have."""
+        items = [(self.places["later night"][0], self.source.random(), self.counts.seconds) for _ in range(LANES)]
+        found = self.mapped(histories.drawn, items) if self.counts.seconds else []
+        what = "steps of drawn histories: nights, kills, rollbacks, strays, damaged files, copies"
+        return Figures(what, sum(steps for steps, _ in found), [wrong for _, wrong in found if wrong])
 
     def try_spoilt(self):
         """Spoilt tools, each of which has to be noticed."""

@@ -3,6 +3,7 @@
 import os
 
 from .finding import Failure
+from .identity import identity_of
 from .status import AT_WORK, BAD_INPUT, BAD_WORDS
 from .versions import ALONE, NOT_THERE, VERSIONS, is_shared, named, place, whole
 
@@ -42,11 +43,14 @@ def hold_current(folder):
 
 def hold_one(folder, number):
     """The same of a version that is asked for."""
-    handle = hold(place(folder, number))
-    if handle is None:
-        there = ", ".join(map(str, whole(folder))) or "none"
-        raise lost(folder, number, BAD_WORDS, f"there is no version {number} in {folder}; there are {there}")
-    return number, handle
+    identity = identity_of(folder)
+    is_own = number == named(folder) or identity.owns(place(folder, number), number)
+    handle = hold(place(folder, number)) if is_own else None
+    if handle is not None:
+        return number, handle
+    there = ", ".join(map(str, whole(folder, identity))) or "none"
+    told = f"there is no version {number} in {folder}; there are {there}"
+    raise lost(folder, number, BAD_WORDS, told) if is_own else Failure(BAD_WORDS, told)
 
 
 class Held:

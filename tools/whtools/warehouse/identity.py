@@ -5,8 +5,10 @@ that is kept, and knows the versions that it was copied with by the name of befo
 
 import os
 import re
-from dataclasses import dataclass, field, replace
+from collections.abc import Mapping
 from pathlib import Path
+from types import MappingProxyType
+from typing import NamedTuple
 
 from .disk import READ_BITS, remove, sync, write
 from .finding import Failure
@@ -21,14 +23,13 @@ NUMBER = re.compile(r"0|[1-9][0-9]{0,18}")
 ALL, NONE = 2**63 - 1, -1
 
 
-@dataclass(frozen=True, slots=True)
-class Identity:
+class Identity(NamedTuple):
     """A folder's name, which is empty before its first night that is kept; the names that it had as what it was copied from, each with its
     newest version of then; up to which version there may be no manifest; and whether it is a copy that has not got its own name yet.
     """
 
     name: str = ""
-    before: dict[str, int] = field(default_factory=dict)
+    before: Mapping[str, int] = MappingProxyType({})
     unvouched: int = ALL
     is_copy: bool = False
 
@@ -44,6 +45,11 @@ class Identity:
         return bool(name) and (name == self.name or number <= self.before.get(name, NONE))
 
     @property
+    def mark(self) -> str:
+        """What a name in versions/ has by which it is the folder's; a copy that has no name yet goes by the one of before."""
+        return f".{self.name or next(reversed(self.before))}" if self.names else ""
+
+    @property
     def names(self) -> set[str]:
         """All names by which it is known."""
         return {self.name, *self.before} - {""}
@@ -53,7 +59,7 @@ def numbers(folder: Path) -> list[int]:
     """The numbers that folders in versions/ have as their names, rising, whatever they hold."""
     try:
         with os.scandir(folder / "versions") as entries:
-            return sorted(int(entry.name) for entry in entries if NUMBER.fullmatch(entry.name) and entry.is_dir(follow_symlinks=False))
+            return sorted(int(entry.name) for entry in entries if NUMBER.fullmatch(entry.name) and entry.is_dir())
     except (FileNotFoundError, NotADirectoryError):
         return []
 
@@ -82,7 +88,7 @@ def identity_of(folder: Path) -> Identity:
     before = {word[1]: int(word[2]) for word in map(str.split, found[5].splitlines())}
     if (int(found[2]), int(found[3])) == (folder.stat().st_ino, (folder / FILE).stat().st_ino):
         return Identity(name, before, unvouched)
-    return Identity("", before | {name: bound(folder, name)}, unvouched, True)
+    return Identity("", dict(before) | {name: bound(folder, name)}, unvouched, True)
 
 
 def without_file(folder: Path) -> Identity:
@@ -97,7 +103,7 @@ def without_file(folder: Path) -> Identity:
 
 def sign(folder: Path, identity: Identity) -> Identity:
     """Writes a folder's identity, with a name of its own where it has none, and writes it through."""
-    made = replace(identity, name=identity.name or os.urandom(16).hex(), is_copy=False)
+    made = identity._replace(name=identity.name or os.urandom(16).hex(), is_copy=False)
     part = folder / f"{FILE}.part"
     remove(part)
     write(part, [])

@@ -8,8 +8,8 @@ import pwd
 import re
 import time
 from collections.abc import Iterable
-from dataclasses import dataclass, replace
 from pathlib import Path
+from typing import NamedTuple
 
 from .disk import BLOCK, READ_BITS, sync, write
 
@@ -23,8 +23,7 @@ BEGINNING = 128
 READ: dict[tuple[int, ...], str] = {}
 
 
-@dataclass(frozen=True, slots=True)
-class Entry:
+class Entry(NamedTuple):
     """A file of a version: its SHA-256 and size; and by what it is seen without reading that nobody touched it."""
 
     sum: str
@@ -38,8 +37,7 @@ class Entry:
         return (found.st_size, found.st_mtime_ns, found.st_ctime_ns, found.st_ino) == (self.size, self.written, self.changed, self.inode)
 
 
-@dataclass(frozen=True, slots=True)
-class Manifest:
+class Manifest(NamedTuple):
     """A version's word of itself. A parent that had no manifest has an empty sum; of a rollback `of` is the version whose files it has."""
 
     folder: str
@@ -61,8 +59,7 @@ class NoManifest(Exception):
     """Why a version does not vouch for itself."""
 
 
-@dataclass(frozen=True, slots=True)
-class Difference:
+class Difference(NamedTuple):
     """A file of a version that is not what its manifest says, and how it differs."""
 
     file: str
@@ -74,10 +71,10 @@ class Difference:
 
 def sum_of(path: Path) -> str:
     """The SHA-256 of a file's bytes."""
-    found, block = hashlib.sha256(), bytearray(BLOCK)
+    found = hashlib.sha256()
     with open(path, "rb", buffering=0) as file:
-        while size := file.readinto(block):
-            found.update(memoryview(block)[:size])
+        while block := file.read(BLOCK):
+            found.update(block)
     return found.hexdigest()
 
 
@@ -132,7 +129,7 @@ def text_of(manifest: Manifest) -> str:
 def write_manifest(version: Path, manifest: Manifest) -> Manifest:
     """Writes the manifest of a version whose other files are written through, and writes it through. Answers it with its sum."""
     text = text_of(manifest).encode()
-    made = replace(manifest, sum=hashlib.sha256(text).hexdigest())
+    made = manifest._replace(sum=hashlib.sha256(text).hexdigest())
     part = version / f".{FILE}"
     write(part, [text, f"sum {made.sum}\n".encode()])
     os.chmod(part, part.stat().st_mode & READ_BITS)

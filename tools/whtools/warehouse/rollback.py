@@ -6,18 +6,17 @@ strategy.txt of the folder stay as they are.
 """
 
 import os
-from dataclasses import replace
 from pathlib import Path
 
 from . import lock
 from .disk import copy, keep, link, remove, sync, write
-from .finding import Failure, warn
+from .finding import Failure, of_system, warn
 from .identity import Identity, identity_of
 from .interrupts import Interrupts
 from .lock import Lock
 from .manifest import ROLLBACK, Entry, Manifest, NoManifest, differing, found_manifest, read_manifest
 from .reading import whole_number
-from .status import BAD_INPUT, BAD_WORDS, DONE
+from .status import BAD_INPUT, BAD_WORDS, DONE, NOT_WRITTEN
 from .stopped import settle
 from .versions import TURNED, VERSIONS, State, coming, named, part_of, place, point, strays, turn, whole
 from .vouching import blank, vouch, with_name
@@ -69,7 +68,7 @@ def decided(folder: Path, older: Manifest, identity: Identity, interrupts: Inter
         try:
             known = lay(place(folder, older.version), part, older, told)
             keep(part)
-            made = replace(blank(identity, number, ROLLBACK), of=older.version, parent=current, parent_sum=before.sum if before else "")
+            made = blank(identity, number, ROLLBACK)._replace(of=older.version, parent=current, parent_sum=before.sum if before else "")
             vouch(part, made, known)
             point(folder, number)
             lock.judge(folder)
@@ -95,14 +94,25 @@ def rolled_back(folder: Path, number: int, interrupts: Interrupts) -> int:
         state.release()
 
 
+def finish(folder: Path, made: int) -> None:
+    """Turns `current`. The rollback counts, whatever comes between."""
+    try:
+        sync(folder / VERSIONS)
+        turn(folder)
+        remove(folder / "new")
+    except OSError as error:
+        told = f"the rollback is done and is version {made}, but {of_system(error)}; the next night sees to it"
+        raise Failure(NOT_WRITTEN, told) from error
+
+
 def run(words):
     number = whole_number(words.operands[1], "a version", 0, 2**63 - 1)
     with Interrupts() as interrupts, Lock(words.folder):
         warn(settle(words.folder, True, words.adopts))
         warn(strays(words.folder))
         made = rolled_back(words.folder, number, interrupts)
-        sync(words.folder / VERSIONS)
-        turn(words.folder)
-        remove(words.folder / "new")
+        finish(words.folder, made)
     print(f"version {made} has the tables of version {number} and is the current one; what later versions had carried out lies in their changes/")
+    if not any((place(words.folder, made) / "views").iterdir()):
+        print("it has no derived views before the next night, as the tables that the folder began with")
     return DONE

@@ -9,7 +9,6 @@ in this order, each from the folder to commit/old/ and from commit/ to the folde
 import os
 from collections import Counter
 from contextlib import suppress
-from dataclasses import replace
 from pathlib import Path
 from typing import NamedTuple
 
@@ -151,7 +150,7 @@ def make(folder, part):
         lay(stage, part / str(number))
     keep(part)
     for number in range(len(found)):
-        made = vouch(part / str(number), replace(blank(identity, number, TAKEN_OVER), **parent))
+        made = vouch(part / str(number), blank(identity, number, TAKEN_OVER)._replace(**parent))
         parent = {"parent": number, "parent_sum": made.sum}
     point(folder, len(found) - 1)
 

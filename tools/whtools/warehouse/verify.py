@@ -5,6 +5,7 @@ for itself, and then the status is 1. Of versions of before there were manifests
 """
 
 import os
+import time
 from dataclasses import dataclass
 from pathlib import Path
 
@@ -14,7 +15,7 @@ from .identity import Identity, identity_of, numbers
 from .manifest import NoManifest, differing, read_manifest
 from .reading import whole_number
 from .status import BAD_WORDS, DONE, REFUSED
-from .versions import VERSIONS, place, why_not_own
+from .versions import ALONE, PATIENCE, PAUSE, VERSIONS, place, why_not_own
 
 
 @dataclass(slots=True)
@@ -30,12 +31,21 @@ class Verified:
         return f"{self.versions} version{'s' * (self.versions != 1)}, {self.files} files, {self.size:,} bytes"
 
 
+def held(version: Path) -> int | None:
+    """A handle by which nights let a version stay. One that is being removed is gone in a moment; another is held by somebody."""
+    handle, due = hold(version), time.monotonic() + PATIENCE
+    while handle is None and version.is_dir() and time.monotonic() < due:
+        time.sleep(PAUSE)
+        handle = hold(version)
+    return handle
+
+
 def verify(folder: Path, number: int, identity: Identity, verified: Verified) -> list[str]:
     """What is wrong with one version, a line each. One that is removed meanwhile has nothing wrong."""
     version, name = place(folder, number), f"{VERSIONS}/{number}"
-    handle = hold(version)
+    handle = held(version)
     if handle is None:
-        return []
+        return [f"{name}: it {ALONE}, and is not read"] if version.is_dir() else []
     try:
         manifest = read_manifest(version)
         if manifest.version != number or not identity.knows(manifest.folder, number):

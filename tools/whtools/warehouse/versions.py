@@ -64,7 +64,7 @@ def place(folder, number):
 
 def part_of(folder, number, identity):
     """Where a version is made."""
-    return folder / VERSIONS / f"{number}.{identity.name}{PART}"
+    return folder / VERSIONS / f"{number}{identity.mark}{PART}"
 
 
 def free(folder, least):
@@ -130,7 +130,7 @@ def stray(folder, name, identity, counts):
     path = folder / VERSIONS / name
     if name.startswith(".") or any(is_rest(name, identity, end) for end in (PART, GONE)):
         return ""
-    if not path.is_dir() or path.is_symlink():
+    if not path.is_dir():
         return f"this is no version but a file, {LEFT_ALONE}"
     if not name.isdecimal() or int(name) not in numbers(folder):
         return f"this is no version of this folder, {LEFT_ALONE}"
@@ -242,7 +242,7 @@ def remove_unheld(version, identity: Identity):
     handle = os.open(version, os.O_RDONLY | os.O_DIRECTORY)
     try:
         fcntl.flock(handle, fcntl.LOCK_EX | fcntl.LOCK_NB)
-        gone = version.with_name(f"{version.name}.{identity.name}{GONE}" if identity.name else version.name + GONE)
+        gone = version.with_name(f"{version.name}{identity.mark}{GONE}")
         os.rename(version, gone)
         remove(gone)
     except BlockingIOError:

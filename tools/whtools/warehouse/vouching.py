@@ -1,6 +1,5 @@
 """How a version that comes to its end vouches for itself: by a manifest, which is written last, and by the name of its folder."""
 
-from dataclasses import replace
 from pathlib import Path
 
 from .finding import warn
@@ -19,7 +18,7 @@ def blank(folder: Identity, number: int, kind: str) -> Manifest:
 
 def vouch(part: Path, manifest: Manifest, known: list[Entry] = ()) -> Manifest:
     """Writes the manifest of a version all other files of which are written through. Of files that it links the sums are `known`."""
-    return write_manifest(part, replace(manifest, files=entries_of(part, known)))
+    return write_manifest(part, manifest._replace(files=entries_of(part, known)))
 
 
 def vouch_for_night(part: Path, number: int, identity: Identity, night) -> None:
@@ -27,7 +26,7 @@ def vouch_for_night(part: Path, number: int, identity: Identity, night) -> None:
     inputs = night.folder.inputs
     parent = inputs.state.number
     above = found_manifest(place(inputs.folder, parent))
-    made = replace(blank(identity, number, NIGHT), parent=parent, parent_sum=above.sum if above else "", work=night.work, changes=night.changes)
+    made = blank(identity, number, NIGHT)._replace(parent=parent, parent_sum=above.sum if above else "", work=night.work, changes=night.changes)
     vouch(part, made, inputs.vouched.untouched)
 
 
@@ -40,7 +39,7 @@ def vouch_for_parent(inputs, identity: Identity) -> None:
     version, number = inputs.state.root, inputs.state.number
     later = {str(path.relative_to(f"{VERSIONS}/{number}")) for path in inputs.vouched.newer}
     files = {name: entry for name, entry in entries_of(version).items() if name not in later or name.startswith("data/")}
-    write_manifest(version, replace(blank(identity, number, TAKEN_OVER), files=files))
+    write_manifest(version, blank(identity, number, TAKEN_OVER)._replace(files=files))
     warn([f"{VERSIONS}/{number} is of before versions had manifests: it is taken as it is, and vouches for itself from now on ({FILE})"])
 
 
@@ -56,7 +55,7 @@ def with_name(folder: Path, identity: Identity) -> Identity:
     if identity.is_copy:
         warn([f"{folder} {COPIED}"])
     unvouched = min(identity.unvouched, max(whole(folder, identity), default=NONE))
-    return sign(folder, replace(identity, unvouched=unvouched))
+    return sign(folder, identity._replace(unvouched=unvouched))
 
 
 def give_up_name(folder: Path, identity: Identity) -> None:
