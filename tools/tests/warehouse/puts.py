@@ -18,10 +18,11 @@ from whtools.warehouse import gate
 from whtools.warehouse.claim import Claim
 from whtools.warehouse.commit import take, undo
 from whtools.warehouse.finding import Failure
+from whtools.warehouse.inputs import Source
 
 from .disturbed import carried_out, held_up, hindered, killed
 from .folders import NEXT, Kept
-from .shop import TOOLS
+from .shop import TOOLS, contents
 
 OTHERS = b"#,id,product,pieces\n1,8,jam,4\n"
 LEAST = 20
@@ -55,7 +56,7 @@ class Putting(Kept):
 
     def seen(self):
         """What a night would read of changes/."""
-        return {name: content for name, content in self.files().items() if not name.startswith(".")}
+        return {name: content for name, content in self.files().items() if name.endswith(".csv")}
 
     def files(self):
         home = self.folder / "changes"
@@ -154,12 +155,47 @@ class Refused(Putting):
         self.assertEqual((status, told), (3, [f"{self.folder / 'changes/.put'} is no folder; move it away"]))
         self.assertEqual(os.listdir(self.room), ["orders.csv"])
 
+    def test_nothing_outside_is_brought_in_or_removed_by_links_that_somebody_puts_there(self):
+        outside = self.folder.parent / "outside"
+        (outside / "decided").mkdir(parents=True)
+        (outside / "decided/orders.csv").write_bytes(NEXT)
+        before = contents(outside)
+        changes = self.folder / "changes"
+        (changes / ".put/planted").mkdir(parents=True)
+        (changes / ".put/planted/orders.csv").symlink_to(outside / "decided/orders.csv")
+        (changes / ".put/linked").symlink_to(outside / "decided")
+        (changes / ".put/linked.part").symlink_to(outside / "decided")
+        self.assertEqual(self.puts(self.export())[0], 0)
+        self.assertEqual((self.seen(), contents(outside)), ({"orders.csv": NEXT}, before))
+        shutil.rmtree(changes / ".put")
+        (changes / ".put").symlink_to(outside)
+        self.night()
+        self.assertEqual((contents(outside), self.seen()), (before, {}))
+        (changes / "one.batch").symlink_to(outside / "decided/orders.csv")
+        told = "changes/one.batch:1:1: this is a link, and a night takes the file itself; put the file in"
+        self.assertEqual(self.ran("night", "--commit"), (3, [told]))
+        self.assertEqual(contents(outside), before)
+
 
     def test_where_nothing_can_be_printed_the_changes_are_in(self):
         command = [sys.executable, TOOLS / "warehouse", "put", self.folder, self.export()]
         with open("/dev/full", "wb") as full:
             self.assertEqual(subprocess.run(command, stdout=full, stderr=full).returncode, 0)
         self.assertEqual(self.seen(), {"orders.csv": NEXT})
+
+
+    def test_a_link_that_comes_in_a_files_place_as_it_is_taken_goes_back(self):
+        file, claim = self.folder / "changes/orders.csv", Claim(self.folder, self.folder / "versions/1.part")
+        file.parent.mkdir()
+        for target in (self.export(), self.room / "nowhere"):
+            file.symlink_to(target)
+            with self.assertRaises(Failure) as refused:
+                claim.take([("changes", Source(file, "changes/orders.csv"))])
+            told = "changes/orders.csv is a link, and a night takes the file itself; put the file in"
+            self.assertEqual((refused.exception.status, refused.exception.lines), (3, (told,)))
+            undo(claim)
+            self.assertEqual((os.readlink(file), claim.part.exists()), (str(target), False))
+            file.unlink()
 
 
 class Batches(Putting):

@@ -5,11 +5,12 @@ an older one alone with its catalogue: changes that wait are not for it. What is
 
 import os
 from contextlib import ExitStack
+from itertools import product
 from pathlib import Path
 
 from . import puts
 from .backups import found_in, version_faults, write_backup
-from .batches import TAKEN, WAITING
+from .batches import TAKEN
 from .beside import Copier, beside, judged
 from .catalogue import FILE as CATALOGUE
 from .claim import identities, identity, judge_written, names
@@ -40,10 +41,10 @@ def copy_waiting(folder: Path, part: Path, copier: Copier) -> None:
             judge_written(path, path, part)
             copier.file(path, part / path.name)
     nights = ending(folder, PART)
-    for kind, homes in (("data", "given"), (CHANGES, CHANGES), (WAITING, TAKEN)):
+    for kind in ("data", CHANGES):
         copy_files(folder / kind, part / kind, copier)
-        for night in nights:
-            copy_files(night / homes, part / kind, copier, folder / kind)
+    for night, (taken, kind) in product(nights, (("given", "data"), (CHANGES, CHANGES), (TAKEN, CHANGES))):
+        copy_files(night / taken, part / kind, copier, folder / kind)
     os.makedirs(part / CHANGES, exist_ok=True)
     if (folder / ASIDE).is_dir():
         copier.folder(folder / ASIDE, part / ASIDE)
@@ -137,8 +138,8 @@ def copied(folder: Path, part: Path, number: int | None, everything: bool, held:
         numbers = [number]
         older(folder, part, number)
     else:
-        with Gate(folder):
-            warn(puts.settle(folder))
+        with Gate(folder) as gate:
+            warn(puts.settle(gate))
             current, handle = cut(folder, part, copier)
         held.callback(os.close, handle)
         numbers = [*held_before(folder, current, held), current] if everything else [current]

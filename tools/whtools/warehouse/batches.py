@@ -1,20 +1,19 @@
-"""Batches: puts that have a name, each of which is taken once. The note of one that waits lies in changes/.batches/, and goes with its
-changes: to the folder of a night under way, to a version, or back. A version has the names of all batches that led to it.
+"""Batches: puts that have a name, each of which is taken once. The note of one that waits is changes/NAME.batch, and goes with its changes:
+to the folder of a night under way, to a version, or back. A version has the names of all batches that led to it.
 """
 
 import re
 
-from .inputs import Source
+from .inputs import BATCH, Source, entries
 from .versions import PART, VERSIONS, ending, newest, place, whole
 
-WAITING, TAKEN, NAMES = "changes/.batches", "batches", "batches.txt"
+ENDING, TAKEN, NAMES = ".batch", "batches", "batches.txt"
 NAME = re.compile(r"[A-Za-z0-9_+=@:-][A-Za-z0-9_+=@:.-]{0,127}")
 
 
 def waiting(folder):
     """The notes that go with the changes that wait."""
-    home = folder / WAITING
-    return [Source(path, f"{WAITING}/{path.name}") for path in sorted(home.iterdir())] if home.is_dir() else []
+    return [Source(path, f"changes/{path.name}") for path in entries(folder / "changes") if BATCH.fullmatch(path.name)]
 
 
 def names_in(version):
@@ -25,7 +24,7 @@ def names_in(version):
 
 def names_after(version, part):
     """The text that a version has of its batches, which come to those of the one before it."""
-    taken = sorted(path.name for path in (part / TAKEN).iterdir()) if (part / TAKEN).is_dir() else []
+    taken = sorted(path.name.removesuffix(ENDING) for path in entries(part / TAKEN))
     return "".join(f"{name}\n" for name in [*names_in(version), *taken])
 
 
@@ -33,11 +32,12 @@ def found(folder, name):
     """Where a batch is, with its note where that is still there; None of one that nobody put. Who asks holds the gate, so that changes
     only go from a night to its version meanwhile, and are looked for in this order.
     """
-    if (folder / WAITING / name).is_file():
-        return "waits for the next night", folder / WAITING / name
+    note = f"{name}{ENDING}"
+    if (folder / "changes" / note).is_file():
+        return "waits for the next night", folder / "changes" / note
     for part in ending(folder, PART):
-        if (part / TAKEN / name).is_file():
-            return "is taken by the night that is under way, or was stopped", part / TAKEN / name
+        if (part / TAKEN / note).is_file():
+            return "is taken by the night that is under way, or was stopped", part / TAKEN / note
     return found_in_versions(folder, name)
 
 
@@ -47,7 +47,7 @@ def found_in_versions(folder, name):
     if current is None or name not in names_in(place(folder, current)):
         return None
     for number in filter(lambda number: number <= current, reversed(whole(folder))):
-        note = place(folder, number) / TAKEN / name
+        note = place(folder, number) / TAKEN / f"{name}{ENDING}"
         if note.is_file():
             return f"is in {VERSIONS}/{number}", note
     return "is in a version that is there no more", None

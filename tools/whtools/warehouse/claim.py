@@ -10,13 +10,12 @@ from collections import Counter
 from contextlib import suppress
 from importlib import import_module
 
-from .batches import TAKEN, WAITING
 from .disk import remove, sync, writable
 from .finding import Failure
 from .status import AT_WORK, BAD_INPUT
 
 # The folders of a version that is being made, and where their files come from.
-HOMES = {"changes": "changes", "given": "data", TAKEN: WAITING}
+HOMES = {"changes": "changes", "given": "data", "batches": "changes"}
 
 
 def is_being_written(file):
@@ -85,6 +84,8 @@ class Claim:
             where = source.told.partition("/")[0]
             told = f"{self.folder / where} is on another file system than {self.part.parent}, to which a night moves its files"
             raise Failure(BAD_INPUT, f"{told}; have both on one") from error
+        if to.is_symlink():
+            raise Failure(BAD_INPUT, f"{source.told} is a link, and a night takes the file itself; put the file in")
         self.looks[to], self.modes[to] = (source, look(to)), to.stat().st_mode & 0o777
 
     def own(self):
@@ -140,7 +141,7 @@ def files_back(taken, home):
         os.makedirs(home, exist_ok=True)
     there = identities(home) if files else Counter()
     for file in files:
-        known = identity(file.stat())
+        known = identity(file.lstat())
         if there[known]:
             there[known] -= 1
             writable(file)

@@ -44,8 +44,8 @@ def to_take(words):
 
 def take(words, claim):
     """Takes all that waits. No put is half there meanwhile: one that was stopped is finished first."""
-    with Gate(claim.folder):
-        warn(settle_puts(claim.folder))
+    with Gate(claim.folder) as gate:
+        warn(settle_puts(gate))
         claim.take(to_take(words))
 
 

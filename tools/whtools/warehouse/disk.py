@@ -46,9 +46,9 @@ def keep(folder):
 
 
 def writable(file):
-    """Lets the owner write a file, where this may be changed."""
-    mode = file.stat().st_mode & 0o777
-    if not mode & OWNER_WRITES:
+    """Lets the owner write a file, where this may be changed; what a link leads to is nobody's here."""
+    mode = file.lstat().st_mode & 0o777
+    if not file.is_symlink() and not mode & OWNER_WRITES:
         with suppress(PermissionError):
             os.chmod(file, mode | OWNER_WRITES)
 

@@ -9,6 +9,9 @@ from .versions import State
 from .vouched import Vouched
 
 TABLE, CHANGES = re.compile(r"(.+)\.csv"), re.compile(r"([A-Za-z_][A-Za-z0-9_]*)(?:\.([1-9][0-9]*))?\.csv")
+# The note of a batch, which goes with its changes.
+BATCH = re.compile(r"[^.].*\.batch")
+LINK = "this is a link, and a night takes the file itself; put the file in"
 FORMS = {"data": "NAME.csv", "changes": "NAME.csv, NAME.1.csv, NAME.2.csv and so on"}
 
 
@@ -112,6 +115,8 @@ class Inputs:
     def judge(self, kind, form, path, bases, names):
         """What is wrong with a file of `data` or `changes`, or None."""
         place, match = Place(f"{kind}/{path.name}"), form.fullmatch(path.name)
+        if kind == "changes" and BATCH.fullmatch(path.name) and path.is_file():
+            return Finding(place, LINK) if path.is_symlink() else None
         if not match or not path.is_file():
             is_file = path.is_file() or path.is_symlink()
             near = nearest(path.name, [f"{name}.csv" for name in bases])
@@ -120,7 +125,7 @@ class Inputs:
         if match[1] not in bases:
             return Finding(place, stranger(match[1], bases, names)) if names else None
         if path.is_symlink() and not (kind == "data" and self.state.number is None):
-            return Finding(place, "this is a link, and a night takes the file itself; put the file in")
+            return Finding(place, LINK)
         if kind == "data" and self.state.number is not None and match[1] in self.carried:
             return self.second(place, path, self.carried[match[1]])
         return None

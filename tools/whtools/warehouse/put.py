@@ -12,7 +12,7 @@ from pathlib import Path
 from . import batches, puts
 from .catalogue import Catalogue
 from .claim import judge_written, look, names
-from .disk import blocks_of, copy, write
+from .disk import blocks_of
 from .finding import Failure, of_system, warn
 from .gate import Gate
 from .inputs import CHANGES, Source, by_view, stranger
@@ -73,20 +73,20 @@ def fill(put, given) -> list[tuple[Given, Source]]:
     """Copies what is given into a put, each under a name of its own."""
     filled = []
     for each in given:
-        free = next(name for name in names(f"{each.view.name}.csv") if not (put.files / name).exists())
+        free = next(name for name in names(f"{each.view.name}.csv") if not (put.path / name).exists())
         if each.path is None:
-            write(put.files / free, iter(lambda: sys.stdin.buffer.read(2**18), b""))
+            put.write(free, iter(lambda: sys.stdin.buffer.read(2**18), b""))
         else:
-            copy_whole(each, put.files / free)
-        filled.append((each, Source(put.files / free, each.told)))
+            copy_whole(each, put, free)
+        filled.append((each, Source(put.path / free, each.told)))
     return filled
 
 
-def copy_whole(each, to):
+def copy_whole(each, put, name):
     """Copies a file that nobody writes meanwhile."""
     seen = look(each.path)
-    judge_written(each.path, each.told, to.parent)
-    copy(each.path, to)
+    judge_written(each.path, each.told, put.path)
+    put.write(name, blocks_of(each.path))
     if look(each.path) != seen:
         raise Failure(AT_WORK, f"{each.told} was written meanwhile; try again when it is whole")
 
@@ -183,11 +183,11 @@ def noted(filled) -> str:
     return f"put {since}\n{sums((f'{each.view.name}.csv', source.path) for each, source in filled)}"
 
 
-def bring(folder, put):
+def bring(put, gate):
     """Has the put count, and brings its files in. What cannot be done then the next put or night does."""
-    decided = put.decide()
+    put.decide()
     try:
-        return puts.finish(decided, put.home)
+        return puts.finish(put.name, put.room, put.handle, gate)
     except OSError as error:
         then = "the next put or night brings in what is not"
         raise Failure(NOT_WRITTEN, f"the changes are taken, but {of_system(error)}; {then}") from error
@@ -201,21 +201,21 @@ def run(words):
     if faults:
         raise Failure(BAD_INPUT, *faults)
     given = given_of(words, catalogue)
-    with Gate(folder):
-        warn(puts.settle(folder))
+    with Gate(folder) as gate:
+        warn(puts.settle(gate))
         if is_known(words, batch, given):
             return DONE
-        put = puts.Put(folder)
+        put = puts.Put(gate)
     try:
         filled = fill(put, given)
         changes = judge(folder, filled)
         if batch:
-            put.note(batch, noted(filled))
-        with Gate(folder):
-            warn(puts.settle(folder))
+            put.write(f"{batch}{batches.ENDING}", [noted(filled).encode()])
+        with Gate(folder) as gate:
+            warn(puts.settle(gate))
             if is_known(words, batch, given):
                 return DONE
-            brought = bring(folder, put)
+            brought = bring(put, gate)
     finally:
         put.leave()
     tell(filled, changes, brought)

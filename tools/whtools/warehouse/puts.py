@@ -1,20 +1,22 @@
 """Changes that are put in: all files of a put come into changes/, or none does.
 
 A put is written to a folder of its own below changes/.put/, whose name ends with .part. One rename decides, and then each file is linked
-to a name that is free. A put that was stopped after its rename is finished by the next put or night, before anybody takes changes.
+to a name that is free. A put that was stopped after its rename is finished by the next put or night, before anybody takes changes. Who may
+write changes/ could lead others elsewhere by links: so all that is done here goes by handles of folders, and never through a link.
 """
 
+import errno
 import fcntl
 import os
 import stat
 import time
-from contextlib import suppress
+from contextlib import contextmanager, suppress
+from importlib import import_module
 
-from .batches import TAKEN, WAITING
+from .batches import ENDING
 from .claim import identities, identity, names
-from .disk import NO_LINKS, remove, sync
-from .finding import Failure, of_system
-from .gate import CHANGES as HOME
+from .disk import NO_LINKS
+from .finding import Failure
 from .gate import Gate
 from .inputs import CHANGES
 from .lock import taken
@@ -22,129 +24,140 @@ from .status import BAD_INPUT
 from .versions import PART
 
 ROOM = ".put"
+NO_LINK = os.O_RDONLY | os.O_DIRECTORY | os.O_NOFOLLOW
+FINISHED = "a put that was stopped is finished; its changes lie in changes/"
 
 
-def folder_like(path, other):
-    """Makes a folder that others may use as they may the other one, where it is not there."""
+def made(name: str, home: int, like: int) -> int:
+    """A handle of a folder in another one, which is made where it is not there: others may use it as they may the folder that it is like."""
     with suppress(FileExistsError):
-        os.mkdir(path)
-        os.chmod(path, stat.S_IMODE(other.stat().st_mode))
-    if path.is_symlink() or not path.is_dir():
-        raise Failure(BAD_INPUT, f"{path} is no folder; move it away")
-    return path
+        os.mkdir(name, dir_fd=home)
+        handle = os.open(name, NO_LINK, dir_fd=home)
+        os.fchmod(handle, stat.S_IMODE(os.fstat(like).st_mode))
+        return handle
+    return os.open(name, NO_LINK, dir_fd=home)
+
+
+def remove(name: str, home: int) -> None:
+    """Removes a folder with all that is in it."""
+    import_module("shutil").rmtree(name, dir_fd=home)
 
 
 class Put:
     """The folder of a put that is being written. It is locked, so that nobody takes it for one that was left."""
 
-    def __init__(self, folder):
-        self.home = folder / HOME
-        room = folder_like(self.home / ROOM, self.home)
-        self.path = folder_like(room / f"{time.time_ns()}-{os.getpid()}{PART}", self.home)
-        self.handle = os.open(self.path, os.O_RDONLY | os.O_DIRECTORY)
+    def __init__(self, gate: Gate):
+        self.name, place = f"{time.time_ns()}-{os.getpid()}", gate.path / ROOM
+        try:
+            self.room = made(ROOM, gate.handle, gate.handle)
+        except OSError as error:
+            if error.errno not in (errno.ENOTDIR, errno.ELOOP):
+                raise
+            raise Failure(BAD_INPUT, f"{place} is no folder; move it away") from error
+        self.path = place / f"{self.name}{PART}"
+        self.handle = made(self.path.name, self.room, gate.handle)
         fcntl.flock(self.handle, fcntl.LOCK_EX | fcntl.LOCK_NB)
-        self.files = folder_like(self.path / HOME, self.home)
 
-    def note(self, batch, text):
-        """Has the put be a batch."""
-        (folder_like(self.path / TAKEN, self.home) / batch).write_text(text)
+    def write(self, name: str, pieces) -> None:
+        """Writes a file that is not there yet, through to the disk."""
+        with open(os.open(name, os.O_WRONLY | os.O_CREAT | os.O_EXCL, 0o666, dir_fd=self.handle), "wb") as file:
+            file.writelines(pieces)
+            file.flush()
+            os.fsync(file.fileno())
 
-    def decide(self):
+    def decide(self) -> None:
         """Has the put count, by a rename: what fails after it undoes nothing."""
-        for path in [*self.path.rglob("*"), self.path, self.path.parent]:
-            sync(path)
-        decided = self.path.with_name(self.path.name.removesuffix(PART))
-        os.rename(self.path, decided)
-        return decided
+        os.fsync(self.handle)
+        os.fsync(self.room)
+        os.rename(self.path.name, self.name, src_dir_fd=self.room, dst_dir_fd=self.room)
 
-    def leave(self):
+    def leave(self) -> None:
         """Removes what was written, unless it counts; where that cannot be, the next put does."""
         with suppress(OSError):
             if self.path.is_dir():
-                remove(self.path)
+                remove(self.path.name, self.room)
         os.close(self.handle)
+        os.close(self.room)
 
 
-def is_brought(file, to):
+def is_brought(name: str, part: int, to: str, home: int) -> bool:
     """Whether a file could be brought to a place that is free, by a link, or a rename where a file system has no links."""
     try:
-        os.link(file, to)
+        os.link(name, to, src_dir_fd=part, dst_dir_fd=home, follow_symlinks=False)
         return True
     except FileExistsError:
         return False
     except OSError as error:
         if error.errno not in NO_LINKS:
             raise
-    if os.path.lexists(to):
+    try:
+        os.stat(to, dir_fd=home, follow_symlinks=False)
         return False
-    os.rename(file, to)
-    return True
+    except FileNotFoundError:
+        os.rename(name, to, src_dir_fd=part, dst_dir_fd=home)
+        return True
 
 
-def bring(file, home):
-    """Brings a file into changes/ under the first name of its view that is free, and answers the name."""
-    view = CHANGES.fullmatch(file.name)[1]
-    return next(name for name in names(f"{view}.csv") if is_brought(file, home / name))
-
-
-def regular(folder):
-    """The files of a folder below .put/; what is none was never put there."""
-    return sorted(path for path in folder.glob("*") if stat.S_ISREG(path.lstat().st_mode)) if folder.is_dir() else []
-
-
-def finish(decided, home):
-    """Brings the files of a put that counts into changes/, and its note to those of the batches. What is there already stays so. Answers
-    the names of the files by those that they have in the put.
+def finish(name: str, room: int, part: int, gate: Gate) -> dict[str, str]:
+    """Brings the files of a put that counts into changes/, each under the first name of its view that is free, and the note of its batch.
+    What is there already stays so. Answers the names of the files by those that they have in the put.
     """
-    sync(decided.parent)
-    there, brought = identities(home), {}
-    for file in filter(lambda file: CHANGES.fullmatch(file.name), regular(decided / HOME)):
-        if not there[identity(file.lstat())]:
-            brought[file.name] = bring(file, home)
-    for note in regular(decided / TAKEN):
-        notes = folder_like(home.parent / WAITING, home)
-        is_brought(note, notes / note.name)
-        sync(notes)
-    sync(home)
-    remove(decided)
+    os.fsync(room)
+    there, brought = identities(gate.path), {}
+    for file in sorted(os.listdir(part)):
+        found, view = os.stat(file, dir_fd=part, follow_symlinks=False), CHANGES.fullmatch(file)
+        if not stat.S_ISREG(found.st_mode) or there[identity(found)]:
+            continue
+        if view:
+            brought[file] = next(to for to in names(f"{view[1]}.csv") if is_brought(file, part, to, gate.handle))
+        elif file.endswith(ENDING):
+            is_brought(file, part, file, gate.handle)
+    os.fsync(gate.handle)
+    remove(name, room)
     return brought
 
 
-def settle(folder):
-    """Finishes the puts that count and were stopped, and removes those that were left before. Who calls it holds the gate. Answers what
-    is to be said of it.
-    """
-    said, home = [], folder / HOME
-    for path in sorted((home / ROOM).glob("*")) if not (home / ROOM).is_symlink() else ():
-        if path.is_symlink() or not path.is_dir():
-            continue
-        if path.name.endswith(PART):
-            said += unleft(path)
-        else:
-            finish(path, home)
-            said.append("a put that was stopped is finished; its changes lie in changes/")
+@contextmanager
+def opened(name: str, home: int):
+    """The handle of a folder in another one, or None where there is none."""
+    try:
+        handle = os.open(name, NO_LINK, dir_fd=home)
+    except OSError:
+        yield None
+        return
+    try:
+        yield handle
+    finally:
+        os.close(handle)
+
+
+def settle(gate: Gate) -> list[str]:
+    """Finishes the puts that count and were stopped, and removes those that were left before. Answers what is to be said of it."""
+    said = []
+    with opened(ROOM, gate.handle) as room:
+        for name in sorted(os.listdir(room)) if room is not None else ():
+            with opened(name, room) as part:
+                if part is not None and name.endswith(PART):
+                    said += unleft(name, room, part, gate)
+                elif part is not None:
+                    finish(name, room, part, gate)
+                    said.append(FINISHED)
     return said
 
 
-def unleft(path):
+def unleft(name: str, room: int, part: int, gate: Gate) -> list[str]:
     """Removes a put that nobody writes any more."""
     try:
-        handle = os.open(path, os.O_RDONLY | os.O_DIRECTORY)
-    except FileNotFoundError:
-        return []
-    try:
-        if taken(handle, fcntl.LOCK_EX):
-            remove(path)
+        if taken(part, fcntl.LOCK_EX):
+            remove(name, room)
     except OSError as error:
-        return [f"{path} is not wanted any more, and cannot be removed: {of_system(error)}"]
-    finally:
-        os.close(handle)
+        return [f"{gate.path / ROOM / name} is not wanted any more, and cannot be removed: {error.strerror}"]
     return []
 
 
-def settled(folder):
-    """The same of a night that begins, where there is something to settle."""
-    if not (folder / HOME / ROOM).is_dir():
+def settled(folder) -> list[str]:
+    """The same for a night that begins, where there is something to settle."""
+    if not (folder / "changes" / ROOM).is_dir():
         return []
-    with Gate(folder):
-        return settle(folder)
+    with Gate(folder) as gate:
+        return settle(gate)
