@@ -9,6 +9,7 @@ at once. Status 503 with Retry-After: try again; 500: a table is damaged, and wh
 """
 
 import ctypes
+import gc
 import math
 import socket
 import sys
@@ -49,6 +50,11 @@ class Handler(BaseHTTPRequestHandler):
     """One connection, whose requests come one after another."""
 
     protocol_version, server_version, sys_version, timeout, disable_nagle_algorithm = "HTTP/1.1", "whview", "", PATIENCE, True
+
+    def setup(self):
+        """What the system holds for a client that does not read is bounded too."""
+        super().setup()
+        self.connection.setsockopt(socket.SOL_SOCKET, socket.SO_SNDBUF, PIECE)
 
     def handle_one_request(self):
         """A request and its answer, in time."""
@@ -242,7 +248,8 @@ class Server(ThreadingHTTPServer):
 
 
 def spare_memory():
-    """Has threads take little memory."""
+    """Has threads take little memory, and what is in a cycle be given back: a server is there for long."""
+    gc.enable()
     threading.stack_size(STACK)
     with suppress(AttributeError, OSError):
         ctypes.CDLL(None).mallopt(MOST_HEAPS, HEAPS)
