@@ -174,7 +174,10 @@ class Beside(Large):
         worker = self.server.answers.scans.free[0]
         worker.process.kill()
         worker.process.wait()
-        self.refused("/lines?where=id=1", 503, "this search ended before its time; try again")
+        self.assertEqual(len(self.found("/lines?where=id=1")["rows"]), 1)
+        with mock.patch.object(scans, "PROGRAM", "pass"):
+            self.server.answers.scans.free.pop().end()
+            self.refused("/lines?where=id=1", 503, "this search ended before its time; try again")
         self.assertEqual(len(self.found("/lines?where=id=1")["rows"]), 1)
 
     def test_processes_end_with_the_server(self):

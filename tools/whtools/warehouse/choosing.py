@@ -93,9 +93,11 @@ class Choice(NamedTuple):
 
     def follows(self) -> Callable[[Numbered], bool] | None:
         """Whether a row comes behind the row `after` in the order."""
-        row = next(self.table.rows(self.after - 1), None) if self.after else None
-        if row is None:
+        if not self.after:
             return None
+        row = next(self.table.rows(self.after - 1), None)
+        if row is None:
+            return lambda _: False
         bound, compare = self.order.key(row), operator.lt if self.order.falls else operator.gt
         return lambda numbered: compare(self.order.key(numbered), bound)
 
