@@ -101,6 +101,7 @@ class Orders(Small):
                 after = page[-1][0]
             wanted = sorted((row for row in rows if row[1] != "t3"), key=lambda row: row[0], reverse=order.startswith("-"))
             self.assertEqual(found, wanted)
+            self.assertEqual(list(choice_of(table, (), order, after=101).rows(9)), [])
 
 
 class Forms(Kept):

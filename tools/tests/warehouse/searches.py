@@ -174,7 +174,10 @@ class Beside(Large):
         worker = self.server.answers.scans.free[0]
         worker.process.kill()
         worker.process.wait()
-        self.refused("/lines?where=id=1", 503, "this search ended before its time; try again")
+        self.assertEqual(len(self.found("/lines?where=id=1")["rows"]), 1)
+        with mock.patch.object(scans, "PROGRAM", "pass"):
+            self.server.answers.scans.free.pop().end()
+            self.refused("/lines?where=id=1", 503, "this search ended before its time; try again")
         self.assertEqual(len(self.found("/lines?where=id=1")["rows"]), 1)
 
     def test_processes_end_with_the_server(self):
@@ -266,6 +269,18 @@ class Bounded(Large):
             self.until(lambda: not self.server.begun)
         self.until(lambda: self.server.answers.room.left == free)
 
+    def test_an_answer_that_is_taken_drop_by_drop_is_let_go(self):
+        self.fill(self.WIDE)
+        with mock.patch.object(serve, "TAKING", 1.5):
+            (connection,) = self.unread(1)
+            began = time.monotonic()
+            with self.assertRaises(OSError):
+                while time.monotonic() - began < 20:
+                    if not connection.recv(2000):
+                        raise ConnectionError
+                    time.sleep(0.005)
+        self.assertLess(time.monotonic() - began, 20)
+
     def test_who_reads_slowly_makes_room_for_others(self):
         self.fill(self.WIDE)
         self.server.answers.room.left = 2 * answers.SHARE
@@ -308,6 +323,9 @@ class Bounded(Large):
             os.mkfifo(self.folder / f"reports/{name}.html")
             told = f"there is no report {name}.html; `tools/warehouse report {self.folder} {asked}` makes it"
             self.refused(f"/reports/{name}.html", 404, told)
+        (self.folder / "versions/1/report.txt").unlink()
+        os.mkfifo(self.folder / "versions/1/report.txt")
+        self.assertEqual(self.asked("/")[0], 200)
         (self.folder / "reports/1.html").write_bytes(b"x" * (answers.MOST_OF_A_REPORT + 1))
         self.refused("/reports/1.html", 503, f"report 1.html has more than {answers.MOST_OF_A_REPORT:,} bytes; read it by its file")
 

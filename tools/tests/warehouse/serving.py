@@ -267,6 +267,10 @@ class Hostile(Served):
             "/orders?" + "where=id=1&" * 30 + "limit=1": (400, "the query is not NAME=VALUE&NAME=VALUE, or has too many of these"),
             "/orders?where=id": (400, "a column and its value are asked for as COLUMN=VALUE, or by !=, <, <=, > or >=, and not as 'id'"),
             "/orders?where=id%3Dx": (400, "id is a whole number of 64 bits, and 'x' is none"),
+            "/orders?where=id%3E%3Dx": (400, "id is a whole number of 64 bits, and 'x' is none"),
+            "/orders?order=-nr": (404, "orders has no column 'nr'; it has id, day, region"),
+            "/orders?columns=id,id": (400, "a column stands twice in 'id,id'"),
+            "/orders?columns=": (404, "orders has no column ''; it has id, day, region"),
             "/orders?where=nr%3D1": (404, "orders has no column 'nr'; it has id, day, region"),
             "/%ff": (400, "the target is no path with a query"),
         }

@@ -5,6 +5,7 @@ Milliseconds are medians and 99ths of a hundred, by the clock. `--beside FOLDER`
 after this one.
 """
 
+import os
 import random
 import socket
 import subprocess
@@ -111,6 +112,19 @@ def beside_searches(port: int, measured: Callable[[], str]) -> str:
     return found
 
 
+def spent(pid: int) -> float:
+    """The milliseconds of the processor that a process has had."""
+    user, system = Path(f"/proc/{pid}/stat").read_text().rpartition(")")[2].split()[11:13]
+    return (int(user) + int(system)) * 1e3 / os.sysconf("SC_CLK_TCK")
+
+
+def alone(pid: int, client: Client, path: str, rounds: int) -> str:
+    """What answers take while nothing else is asked."""
+    before = spent(pid)
+    told = client.times(path, rounds)
+    return f"{told}, of the processor {(spent(pid) - before) / rounds:.2f}"
+
+
 def megabytes(pid: int) -> int:
     """The memory of a process."""
     return int(Path(f"/proc/{pid}/status").read_text().partition("VmRSS:")[2].split()[0]) // 1024
@@ -134,8 +148,8 @@ def measure(asked) -> None:
         for name, checkout in checkouts(asked).items():
             with served(checkout.root, Path(folder)) as (pid, port):
                 client = Client(port)
-                print(f"serve, {name}: an answer {client.times('/facts?limit=1', asked.rounds)}", flush=True)
-                print(f"    a page {client.times('/facts?limit=256', asked.rounds)}", flush=True)
+                print(f"serve, {name}: an answer {alone(pid, client, '/facts?limit=1', asked.rounds)}", flush=True)
+                print(f"    a page {alone(pid, client, '/facts?limit=256', asked.rounds)}", flush=True)
                 print(f"    beside searches {beside_searches(port, lambda: client.times('/facts?limit=256', asked.rounds))}", flush=True)
             with served(checkout.root, Path(folder)) as (pid, port):
                 print(f"    six clients that do not read: {unread(pid, port)}", flush=True)

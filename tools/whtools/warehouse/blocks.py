@@ -7,16 +7,16 @@ import os
 import re
 import stat
 from collections.abc import Iterator
-from dataclasses import dataclass
 from io import BufferedReader
 from pathlib import Path
+from typing import NamedTuple
 
 from .by_lines import QUOTES
 from .finding import Failure
 from .status import BAD_INPUT
 
 # How much of a file is looked at a time.
-BLOCK = 2**17
+BLOCK = 2**15
 RETURN = re.compile(rb"\r(?!\n)")
 BLANK_FIRST, BLANK, BLANK_RETURN = (b"\n", b"\r\n"), b"\n\n", b"\n\r\n"
 KINDS = {stat.S_ISFIFO: "a FIFO", stat.S_ISDIR: "a folder", stat.S_ISSOCK: "a socket", stat.S_ISCHR: "a device", stat.S_ISBLK: "a device"}
@@ -108,8 +108,7 @@ def records(file: BufferedReader, at: int) -> Iterator[tuple[int, int, list[str]
 # ---- blocks
 
 
-@dataclass(frozen=True, slots=True)
-class InLines:
+class InLines(NamedTuple):
     """A block each line of which is a record: where it begins, how many rows stand before it, its lines, and whether they have quotes."""
 
     at: int
@@ -136,8 +135,7 @@ class InLines:
         return enumerate(self.read(self.lines()[skipped:]), self.before + skipped + 1)
 
 
-@dataclass(frozen=True, slots=True)
-class InRecords:
+class InRecords(NamedTuple):
     """A block that was read record by record."""
 
     at: int

@@ -2,11 +2,10 @@
 
 import heapq
 import operator
-import pickle
-import tempfile
 from collections.abc import Callable, Iterable, Iterator
-from dataclasses import dataclass
+from importlib import import_module
 from itertools import chain, islice, repeat
+from typing import NamedTuple
 
 from .blocks import Block
 from .conditions import Condition, column_of, condition_of, passing
@@ -20,8 +19,7 @@ RUN = 100_000
 Numbered = tuple[int, tuple]
 
 
-@dataclass(frozen=True, slots=True)
-class Order:
+class Order(NamedTuple):
     """By which column rows come, and whether the largest come first; rows with equal cells come as in the table."""
 
     place: int
@@ -47,15 +45,15 @@ class Order:
 
 def put_by(run: list) -> Iterator[Numbered]:
     """Rows that come back from a temporary file, which has no name."""
-    file = tempfile.TemporaryFile()
+    # What most reads do not need is imported where it is needed: that takes longer than many a read.
+    file, pickle = import_module("tempfile").TemporaryFile(), import_module("pickle")
     for row in run:
         pickle.dump(row, file)
     file.seek(0)
     return (pickle.load(file) for _ in repeat(None, len(run)))
 
 
-@dataclass(frozen=True, slots=True)
-class Choice:
+class Choice(NamedTuple):
     """What is asked of a table: the rows behind a number, those for which conditions hold, in an order, and the places of columns."""
 
     table: Table
@@ -95,9 +93,11 @@ class Choice:
 
     def follows(self) -> Callable[[Numbered], bool] | None:
         """Whether a row comes behind the row `after` in the order."""
-        row = next(self.table.rows(self.after - 1), None) if self.after else None
-        if row is None:
+        if not self.after:
             return None
+        row = next(self.table.rows(self.after - 1), None)
+        if row is None:
+            return lambda _: False
         bound, compare = self.order.key(row), operator.lt if self.order.falls else operator.gt
         return lambda numbered: compare(self.order.key(numbered), bound)
 

@@ -5,7 +5,7 @@ left is compared cell by cell, numbers as numbers and texts by their letters' nu
 import operator
 import re
 from collections.abc import Callable, Iterator
-from dataclasses import dataclass
+from typing import NamedTuple
 
 from .blocks import Block, InLines
 from .by_lines import is_formed, is_utf_8
@@ -20,8 +20,7 @@ ASKED = re.compile(r"([^=<>!]*)(>=|<=|!=|=|<|>)(.*)", re.DOTALL)
 AS_IT_IS = re.compile(r'[^"\r\n]+')
 
 
-@dataclass(frozen=True, slots=True)
-class Condition:
+class Condition(NamedTuple):
     """That a column compares so with a value: the column's place among a record's cells, and its kind."""
 
     place: int

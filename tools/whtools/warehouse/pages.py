@@ -3,7 +3,7 @@
 import json
 import time
 from collections.abc import Callable, Iterable, Iterator
-from dataclasses import dataclass
+from typing import NamedTuple
 
 from .choosing import Choice, Numbered
 from .forms import object_writer
@@ -19,8 +19,7 @@ class Unfit(Exception):
     """What is asked for takes more room or time than there is."""
 
 
-@dataclass(frozen=True, slots=True)
-class Page:
+class Page(NamedTuple):
     """The body of an answer, and the number of the row behind which the next one begins, if there is one."""
 
     body: bytes

@@ -11,7 +11,7 @@ from contextlib import suppress
 from pathlib import Path
 
 from .choosing import Choice, choice_of
-from .disk import telling
+from .disk import link, telling
 from .finding import Failure
 from .forms import FORMS, form_of, written
 from .held import Held
@@ -44,7 +44,8 @@ def put_in(output: Path, write) -> None:
                 write(file)
                 file.flush()
                 os.fsync(file.fileno())
-            os.link(part, output)
+            if not link(part, output):
+                os.rename(part, output)
         finally:
             with suppress(FileNotFoundError):
                 part.unlink()

@@ -19,7 +19,7 @@ from .status import BAD_WORDS
 from .versions import place, whole
 
 # Within how many blocks behind a known place a row has to stand, to be read without a search.
-NEAR = 8
+NEAR = 32
 
 
 class Missing(Failure):

@@ -138,9 +138,9 @@ class Scans:
 
     def asked(self, job: dict, connection: socket.socket | None) -> tuple[dict, bytes]:
         """Has a process search. One that did not come to its end is none for the next search."""
-        with self.lock:
-            worker = self.free.pop() if self.free else None
-        worker = worker or Worker()
+        if is_gone(connection):
+            raise Gone
+        worker = self.waiting_one() or Worker()
         try:
             found = worker.ask(job, connection, self.room)
         except BaseException:
@@ -148,6 +148,15 @@ class Scans:
             raise
         self.give_back(worker)
         return found
+
+    def waiting_one(self) -> Worker | None:
+        """A process that waits for a search, if there is one that nobody ended."""
+        with self.lock:
+            worker = self.free.pop() if self.free else None
+        if worker is None or worker.process.poll() is None:
+            return worker
+        worker.end()
+        return None
 
     def give_back(self, worker: Worker) -> None:
         """Keeps a process for the next search."""

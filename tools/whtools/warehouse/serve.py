@@ -5,10 +5,12 @@ where=COLUMN=VALUE, or with !=, <, <=, > or >=, several times; order=COLUMN or -
 format=json, csv or jsonl; version=N; session=NAME; after=A, which is the `next` of the page before, or its header X-Next.
 
 A page ends early at 4 MiB, and a search after ten seconds: it goes on behind `next`. Pages never wait for searches, of which there are a few
-at once. Status 503 with Retry-After: try again; 500: a table is damaged, and where; 410: the version or the session is over.
+at once. POST /session pins the current version, GET /session/NAME tells it, DELETE /session/NAME leaves it; of 1,000 sessions an address has
+250 at most. Status 503 with Retry-After: try again; 500: a table is damaged, and where; 410: the version or the session is over.
 """
 
 import ctypes
+import gc
 import math
 import socket
 import sys
@@ -49,6 +51,11 @@ class Handler(BaseHTTPRequestHandler):
     """One connection, whose requests come one after another."""
 
     protocol_version, server_version, sys_version, timeout, disable_nagle_algorithm = "HTTP/1.1", "whview", "", PATIENCE, True
+
+    def setup(self):
+        """What the system holds for a client that does not read is bounded too."""
+        super().setup()
+        self.connection.setsockopt(socket.SOL_SOCKET, socket.SO_SNDBUF, PIECE)
 
     def handle_one_request(self):
         """A request and its answer, in time."""
@@ -242,7 +249,8 @@ class Server(ThreadingHTTPServer):
 
 
 def spare_memory():
-    """Has threads take little memory."""
+    """Has threads take little memory, and what is in a cycle be given back: a server is there for long."""
+    gc.enable()
     threading.stack_size(STACK)
     with suppress(AttributeError, OSError):
         ctypes.CDLL(None).mallopt(MOST_HEAPS, HEAPS)

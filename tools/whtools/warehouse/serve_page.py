@@ -4,6 +4,7 @@ import os
 import time
 from html import escape
 
+from .blocks import Damaged, opened
 from .report_facts import told
 from .report_page import element, page, row, scrolling, section, table
 from .report_parts import number
@@ -17,8 +18,9 @@ SHOWN = 100
 def report_of(folder, version):
     """What the report of a version says, or None without one."""
     try:
-        return told((place(folder, version) / "report.txt").read_text())
-    except OSError:
+        with opened(place(folder, version) / "report.txt") as file:
+            return told(file.read().decode())
+    except (OSError, Damaged):
         return None
 
 
