@@ -21,19 +21,23 @@ COUNTED = re.compile(rb"(?:[1-9][0-9]{0,17}+,[^\n]*+(?:\n|\Z))*+")
 BLANK, RETURN = re.compile(rb"\n\r?\n"), re.compile(rb"\r(?!\n)")
 # Texts in which each quote opens a cell or closes it, and no cell goes over lines.
 QUOTES = re.compile(rb'(?:[^"]*+(?<=[,\n])"[^"\n]*+(?:""[^"\n]*+)*+"(?:[,\r\n]|\Z))*+[^"]*+')
+# What a number begins with that is written in another way than the tool's: behind a comma, and at a line's beginning.
+OTHERWISE, FIRST_OTHERWISE = re.compile(rb",(?:\+|-?0[0-9]|-0)"), re.compile(rb"\n(?:\+|-?0[0-9]|-0)")
 # Counts so long that as many of them as an input can have may leave 64 bits together.
 LONG_COUNTS = re.compile(rb"\n-?[0-9]{13,},")
 OTHERS = bytes(set(range(256)) - set(b'"\n'))
 NUMBER, POSITIVE, CHANGED = rb"[+-]?[0-9]{1,18}+", rb"[1-9][0-9]{0,17}+", rb"-?[1-9][0-9]{0,17}+"
+# A number and a text in quotes as the tool writes them: without a plus or zeros before it, and in quotes only where it has need of them.
+OWN_NUMBER, OWN_QUOTED = rb"(?:0|-?[1-9][0-9]{0,18}+)", rb'"[^",\r\n\0]*+(?:,|"")(?:[^"\r\n\0]++|"")*+"'
 QUOTED, PLAIN = rb'"(?:[^"\0]++|"")*+"', rb'[^",\r\n\0]'
 
 
 @lru_cache(64)
-def form(kinds, count):
+def form(kinds, count, number=NUMBER, quoted=QUOTED):
     """What records look like whose cells are of these kinds, behind a count of this form, if they have one."""
     alone = len(kinds) == 1 and not count
-    text = b"(?:" + PLAIN + (b"++|" if alone else b"*+|") + QUOTED + b")"
-    cells = [*([count] if count else []), *(NUMBER if kind == "int" else text for kind in kinds)]
+    text = b"(?:" + PLAIN + (b"++|" if alone else b"*+|") + quoted + b")"
+    cells = [*([count] if count else []), *(number if kind == "int" else text for kind in kinds)]
     record = b",".join(cells)
     return re.compile(b"(?:" + record + b"\r?\n)*+(?:" + record + b")?+")
 
@@ -65,6 +69,18 @@ def is_in_lines(content, start, is_counted, count_one):
     if b"\r" in content and RETURN.search(content, start):
         return False
     return b'"' not in content or QUOTES.match(content, start).end() == len(content)
+
+
+def is_own(content, start, columns, is_counted):
+    """Whether the records of a table that are lines are written as the tool writes them, so that equal rows have equal lines. Where there are
+    quotes it is said of no others than lines.
+    """
+    kinds = tuple(kind for _, kind in columns)
+    if b'"' not in content:
+        is_plain = "int" not in kinds or not OTHERWISE.search(content, start)
+        if is_plain and (is_counted or kinds[0] == "text" or not FIRST_OTHERWISE.search(content, start - 1)):
+            return True
+    return form(kinds, POSITIVE if is_counted else None, OWN_NUMBER, OWN_QUOTED).match(content, start).end() == len(content)
 
 
 def counts_one(content, start):

@@ -6,13 +6,16 @@ import errno
 import fcntl
 import os
 import re
+import stat
 from collections import Counter
+from collections.abc import Iterable
 from contextlib import suppress
 from importlib import import_module
+from pathlib import Path
 
 from .disk import remove, sync, writable
 from .finding import Failure
-from .status import AT_WORK, BAD_INPUT
+from .status import AT_WORK, BAD_INPUT, NOT_WRITTEN
 
 # The folders of a version that is being made, and where their files come from.
 HOMES = {"changes": "changes", "given": "data"}
@@ -20,7 +23,8 @@ HOMES = {"changes": "changes", "given": "data"}
 
 def is_being_written(file):
     """Whether a process has a file open for writing, as far as the file system can tell."""
-    handle = os.open(file, os.O_RDONLY)
+    # Without waiting: what was a file a moment ago may be a FIFO.
+    handle = os.open(file, os.O_RDONLY | os.O_NONBLOCK)
     try:
         fcntl.fcntl(handle, fcntl.F_SETLEASE, fcntl.F_RDLCK)
         fcntl.fcntl(handle, fcntl.F_SETLEASE, fcntl.F_UNLCK)
@@ -46,6 +50,21 @@ def look(file):
     """By what a file that was written meanwhile is told."""
     found = file.stat()
     return found.st_ino, found.st_size, found.st_mtime_ns
+
+
+def is_movable(file: Path) -> bool:
+    """Whether this user may move a file out of its folder; out of one with the sticky bit only the owner of either may."""
+    folder, user = file.parent.stat(), os.geteuid()
+    is_free = user == 0 or not folder.st_mode & stat.S_ISVTX or user in (folder.st_uid, file.lstat().st_uid)
+    return is_free and os.access(file.parent, os.W_OK | os.X_OK)
+
+
+def judge_movable(files: Iterable[Path]) -> None:
+    """Refuses a night some of whose files could not be moved away, before any is moved."""
+    for file in files:
+        if not is_movable(file):
+            told = f"{file} cannot be moved out of its folder by this user, and a night moves it to its version"
+            raise Failure(NOT_WRITTEN, f"{told}; nothing is moved: let this user write {file.parent}")
 
 
 class Claim:

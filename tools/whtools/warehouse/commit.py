@@ -7,7 +7,7 @@ from . import lock
 from .carried import carried
 from .catalogue import Catalogue
 from .check import strategy_of
-from .claim import Claim
+from .claim import Claim, judge_movable
 from .disk import keep, put, remove, sync, write
 from .finding import Failure, of_system, warn
 from .folder import Folder, judged
@@ -29,7 +29,11 @@ def to_take(folder):
         judged(Folder(folder))
     if faults:
         raise Failure(BAD_INPUT, *faults)
-    return inputs.to_take([view.name for view in catalogue.views if view.is_base])
+    taken = inputs.to_take([view.name for view in catalogue.views if view.is_base])
+    # The tables of a folder without versions are moved once its night is carried out.
+    tables = inputs.carried.values() if inputs.state.number is None else ()
+    judge_movable(source.path for source in [*(source for _, source in taken), *tables])
+    return taken
 
 
 def write_deltas(folder, deltas):

@@ -4,6 +4,7 @@ import os
 import re
 from typing import NamedTuple
 
+from .disk import what
 from .finding import Finding, Place, nearest
 from .versions import State
 
@@ -101,17 +102,16 @@ class Inputs:
 
     def unread(self):
         """A strategy or sizes that stand there, and are no file, such as a link that leads nowhere: a night must not go on without them."""
-        text = "this is no file that can be read; put one here, or take it away"
         named = (self.folder / name for name in ("strategy.txt", "sizes.csv"))
-        return [Finding(Place(path.name), text) for path in named if os.path.lexists(path) and not path.is_file()]
+        found = [path for path in named if os.path.lexists(path) and not path.is_file()]
+        return [Finding(Place(path.name), f"this {what(path)} is no file that can be read; put one here, or take it away") for path in found]
 
     def judge(self, kind, form, path, bases, names):
         """What is wrong with a file of `data` or `changes`, or None."""
         place, match = Place(f"{kind}/{path.name}"), form.fullmatch(path.name)
         if not match or not path.is_file():
-            is_file = path.is_file() or path.is_symlink()
             near = nearest(path.name, [f"{name}.csv" for name in bases])
-            text = f"this {'file' if is_file else 'folder'} is not read: {kind}/ has files {FORMS[kind]} alone; move it away{near}"
+            text = f"this {what(path)} is not read: {kind}/ has files {FORMS[kind]} alone; move it away{near}"
             return Finding(place, text)
         if match[1] not in bases:
             return Finding(place, stranger(match[1], bases, names)) if names else None

@@ -9,7 +9,7 @@ from itertools import chain
 
 from . import by_lines, quotes
 from .by_lines import changed, counted, has_whole_lines, is_in_lines, is_sound, places, row_of
-from .finding import MARK, Finding, Place
+from .finding import MARK, TOLD, Finding, Place, first_ones, more_of
 from .numbers import NUMBER, number_of
 from .packing import merged
 from .written import text_of
@@ -58,8 +58,15 @@ class Records:
         """
         is_counted, is_bare, start = self.header
         if not self.is_made and (is_counted or is_bare):
-            self.waits = is_in_lines(self.content, start, is_counted, self.count_one)
+            is_own = b'"' in self.content and self.is_own
+            self.waits = is_own or is_in_lines(self.content, start, is_counted, self.count_one)
         return self.waits
+
+    @cached_property
+    def is_own(self):
+        """Whether records that are lines are written as the tool writes them."""
+        is_counted, _, start = self.header
+        return by_lines.is_own(self.content, start, self.view.columns, is_counted)
 
     @cached_property
     def count_one(self):
@@ -123,12 +130,16 @@ class Records:
 
     @cached_property
     def own(self):
-        """The table in the tool's own form, or None where its records are not lines."""
+        """The table in the tool's own form, or None where its records are not lines, or are not written as the tool writes them: then it is
+        read row by row, so that no row stands twice, as with `08` and `8`.
+        """
         is_counted = self.header[0]
         if not self.has_lines:
             return None
         if self.is_made and is_counted:
             return self.content
+        if not self.is_own:
+            return None
         header = ",".join(["#", *(name for name, _ in self.view.columns)]).encode() + b"\n"
         content = by_lines.without_returns(self.content, self.waits)
         if is_counted:
@@ -169,7 +180,7 @@ class Reading:
 
     def __init__(self, records):
         self.file, self.view, self.are_changes, self.content = records.file, records.view, records.are_changes, records.content
-        self.rows, self.lines, self.findings, self.begun = Counter(), {}, [], []
+        self.rows, self.lines, self.findings, self.begun, self.untold = Counter(), {}, [], [], 0
         content = self.content.removeprefix(MARK)
         try:
             text = content.decode()
@@ -186,7 +197,13 @@ class Reading:
         return self.content.removeprefix(MARK).decode()
 
     def find(self, line, column, text):
-        self.findings.append(Finding(Place(self.file, line, column), text))
+        """Keeps what is found; of what is more than is told, where it begins and how much it is."""
+        if len(self.findings) < TOLD:
+            self.findings.append(Finding(Place(self.file, line, column), text))
+            return
+        self.untold += 1
+        place = Place(self.file, line, column) if self.untold == 1 else self.findings[-1].place
+        self.findings[TOLD:] = [more_of(place, self.untold)]
 
     def read(self, reader):
         """Goes through the records; with a wrong header none is judged."""
@@ -308,13 +325,15 @@ class Changes:
 
     def beyond(self):
         """Rows whose counts leave 64 bits together, where those of each file do not."""
-        found = []
-        for row in [row for row, count in self.rows.items() if not LEAST <= count <= MOST] if len(self.files) > 1 else ():
-            of = [(records, records.lines[row], records.rows[row]) for records in self.files if row in records.rows]
-            told = ", ".join(f"{count} at {records.file}:{line}" for records, line, count in of)
-            text = f"the row {shown(row)} would change {self.rows[row]} times, which leaves 64 bits: {told}; put less of it into one night"
-            found.append(Finding(Place(of[-1][0].file, of[-1][1]), text))
-        return found
+        rows = [row for row, count in self.rows.items() if not LEAST <= count <= MOST]
+        return first_ones(self.too_often(row) for row in rows) if len(self.files) > 1 else []
+
+    def too_often(self, row):
+        """Where such a row stands last, and what is told of it."""
+        of = [(records, records.lines[row], records.rows[row]) for records in self.files if row in records.rows]
+        told = ", ".join(f"{count} at {records.file}:{line}" for records, line, count in of)
+        text = f"the row {shown(row)} would change {self.rows[row]} times, which leaves 64 bits: {told}; put less of it into one night"
+        return Place(of[-1][0].file, of[-1][1]), text
 
     @property
     def content(self):
@@ -357,9 +376,6 @@ def absent(data, changes):
     there = data.standing([row for row, count in changes.rows.items() if count]) if leaving else {}
     if any(there[row] + count < 0 for row, count in leaving.items()):
         there = data.rows
-    found = []
-    for row, count in leaving.items():
-        if there[row] + count < 0:
-            text = f"{-count} of {shown(row)} leave, and {data.file} has {there[row]}"
-            found.append(Finding(changes.place(row), text))
-    return found
+    wanting = [(row, count) for row, count in leaving.items() if there[row] + count < 0]
+    texts = (f"{-count} of {shown(row)} leave, and {data.file} has {there[row]}" for row, count in wanting)
+    return first_ones(zip((changes.place(row) for row, _ in wanting), texts))
