@@ -1,6 +1,7 @@
 """A night as it is carried out: judged, with its strategy, every view's table after it, and its report."""
 
 import time
+from importlib import import_module
 from typing import NamedTuple
 
 from . import headlines, program
@@ -12,7 +13,7 @@ from .limits import after, sizes_after
 from .made import Made, Printed, made, of_base, of_change
 from .planning import certified, planned, strategy_of
 from .sizes import base_sizes, given_text, last_report, rows_of, sized, told_before, told_rows
-from .status import BAD_INPUT, SIGNALLED, SPENT
+from .status import BAD_INPUT, REFUSED, SIGNALLED, SPENT
 from .strategy import FILE, at_once, written
 
 # What has the program print the changes of derived views in the place of their tables.
@@ -137,7 +138,16 @@ def carried(folder, words):
             raise fault_of(found) from failure
         raise
     folder.take_tables()
+    if folder.catalogue.tests:
+        judge_tests(night)
     return night
+
+
+def judge_tests(night):
+    """Refuses a night that breaks a test of the catalogue."""
+    found = import_module("whtools.warehouse.tested").of_night(night)
+    if found:
+        raise Failure(REFUSED, *found)
 
 
 def done(folder, words, began):

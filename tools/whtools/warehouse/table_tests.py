@@ -8,6 +8,8 @@ from dataclasses import dataclass
 from .finding import Place, nearest
 
 KEYS = ("unique", "one_of", "refers", "least_rows", "most_changed_rows", "most_changed_share")
+# A row that is put right is two changes, so that a share may be more than 1.
+MOST_SHARE = 1000
 # What is told of a value of another form.
 FORMS = {
     "key": 'an array of columns, such as ["id"]',
@@ -16,7 +18,7 @@ FORMS = {
     "refers": 'a table of columns with the column of another view for each, such as {product = "products.product"}',
     "least_rows": "a whole number from 0",
     "most_changed_rows": "a whole number from 0",
-    "most_changed_share": "a part of the rows from 0 to 1, such as 0.1",
+    "most_changed_share": "a part of the rows, such as 0.1",
 }
 
 
@@ -77,7 +79,7 @@ class Declared:
         twice = next((number for number, name in enumerate(listed) if name in listed[:number]), None)
         if twice is not None:
             self.find(view.place(key, *path, twice), f"{view.name}: {key} names {listed[twice]} twice")
-        return [] if None in found else [TableTest(view.name, key, view.place(key, *path), tuple(found))]
+        return [] if None in found else [TableTest(view.name, key, view.place(key, *path), tuple(sorted(found)))]
 
     def unique(self, view, key: str, listed: object) -> list[TableTest]:
         """Several keys."""
@@ -150,7 +152,7 @@ class Declared:
     most_changed_rows = least_rows
 
     def most_changed_share(self, view, key: str, share: object) -> list[TableTest]:
-        if not isinstance(share, int | float) or isinstance(share, bool) or not 0 <= share <= 1:
+        if not isinstance(share, int | float) or isinstance(share, bool) or not 0 <= share <= MOST_SHARE:
             return self.wrong(view, key)
         return [TableTest(view.name, key, view.place(key), (), share)]
 
