@@ -14,7 +14,7 @@ ALL = sys.maxsize
 OLD = "commit stopped"
 RACES = 20
 STOPPED_IN = ("first night", "committed twice", "later night", "keeping 2")
-COMMITTED = (*STOPPED_IN, "planned night", "several files", "file of two names", "a view is new")
+COMMITTED = (*STOPPED_IN, "planned night", "several files", "file of two names", "a view is new", "records put aside")
 STEPS = ("rename", "link", "unlink", "unlinkat", "symlink", "mkdir", "rmdir")
 
 

@@ -90,7 +90,7 @@ class Night:
         """What the night did: how its strategy was come by, the rows of each expression, what readers saw, and the views' sizes."""
         sizes, answer = self.sizes(), self.answer
         lines = [self.chosen.how, headlines.work(answer.head, sizes), headlines.time(answer.seconds, time.monotonic() - self.began)]
-        lines += self.kept.anew
+        lines += self.kept.anew + [headlines.aside(self.folder)] * bool(self.folder.asides)
         return "\n".join([*lines, answer.head, *answer.readers, sized(sizes)])
 
 

@@ -13,12 +13,15 @@ from contextlib import suppress
 from importlib import import_module
 from pathlib import Path
 
-from .disk import remove, sync, writable
+from .disk import remove, sync, writable, write
 from .finding import Failure
 from .status import AT_WORK, BAD_INPUT, NOT_WRITTEN
 
 # The folders of a version that is being made, and where their files come from.
 HOMES = {"changes": "changes", "given": "data"}
+# A file of which a part is put aside, as it came; what is carried out of it lies in changes/ then, and goes nowhere.
+TAKEN = "taken"
+BACK = {TAKEN: "changes"} | HOMES
 
 
 def is_being_written(file):
@@ -99,6 +102,14 @@ class Claim:
             raise Failure(BAD_INPUT, f"{told}; have both on one") from error
         self.looks[to], self.modes[to] = (source, look(to)), to.stat().st_mode & 0o777
 
+    def replace(self, file, kept):
+        """Has a file that was taken lie by the side as it came, and what is carried out of it in its place."""
+        taken = self.part / TAKEN / file.name
+        os.makedirs(taken.parent, exist_ok=True)
+        os.rename(file, taken)
+        self.looks[taken], self.modes[taken] = self.looks.pop(file), self.modes.pop(file)
+        write(file, [kept])
+
     def own(self):
         """Puts a copy in the place of each file that somebody else could go on writing: as its owner, or by another name of it."""
         for file, (source, first) in self.looks.items():
@@ -133,9 +144,11 @@ class Claim:
 def put_back(folder, part):
     """Undoes a night: what it made is removed, which makes room, and then the files that it took go back."""
     for made in part.iterdir() if part.is_dir() else ():
-        if made.name not in HOMES:
+        if made.name not in BACK:
             remove(made)
-    for kind, home in HOMES.items():
+    for taken in (part / TAKEN).glob("[!.]*"):
+        (part / "changes" / taken.name).unlink(missing_ok=True)
+    for kind, home in BACK.items():
         if (part / kind).is_dir():
             files_back(part / kind, folder / home)
     remove(part)

@@ -51,7 +51,7 @@ class Words:
     def __init__(self, words):
         given = list(words)
         self.named, self.unproved, self.commit, self.keep, self.lenient, self.through = None, False, False, None, False, []
-        self.always = False
+        self.always, self.quarantine = False, False
         self.weights, self.options = None, {}
         self.command = given.pop(0) if given else ""
         if self.command not in COMMANDS:
@@ -91,6 +91,8 @@ class Words:
             self.commit = True
         elif word == "--always" and self.command == "night":
             self.always = True
+        elif word == "--quarantine" and self.command == "night":
+            self.quarantine = True
         elif word == "--lenient" and self.command == "lint":
             self.lenient = True
         elif word in (*WITH_A_VALUE, *OPTIONS.get(self.command, ())) and not given:

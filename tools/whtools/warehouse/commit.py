@@ -1,6 +1,7 @@
 """A night that is kept: it takes its changes, makes its version beside the others, and one rename decides that it counts."""
 
 import os
+from importlib import import_module
 from itertools import islice
 
 from . import lock
@@ -83,10 +84,12 @@ def decided(words, interrupts, number, judged):
     try:
         try:
             claim.take(to_take(words.folder))
-            night = carried(Folder(words.folder, part, judged=judged, for_night=True), words)
+            night = carried(Folder(words.folder, part, judged=judged, for_night=True, sifts=words.quarantine), words)
             if night.folder.state.number is None:
                 begin(night.folder, interrupts)
             report = write_version(part, night)
+            if night.folder.asides:
+                import_module("whtools.warehouse.aside").write_asides(part, claim, night.folder.asides)
             claim.own()
             keep(part)
             point(words.folder, number)
@@ -102,9 +105,16 @@ def decided(words, interrupts, number, judged):
     return report
 
 
+def shown(words, number):
+    """Turns `current`, once what the night put aside lies where it stays."""
+    if words.quarantine:
+        import_module("whtools.warehouse.aside").lay(words.folder, number)
+    turn(words.folder)
+
+
 def finish(words, number):
     """Turns `current`, and removes what is no more wanted. The night counts, whatever comes between."""
-    steps = [lambda: sync(words.folder / VERSIONS), lambda: turn(words.folder), lambda: remove(words.folder / "new")]
+    steps = [lambda: sync(words.folder / VERSIONS), lambda: shown(words, number), lambda: remove(words.folder / "new")]
     if words.keep:
         steps.append(lambda: prune(words.folder, words.keep))
     errors = []

@@ -57,6 +57,13 @@ def time(in_program, in_all):
     return f"{TIME}{in_all:.2f} s in all but for the end of writing, {in_program:.2f} s of it in the program"
 
 
+def aside(folder):
+    """Which records of changes were put aside, and where those of a night that is kept lie."""
+    counts = ", ".join(f"{len(aside.reasons):,} of {aside.told}" for aside in folder.asides)
+    where = f"; they lie in quarantine/{folder.taken.name.removesuffix('.part')}" if folder.taken else ""
+    return f"put aside: {counts}{where}"
+
+
 def of_last_night(state):
     """The work and the seconds of the night that made the tables, where its report tells them, or an empty text."""
     found = TOLD.search(state.report.read_text()) if state.number is not None and state.report.is_file() else None

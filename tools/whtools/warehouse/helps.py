@@ -8,6 +8,7 @@ OPTIONS = [
     ("--commit", ("night",), "keeps the night: takes the changes and makes a version"),
     ("--keep K", ("night",), "with --commit: the newest K versions stay, 1 or more; without it all do"),
     ("--always", ("night",), "with --commit: makes a version also where nothing changed"),
+    ("--quarantine", ("night",), "puts records of changes aside that are wrong, and goes on without them; with --commit they lie in quarantine/"),
     ("--lenient", ("lint",), "has keys that the program does not look at as warnings"),
     ("--workers N", ("night",), "how many workers compute at once, 1 to 16; without it 1"),
     ("--readers N", ("night",), "how many readers go through the tables of before meanwhile, 0 to 16: a trial of the promise, and no service"),

@@ -23,7 +23,7 @@ from .versions import CURRENT
 
 def preview(words):
     """Writes new/ whole, by a rename. Answers the report."""
-    night, part, new = carried(Folder(words.folder, for_night=True), words), words.folder / "new.part", words.folder / "new"
+    night, part, new = carried(Folder(words.folder, for_night=True, sifts=words.quarantine), words), words.folder / "new.part", words.folder / "new"
     try:
         os.makedirs(part)
         for view, table in night.tables():

@@ -35,6 +35,8 @@ class Records:
     def __init__(self, source, view, are_changes):
         self.file, self.view, self.are_changes, self.is_made = source.told, view, are_changes, source.is_made
         self.content, self.looked_for, self.found = source.path.read_bytes(), None, {}
+        # As it came, also where records of it are put aside.
+        self.original = self.content
         self.waits, self.is_taken, self.seen = False, False, None
 
     def copied(self, source):
@@ -43,6 +45,12 @@ class Records:
             return None
         self.file, self.is_made = source.told, source.is_made
         return self
+
+    def become(self, reading):
+        """Has these records be those that a reading of them left."""
+        for known in ("is_seen_sound", "has_lines", "rows", "total"):
+            self.__dict__.pop(known, None)
+        self.whole, self.content = reading, reading.parted()[0]
 
     @cached_property
     def header(self):
@@ -179,22 +187,22 @@ class Reading:
     """Records one by one: their rows, their lines, and what is wrong in them."""
 
     def __init__(self, records):
-        self.file, self.view, self.are_changes, self.content = records.file, records.view, records.are_changes, records.content
+        self.file, self.view, self.are_changes, self.content = records.file, records.view, records.are_changes, records.original
         self.rows, self.lines, self.findings, self.begun, self.untold = Counter(), {}, [], [], 0
+        if self.is_text():
+            self.read(csv.reader(io.StringIO(self.text, newline=""), strict=True))
+
+    def is_text(self):
+        """Whether all is UTF-8; where it is not, that is found."""
         content = self.content.removeprefix(MARK)
         try:
-            text = content.decode()
+            self.text = content.decode()
         except UnicodeDecodeError as error:
             line = content[: error.start].count(b"\n") + 1
             start = content.rfind(b"\n", 0, error.start) + 1
             self.find(line, len(content[start : error.start].decode()) + 1, "this is not UTF-8")
-            return
-        self.read(csv.reader(io.StringIO(text, newline=""), strict=True))
-
-    @cached_property
-    def text(self):
-        """What places are counted in."""
-        return self.content.removeprefix(MARK).decode()
+            return False
+        return True
 
     def find(self, line, column, text):
         """Keeps what is found; of what is more than is told, where it begins and how much it is."""
@@ -264,12 +272,17 @@ class Reading:
         count = cells.pop(0) if counted else 1
         if count == 0 or (count < 0 and not self.are_changes):
             self.find(line, 1, f"a row counts {count} times; a count is {'not zero' if self.are_changes else 'positive'}")
+        else:
+            self.add(tuple(cells), count, line)
+
+    def add(self, row, count, line):
+        """Adds a row."""
+        total = self.rows[row] + count
+        if not LEAST <= total <= MOST:
+            self.find(line, 1, f"with this record the row counts {total} times, which leaves 64 bits")
             return
-        row = tuple(cells)
-        self.rows[row] += count
+        self.rows[row] = total
         self.lines.setdefault(row, line)
-        if not LEAST <= self.rows[row] <= MOST:
-            self.find(line, 1, f"with this record the row counts {self.rows[row]} times, which leaves 64 bits")
 
     def find_length(self, record, wanted, line):
         """A record of another length than the header; where a cell goes over lines, its quote may be what is wrong."""
@@ -315,9 +328,19 @@ class Changes:
     """The changes of a base view: those of one file or several, whose rows add up."""
 
     def __init__(self, sources, view):
-        self.view, self.files, self.rows = view, [Records(source, view, True) for source in sources], Counter()
+        self.view, self.files = view, [Records(source, view, True) for source in sources]
+
+    @cached_property
+    def rows(self):
+        found = Counter()
         for records in self.files:
-            self.rows.update(records.rows)
+            found.update(records.rows)
+        return found
+
+    def renew(self):
+        """Forgets what was told of the files, which are others now."""
+        for known in ("rows", "findings"):
+            self.__dict__.pop(known, None)
 
     @cached_property
     def findings(self):
@@ -370,12 +393,15 @@ def table_text(columns, rows):
     return text_of(chain([["#", *(name for name, _ in columns)]], records)).encode()
 
 
-def absent(data, changes):
-    """A finding for each row of changes of which more leave than there are."""
+def wanting(data, changes):
+    """The rows of changes of which more leave than there are, and what is told of each."""
     leaving = {row: count for row, count in changes.rows.items() if count < 0}
     there = data.standing([row for row, count in changes.rows.items() if count]) if leaving else {}
     if any(there[row] + count < 0 for row, count in leaving.items()):
         there = data.rows
-    wanting = [(row, count) for row, count in leaving.items() if there[row] + count < 0]
-    texts = (f"{-count} of {shown(row)} leave, and {data.file} has {there[row]}" for row, count in wanting)
-    return first_ones(zip((changes.place(row) for row, _ in wanting), texts))
+    return {row: f"{-count} of {shown(row)} leave, and {data.file} has {there[row]}" for row, count in leaving.items() if there[row] + count < 0}
+
+
+def absent(data, changes):
+    """A finding for each such row."""
+    return first_ones((changes.place(row), text) for row, text in wanting(data, changes).items())

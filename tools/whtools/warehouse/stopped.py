@@ -1,5 +1,7 @@
 """What a night that was stopped has left, told from what is there; the next night finishes or undoes it."""
 
+from importlib import import_module
+
 from .claim import put_back
 from .disk import remove, sync
 from .finding import of_system
@@ -37,6 +39,7 @@ def settle(folder):
         said += unremoved(scrap)
     if is_behind(folder):
         sync(folder / VERSIONS)
+        import_module("whtools.warehouse.aside").lay_later(folder, named(folder))
         point(folder, whole(folder)[-1])
         turn(folder)
         remove(folder / "new")
