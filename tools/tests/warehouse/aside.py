@@ -3,6 +3,7 @@
 import os
 
 from whtools.warehouse.finding import TOLD
+from whtools.warehouse.report_facts import told as told_of
 from whtools.warehouse.stopped import settle
 
 from .folders import Kept
@@ -48,6 +49,7 @@ class Aside(Kept):
         self.assertEqual(contents(own)["reasons.txt"].decode().splitlines(), [f"changes/orders.csv:{reason}" for reason in WRONG.values()])
         self.assertEqual(contents(version / "quarantine"), contents(own))
         self.assertIn("\nput aside: 6 of changes/orders.csv; they lie in quarantine/2\n", (version / "report.txt").read_text())
+        self.assertEqual(told_of((version / "report.txt").read_text()).aside, "put aside: 6 of changes/orders.csv; they lie in quarantine/2")
         self.assertEqual((self.changes(), self.ran("lint")), ({}, (0, [])))
         self.assertTrue((self.folder / "current/data/orders.csv").read_bytes().endswith(b'1,30,"Fri,\r\nday",east\n1,31,"a ""b""",north\n'))
 

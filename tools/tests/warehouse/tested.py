@@ -51,16 +51,16 @@ class First(WithTests):
         self.assertEqual(self.ran("night", "--commit", "--always"), (0, []))
 
     def test_what_breaks_a_test_of_a_base_view(self):
-        key = "data/orders.csv:{}:1: orders: several rows have {}, which is {} key (catalogue.toml:6): {}"
+        key = "data/orders.csv:{}:1: orders: several rows have {}, which is {} key (catalogue.toml:6:{}): {}"
         more = (self.folder / "data/orders.csv").read_text() + "5,Friday,east\n"
         (self.folder / "data/orders.csv").write_text(more)
         five = ((6, "5,Tuesday,north"), (7, "5,Friday,east"))
         self.with_tests({ORDERS: 'key = ["id"]\n'})
-        self.refused([key.format(line, "id 5", "the", row) for line, row in five])
+        self.refused([key.format(line, "id 5", "the", 1, row) for line, row in five])
         self.with_tests({ORDERS: 'unique = [["id"]]\n'})
-        self.refused([key.format(line, "id 5", "a", row) for line, row in five])
+        self.refused([key.format(line, "id 5", "a", 11, row) for line, row in five])
         self.with_tests({ORDERS: 'one_of = {region = ["north", "south"], id = [1, 2, 3, 4, 5, 6, 7]}\n'})
-        self.refused(["data/orders.csv:7:1: orders: region east is none of north, south (catalogue.toml:6): 5,Friday,east"])
+        self.refused(["data/orders.csv:7:1: orders: region east is none of north, south (catalogue.toml:6:20): 5,Friday,east"])
         self.with_tests({ORDERS: "least_rows = 9\n"})
         self.refused(["catalogue.toml:6:1: orders: 8 rows are left; least_rows is 9"])
         self.with_tests({ORDERS: "most_changed_rows = 1\n"})
@@ -71,7 +71,7 @@ class First(WithTests):
     def test_rows_that_refer_to_none(self):
         self.edit("changes/orders.csv", "1,6,Wednesday,north\n", "1,8,Wednesday,north\n")
         self.with_tests({LINES: 'refers = {id = "orders.id"}\n'})
-        told = "changes/lines.csv:{}:1: lines: orders.id has no id 6 (catalogue.toml:10): 6,{}"
+        told = "changes/lines.csv:{}:1: lines: orders.id has no id 6 (catalogue.toml:10:16): 6,{}"
         self.refused([told.format(2, "bread,3"), told.format(3, "honey,1")])
 
     def test_what_breaks_a_test_of_a_derived_view(self):
@@ -133,7 +133,7 @@ class Later(Deltas, WithTests):
 
     def test_a_key_comes_that_is_there(self):
         self.put(orders="#,id,day,region\n1,3,Friday,north\n")
-        told = "orders: several rows have {}, which is the key (catalogue.toml:6): 3,{},north"
+        told = "orders: several rows have {}, which is the key (catalogue.toml:6:1): 3,{},north"
         places = {"versions/1/data/orders.csv:4:1": "Monday", "changes/orders.csv:2:1": "Friday"}
         self.refused([f"{place}: {told.format('id 3', day)}" for place, day in places.items()])
 
@@ -143,7 +143,7 @@ class Later(Deltas, WithTests):
 
     def test_what_is_referred_to_leaves(self):
         self.put(products="#,product,price\n-1,jam,475\n")
-        told = "versions/1/data/lines.csv:3:1: lines: products.product has no product jam (catalogue.toml:17): 1,jam,1"
+        told = "versions/1/data/lines.csv:3:1: lines: products.product has no product jam (catalogue.toml:17:11): 1,jam,1"
         self.refused([told])
 
     def test_a_derived_row_that_comes(self):

@@ -10,7 +10,7 @@ from .strategy import FILE
 TOLD = re.compile(r"^time: ([^\n]+)$.*^work ([0-9]+)$", re.MULTILINE | re.DOTALL)
 VERDICT = re.compile(r"certified (all|one-way) work ([0-9]+)")
 LEAST = {"all": "no correct strategy has less", "one-way": "no strategy whose Comps take one view each has less"}
-PLANNED, TIME, ANEW = "strategy: a plan of work ", "time: ", "views: computed anew, since "
+PLANNED, TIME, ANEW, ASIDE = "strategy: a plan of work ", "time: ", "views: computed anew, since ", "put aside: "
 COUNTED = "; what changed is counted by their definitions of now, over the tables before and after"
 ONE_BY_ONE = "strategy: view by view, as the catalogue has them, without a plan: "
 NEXT = "the next night is planned by those that stand below"
@@ -61,7 +61,7 @@ def aside(folder):
     """Which records of changes were put aside, and where those of a night that is kept lie."""
     counts = ", ".join(f"{len(aside.reasons):,} of {aside.told}" for aside in folder.asides)
     where = f"; they lie in quarantine/{folder.taken.name.removesuffix('.part')}" if folder.taken else ""
-    return f"put aside: {counts}{where}"
+    return f"{ASIDE}{counts}{where}"
 
 
 def of_last_night(state):

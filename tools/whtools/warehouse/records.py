@@ -354,7 +354,7 @@ class Changes:
     def too_often(self, row):
         """Where such a row stands last, and what is told of it."""
         of = [(records, records.lines[row], records.rows[row]) for records in self.files if row in records.rows]
-        told = ", ".join(f"{count} at {records.file}:{line}" for records, line, count in of)
+        told = ", ".join(f"{count} at {records.file}:{line}:1" for records, line, count in of)
         text = f"the row {shown(row)} would change {self.rows[row]} times, which leaves 64 bits: {told}; put less of it into one night"
         return Place(of[-1][0].file, of[-1][1]), text
 

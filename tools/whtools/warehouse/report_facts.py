@@ -9,7 +9,7 @@ from .catalogue import FILE as CATALOGUE
 from .catalogue import Catalogue
 from .explain import Step
 from .finding import Failure
-from .headlines import ANEW, COUNTED, TIME
+from .headlines import ANEW, ASIDE, COUNTED, TIME
 from .held import Held
 from .inputs import CHANGES, by_view
 from .reading import catalogue_of, records
@@ -23,7 +23,8 @@ STEP = re.compile(r"(comp \w+ from [\w ]+|inst \w+): ([0-9]+)(?:, ([0-9.]+) s\b)
 
 class Told(NamedTuple):
     """What a report.txt says: how the strategy was come by, its lines, the rows of each step and its seconds where they are told, the
-    sizes, what readers saw, the time of the whole night, and why the derived views were computed anew, where they were.
+    sizes, what readers saw, the time of the whole night, why the derived views were computed anew, where they were, and which records of
+    changes were put aside.
     """
 
     how: str
@@ -34,6 +35,7 @@ class Told(NamedTuple):
     readers: list
     time: str = ""
     anew: str = ""
+    aside: str = ""
 
     @property
     def work(self):
@@ -60,7 +62,8 @@ def told(text):
     how, time_of_all = text.partition("\n")[0], next((line for line in lines if line.startswith(TIME)), "")
     rows, seconds = [int(match[2]) for match in found], [match[3] and float(match[3]) for match in found]
     anew = next((line.removeprefix(ANEW).removesuffix(COUNTED) for line in lines if line.startswith(ANEW)), "")
-    return Told("" if STEP.match(how) else how, strategy, rows, seconds, sizes_in(text), readers, time_of_all.removeprefix(TIME), anew)
+    aside = next((line for line in lines if line.startswith(ASIDE)), "")
+    return Told("" if STEP.match(how) else how, strategy, rows, seconds, sizes_in(text), readers, time_of_all.removeprefix(TIME), anew, aside)
 
 
 def counted(table):

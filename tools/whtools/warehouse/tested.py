@@ -149,7 +149,7 @@ class Judge:
         else:
             why = f"{what} is none of {', '.join(sorted(test.against)[:TOLD])}"
         place = self.place(test.view, row)
-        by = f" ({test.place.file}:{test.place.line})" if place else ""
+        by = f" ({test.place.file}:{test.place.line}:{test.place.column})" if place else ""
         return Finding(place or test.place, f"{test.view}: {why}{by}: {row.decode()}")
 
     def of_number(self, test: TableTest, table: Tested) -> list[Finding]:
