@@ -9,11 +9,14 @@ import re
 from collections import Counter
 from functools import lru_cache
 from itertools import pairwise
+from os.path import commonprefix
 
 # How much of a table is looked through at a time.
 BLOCK = 2**15
-# How many lines are looked for each by itself.
-FEW = 6
+# How many lines are looked for each by itself, and how many all together by a form that names them.
+FEW, NAMED = 6, 256
+# How often such a form parts its lines by what they begin with.
+DEEP = 16
 # The counts of a table that are not 1, and lines that do not count 1, of which the last one is what stands behind all lines.
 COUNTS, OTHER = re.compile(rb"\n(?!1,)([0-9]{1,19}),"), re.compile(rb"\n(?!1,)")
 # Lines that each begin with a count; a line without anything; a carriage return that ends no line.
@@ -191,10 +194,40 @@ def standing(content, start, lines):
         yield from ((at, line) for line in lines.keys() & block.split(b"\n"))
 
 
+def named(rows, depth=0):
+    """A form of these rows, parted by what they begin with, so that a line is soon seen to be none of them."""
+    groups, parts = {}, []
+    for row in sorted(rows):
+        groups.setdefault(row[:1], []).append(row)
+    for group in groups.values():
+        if len(group) == 1 or depth == DEEP:
+            parts += map(re.escape, group)
+        else:
+            begin = commonprefix(group)
+            parts.append(re.escape(begin) + b"(?:" + named([row[len(begin) :] for row in group], depth + 1) + b")")
+    return b"|".join(parts)
+
+
+def scanned(content, start, rows):
+    """The same as `places`, of rows that are few, and how many rows the table has beyond one in each line: both by one look at each line."""
+    form, found, beyond = re.compile(rb"\n(?:1,(" + named(rows) + rb")(?=\n)|(?!1,)([0-9]{1,19}),([^\n]*))"), {}, 0
+    for line in form.finditer(content, start - 1):
+        row, count, other = line.groups()
+        if row is not None:
+            found.setdefault(row, (line.start() + 1, line.end() + 1, 1))
+            continue
+        beyond += int(count) - 1
+        if other in rows:
+            found[other] = line.start() + 1, line.end() + 1, int(count)
+    return found, beyond
+
+
 def places(content, start, rows, count_one=False):
     """Where the lines of these rows, as lines have them, begin and end in a table of the tool's own, and how often each counts; where it
     is known that all count 1, no others are looked for.
     """
+    if FEW < len(rows) <= NAMED:
+        return scanned(content, start, rows)[0]
     once, found = {b"1," + row: row for row in rows}, {}
     for at, line in standing(content, start, once):
         place = content.find(b"\n" + line + b"\n", at - 1) + 1
@@ -272,13 +305,25 @@ def replace(edits):
             old.place, new.place = None, old.place
 
 
-def merged(content, change, count_one=False):
-    """A table with a change as the program prints it, in pieces; it may be known that all its rows count 1. A row that comes stands in the
-    place of one beside it that leaves, or at the end. None where more of a row leave than there are.
+def found_and_total(content, rows):
+    """Where these rows stand in a table of the tool's own, and how many rows it has."""
+    start, lines = content.find(b"\n") + 1, content.count(b"\n") - 1
+    if len(rows) <= NAMED:
+        found, beyond = scanned(content, start, rows)
+    else:
+        beyond = beyond_one(content)
+        found = places(content, start, rows, not beyond)
+    return found, lines + beyond
+
+
+def merged(content, change, total):
+    """A table that has so many rows with a change as the program prints it, in pieces. A row that comes stands in the place of one beside it
+    that leaves, or at the end. None where the table has not so many rows, or more of a row leave than there are.
     """
-    rows = coming(change)
-    found = places(content, content.find(b"\n") + 1, {row for row, _ in rows}, count_one)
-    edits = []
+    rows, edits = coming(change), []
+    found, there_are = found_and_total(content, {row for row, _ in rows})
+    if there_are != total:
+        return None
     for row, count in rows:
         start, end, there = found.get(row, (0, 0, 0))
         if there + count < 0:

@@ -6,18 +6,21 @@ from typing import NamedTuple
 
 from .disk import what
 from .finding import Finding, Place, nearest
-from .versions import State
+from .versions import DELTAS, State
 
 TABLE, CHANGES = re.compile(r"(.+)\.csv"), re.compile(r"([A-Za-z_][A-Za-z0-9_]*)(?:\.([1-9][0-9]*))?\.csv")
 FORMS = {"data": "NAME.csv", "changes": "NAME.csv, NAME.1.csv, NAME.2.csv and so on"}
 
 
 class Source(NamedTuple):
-    """A file that is read: where it lies, the name by which it is told, and whether it is a table that a night has made by this catalogue."""
+    """A file that is read: where it lies, the name by which it is told, whether it is a table that a night has made by this catalogue, and
+    whether that night saw each record of its tables to be a line.
+    """
 
     path: object
     told: str
     is_made: bool = False
+    is_in_lines: bool = False
 
 
 def entries(folder):
@@ -54,7 +57,9 @@ class Inputs:
         self.carried = tables(self.state.root / "data", self.state.told)
         self.later = self.written_later()
         if self.state.number and self.is_catalogue_as_before() and not self.later:
-            self.carried = {name: source._replace(is_made=True) for name, source in self.carried.items()}
+            # A night has deltas only where it saw that.
+            is_in_lines = (self.state.root / DELTAS).is_dir()
+            self.carried = {name: source._replace(is_made=True, is_in_lines=is_in_lines) for name, source in self.carried.items()}
         self.given = {} if self.state.number is None else tables(self.places["data"], "data")
 
     def is_catalogue_as_before(self):

@@ -37,7 +37,7 @@ class Records:
         self.content, self.looked_for, self.found = source.path.read_bytes(), None, {}
         # As it came, also where records of it are put aside.
         self.original = self.content
-        self.waits, self.is_taken, self.seen = False, False, None
+        self.waits, self.is_taken, self.seen, self.is_known_in_lines = False, False, None, source.is_in_lines
 
     def copied(self, source):
         """These records as those of a copy, or None where that has other bytes."""
@@ -97,7 +97,7 @@ class Records:
     @cached_property
     def has_lines(self):
         """Whether it is sound, as far as that was judged, and each record is a line."""
-        return self.waits or self.is_sound and has_whole_lines(self.content)
+        return self.waits or self.is_sound and (self.is_known_in_lines or has_whole_lines(self.content))
 
     @cached_property
     def whole(self):

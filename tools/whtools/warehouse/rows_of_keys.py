@@ -7,12 +7,10 @@ from dataclasses import dataclass
 from functools import cached_property
 from itertools import islice
 
-from .by_lines import row_of
+from .by_lines import NAMED, named, row_of
 from .disk import blocks
 
 CELL = rb'(?:"(?:[^"]++|"")*+"|[^,"\r\n]*+)'
-# Up to how many keys are looked for by a form that names them.
-FEW = 200
 
 
 def cell_of(text: str) -> bytes:
@@ -70,11 +68,11 @@ class Cells:
 
     def having(self, table: bytes, keys: set[tuple[bytes, ...]], is_in_lines: bool) -> Iterator[tuple[bytes, int]]:
         """The rows with these cells in a table, each with its count. Few are soonest looked for in lines."""
-        if len(keys) > FEW or not is_in_lines:
+        if len(keys) > NAMED or not is_in_lines:
             start = table.find(b"\n") + 1
             yield from ((row, count) for cells, row, count in self.rows(table[start:]) if cells in keys)
             return
-        firsts = b"(?:" + b"|".join(sorted(re.escape(first) for first in {key[0] for key in keys})) + b")(?![^,\n])"
+        firsts = b"(?:" + named({key[0] for key in keys}) + b")(?![^,\n])"
         for found in re.finditer(rb"\n([0-9]++),(?=" + self.form(firsts) + rb"(?:\n|\Z))([^\n]*)", table) if keys else ():
             count, *cells, row = found.groups()
             if tuple(cells) in keys:
