@@ -15,8 +15,8 @@ from os.path import commonprefix
 BLOCK = 2**15
 # How many lines are looked for each by itself, and how many all together by a form that names them.
 FEW, NAMED = 6, 256
-# How often such a form parts its lines by what they begin with.
-DEEP = 16
+# How often such a form parts its lines by what they begin with, and how many bytes of each it has: a longer one takes longer to make.
+DEEP, BEGIN = 16, 32
 # The counts of a table that are not 1, and lines that do not count 1, of which the last one is what stands behind all lines.
 COUNTS, OTHER = re.compile(rb"\n(?!1,)([0-9]{1,19}),"), re.compile(rb"\n(?!1,)")
 # Lines that each begin with a count; a line without anything; a carriage return that ends no line.
@@ -210,15 +210,16 @@ def named(rows, depth=0):
 
 def scanned(content, start, rows):
     """The same as `places`, of rows that are few, and how many rows the table has beyond one in each line: both by one look at each line."""
-    form, found, beyond = re.compile(rb"\n(?:1,(" + named(rows) + rb")(?=\n)|(?!1,)([0-9]{1,19}),([^\n]*))"), {}, 0
+    begins = named({row[:BEGIN] for row in rows})
+    form, found, beyond = re.compile(rb"\n(?:1,(?=" + begins + rb")([^\n]*)|(?!1,)([0-9]{1,19}),([^\n]*))"), {}, 0
     for line in form.finditer(content, start - 1):
         row, count, other = line.groups()
-        if row is not None:
+        if row in rows:
             found.setdefault(row, (line.start() + 1, line.end() + 1, 1))
-            continue
-        beyond += int(count) - 1
-        if other in rows:
-            found[other] = line.start() + 1, line.end() + 1, int(count)
+        elif count:
+            beyond += int(count) - 1
+            if other in rows:
+                found[other] = line.start() + 1, line.end() + 1, int(count)
     return found, beyond
 
 
