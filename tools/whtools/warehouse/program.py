@@ -83,9 +83,10 @@ def status_of(words, given, printed):
 
 
 def run(program, command, bundle, options=()):
-    """The status, which is one of the program's, and the file with what was printed."""
+    """The status, which is one of the program's, and the file with what was printed. Pieces that come one by one the program judges alone."""
     pieces = [bundle] if isinstance(bundle, bytes) else bundle
-    judge(pieces)
+    if isinstance(pieces, list):
+        judge(pieces)
     given, printed = temporary(pieces), temporary()
     try:
         status = status_of([program, command, *options], given, printed)

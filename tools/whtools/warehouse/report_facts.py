@@ -12,7 +12,7 @@ from .finding import Failure
 from .headlines import ANEW, ASIDE, COUNTED, TIME
 from .held import Held
 from .inputs import CHANGES, by_view
-from .reading import catalogue_of, records
+from .reading import catalogue_of
 from .sizes import HEADER
 from .status import BAD_INPUT, BAD_WORDS
 from .strategy import Strategy
@@ -66,11 +66,6 @@ def told(text):
     return Told("" if STEP.match(how) else how, strategy, rows, seconds, sizes_in(text), readers, time_of_all.removeprefix(TIME), anew, aside)
 
 
-def counted(table):
-    """How many rows a table has that a night wrote or the program printed."""
-    return sum(int(line.partition(b",")[0]) for line in records(table) if line)
-
-
 class Night:
     """A night: a version with the one before it, or the preview in new/. Both are held until they are let go. What the program worked out
     is told by `told`; `shown` has how many rows of each view one who reads versions saw before, sees now, and how many of them differ.
@@ -105,7 +100,7 @@ class Night:
         sizes = dict(self.told.sizes)
         for view in self.views:
             if sizes[view.name][0] is None and view.name in tables:
-                sizes[view.name] = (counted(tables[view.name]), *sizes[view.name][1:])
+                sizes[view.name] = (tables[view.name].rows, *sizes[view.name][1:])
         self.told, self.shown = self.told._replace(sizes=sizes), sizes
 
     def compare(self, rows):
