@@ -36,7 +36,7 @@ class Large(unittest.TestCase):
         with tempfile.TemporaryDirectory() as room:
             few, many = (self.shop_of(Path(room), lines) for lines in (25_000, 50_000))
             found = self.within(3, lambda: Folder(many).faults, lambda: Folder(few).faults)
-        self.assertEqual(str(found[-1]), 'data/lines.csv:50001:7: "1.50" is not a whole number (keep cents)')
+        self.assertEqual(str(found[-1]), "data/lines.csv:22:7: 49,980 more from here on are not told")
 
     def shop_of(self, room, lines):
         folder = shutil.copytree(SHOP, room / str(lines))

@@ -149,10 +149,10 @@ class Changed(Lying):
             before, others = rows(source, TEXTS, 12), rows(source, TEXTS, 6)
             table = b"#,x,t,u\n" + b"".join(line_of(count, row) for row, count in before.items())
             wanted, found = {row_of(row) for row in before | others}, []
-            for few in (0, 100):
-                with mock.patch.object(by_lines, "FEW", few):
+            for few, named in ((0, 0), (0, 100), (100, 0)):
+                with mock.patch.multiple(by_lines, FEW=few, NAMED=named):
                     found.append(by_lines.places(table, 8, wanted))
-            self.assertEqual(*found)
+            self.assertEqual(found[1:], found[:-1])
             self.assertEqual(set(found[0]), {row_of(row) for row in before})
 
     def test_rows_that_are_not_there_are_found_in_each_form_of_a_table(self):
@@ -218,19 +218,22 @@ class Merged(unittest.TestCase):
             found = changed(source, before, TEXTS)
             after = Counter(before)
             after.update(found)
-            merged = b"".join(by_lines.merged(self.printed(before), self.printed(found)))
+            for named in (0, 100):
+                with mock.patch.object(by_lines, "NAMED", named):
+                    merged = b"".join(by_lines.merged(self.printed(before), self.printed(found), before.total()))
+                    self.assertIsNone(by_lines.merged(self.printed(before), self.printed(found), before.total() + 1))
             self.assertEqual(sorted(merged.split(b"\n")), sorted(self.printed(after).split(b"\n")))
             self.assertEqual(by_lines.sum_of(self.printed(found)), after.total() - before.total())
 
     def test_a_row_that_comes_takes_the_place_of_one_that_leaves_and_begins_as_it_does(self):
         table = b"#,g,n\n1,a,1\n1,b,1\n1,c,9\n"
-        merged = by_lines.merged(table, b"#,g,n\n-1,a,1\n1,a,2\n1,b,0\n-1,b,1\n1,d,1\n")
+        merged = by_lines.merged(table, b"#,g,n\n-1,a,1\n1,a,2\n1,b,0\n-1,b,1\n1,d,1\n", 3)
         self.assertEqual(b"".join(merged), b"#,g,n\n1,a,2\n1,b,0\n1,c,9\n1,d,1\n")
 
     def test_a_row_that_is_not_there_cannot_leave(self):
         for change in (b"#,g\n-1,b\n", b"#,g\n-2,a\n", b"#,g\n1,b\n-2,a\n"):
-            self.assertIsNone(by_lines.merged(b"#,g\n1,a\n", change))
-        self.assertEqual(b"".join(by_lines.merged(b"#,g\n3,a\n", b"#,g\n-2,a\n")), b"#,g\n1,a\n")
+            self.assertIsNone(by_lines.merged(b"#,g\n1,a\n", change, 1))
+        self.assertEqual(b"".join(by_lines.merged(b"#,g\n3,a\n", b"#,g\n-2,a\n", 3)), b"#,g\n1,a\n")
 
 
 class Judged(Lying):

@@ -224,8 +224,8 @@ class Nights(Shop):
             (self.folder / "changes" / name).write_text(f"#,product,price\n{rows}")
         before = {file: text for file, text in contents(self.folder).items() if file.startswith("changes/")}
         told = (
-            f"changes/products.2.csv:3:1: the row plum,120 would change {2**63 + 1} times, which leaves 64 bits: {2**62} at changes/products.csv:3,"
-            f" 1 at changes/products.1.csv:3, {2**62} at changes/products.2.csv:3; put less of it into one night"
+            f"changes/products.2.csv:3:1: the row plum,120 would change {2**63 + 1} times, which leaves 64 bits: {2**62} at changes/products.csv:3:1,"
+            f" 1 at changes/products.1.csv:3:1, {2**62} at changes/products.2.csv:3:1; put less of it into one night"
         )
         for words in (["lint"], ["night"], ["night", "--commit"], ["plan"]):
             self.assertEqual(self.ran(*words), (3, [told]))

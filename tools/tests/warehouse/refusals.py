@@ -31,7 +31,7 @@ class Refused(Shop):
         self.lay(BASE + SUMMARY.format('["+", 1, ["*", "a.x", "a.x"]]'), tables, {}, b"refused range s\n")
         self.judge(
             "catalogue.toml:9:14: s: t leaves 64 bits at 5000000000 * 5000000000, of these rows:",
-            "    data/a.csv:3: 5000000000,high",
+            "    data/a.csv:3:1: 5000000000,high",
         )
 
     def test_a_row_that_comes_in_the_night(self):
@@ -39,7 +39,7 @@ class Refused(Shop):
         self.lay(BASE + SUMMARY.format('["*", "a.x", "a.x"]'), {"a": "x,g\n7,low\n"}, changes, b"refused range s\nleft given-up\n")
         self.judge(
             "catalogue.toml:9:14: s: t leaves 64 bits at -5000000000 * -5000000000, of these rows:",
-            "    changes/a.csv:2: -5000000000,new",
+            "    changes/a.csv:2:1: -5000000000,new",
         )
 
     def test_a_sum_that_leaves_64_bits(self):
@@ -48,9 +48,9 @@ class Refused(Shop):
         self.lay(BASE + SUMMARY.format('"a.x"'), tables, {}, b"refused range s\n")
         self.judge(
             f"catalogue.toml:9:14: s: t of g low, or so leaves 64 bits: it would be {most + 11}, and these rows add most:",
-            f'    data/a.csv:2: {most},"low, or so"',
-            '    data/a.csv:4: 9,"low, or so"',
-            '    data/a.csv:5: 2,"low, or so"',
+            f'    data/a.csv:2:1: {most},"low, or so"',
+            '    data/a.csv:4:1: 9,"low, or so"',
+            '    data/a.csv:5:1: 2,"low, or so"',
         )
 
     def test_a_joined_view_over_a_derived_one(self):
@@ -62,7 +62,7 @@ class Refused(Shop):
         self.judge(
             "catalogue.toml:17:29: j: p leaves 64 bits at 4000000000 * 5000000000, of these rows:",
             "    s: k,1,4000000000",
-            "    changes/b.csv:3: k,5000000000",
+            "    changes/b.csv:3:1: k,5000000000",
         )
 
     def test_rows_that_meet_on_the_way_alone(self):
@@ -74,8 +74,8 @@ class Refused(Shop):
         self.judge(
             "catalogue.toml:7:1: warning: j is over 2 views without a join: every row meets every row",
             "catalogue.toml:10:15: j: p leaves 64 bits at 5000000000 * 5000000000, of these rows:",
-            "    data/a.csv:2: 5000000000,k",
-            "    changes/b.csv:2: 5000000000",
+            "    data/a.csv:2:1: 5000000000,k",
+            "    changes/b.csv:2:1: 5000000000",
         )
 
     def test_sizes_whose_product_is_too_large(self):
@@ -92,7 +92,7 @@ class Refused(Shop):
     def test_a_row_that_counts_too_often(self):
         tables = {"a": f"#,x,g\n{2**62},1,k\n"}
         self.lay(BASE, tables, {"a": f"#,x,g\n{2**62},1,k\n"}, b"refused large a\nleft untouched\n")
-        self.judge(f"catalogue.toml:2:1: a: the row 1,k at data/a.csv:2 would count {2**63} times; {2**63 - 1} is the most")
+        self.judge(f"catalogue.toml:2:1: a: the row 1,k at data/a.csv:2:1 would count {2**63} times; {2**63 - 1} is the most")
 
     def test_what_cannot_be_found_is_the_programs_own_word(self):
         for word in ("refused range s", "refused large s", "refused range t", "refused absent a", "broken S1 at 2"):

@@ -5,10 +5,11 @@ import re
 import shutil
 from html.parser import HTMLParser
 from types import SimpleNamespace
+from unittest import mock
 
 from whtools.planner import Planner
 from whtools.plans import drawn, drawn_cyclic
-from whtools.warehouse import report_plans, report_rows
+from whtools.warehouse import report_plans, report_rows, stored
 from whtools.warehouse.report_facts import told
 from whtools.warehouse.report_page import page
 from whtools.warehouse.report_parts import by_pairs, by_tree, plans
@@ -35,6 +36,7 @@ pair sales products orders 9
 pair sales products lines 11
 """
 VOID = {"meta"}
+NAMES = ["jam", '"tea, black"', '"a ""b"""']
 
 
 class Page(HTMLParser):
@@ -348,6 +350,25 @@ class Rows(Kept):
                 texts.append(("#,id,name\n" + "".join(lines)).encode())
             wanted = {row: both for row, both in counts.items() if both[0] != both[1]}
             self.assertEqual(report_rows.differences(*texts, self.COLUMNS), wanted)
+
+    def test_tables_in_files_have_the_same_differences_however_few_lines_are_held(self):
+        source, room = random.Random(5), self.folder
+        for number in range(200):
+            contents = [self.drawn_table(source) for _ in range(2)]
+            for name, content in zip(("old", "new"), contents):
+                (room / name).write_bytes(content)
+            with mock.patch.multiple(stored, HELD=source.choice([1, 3, 1000]), BLOCK=source.choice([4, 64, 1000])):
+                found = report_rows.differing(*(stored.Stored.of(room / name) for name in ("old", "new")), self.COLUMNS)
+            self.assertEqual(found, report_rows.differences(*contents, self.COLUMNS), contents)
+
+    def drawn_table(self, source):
+        """A table as a night writes it, or by hand, with a row that may stand twice."""
+        rows = [f'{number},{source.choice(NAMES)}' for number in source.sample(range(9), source.randint(0, 6))]
+        is_counted, end = source.random() < 0.6, source.choice(["\n", "\n", "\r\n", "\n\n"])
+        if is_counted:
+            return "".join(["#,id,name\n", *(f"{source.choice([1, 1, 2])},{row}\n" for row in rows)]).encode()
+        rows += source.sample(rows, min(len(rows), source.choice([0, 0, 1])))
+        return f"id,name{end}{end.join(rows)}{end * source.randint(0, 1)}".encode()
 
     def test_a_summarys_row_stands_beside_that_of_its_group(self):
         found = {("a", 1): [1, 0], ("a", 2): [0, 1], ("b", 5): [1, 0], ("c", 5): [0, 1]}

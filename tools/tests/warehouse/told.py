@@ -131,7 +131,8 @@ class Told(Shop):
         strategy.unlink()
         strategy.symlink_to("lost.txt")
         os.mkfifo(self.folder / "sizes.csv")
-        told = [f"{name}:1:1: this is no file that can be read; put one here, or take it away" for name in ("sizes.csv", "strategy.txt")]
+        kinds = {"sizes.csv": "FIFO", "strategy.txt": "link"}
+        told = [f"{name}:1:1: this {kind} is no file that can be read; put one here, or take it away" for name, kind in kinds.items()]
         for words in (["lint"], ["night"], ["night", "--commit"], ["plan"]):
             status, lines = self.ran(*words)
             self.assertEqual((status, sorted(lines)), (3, told), words)

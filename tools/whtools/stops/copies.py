@@ -56,6 +56,11 @@ def without_folders(handle, kind):
     return None if os.path.isdir("/proc/self/fd/" + str(handle)) else flock(handle, kind)
 fcntl.flock = without_folders
 """
+LAYS_NOTHING_ASIDE = """
+def rename(one, other, **more):
+    return shutil.rmtree(one) if "/quarantine/" in str(other) else real["rename"](one, other, **more)
+os.rename = rename
+"""
 WRITES_NOTHING_THROUGH = """
 os.fsync = lambda handle: None
 """
@@ -80,6 +85,7 @@ SPOILT = [
     Spoilt("turns current before the night is decided", TURNS_EARLY, "later night", "killed", "rename"),
     Spoilt("does not put changes back", DOES_NOT_PUT_BACK, "refused night"),
     Spoilt("overwrites as it puts changes back", OVERWRITES, "refused night", "arrivals", "rename"),
+    Spoilt("loses what it puts aside", LAYS_NOTHING_ASIDE, "records put aside"),
     Spoilt("takes no lock", TAKES_NO_LOCK, "later night", "two nights"),
     Spoilt("writes into versions", WRITES_INTO_VERSIONS, "later night"),
     Spoilt("removes versions that are held", FORGETS_READERS, "keeping 1", "a reader that holds"),

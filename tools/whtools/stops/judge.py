@@ -8,7 +8,7 @@ from collections import Counter
 
 from whtools.stops.shop import VIEWS, after, base_tables, changes_in, table, views_of
 
-SCRAP = ("*.part", "*.gone", "commit", "versions/*.part", "versions/*.gone")
+SCRAP = ("*.part", "*.gone", "commit", "versions/*.part", "versions/*.gone", "quarantine/.*")
 TAKEN_OVER, MANY = 2, 100
 
 
@@ -177,18 +177,19 @@ class Judge:
             demand(table(version / "data" / f"{name}.csv") == rows, f"the table of {name} is not what was put in")
 
     def placed(self, given):
-        """Each change is in one version or in changes/, once, and the tables have those of the versions and no others."""
+        """Each change is in one version, in changes/ or in quarantine/, once, and the tables have those of the versions and no others."""
+        aside = sum((changes_in(path) for path in (self.folder / "quarantine").glob("[!.]*")), Counter())
         lying = changes_in(self.folder / "changes")
         there = versions(self.folder)
         history = self.history(there)
         all_given = given + history.given
         carried = sum((changes_in(path / "changes") for path in there.values()), Counter())
-        for found in (lying + carried).items():
+        for found in (lying + carried + aside).items():
             demand(found[1] == 1 and found[0] in all_given, f"{found[0]} is there {found[1]} times, and {all_given[found[0]]} were given")
-        lost = all_given - lying - carried
+        lost = all_given - lying - carried - aside
         demand(not lost or self.start.keep, f"lost: {list(lost)[:3]}")
         if there:
-            tables = self.tables_of(there, history, all_given - lying)
+            tables = self.tables_of(there, history, all_given - lying - aside)
             demand(base_tables(there[max(there)]) == tables, "the tables are not the first ones with all changes that were carried out")
 
     def tables_of(self, there, history, carried):

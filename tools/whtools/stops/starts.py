@@ -192,11 +192,14 @@ class Starts:
         return hand
 
     def sent_back(self):
-        """Nights that put their changes back: refused, with a fault, and with a file that is still written."""
+        """Nights that put their changes back: refused, with a fault, and with a file that is still written; and one that puts some aside."""
         for name, row, status in (("refused night", (-1, WRONG[0]), 1), ("night with a fault", (1, WRONG[1]), 3)):
             hand = self.filled(name, 2)
             hand.put("products", [(1, hand.row("products")), row])
             self.start(name, hand, statuses=(status,))
+        aside = self.filled("records put aside", 2)
+        aside.put("products", [(1, aside.row("products")), (-1, WRONG[0]), (1, WRONG[1])])
+        self.start("records put aside", aside, options=(*COMMIT, "--quarantine"))
         written = self.filled("file still written", 2)
         self.start("file still written", written, statuses=(6,), written="changes/orders.csv")
 

@@ -15,6 +15,7 @@ OLD = "commit stopped"
 RACES, LANES = 20, 3
 STOPPED_IN = ("first night", "committed twice", "later night", "keeping 2", "rollback", "before manifests")
 COMMITTED = (*STOPPED_IN, "planned night", "several files", "file of two names", "a view is new", "rollback twice")
+COMMITTED += ("records put aside",)
 STEPS = ("rename", "link", "unlink", "unlinkat", "symlink", "mkdir", "rmdir")
 
 

@@ -9,11 +9,14 @@ import re
 from collections import Counter
 from functools import lru_cache
 from itertools import pairwise
+from os.path import commonprefix
 
 # How much of a table is looked through at a time.
 BLOCK = 2**15
-# How many lines are looked for each by itself.
-FEW = 6
+# How many lines are looked for each by itself, and how many all together by a form that names them.
+FEW, NAMED = 6, 256
+# How often such a form parts its lines by what they begin with, and how many bytes of each it has: a longer one takes longer to make.
+DEEP, BEGIN = 16, 32
 # The counts of a table that are not 1, and lines that do not count 1, of which the last one is what stands behind all lines.
 COUNTS, OTHER = re.compile(rb"\n(?!1,)([0-9]{1,19}),"), re.compile(rb"\n(?!1,)")
 # Lines that each begin with a count; a line without anything; a carriage return that ends no line.
@@ -21,19 +24,23 @@ COUNTED = re.compile(rb"(?:[1-9][0-9]{0,17}+,[^\n]*+(?:\n|\Z))*+")
 BLANK, RETURN = re.compile(rb"\n\r?\n"), re.compile(rb"\r(?!\n)")
 # Texts in which each quote opens a cell or closes it, and no cell goes over lines.
 QUOTES = re.compile(rb'(?:[^"]*+(?<=[,\n])"[^"\n]*+(?:""[^"\n]*+)*+"(?:[,\r\n]|\Z))*+[^"]*+')
+# What a number begins with that is written in another way than the tool's: behind a comma, and at a line's beginning.
+OTHERWISE, FIRST_OTHERWISE = re.compile(rb",(?:\+|-?0[0-9]|-0)"), re.compile(rb"\n(?:\+|-?0[0-9]|-0)")
 # Counts so long that as many of them as an input can have may leave 64 bits together.
 LONG_COUNTS = re.compile(rb"\n-?[0-9]{13,},")
 OTHERS = bytes(set(range(256)) - set(b'"\n'))
 NUMBER, POSITIVE, CHANGED = rb"[+-]?[0-9]{1,18}+", rb"[1-9][0-9]{0,17}+", rb"-?[1-9][0-9]{0,17}+"
+# A number and a text in quotes as the tool writes them: without a plus or zeros before it, and in quotes only where it has need of them.
+OWN_NUMBER, OWN_QUOTED = rb"(?:0|-?[1-9][0-9]{0,18}+)", rb'"[^",\r\n\0]*+(?:,|"")(?:[^"\r\n\0]++|"")*+"'
 QUOTED, PLAIN = rb'"(?:[^"\0]++|"")*+"', rb'[^",\r\n\0]'
 
 
 @lru_cache(64)
-def form(kinds, count):
+def form(kinds, count, number=NUMBER, quoted=QUOTED):
     """What records look like whose cells are of these kinds, behind a count of this form, if they have one."""
     alone = len(kinds) == 1 and not count
-    text = b"(?:" + PLAIN + (b"++|" if alone else b"*+|") + QUOTED + b")"
-    cells = [*([count] if count else []), *(NUMBER if kind == "int" else text for kind in kinds)]
+    text = b"(?:" + PLAIN + (b"++|" if alone else b"*+|") + quoted + b")"
+    cells = [*([count] if count else []), *(number if kind == "int" else text for kind in kinds)]
     record = b",".join(cells)
     return re.compile(b"(?:" + record + b"\r?\n)*+(?:" + record + b")?+")
 
@@ -65,6 +72,18 @@ def is_in_lines(content, start, is_counted, count_one):
     if b"\r" in content and RETURN.search(content, start):
         return False
     return b'"' not in content or QUOTES.match(content, start).end() == len(content)
+
+
+def is_own(content, start, columns, is_counted):
+    """Whether the records of a table that are lines are written as the tool writes them, so that equal rows have equal lines. Where there are
+    quotes it is said of no others than lines.
+    """
+    kinds = tuple(kind for _, kind in columns)
+    if b'"' not in content:
+        is_plain = "int" not in kinds or not OTHERWISE.search(content, start)
+        if is_plain and (is_counted or kinds[0] == "text" or not FIRST_OTHERWISE.search(content, start - 1)):
+            return True
+    return form(kinds, POSITIVE if is_counted else None, OWN_NUMBER, OWN_QUOTED).match(content, start).end() == len(content)
 
 
 def counts_one(content, start):
@@ -175,10 +194,41 @@ def standing(content, start, lines):
         yield from ((at, line) for line in lines.keys() & block.split(b"\n"))
 
 
+def named(rows, depth=0):
+    """A form of these rows, parted by what they begin with, so that a line is soon seen to be none of them."""
+    groups, parts = {}, []
+    for row in sorted(rows):
+        groups.setdefault(row[:1], []).append(row)
+    for group in groups.values():
+        if len(group) == 1 or depth == DEEP:
+            parts += map(re.escape, group)
+        else:
+            begin = commonprefix(group)
+            parts.append(re.escape(begin) + b"(?:" + named([row[len(begin) :] for row in group], depth + 1) + b")")
+    return b"|".join(parts)
+
+
+def scanned(content, start, rows):
+    """The same as `places`, of rows that are few, and how many rows the table has beyond one in each line: both by one look at each line."""
+    begins = named({row[:BEGIN] for row in rows})
+    form, found, beyond = re.compile(rb"\n(?:1,(?=" + begins + rb")([^\n]*)|(?!1,)([0-9]{1,19}),([^\n]*))"), {}, 0
+    for line in form.finditer(content, start - 1):
+        row, count, other = line.groups()
+        if row in rows:
+            found.setdefault(row, (line.start() + 1, line.end() + 1, 1))
+        elif count:
+            beyond += int(count) - 1
+            if other in rows:
+                found[other] = line.start() + 1, line.end() + 1, int(count)
+    return found, beyond
+
+
 def places(content, start, rows, count_one=False):
     """Where the lines of these rows, as lines have them, begin and end in a table of the tool's own, and how often each counts; where it
     is known that all count 1, no others are looked for.
     """
+    if FEW < len(rows) <= NAMED:
+        return scanned(content, start, rows)[0]
     once, found = {b"1," + row: row for row in rows}, {}
     for at, line in standing(content, start, once):
         place = content.find(b"\n" + line + b"\n", at - 1) + 1
@@ -256,13 +306,25 @@ def replace(edits):
             old.place, new.place = None, old.place
 
 
-def merged(content, change, count_one=False):
-    """A table with a change as the program prints it, in pieces; it may be known that all its rows count 1. A row that comes stands in the
-    place of one beside it that leaves, or at the end. None where more of a row leave than there are.
+def found_and_total(content, rows):
+    """Where these rows stand in a table of the tool's own, and how many rows it has."""
+    start, lines = content.find(b"\n") + 1, content.count(b"\n") - 1
+    if len(rows) <= NAMED:
+        found, beyond = scanned(content, start, rows)
+    else:
+        beyond = beyond_one(content)
+        found = places(content, start, rows, not beyond)
+    return found, lines + beyond
+
+
+def merged(content, change, total):
+    """A table that has so many rows with a change as the program prints it, in pieces. A row that comes stands in the place of one beside it
+    that leaves, or at the end. None where the table has not so many rows, or more of a row leave than there are.
     """
-    rows = coming(change)
-    found = places(content, content.find(b"\n") + 1, {row for row, _ in rows}, count_one)
-    edits = []
+    rows, edits = coming(change), []
+    found, there_are = found_and_total(content, {row for row, _ in rows})
+    if there_are != total:
+        return None
     for row, count in rows:
         start, end, there = found.get(row, (0, 0, 0))
         if there + count < 0:

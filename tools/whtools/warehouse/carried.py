@@ -2,6 +2,7 @@
 
 import re
 import time
+from importlib import import_module
 from typing import NamedTuple
 
 from . import headlines, program
@@ -13,7 +14,7 @@ from .limits import after, sizes_after
 from .made import Made, Printed, made, of_base, of_change
 from .planning import certified, planned, strategy_of
 from .sizes import base_sizes, given_text, last_report, rows_of, sized, told_before, told_rows
-from .status import BAD_INPUT, SIGNALLED, SPENT
+from .status import BAD_INPUT, REFUSED, SIGNALLED, SPENT
 from .strategy import FILE, at_once, written
 
 # What has the program print the changes of derived views in the place of their tables.
@@ -102,7 +103,7 @@ class Night:
         sizes, answer = self.sizes_of_all(), self.answer
         self.sizes = sizes
         lines = [self.chosen.how, headlines.work(answer.head, sizes), headlines.time(answer.seconds, time.monotonic() - self.began)]
-        lines += self.kept.anew
+        lines += self.kept.anew + [headlines.aside(self.folder)] * bool(self.folder.asides)
         return "\n".join([*lines, answer.head, *answer.readers, sized(sizes)])
 
 
@@ -150,7 +151,16 @@ def carried(folder, words):
             raise fault_of(found) from failure
         raise
     folder.take_tables()
+    if folder.catalogue.tests:
+        judge_tests(night)
     return night
+
+
+def judge_tests(night):
+    """Refuses a night that breaks a test of the catalogue."""
+    found = import_module("whtools.warehouse.tested").of_night(night)
+    if found:
+        raise Failure(REFUSED, *found)
 
 
 def done(folder, words, began):

@@ -2,15 +2,19 @@
 
 import re
 import tomllib
+from importlib import import_module
 
 from . import fill
+from .disk import what
 from .finding import MARK, MARKED, Finding, Place, nearest
 from .formulas import MOST, MOST_COLUMNS, NAME, Formulas
 from .toml_places import places, top_place
 
 FILE = "catalogue.toml"
-OF_BASE, OF_JOINED = ("name", "columns", "nulls", "key", "fill"), ("name", "over", "join", "where", "keep")
-OF_SUMMARY = ("name", "over", "join", "where", "group", "count", "sum")
+# The keys of tests, of which `table_tests` tells more: they are judged by nights of folders, and the program does not look at them.
+OF_TESTS = ("unique", "one_of", "refers", "least_rows", "most_changed_rows", "most_changed_share")
+OF_BASE, OF_JOINED = ("name", "columns", "nulls", "key", "fill", *OF_TESTS), ("name", "over", "join", "where", "keep", *OF_TESTS)
+OF_SUMMARY = ("name", "over", "join", "where", "group", "count", "sum", *OF_TESTS)
 KEYS = tuple(dict.fromkeys(OF_BASE + OF_JOINED + OF_SUMMARY))
 # More digits than these no number of a catalogue has.
 LONG = re.compile(r"(?<!\w)[+-]?[0-9][0-9_]{4300,}")
@@ -36,16 +40,17 @@ class CatalogueView:
         return ("a joined view", OF_JOINED) if "keep" in self.table else ("a summary", OF_SUMMARY)
 
     def place(self, key, *path):
-        """The place of a key, or of the value in it that this path of numbers leads to, as far as it does."""
+        """The place of a key, or of the value in it that this path of numbers and keys leads to, as far as it does."""
         if key not in self.keys:
             return self.heading
         if not path:
             return Place(FILE, *self.keys[key].key)
         spot = self.keys[key].value
-        for number in path:
-            if not isinstance(spot.members, list) or number >= len(spot.members):
+        for step in path:
+            is_key = isinstance(spot.members, dict)
+            if step not in spot.members if is_key else isinstance(step, str) or step >= len(spot.members):
                 break
-            spot = spot.members[number]
+            spot = spot.members[step].value if is_key else spot.members[step]
         return Place(FILE, *spot.place)
 
     def value_place(self, key):
@@ -68,10 +73,11 @@ class Catalogue:
     """The views of a catalogue and its findings. What the program passes over is a fault, and where one is lenient a warning."""
 
     def __init__(self, folder, lenient=False):
-        self.views, self.findings, self.lenient, self.content, self.all_names = [], [], lenient, b"", []
+        self.views, self.findings, self.lenient, self.content, self.all_names, self.tests = [], [], lenient, b"", [], []
         file = folder / FILE
         if not file.is_file():
-            self.find(Place(FILE), "there is no catalogue.toml in this folder")
+            told = f"this {what(file)} is no file that can be read" if file.exists() else "there is no catalogue.toml in this folder"
+            self.find(Place(FILE), told)
             return
         self.content = file.read_bytes()
         text, tables = self.read(self.content)
@@ -85,6 +91,9 @@ class Catalogue:
         where += [((1, 1), {})] * (len(tables) - len(where))
         for table, (heading, keys) in zip(tables, where):
             self.add(CatalogueView(table, heading, keys))
+        # What only some catalogues have is imported where it is needed.
+        if any(key in table for table in tables for key in ("key", *OF_TESTS)):
+            self.tests = import_module("whtools.warehouse.table_tests").Declared(self).tests
 
     @property
     def names(self):

@@ -6,21 +6,28 @@ import errno
 import fcntl
 import os
 import re
+import stat
 from collections import Counter
+from collections.abc import Iterable
 from contextlib import suppress
 from importlib import import_module
+from pathlib import Path
 
-from .disk import remove, sync, writable
+from .disk import remove, sync, writable, write
 from .finding import Failure
-from .status import AT_WORK, BAD_INPUT
+from .status import AT_WORK, BAD_INPUT, NOT_WRITTEN
 
 # The folders of a version that is being made, and where their files come from.
 HOMES = {"changes": "changes", "given": "data", "batches": "changes"}
+# A file of which a part is put aside, as it came; what is carried out of it lies in changes/ then, and goes nowhere.
+TAKEN = "taken"
+BACK = {TAKEN: "changes"} | HOMES
 
 
 def is_being_written(file):
     """Whether a process has a file open for writing, as far as the file system can tell."""
-    handle = os.open(file, os.O_RDONLY)
+    # Without waiting: what was a file a moment ago may be a FIFO.
+    handle = os.open(file, os.O_RDONLY | os.O_NONBLOCK)
     try:
         fcntl.fcntl(handle, fcntl.F_SETLEASE, fcntl.F_RDLCK)
         fcntl.fcntl(handle, fcntl.F_SETLEASE, fcntl.F_UNLCK)
@@ -52,6 +59,21 @@ def judge_written(path, told, room):
     """Refuses a file that somebody writes, as far as its file system can tell: that is tried in a folder of ours on the same one."""
     if path.stat().st_dev == room.stat().st_dev and tells_of_writers(room) and is_being_written(path):
         raise Failure(AT_WORK, f"{told} is still being written; try again when it is whole")
+
+
+def is_movable(file: Path) -> bool:
+    """Whether this user may move a file out of its folder; out of one with the sticky bit only the owner of either may."""
+    folder, user = file.parent.stat(), os.geteuid()
+    is_free = user == 0 or not folder.st_mode & stat.S_ISVTX or user in (folder.st_uid, file.lstat().st_uid)
+    return is_free and os.access(file.parent, os.W_OK | os.X_OK)
+
+
+def judge_movable(files: Iterable[Path]) -> None:
+    """Refuses a night some of whose files could not be moved away, before any is moved."""
+    for file in files:
+        if not is_movable(file):
+            told = f"{file} cannot be moved out of its folder by this user, and a night moves it to its version"
+            raise Failure(NOT_WRITTEN, f"{told}; nothing is moved: let this user write {file.parent}")
 
 
 class Claim:
@@ -88,6 +110,14 @@ class Claim:
             raise Failure(BAD_INPUT, f"{source.told} is a link, and a night takes the file itself; put the file in")
         self.looks[to], self.modes[to] = (source, look(to)), to.stat().st_mode & 0o777
 
+    def replace(self, file, kept):
+        """Has a file that was taken lie by the side as it came, and what is carried out of it in its place."""
+        taken = self.part / TAKEN / file.name
+        os.makedirs(taken.parent, exist_ok=True)
+        os.rename(file, taken)
+        self.looks[taken], self.modes[taken] = self.looks.pop(file), self.modes.pop(file)
+        write(file, [kept])
+
     def own(self):
         """Puts a copy in the place of each file that somebody else could go on writing: as its owner, or by another name of it."""
         for file, (source, first) in self.looks.items():
@@ -122,9 +152,11 @@ class Claim:
 def put_back(folder, part):
     """Undoes a night: what it made is removed, which makes room, and then the files that it took go back."""
     for made in part.iterdir() if part.is_dir() else ():
-        if made.name not in HOMES:
+        if made.name not in BACK:
             remove(made)
-    for kind, home in HOMES.items():
+    for taken in (part / TAKEN).glob("[!.]*"):
+        (part / "changes" / taken.name).unlink(missing_ok=True)
+    for kind, home in BACK.items():
         if (part / kind).is_dir():
             files_back(part / kind, folder / home)
     remove(part)

@@ -66,7 +66,7 @@ class Words:
         given = list(words)
         self.named, self.unproved, self.commit, self.keep, self.lenient, self.through = None, False, False, None, False, []
         self.always, self.adopts = False, False
-        self.everything = False
+        self.everything, self.quarantine = False, False
         self.weights, self.options = None, {}
         self.command = given.pop(0) if given else ""
         if self.command not in COMMANDS:
@@ -112,6 +112,8 @@ class Words:
             self.adopts = True
         elif word == "--all" and self.command == "backup":
             self.everything = True
+        elif word == "--quarantine" and self.command == "night":
+            self.quarantine = True
         elif word == "--lenient" and self.command == "lint":
             self.lenient = True
         elif word in (*WITH_A_VALUE, *OPTIONS.get(self.command, ())) and not given:

@@ -1,6 +1,7 @@
 """A night that is kept: it takes its changes, makes its version beside the others, and one rename decides that it counts."""
 
 import os
+from importlib import import_module
 from itertools import islice
 
 from . import lock
@@ -9,7 +10,7 @@ from .batches import NAMES, TAKEN, names_after, waiting
 from .carried import carried
 from .catalogue import Catalogue
 from .check import strategy_of
-from .claim import Claim
+from .claim import Claim, judge_movable
 from .disk import keep, put, remove, sync, write
 from .finding import Failure, of_system, warn
 from .folder import Folder, judged
@@ -39,7 +40,11 @@ def to_take(words):
         raise Failure(BAD_INPUT, *faults)
     judge_dropped(inputs, bases, words.options.get("--drop", ()))
     judge_accepted(inputs, accepted)
-    return inputs.to_take(bases) + [(TAKEN, source) for source in waiting(words.folder)]
+    taken = inputs.to_take(bases) + [(TAKEN, source) for source in waiting(words.folder)]
+    # The tables of a folder without versions are moved once its night is carried out.
+    tables = inputs.carried.values() if inputs.state.number is None else ()
+    judge_movable(source.path for source in [*(source for _, source in taken), *tables])
+    return taken
 
 
 def take(words, claim):
@@ -103,10 +108,13 @@ def decided(words, interrupts, identity, number, judged):
         try:
             take(words, claim)
             accepted = words.options.get("--accept", ())
-            night = carried(Folder(words.folder, part, judged=judged, for_night=True, accepted=accepted), words)
+            folder = Folder(words.folder, part, judged=judged, for_night=True, accepted=accepted, sifts=words.quarantine)
+            night = carried(folder, words)
             if night.folder.state.number is None:
                 begin(night.folder, identity, interrupts)
             report = write_version(part, night)
+            if night.folder.asides:
+                import_module("whtools.warehouse.aside").write_asides(part, claim, night.folder.asides)
             claim.own()
             keep(part)
             vouch_for_parent(night.folder.inputs, identity)
@@ -139,9 +147,16 @@ def kept(words, interrupts, judged):
         raise
 
 
+def shown(words, number):
+    """Turns `current`, once what the night put aside lies where it stays."""
+    if words.quarantine:
+        import_module("whtools.warehouse.aside").lay(words.folder, number)
+    turn(words.folder)
+
+
 def finish(words, number):
     """Turns `current`, and removes what is no more wanted. The night counts, whatever comes between."""
-    steps = [lambda: sync(words.folder / VERSIONS), lambda: turn(words.folder), lambda: remove(words.folder / "new")]
+    steps = [lambda: sync(words.folder / VERSIONS), lambda: shown(words, number), lambda: remove(words.folder / "new")]
     if words.keep:
         steps.append(lambda: prune(words.folder, words.keep))
     errors = []

@@ -2,14 +2,27 @@
 
 import errno
 import os
+import stat
 from contextlib import contextmanager, suppress
 from importlib import import_module
+from pathlib import Path
 
 # What a file system says that has no hard links, or not this one.
 NO_LINKS = (errno.EPERM, errno.EOPNOTSUPP, errno.ENOSYS, errno.EMLINK, errno.EXDEV)
 READ_BITS, OWNER_WRITES = 0o444, 0o200
+# What else than a file may lie where files are read. None of these is ever opened: that may wait for ever, or do something.
+OTHERS = {stat.S_IFDIR: "folder", stat.S_IFIFO: "FIFO", stat.S_IFSOCK: "socket", stat.S_IFCHR: "device", stat.S_IFBLK: "device"}
 # How many bytes are compared at a time.
 BLOCK = 2**18
+
+
+def what(path: Path) -> str:
+    """What lies at a path, in a word."""
+    try:
+        kind = stat.S_IFMT(path.lstat().st_mode)
+    except FileNotFoundError:
+        return "file"
+    return "link" if kind == stat.S_IFLNK else OTHERS.get(kind, "file")
 
 
 @contextmanager

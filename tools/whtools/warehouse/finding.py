@@ -1,7 +1,10 @@
 """What is found in a folder: where, and what is wrong there."""
 
 import sys
+from collections import Counter
+from collections.abc import Iterable, Iterator
 from importlib import import_module
+from itertools import chain
 from typing import NamedTuple
 
 from .streams import drop
@@ -9,6 +12,8 @@ from .streams import drop
 # A byte order mark, which may stand before a table, and what is told of it where it may not.
 MARK = b"\xef\xbb\xbf"
 MARKED = "a byte order mark stands before the first line; save the file as UTF-8 without one"
+# How many findings are told of one file, and how many that say the same of several files; and the file of which all are, as it is short.
+TOLD, WHOLE = 20, "catalogue.toml"
 
 
 def nearest(word, words):
@@ -26,20 +31,65 @@ class Place(NamedTuple):
 
 
 class Finding(NamedTuple):
-    """A fault, which the program would not take, or a warning of what it takes and was hardly meant."""
+    """A fault, which the program would not take, or a warning of what it takes and was hardly meant. It may stand for `more` of its kind, of
+    which nothing else is kept.
+    """
 
     place: Place
     text: str
     warns: bool = False
+    more: int = 0
 
     def __str__(self):
         return f"{self.place.file}:{self.place.line}:{self.place.column}: {'warning: ' if self.warns else ''}{self.text}"
 
 
+def more_of(place: Place, count: int, warns: bool = False) -> Finding:
+    """That so many findings of a file, from this place on, are not told."""
+    return Finding(place, f"{count:,} more from here on {'are' if count > 1 else 'is'} not told", warns, count)
+
+
+def first_ones(places: Iterable[tuple[Place, str]], warns: bool = False) -> list[Finding]:
+    """Findings at these places, as many as are told, and how many more there are."""
+    found, left, count = [], None, 0
+    for place, text in places:
+        count += 1
+        if count <= TOLD:
+            found.append(Finding(place, text, warns))
+        left = left or (place if count > TOLD else None)
+    return found + ([more_of(left, count - TOLD, warns)] if left else [])
+
+
+class Shortened:
+    """What is told of many lines: of the findings of one file, and of those that say the same of several, the first ones."""
+
+    def __init__(self) -> None:
+        self.seen, self.left = Counter(), {}
+
+    def is_told(self, line) -> bool:
+        """Whether a line is told; where it is not, it is counted."""
+        if not isinstance(line, Finding) or line.more or line.place.file == WHOLE:
+            return True
+        kinds = [(line.warns, line.place.file, ""), (line.warns, "", line.text)]
+        full = next((kind for kind in kinds if self.seen[kind] >= TOLD), None)
+        if full:
+            place, count = self.left.get(full, (line.place, 0))
+            self.left[full] = place, count + 1
+            return False
+        self.seen.update(kinds)
+        return True
+
+    def rest(self) -> Iterator[Finding]:
+        """How many were not told, by file or by what they say."""
+        for (warns, _, text), (place, count) in self.left.items():
+            yield Finding(place, f"{count:,} more, from here on: {text}", warns) if text else more_of(place, count, warns)
+
+
 def warn(lines):
     """Tells what does not end a command. Where standard error cannot be written, the status alone tells."""
+    shortened = Shortened()
     try:
-        for line in lines:
+        for line in chain(filter(shortened.is_told, lines), shortened.rest()):
             print(line, file=sys.stderr, flush=True)
     except OSError:
         drop(sys.stderr)

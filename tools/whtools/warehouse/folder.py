@@ -1,6 +1,7 @@
 """A warehouse folder as it is: its catalogue, tables and changes, read once, with all findings."""
 
 from collections import Counter
+from importlib import import_module
 
 from ..bundle import part_pieces
 from . import fill
@@ -21,11 +22,12 @@ class Folder:
     """What a folder holds. Where it has faults, what is read may be cut short. A night under way has taken its changes to a folder
     of its own, `taken`. The tables that were `judged` already, by the names of their views, are not judged again. Of a folder that is
     `for_night` tables wait for the program, where they can, which judges them as it reads them. Files of the version that were `accepted`
-    are taken as they are.
+    are taken as they are. One that `sifts` puts aside what is wrong in changes.
     """
 
-    def __init__(self, path, taken=None, lenient=False, judged=(), for_night=False, accepted=()):
-        self.judged, self.taken, self.for_night, self.accepted = dict(judged), taken, for_night, accepted
+    def __init__(self, path, taken=None, lenient=False, judged=(), for_night=False, accepted=(), sifts=False):
+        self.judged, self.taken, self.for_night, self.accepted = dict(judged), taken, for_night and not sifts, accepted
+        self.sifts, self.asides = sifts, []
         self.path, self.catalogue, self.inputs = path, Catalogue(path, lenient), Inputs(path, taken, accepted)
         self.views, self.state = self.catalogue.views, self.inputs.state
         self.findings = self.catalogue.findings + self.inputs.findings(self.catalogue)
@@ -53,7 +55,7 @@ class Folder:
 
     def wholly(self):
         """The folder with all tables judged."""
-        return Folder(self.path, self.taken, accepted=self.accepted) if self.waits else self
+        return Folder(self.path, self.taken, accepted=self.accepted, sifts=self.sifts) if self.waits else self
 
     @property
     def faults(self):
@@ -81,11 +83,18 @@ class Folder:
             if judged or not (self.for_night and records.wait()):
                 self.findings += records.findings
         if changes and is_small:
-            self.changes[view.name] = Changes(changes, view)
+            self.changes[view.name] = self.sifted(changes, view) if self.sifts else Changes(changes, view)
             self.findings += self.changes[view.name].findings
         read = [kept[view.name] for kept in (self.data, self.changes) if view.name in kept]
         if len(read) == 2 and not read[0].waits and not any(records.findings for records in read):
             self.absent += absent(*read)
+
+    def sifted(self, sources, view):
+        """The changes of a view without what is put aside, which is told."""
+        changes, asides = import_module("whtools.warehouse.aside").sifted(sources, view, self.data.get(view.name))
+        self.findings += [Finding(reason.place, f"put aside: {reason.text}", True) for aside in asides for reason in aside.reasons]
+        self.asides += asides
+        return changes
 
     def judge_other_files(self):
         """Files that are no part of a bundle."""

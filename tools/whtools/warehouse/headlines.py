@@ -10,7 +10,7 @@ from .strategy import FILE
 TOLD = re.compile(r"^time: ([^\n]+)$.*^work ([0-9]+)$", re.MULTILINE | re.DOTALL)
 VERDICT = re.compile(r"certified (all|one-way) work ([0-9]+)")
 LEAST = {"all": "no correct strategy has less", "one-way": "no strategy whose Comps take one view each has less"}
-PLANNED, TIME, ANEW = "strategy: a plan of work ", "time: ", "views: computed anew, since "
+PLANNED, TIME, ANEW, ASIDE = "strategy: a plan of work ", "time: ", "views: computed anew, since ", "put aside: "
 COUNTED = "; what changed is counted by their definitions of now, over the tables before and after"
 ONE_BY_ONE = "strategy: view by view, as the catalogue has them, without a plan: "
 NEXT = "the next night is planned by those that stand below"
@@ -55,6 +55,13 @@ def work(head, sizes):
 def time(in_program, in_all):
     """How many seconds went by."""
     return f"{TIME}{in_all:.2f} s in all but for the end of writing, {in_program:.2f} s of it in the program"
+
+
+def aside(folder):
+    """Which records of changes were put aside, and where those of a night that is kept lie."""
+    counts = ", ".join(f"{len(aside.reasons):,} of {aside.told}" for aside in folder.asides)
+    where = f"; they lie in quarantine/{folder.taken.name.removesuffix('.part')}" if folder.taken else ""
+    return f"{ASIDE}{counts}{where}"
 
 
 def of_last_night(state):

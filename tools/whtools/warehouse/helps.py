@@ -14,6 +14,7 @@ OPTIONS = [
     ("--drop NAME", ("night",), "with --commit: the table of this view, which is no base view any more, goes; it may stand several times"),
     ("--accept FILE", ("night",), "takes this file of the current version, such as data/orders.csv, as it is; it may stand several times"),
     ("--adopt", ("night", "rollback"), "in a copy of a folder: what a stopped night of the original had taken is this folder's own"),
+    ("--quarantine", ("night",), "puts records of changes aside that are wrong, and goes on without them; with --commit they lie in quarantine/"),
     ("--lenient", ("lint",), "has keys that the program does not look at as warnings"),
     ("--workers N", ("night",), "how many workers compute at once, 1 to 16; without it 1"),
     ("--readers N", ("night",), "how many readers go through the tables of before meanwhile, 0 to 16: a trial of the promise, and no service"),

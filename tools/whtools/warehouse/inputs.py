@@ -4,8 +4,9 @@ import os
 import re
 from typing import NamedTuple
 
+from .disk import what
 from .finding import Finding, Place, nearest
-from .versions import State
+from .versions import DELTAS, State
 from .vouched import Vouched
 
 TABLE, CHANGES = re.compile(r"(.+)\.csv"), re.compile(r"([A-Za-z_][A-Za-z0-9_]*)(?:\.([1-9][0-9]*))?\.csv")
@@ -16,11 +17,14 @@ FORMS = {"data": "NAME.csv", "changes": "NAME.csv, NAME.1.csv, NAME.2.csv and so
 
 
 class Source(NamedTuple):
-    """A file that is read: where it lies, the name by which it is told, and whether it is a table that a night has made by this catalogue."""
+    """A file that is read: where it lies, the name by which it is told, whether it is a table that a night has made by this catalogue, and
+    whether that night saw each record of its tables to be a line.
+    """
 
     path: object
     told: str
     is_made: bool = False
+    is_in_lines: bool = False
 
 
 def entries(folder):
@@ -58,7 +62,9 @@ class Inputs:
         self.carried = tables(self.state.root / "data", self.state.told)
         self.later = self.vouched.later
         if self.state.number and self.is_catalogue_as_before() and not self.later:
-            self.carried = {name: source._replace(is_made=True) for name, source in self.carried.items()}
+            # A night has deltas only where it saw that.
+            is_in_lines = (self.state.root / DELTAS).is_dir()
+            self.carried = {name: source._replace(is_made=True, is_in_lines=is_in_lines) for name, source in self.carried.items()}
         self.given = {} if self.state.number is None else tables(self.places["data"], "data")
 
     def is_catalogue_as_before(self):
@@ -108,9 +114,9 @@ class Inputs:
 
     def unread(self):
         """A strategy or sizes that stand there, and are no file, such as a link that leads nowhere: a night must not go on without them."""
-        text = "this is no file that can be read; put one here, or take it away"
         named = (self.folder / name for name in ("strategy.txt", "sizes.csv"))
-        return [Finding(Place(path.name), text) for path in named if os.path.lexists(path) and not path.is_file()]
+        found = [path for path in named if os.path.lexists(path) and not path.is_file()]
+        return [Finding(Place(path.name), f"this {what(path)} is no file that can be read; put one here, or take it away") for path in found]
 
     def judge(self, kind, form, path, bases, names):
         """What is wrong with a file of `data` or `changes`, or None."""
@@ -118,9 +124,8 @@ class Inputs:
         if kind == "changes" and BATCH.fullmatch(path.name) and path.is_file():
             return Finding(place, LINK) if path.is_symlink() else None
         if not match or not path.is_file():
-            is_file = path.is_file() or path.is_symlink()
             near = nearest(path.name, [f"{name}.csv" for name in bases])
-            text = f"this {'file' if is_file else 'folder'} is not read: {kind}/ has files {FORMS[kind]} alone; move it away{near}"
+            text = f"this {what(path)} is not read: {kind}/ has files {FORMS[kind]} alone; move it away{near}"
             return Finding(place, text)
         if match[1] not in bases:
             return Finding(place, stranger(match[1], bases, names)) if names else None

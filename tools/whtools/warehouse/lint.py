@@ -1,5 +1,7 @@
 """`lint`: all that is wrong in a folder, a line each, warnings too; of what kind its shape is; and last, where nothing is wrong, that."""
 
+from importlib import import_module
+
 from ..kinds import shape_of, told, why
 from .finding import warn
 from .folder import Folder
@@ -34,6 +36,8 @@ def run(words):
         folder.findings += null_findings(folder.catalogue)
     findings = folder.findings + strategy_findings(folder) + GivenSizes(folder.path, folder.views).findings
     findings += after(sizes_after(folder)) + strays(words.folder)
+    if folder.catalogue.tests and not folder.faults:
+        findings += import_module("whtools.warehouse.tested").of_folder(folder)
     warn(sorted(findings))
     if not any(not finding.warns for finding in folder.catalogue.findings):
         shape = shape_of(folder.views)

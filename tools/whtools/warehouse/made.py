@@ -63,7 +63,5 @@ def of_change(file, rows, change):
     """The table of a derived view after the night: the one before, in this file, with a change as the program prints it. All records are
     lines. None where the file has not as many rows as were told, or not those that leave.
     """
-    before = file.read_bytes()
-    lines, more = by_lines.counted(before, True), by_lines.beyond_one(before)
-    pieces = by_lines.merged(before, change, not more) if lines + more == rows else None
+    pieces = by_lines.merged(file.read_bytes(), change, rows)
     return pieces and Made(pieces, None, change, rows + by_lines.sum_of(change))

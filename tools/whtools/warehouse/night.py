@@ -24,7 +24,7 @@ from .versions import CURRENT, strays
 
 def preview(words):
     """Writes new/ whole, by a rename. Answers the report."""
-    folder = Folder(words.folder, for_night=True, accepted=words.options.get("--accept", ()))
+    folder = Folder(words.folder, for_night=True, accepted=words.options.get("--accept", ()), sifts=words.quarantine)
     night, part, new = carried(folder, words), words.folder / "new.part", words.folder / "new"
     try:
         os.makedirs(part)

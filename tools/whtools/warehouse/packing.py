@@ -21,7 +21,7 @@ AFTER = ("sizes.csv", "plan.txt", "schedule.txt")
 READ = ("catalogue.toml", "strategy.txt", *AFTER, "graph.dot", "graph.svg")
 # What the nights make, those of before there were versions too; and what is judged by itself.
 OWN = ("data", "changes", "versions", "versions.part", "current", "current.part", "new", "new.part", "new.old")
-OWN += ("views", "before", "commit", "commit.part", "reports", "backup.txt")
+OWN += ("views", "before", "commit", "commit.part", "reports", "backup.txt", "quarantine")
 
 
 def merged(contents):

@@ -6,7 +6,6 @@ import time
 from importlib import import_module
 from mmap import ACCESS_READ, mmap
 from pathlib import Path
-from tempfile import TemporaryFile, gettempdir
 
 from ..bundle import has_changes, readers, spans_of
 from .disk import telling
@@ -50,10 +49,20 @@ def how_it_ended(status):
     return f"ended with status {status} and without an answer"
 
 
+def without_name():
+    """A file without a name, and the folder that it is in. What a file system without such files takes is imported where it is needed."""
+    folder = os.environ.get("TMPDIR") or "/tmp"
+    try:
+        return open(os.open(folder, os.O_TMPFILE | os.O_RDWR | os.O_CLOEXEC, 0o600), "w+b"), folder
+    except OSError:
+        tempfile = import_module("tempfile")
+        return tempfile.TemporaryFile(), tempfile.gettempdir()
+
+
 def temporary(pieces=()):
     """A file without a name, which has these pieces."""
-    file = TemporaryFile()
-    with telling(f"a temporary file in {gettempdir()} (TMPDIR names another folder)"):
+    file, folder = without_name()
+    with telling(f"a temporary file in {folder} (TMPDIR names another folder)"):
         file.writelines(pieces)
         file.seek(0)
     return file
@@ -74,9 +83,10 @@ def status_of(words, given, printed):
 
 
 def run(program, command, bundle, options=()):
-    """The status, which is one of the program's, and the file with what was printed."""
+    """The status, which is one of the program's, and the file with what was printed. Pieces that come one by one the program judges alone."""
     pieces = [bundle] if isinstance(bundle, bytes) else bundle
-    judge(pieces)
+    if isinstance(pieces, list):
+        judge(pieces)
     given, printed = temporary(pieces), temporary()
     try:
         status = status_of([program, command, *options], given, printed)

@@ -9,7 +9,7 @@ from itertools import chain
 
 from . import by_lines, fill, looks, quotes
 from .by_lines import changed, counted, has_whole_lines, is_in_lines, is_sound, places, row_of
-from .finding import MARK, Finding, Place
+from .finding import MARK, TOLD, Finding, Place, first_ones, more_of
 from .numbers import NUMBER, number_of
 from .packing import merged
 from .written import text_of
@@ -34,9 +34,11 @@ class Records:
     def __init__(self, source, view, are_changes, grows=False):
         self.file, self.view, self.are_changes, self.is_made = source.told, view, are_changes, source.is_made
         self.content, self.looked_for, self.found = source.path.read_bytes(), None, {}
-        self.waits, self.is_taken, self.seen = False, False, None
         grown = fill.filled(self.content, view) if grows else None
         self.content, self.new_columns = grown or (self.content, [])
+        # As it came, also where records of it are put aside.
+        self.original = self.content
+        self.waits, self.is_taken, self.seen, self.is_known_in_lines = False, False, None, source.is_in_lines and not grown
 
     def copied(self, source):
         """These records as those of a copy, or None where that has other bytes."""
@@ -44,6 +46,12 @@ class Records:
             return None
         self.file, self.is_made = source.told, source.is_made
         return self
+
+    def become(self, reading):
+        """Has these records be those that a reading of them left."""
+        for known in ("is_seen_sound", "has_lines", "rows", "total"):
+            self.__dict__.pop(known, None)
+        self.whole, self.content = reading, reading.parted()[0]
 
     @cached_property
     def header(self):
@@ -59,8 +67,15 @@ class Records:
         """
         is_counted, is_bare, start = self.header
         if not self.is_made and (is_counted or is_bare):
-            self.waits = is_in_lines(self.content, start, is_counted, self.count_one)
+            is_own = b'"' in self.content and self.is_own
+            self.waits = is_own or is_in_lines(self.content, start, is_counted, self.count_one)
         return self.waits
+
+    @cached_property
+    def is_own(self):
+        """Whether records that are lines are written as the tool writes them."""
+        is_counted, _, start = self.header
+        return by_lines.is_own(self.content, start, self.view.columns, is_counted)
 
     @cached_property
     def count_one(self):
@@ -83,7 +98,7 @@ class Records:
     @cached_property
     def has_lines(self):
         """Whether it is sound, as far as that was judged, and each record is a line."""
-        return self.waits or self.is_sound and has_whole_lines(self.content)
+        return self.waits or self.is_sound and (self.is_known_in_lines or has_whole_lines(self.content))
 
     @cached_property
     def whole(self):
@@ -124,12 +139,16 @@ class Records:
 
     @cached_property
     def own(self):
-        """The table in the tool's own form, or None where its records are not lines."""
+        """The table in the tool's own form, or None where its records are not lines, or are not written as the tool writes them: then it is
+        read row by row, so that no row stands twice, as with `08` and `8`.
+        """
         is_counted = self.header[0]
         if not self.has_lines:
             return None
         if self.is_made and is_counted:
             return self.content
+        if not self.is_own:
+            return None
         header = ",".join(["#", *(name for name, _ in self.view.columns)]).encode() + b"\n"
         content = by_lines.without_returns(self.content, self.waits)
         if is_counted:
@@ -169,25 +188,31 @@ class Reading:
     """Records one by one: their rows, their lines, and what is wrong in them."""
 
     def __init__(self, records):
-        self.file, self.view, self.are_changes, self.content = records.file, records.view, records.are_changes, records.content
-        self.rows, self.lines, self.findings, self.begun = Counter(), {}, [], []
+        self.file, self.view, self.are_changes, self.content = records.file, records.view, records.are_changes, records.original
+        self.rows, self.lines, self.findings, self.begun, self.untold = Counter(), {}, [], [], 0
+        if self.is_text():
+            self.read(csv.reader(io.StringIO(self.text, newline=""), strict=True))
+
+    def is_text(self):
+        """Whether all is UTF-8; where it is not, that is found."""
         content = self.content.removeprefix(MARK)
         try:
-            text = content.decode()
+            self.text = content.decode()
         except UnicodeDecodeError as error:
             line = content[: error.start].count(b"\n") + 1
             start = content.rfind(b"\n", 0, error.start) + 1
             self.find(line, len(content[start : error.start].decode()) + 1, "this is not UTF-8")
-            return
-        self.read(csv.reader(io.StringIO(text, newline=""), strict=True))
-
-    @cached_property
-    def text(self):
-        """What places are counted in."""
-        return self.content.removeprefix(MARK).decode()
+            return False
+        return True
 
     def find(self, line, column, text):
-        self.findings.append(Finding(Place(self.file, line, column), text))
+        """Keeps what is found; of what is more than is told, where it begins and how much it is."""
+        if len(self.findings) < TOLD:
+            self.findings.append(Finding(Place(self.file, line, column), text))
+            return
+        self.untold += 1
+        place = Place(self.file, line, column) if self.untold == 1 else self.findings[-1].place
+        self.findings[TOLD:] = [more_of(place, self.untold)]
 
     def read(self, reader):
         """Goes through the records; with a wrong header none is judged."""
@@ -253,12 +278,17 @@ class Reading:
         count = cells.pop(0) if counted else 1
         if count == 0 or (count < 0 and not self.are_changes):
             self.find(line, 1, f"a row counts {count} times; a count is {'not zero' if self.are_changes else 'positive'}")
+        else:
+            self.add(tuple(cells), count, line)
+
+    def add(self, row, count, line):
+        """Adds a row."""
+        total = self.rows[row] + count
+        if not LEAST <= total <= MOST:
+            self.find(line, 1, f"with this record the row counts {total} times, which leaves 64 bits")
             return
-        row = tuple(cells)
-        self.rows[row] += count
+        self.rows[row] = total
         self.lines.setdefault(row, line)
-        if not LEAST <= self.rows[row] <= MOST:
-            self.find(line, 1, f"with this record the row counts {self.rows[row]} times, which leaves 64 bits")
 
     def find_length(self, record, wanted, line):
         """A record of another length than the header; where a cell goes over lines, its quote may be what is wrong."""
@@ -305,9 +335,19 @@ class Changes:
     """The changes of a base view: those of one file or several, whose rows add up."""
 
     def __init__(self, sources, view):
-        self.view, self.files, self.rows = view, [Records(source, view, True) for source in sources], Counter()
+        self.view, self.files = view, [Records(source, view, True) for source in sources]
+
+    @cached_property
+    def rows(self):
+        found = Counter()
         for records in self.files:
-            self.rows.update(records.rows)
+            found.update(records.rows)
+        return found
+
+    def renew(self):
+        """Forgets what was told of the files, which are others now."""
+        for known in ("rows", "findings"):
+            self.__dict__.pop(known, None)
 
     @cached_property
     def findings(self):
@@ -315,13 +355,15 @@ class Changes:
 
     def beyond(self):
         """Rows whose counts leave 64 bits together, where those of each file do not."""
-        found = []
-        for row in [row for row, count in self.rows.items() if not LEAST <= count <= MOST] if len(self.files) > 1 else ():
-            of = [(records, records.lines[row], records.rows[row]) for records in self.files if row in records.rows]
-            told = ", ".join(f"{count} at {records.file}:{line}" for records, line, count in of)
-            text = f"the row {shown(row)} would change {self.rows[row]} times, which leaves 64 bits: {told}; put less of it into one night"
-            found.append(Finding(Place(of[-1][0].file, of[-1][1]), text))
-        return found
+        rows = [row for row, count in self.rows.items() if not LEAST <= count <= MOST]
+        return first_ones(self.too_often(row) for row in rows) if len(self.files) > 1 else []
+
+    def too_often(self, row):
+        """Where such a row stands last, and what is told of it."""
+        of = [(records, records.lines[row], records.rows[row]) for records in self.files if row in records.rows]
+        told = ", ".join(f"{count} at {records.file}:{line}:1" for records, line, count in of)
+        text = f"the row {shown(row)} would change {self.rows[row]} times, which leaves 64 bits: {told}; put less of it into one night"
+        return Place(of[-1][0].file, of[-1][1]), text
 
     @property
     def content(self):
@@ -358,15 +400,15 @@ def table_text(columns, rows):
     return text_of(chain([["#", *(name for name, _ in columns)]], records)).encode()
 
 
-def absent(data, changes):
-    """A finding for each row of changes of which more leave than there are."""
+def wanting(data, changes):
+    """The rows of changes of which more leave than there are, and what is told of each."""
     leaving = {row: count for row, count in changes.rows.items() if count < 0}
     there = data.standing([row for row, count in changes.rows.items() if count]) if leaving else {}
     if any(there[row] + count < 0 for row, count in leaving.items()):
         there = data.rows
-    found = []
-    for row, count in leaving.items():
-        if there[row] + count < 0:
-            text = f"{-count} of {shown(row)} leave, and {data.file} has {there[row]}"
-            found.append(Finding(changes.place(row), text))
-    return found
+    return {row: f"{-count} of {shown(row)} leave, and {data.file} has {there[row]}" for row, count in leaving.items() if there[row] + count < 0}
+
+
+def absent(data, changes):
+    """A finding for each such row."""
+    return first_ones((changes.place(row), text) for row, text in wanting(data, changes).items())

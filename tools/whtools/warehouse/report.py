@@ -30,7 +30,8 @@ def head(night, strategies):
     how = f"{night.made}. {night.told.how[:1].upper()}{night.told.how[1:]}." if night.told.how else f"{night.made}."
     readers = "".join(element("p", escape(line), class_="soft mono") for line in night.told.readers)
     title, took = element("h1", f"{escape(name)}, {night.title}"), f" It took {night.told.time}." if night.told.time else ""
-    told = element("p", escape(how + took), class_="soft") + readers + parts.anew(night)
+    aside = element("p", element("strong", escape(night.told.aside))) if night.told.aside else ""
+    told = element("p", escape(how + took), class_="soft") + readers + aside + parts.anew(night)
     return element("header", title + told + parts.figures(night, strategies))
 
 

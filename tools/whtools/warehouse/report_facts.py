@@ -9,7 +9,7 @@ from .catalogue import FILE as CATALOGUE
 from .catalogue import Catalogue
 from .explain import Step
 from .finding import Failure
-from .headlines import ANEW, COUNTED, TIME
+from .headlines import ANEW, ASIDE, COUNTED, TIME
 from .held import Held
 from .inputs import CHANGES, by_view
 from .manifest import ROLLBACK, found_manifest
@@ -24,7 +24,8 @@ STEP = re.compile(r"(comp \w+ from [\w ]+|inst \w+): ([0-9]+)(?:, ([0-9.]+) s\b)
 
 class Told(NamedTuple):
     """What a report.txt says: how the strategy was come by, its lines, the rows of each step and its seconds where they are told, the
-    sizes, what readers saw, the time of the whole night, and why the derived views were computed anew, where they were.
+    sizes, what readers saw, the time of the whole night, why the derived views were computed anew, where they were, and which records of
+    changes were put aside.
     """
 
     how: str
@@ -35,6 +36,7 @@ class Told(NamedTuple):
     readers: list
     time: str = ""
     anew: str = ""
+    aside: str = ""
 
     @property
     def work(self):
@@ -61,12 +63,8 @@ def told(text):
     how, time_of_all = text.partition("\n")[0], next((line for line in lines if line.startswith(TIME)), "")
     rows, seconds = [int(match[2]) for match in found], [match[3] and float(match[3]) for match in found]
     anew = next((line.removeprefix(ANEW).removesuffix(COUNTED) for line in lines if line.startswith(ANEW)), "")
-    return Told("" if STEP.match(how) else how, strategy, rows, seconds, sizes_in(text), readers, time_of_all.removeprefix(TIME), anew)
-
-
-def counted(table):
-    """How many rows a table has that a night wrote or the program printed."""
-    return sum(int(line.partition(b",")[0]) for line in records(table) if line)
+    aside = next((line for line in lines if line.startswith(ASIDE)), "")
+    return Told("" if STEP.match(how) else how, strategy, rows, seconds, sizes_in(text), readers, time_of_all.removeprefix(TIME), anew, aside)
 
 
 class Night:
@@ -104,7 +102,7 @@ class Night:
         sizes = dict(self.told.sizes)
         for view in self.views:
             if sizes[view.name][0] is None and view.name in tables:
-                sizes[view.name] = (counted(tables[view.name]), *sizes[view.name][1:])
+                sizes[view.name] = (tables[view.name].rows, *sizes[view.name][1:])
         self.told, self.shown = self.told._replace(sizes=sizes), sizes
 
     def compare(self, rows):

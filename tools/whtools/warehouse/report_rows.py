@@ -6,12 +6,12 @@ import os
 import re
 from typing import NamedTuple
 
-from ..bundle import part, unpack
+from ..bundle import part_pieces
 from . import program
 from .finding import Failure
 from .packing import MARK
 from .reading import records, value_of
-from .report_facts import counted
+from .stored import Stored, in_answer, of_one
 from .strategy import at_once, written
 
 FIRST, CANDIDATES = 8, 400
@@ -66,11 +66,25 @@ def differences(before, after, columns):
     if all(map(is_written, contents)):
         old, new = map(set, tables)
         tables = [old - new, new - old]
+    return by_rows([(lines, header_of(content)[:1] == ["#"]) for content, lines in zip(contents, tables)], columns)
+
+
+def by_rows(tables, columns):
+    """The rows whose counts differ between two tables' lines, which begin with counts or do not."""
     found = {}
-    for place, (content, lines) in enumerate(zip(contents, tables)):
-        for row, count in rows_of(lines, columns, header_of(content)[:1] == ["#"]):
+    for place, (lines, is_counted) in enumerate(tables):
+        for row, count in rows_of(lines, columns, is_counted):
             found.setdefault(row, [0, 0])[place] += count
     return {row: counts for row, counts in found.items() if counts[0] != counts[1]}
+
+
+def differing(before, after, columns):
+    """The same of two stored tables, of which little is held where their records are lines."""
+    if before.is_in_lines and after.is_in_lines:
+        tables = [(of_one(before, after), True), (of_one(after, before), True)]
+        if all(lines is not None for lines, _ in tables):
+            return by_rows(tables, columns)
+    return differences(before.read(), after.read(), columns)
 
 
 def of_changes(files, columns):
@@ -123,9 +137,9 @@ def found_in(night, view, opening):
     before, after, files = night.table_before(view), night.table_after(view), night.changes(view)
     if before and os.path.samefile(before, after):
         return {}
-    old, new = opening.get(view.name) or (before.read_bytes() if before else None), after.read_bytes()
+    old, new = opening.get(view.name) or (Stored.of(before) if before else None), Stored.of(after)
     if old is not None:
-        return differences(old, new, view.columns) if names_in(old) == names_in(new) else None
+        return differing(old, new, view.columns) if names_in(old.begin()) == names_in(new.begin()) else None
     return of_changes(files, view.columns) if files else None
 
 
@@ -135,12 +149,13 @@ def compared(night, view):
     """
     if not night.before:
         return None
-    before, new = night.table_before(view), night.table_after(view).read_bytes()
-    old = before.read_bytes() if before else new.partition(b"\n")[0] + b"\n"
-    rows = counted(old)
-    if names_in(old) != names_in(new):
-        return Changed([], rows + counted(new), rows, rows + counted(new))
-    found = differences(old, new, view.columns)
+    before, new = night.table_before(view), Stored.of(night.table_after(view))
+    # Of a view that is new the table before has the header alone.
+    old = Stored.of(before) if before else Stored(new.file, 0, new.begin().find(b"\n") + 1)
+    rows = old.rows
+    if names_in(old.begin()) != names_in(new.begin()):
+        return Changed([], rows + new.rows, rows, rows + new.rows)
+    found = differing(old, new, view.columns)
     return Changed(paired(found, groups_of(view))[:FIRST], len(found), rows, sum(abs(now - then) for then, now in found.values()))
 
 
@@ -166,10 +181,20 @@ def opening(night, words):
     tables = {view.name: night.table_before(view) for view in night.views if view.is_base}
     if not without or not all(tables.values()):
         return {}
-    bundle = [part("catalogue", night.catalogue.content), part("strategy", written(at_once(night.views)).encode())]
-    bundle += [part(f"data {name}", path.read_bytes()) for name, path in tables.items()]
     try:
-        found = unpack(program.answer(words.program, "night", b"".join(bundle)))
+        printed = program.done(words.program, "night", bundle_of(night, tables))
     except Failure:
         return {}
+    names = [view.name for view in derived]
+    found = in_answer(printed, names)
+    if found is None:
+        found = {name: Stored(printed, *place) for name, place in program.Night(printed, 0, names).places.items()}
     return {view.name: found[view.name] for view in without if view.name in found}
+
+
+def bundle_of(night, tables):
+    """The bundle of a night without changes, piece by piece."""
+    yield from part_pieces("catalogue", night.catalogue.content)
+    yield from part_pieces("strategy", written(at_once(night.views)).encode())
+    for name, path in tables.items():
+        yield from part_pieces(f"data {name}", path.read_bytes())

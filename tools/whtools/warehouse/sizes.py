@@ -12,7 +12,7 @@ from importlib import import_module
 from ..sizes import MOST_ROWS, ROWS, WITH_WEIGHTS
 from . import program
 from .by_lines import counted, counted_through, has_whole_lines
-from .catalogue import Catalogue
+from .catalogue import OF_TESTS, Catalogue
 from .finding import Failure, warn
 from .folder import sound
 from .given_sizes import FILE, GivenSizes
@@ -71,8 +71,11 @@ def as_before(folder):
 
 
 def is_alike(view, other):
-    """Whether two views have the same columns, or the same definition."""
-    return view.columns == other.columns if view.is_base and other.is_base else view.table == other.table
+    """Whether two views have the same columns, or the same definition, whatever their tests."""
+    if view.is_base and other.is_base:
+        return view.columns == other.columns
+    one, two = ({key: value for key, value in each.table.items() if key not in OF_TESTS} for each in (view, other))
+    return one == two
 
 
 def told_before(folder):

@@ -1,5 +1,7 @@
 """What a stopped night has left, told from what is there; the next night finishes or undoes it."""
 
+from importlib import import_module
+
 from .claim import put_back
 from .copied import judge_copy
 from .disk import remove, sync
@@ -50,6 +52,7 @@ def settle(folder, turns=True, adopts=False):
         said += unremoved(scrap)
     if is_late:
         sync(folder / VERSIONS)
+        import_module("whtools.warehouse.aside").lay_later(folder, named(folder))
         point(folder, newest(folder, identity))
         turn(folder)
         remove(folder / "new")

@@ -102,12 +102,18 @@ def top_place(text, key):
 
 
 def places(text):
-    """Of each view the place of its heading, and its keys by name."""
-    found = []
+    """Of each view the place of its heading, and its keys by name. A table of a view is a key that stands at its heading."""
+    found, within = [], None
     for statement in filter(None, statements(text)):
         words = [token.text for token in statement]
         if words == ["[", "[", "view", "]", "]"]:
             found.append((statement[0][2:], {}))
+            within = None
+        elif words[0] == "[" and found:
+            within = {}
+            found[-1][1].setdefault(words[1].removeprefix("view."), KeyPlaces(statement[0][2:], Spot(statement[0][2:], within)))
+        elif words[1:2] == ["="] and within is not None:
+            within[words[0].strip("\"'")] = entry(list(statement))[1]
         elif words[1:2] == ["="] and (found or words[0] != "view"):
             if found:
                 found[-1][1][words[0].strip("\"'")] = entry(list(statement))[1]
