@@ -40,6 +40,14 @@ MERGING = (
     " WHEN starts_with(finding, {statement}) THEN strpos(lower(finding), {merge}) > 0 OR strpos(lower(finding), {execute}) > 0"
     " ELSE TRUE END)"
 )
+# A command that may be a MERGE, within a function that another command calls while it writes: the rows which that one wrote before would be noted by nobody.
+# What a function carries out stands in what led there, and what the client sent is the outermost.
+WITHIN = (
+    "finding <> {none} AND pg_trigger_depth() = 1 AND NOT coalesce({by_rows}, FALSE) AND ((SELECT count(*) FROM regexp_matches(finding, {statement}, {all})) > 1"
+    " OR strpos(finding, {function}) > 0 OR regexp_like(coalesce(current_query(), {none}), {client}, {any_case}))"
+)
+VERBS = "insert|update|delete|merge|with|copy|execute|explain"
+WRITING = {"statement": rf'SQL statement "\s*({VERBS})', "function": "\nSQL function ", "client": rf"^(\s|--[^\n]*\n|/\*([^*]|\*[^/])*\*/)*({VERBS})\M"}
 BY_ROWS = "current_setting(concat({way}, pg_trigger_depth() - {depth}), TRUE) = {rows}"
 # Whether a table cannot be read without that functions are called of somebody whom its reader has no reason to trust, who is neither a superuser nor a member
 # of the reader's role: PostgreSQL works out what is constant in the conditions of indexes and checks of a table whenever it plans a query of it.
@@ -62,6 +70,7 @@ WHY = {
     "apart": "rows came or left with a partition, and are hidden from whoever owns the function of its triggers",
     "called": "rows came or left with a partition whose indexes or checks call a function that is no superuser's, nor a member's of the role that reads it",
     "strange": "rows came or left with a partition whose columns are not as they were captured",
+    "within": "a command wrote rows that called a function which may have a MERGE of the same table",
 }
 BUSY = "somebody is writing to %s all the time, and its triggers wait for a moment without: run the script again"
 
@@ -208,12 +217,13 @@ class Triggers:
             return sql("")
         texts = {"none": "", "merge": "merge", "execute": "execute", "statement": 'SQL statement "', "line": "\n", "rows": "rows", "said": "way"}
         parts = {said: text(each) for said, each in texts.items()}
+        within = sql(WITHIN, by_rows=self.by_rows(1), none=text(""), all=text("gi"), any_case=text("i"), **{said: text(each) for said, each in WRITING.items()})
         return sql(
             "ELSIF TG_ARGV[0] = {said} THEN\n    GET DIAGNOSTICS finding = PG_CONTEXT{end}\n    finding := CASE WHEN strpos(finding, {line}) > 0 THEN"
-            " substr(finding, strpos(finding, {line}) + 1) ELSE {none} END{end}\n    IF " + MERGING + " THEN PERFORM set_config(concat({way},"
+            " substr(finding, strpos(finding, {line}) + 1) ELSE {none} END{end}\n    IF " + MERGING + " THEN IF {within} THEN {torn}{end} END IF{end} PERFORM set_config(concat({way},"
             " pg_trigger_depth() - 1), {rows}, TRUE){end} END IF{end}\n  ELSIF TG_ARGV[0] = {rows} THEN {noted}\n  ELSIF {by_rows} AND TG_OP <>"
             " {truncate} THEN NULL{end}\n  ",
-            way=text("whview.way"), noted=self.rows_noted(v, source), by_rows=self.by_rows(1), truncate=text("TRUNCATE"), end=END_OF_STATEMENT, **parts,
+            within=within, torn=self.torn(v, "within"), way=text("whview.way"), noted=self.rows_noted(v, source), by_rows=self.by_rows(1), truncate=text("TRUNCATE"), end=END_OF_STATEMENT, **parts,
         )  # fmt: skip
 
     def rows_noted(self, v, source):

@@ -17,6 +17,12 @@ LESS = (
     "MERGE INTO lines USING (VALUES (3), (5), (24), (30)) AS n (id) ON lines.id = n.id WHEN MATCHED AND n.id = 30 THEN DELETE"
     " WHEN MATCHED AND lines.pieces > 2 THEN UPDATE SET id = (lines.id + 20) % 40 WHEN MATCHED THEN UPDATE SET pieces = 6"
 )
+# A function that moves a row by a MERGE when it comes to its ninth one.
+MOVING = (
+    "CREATE FUNCTION moves(n int) RETURNS smallint LANGUAGE plpgsql AS $f$ BEGIN IF n = 9 THEN MERGE INTO lines USING (VALUES (30)) AS v (id) ON lines.id = v.id WHEN"
+    " MATCHED THEN UPDATE SET id = 5; END IF; RETURN 7; END $f$;"
+)
+MOVED = "MERGE INTO lines USING (VALUES (25)) AS v (id) ON lines.id = v.id WHEN MATCHED THEN UPDATE SET id = 6;"
 COLOURS = "CREATE TYPE colour AS ENUM ('region 1', 'region 2', 'region 3'); ALTER TABLE orders ALTER region TYPE colour USING region::colour;"
 COLUMNS = {
     "a column that gets another name": Case("ALTER TABLE lines RENAME pieces TO amount;" + WRITES.format(three=3) + "ALTER TABLE lines RENAME amount TO pieces;",
@@ -77,6 +83,19 @@ COLUMNS = {
     ),
 }  # fmt: skip
 PARTS = {
+    **{f"a MERGE within a function of {name}": Case(said, made=PARTED + MOVING, refused="may have a MERGE of the same table") for name, said in {
+        "an UPDATE": "UPDATE lines SET pieces = moves(id) WHERE id < 15;",
+        "an INSERT": "/* a * b */ -- c\n INSERT INTO lines SELECT n, 'product 4', moves(n) FROM generate_series(1, 12) AS n;",
+        "a statement of a function": "DO $$ BEGIN DELETE FROM lines WHERE id < 15 AND moves(id) = 7; END $$;",
+    }.items()},
+    "a MERGE within functions, with nothing written outside": Case(
+        f"SELECT moves(9); UPDATE lines SET pieces = 4 WHERE id = 7; DO $$ BEGIN PERFORM moves(9); UPDATE lines SET pieces = 5 WHERE id < 5; {MOVED} END $$; BEGIN; {MOVED}"
+        " UPDATE lines SET pieces = moves(id) WHERE id < 15; COMMIT;", made=PARTED + MOVING,
+    ),
+    "a MERGE within a trigger": Case(
+        "UPDATE orders SET paid = NOT paid WHERE id < 12;", made=PARTED + MOVING + "CREATE FUNCTION fires() RETURNS trigger LANGUAGE plpgsql AS $f$ BEGIN PERFORM moves(NEW.id);"
+        " RETURN NULL; END $f$; CREATE TRIGGER fires AFTER UPDATE ON orders FOR EACH ROW EXECUTE FUNCTION fires();",
+    ),
     "MERGE that moves rows to other parts": Case(MOVES + ";" + LESS + ";", made=PARTED),
     "MERGE that moves rows and makes some": Case(MOVES + MORE, made=PARTED),
     "MERGE that moves rows and takes some away": Case(LESS + MORE, made=PARTED),

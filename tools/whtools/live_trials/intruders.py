@@ -150,7 +150,7 @@ STEPS = (["--capture", "--role", "keeper"], ["--live", "--open"], ["--live"], ["
 def owned_mistakes(live):
     """Captures, checks, repairs and nights of a role over such a table: nothing of its owner's is called as a superuser, whatever it tries."""
     wrong = live.fresh() + [told for told in [live.database.run(live.words("--uncapture"))] if told]
-    live.database.asked(OWNED + LEAVES)
+    live.database.asked(OWNED + LEAVES + "RESET ROLE; DELETE FROM caught;")
     told = live.database.run(live.words("--capture", "--role", ROLE))
     wrong += caught(live, "a capture") + ([] if "no superuser's" in (told or "") else [f"a capture of what calls is told {told!r}"])
     live.database.asked(MEMBER)
