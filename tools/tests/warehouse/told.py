@@ -267,7 +267,8 @@ class Told(Shop):
                 self.assertEqual((ran.returncode, ran.stderr), (0, ""))
                 self.assertTrue(ran.stdout.startswith(f"tools/warehouse {command} "), ran.stdout)
                 listed = [option for option, commands, _ in OPTIONS if command in commands]
-                self.assertEqual([option for option, _, _ in OPTIONS if f"\n    {option} " in ran.stdout], listed)
+                named, lines = dict.fromkeys(option for option, _, _ in OPTIONS), ran.stdout.splitlines()
+                self.assertEqual([option for line in lines for option in named if line.startswith(f"    {option} ")], listed)
                 self.assertTrue("--unproved" in ran.stdout and "--program FILE" in ran.stdout, ran.stdout)
 
     def test_each_option_that_a_command_takes_stands_in_its_help(self):
