@@ -268,6 +268,13 @@ class Damaged(Vouched):
             self.assertIn(f"versions/{number}/{name}:1:1: warning: this is not as its night made it", self.night()[0])
             self.assertIn("\nviews: computed anew, since ", (self.folder / "current/report.txt").read_text())
 
+    def test_a_report_that_is_no_report_any_more(self):
+        self.change("report.txt", b"\norders,5,7,2", b'\norders,x,"y\xff')
+        self.assertEqual(self.ran("lint")[0], 0)
+        self.put()
+        self.assertIn("versions/1/report.txt:1:1: warning: this is not as its night made it", self.night()[0])
+        self.assertEqual(self.ran("lint"), (0, []))
+
     def test_a_manifest_that_is_gone_or_damaged_stops_the_night(self):
         for why, damage in (("it has no manifest.txt", os.unlink), ("its manifest.txt is damaged", lambda file: self.change("manifest.txt"))):
             number = self.current()

@@ -120,12 +120,13 @@ def is_made_from(folder, number, current, identity):
 
 def strays(folder, identity=None):
     """What lies in versions/ and is none of the folder's versions, a warning each."""
+    # What a night makes or removes meanwhile is none: what counts is looked for after the names, and who is gone is not told.
+    names = sorted(os.listdir(folder / VERSIONS)) if (folder / VERSIONS).is_dir() else []
     known, current = identity or identity_of(folder), named(folder)
     counts = newest(folder, known)
-    names = sorted(os.listdir(folder / VERSIONS)) if (folder / VERSIONS).is_dir() else []
-    names = [name for name in names if name != str(current) and not name.startswith(".")]
-    found = [(name, stray(folder, name, known, counts)) for name in names]
-    return [Finding(Place(f"{VERSIONS}/{name}"), why, True) for name, why in found if why]
+    told = [(name, stray(folder, name, known, counts)) for name in names if name != str(current) and not name.startswith(".")]
+    found = [(name, why) for name, why in told if why and os.path.lexists(folder / VERSIONS / name)]
+    return [Finding(Place(f"{VERSIONS}/{name}"), why, True) for name, why in found]
 
 
 def stray(folder, name, identity, counts):
