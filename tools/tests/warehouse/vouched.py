@@ -186,11 +186,13 @@ class Strays(Vouched):
         self.assertEqual(self.ran("lint"), (0, []))
         self.assertEqual(self.said("verify")[0], 0)
 
-    def test_a_huge_number(self):
-        name = "9" * 30
-        (self.folder / "versions" / name).mkdir()
-        self.judge(name, "this is no version of this folder")
-        self.assertEqual(self.current(), "versions/2")
+    def test_names_that_are_no_numbers(self):
+        for number, name in enumerate(("9" * 30, "9" * 240, "01", "-1", "notes"), 1):
+            (self.folder / "versions" / name).mkdir()
+            self.night()
+            self.assertEqual(self.current(), f"versions/{number + 1}")
+            told = f"versions/{name}:1:1: warning: this is no version of this folder, {ALONE}"
+            self.assertIn(told, self.ran("lint")[1])
 
     def test_a_night_that_was_decided_is_finished_by_the_next_that_is_kept_and_turned_to_by_no_preview(self):
         self.more()
@@ -265,6 +267,13 @@ class Damaged(Vouched):
             self.change(name, old, new)
             self.assertIn(f"versions/{number}/{name}:1:1: warning: this is not as its night made it", self.night()[0])
             self.assertIn("\nviews: computed anew, since ", (self.folder / "current/report.txt").read_text())
+
+    def test_a_report_that_is_no_report_any_more(self):
+        self.change("report.txt", b"\norders,5,7,2", b'\norders,x,"y\xff')
+        self.assertEqual(self.ran("lint")[0], 0)
+        self.put()
+        self.assertIn("versions/1/report.txt:1:1: warning: this is not as its night made it", self.night()[0])
+        self.assertEqual(self.ran("lint"), (0, []))
 
     def test_a_manifest_that_is_gone_or_damaged_stops_the_night(self):
         for why, damage in (("it has no manifest.txt", os.unlink), ("its manifest.txt is damaged", lambda file: self.change("manifest.txt"))):
@@ -349,6 +358,16 @@ class Copies(Vouched):
         self.assertEqual(self.said("verify", folder=other)[0], 0)
         self.assertEqual(self.ran("night", "--commit", "--always", folder=other), (0, []))
         self.assertEqual(self.ran("lint"), (0, []))
+
+    def test_a_stopped_night_of_the_original_that_comes_later_is_a_stray(self):
+        other = self.copied()
+        self.assertEqual(self.ran("night", "--commit", "--always", folder=other)[0], 0)
+        self.stopped()
+        shutil.copytree(self.rest(2), other / "versions" / self.rest(2).name)
+        status, lines = self.ran("night", "--commit", "--always", folder=other)
+        told = f"versions/{self.rest(2).name}:1:1: warning: this is no version of this folder, {ALONE}"
+        self.assertEqual((status, lines), (0, [told]))
+        self.assertNotIn(b"1,8,Thursday", (other / "current/data/orders.csv").read_bytes())
 
     def test_a_folder_that_is_moved_is_no_copy(self):
         self.folder.rename(self.folder.with_name("moved"))
