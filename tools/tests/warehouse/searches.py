@@ -296,7 +296,7 @@ class Bounded(Large):
             self.assertEqual(self.found("/orders?limit=1")["version"], 2)
             self.assertLess(time.monotonic() - began, 2)
             self.assertEqual(len(self.found("/lines?limit=1000")["rows"]), 202)
-        self.server.answers.room.left = 0
+        self.server.answers.room.left = -(2**30)
         with mock.patch.object(room, "PATIENCE", 0.2):
             self.refused("/orders", 503, "there is no room for the answer; try again")
             self.refused("/lines?where=pieces=1&limit=1", 503, "there is no room for the answer; try again")

@@ -5,8 +5,9 @@ where=COLUMN=VALUE, or with !=, <, <=, > or >=, several times; order=COLUMN or -
 format=json, csv or jsonl; version=N; session=NAME; after=A, which is the `next` of the page before, or its header X-Next.
 
 A page ends early where its rows have more than 1 KiB on average, or 4 MiB, and a search after ten seconds: it goes on behind `next`. Pages
-never wait for searches, of which there are a few at once. POST /session pins the current version, GET /session/NAME tells it, DELETE /session/NAME leaves it; of 1,000 sessions an address has
-250 at most. Status 503 with Retry-After: try again; 500: a table is damaged, and where; 410: the version or the session is over.
+never wait for searches, of which there are a few at once. POST /session pins the current version, GET /session/NAME tells it, DELETE
+/session/NAME leaves it; of 1,000 sessions an address has 250 at most. Status 503 with Retry-After: try again; 500: a table is damaged, and
+where; 410: the version or the session is over.
 """
 
 import ctypes
