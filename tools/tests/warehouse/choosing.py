@@ -208,6 +208,11 @@ class Damage(Kept):
             if b"count" not in text.encode():
                 self.assertEqual(self.read("read", self.folder, "lines", "--where", "product=none"), told, rows)
 
+    def test_a_table_that_no_night_wrote_needs_no_last_line_feed(self):
+        self.file.write_bytes(self.HEADER + b"1,5,jam,1\n1,6,jam,12")
+        (self.folder / "versions/1/report.txt").unlink()
+        self.assertEqual(self.read("read", self.folder, "lines"), (0, []))
+
     def test_another_header_and_none(self):
         for content, text in ((b"#,id,pieces,product\n", "the header is #,id,pieces,product, and the columns of lines are id,product,pieces"),
                               (b"", "this table has no header")):

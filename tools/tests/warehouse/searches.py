@@ -240,6 +240,11 @@ class Bounded(Large):
         told = f"row 1 alone has {size} bytes, and a page has {most} at most; `tools/warehouse read` gives it"
         self.refused("/lines", 503, told)
 
+    def test_a_row_alone_may_be_wider_than_a_page_of_few_rows(self):
+        self.fill(b"".join(b"1,%d,%s,1\n" % (number, b"x" * 100_000) for number in range(3)))
+        self.assertEqual([len(self.found(f"/lines?limit=2&after={after}")["rows"]) for after in range(3)], [1, 1, 1])
+        self.assertEqual(len(self.found("/lines?limit=1000")["rows"]), 3)
+
     def unread(self, count):
         """Clients that ask and do not read."""
         found = []
@@ -264,7 +269,7 @@ class Bounded(Large):
         with mock.patch.object(serve, "STALLED", 1.5):
             self.unread(6)
             self.until(lambda: len(self.server.begun) == 6)
-            self.assertGreaterEqual(self.server.answers.room.left, free - 6 * answers.SHARE)
+            self.assertGreaterEqual(self.server.answers.room.left, free - 6 * (pages.MOST_BYTES + answers.MORE))
             self.assertEqual(self.found("/orders?limit=1")["version"], 2)
             self.until(lambda: not self.server.begun)
         self.until(lambda: self.server.answers.room.left == free)
@@ -283,12 +288,15 @@ class Bounded(Large):
 
     def test_who_reads_slowly_makes_room_for_others(self):
         self.fill(self.WIDE)
-        self.server.answers.room.left = 2 * answers.SHARE
+        self.server.answers.room.left = room.FOR_FEW + 2 * (pages.MOST_BYTES + answers.MORE)
         with mock.patch.object(serve, "SLOW", 0.2):
-            self.unread(2)
+            self.unread(4)
             self.until(lambda: len(self.server.begun) == 2)
+            began = time.monotonic()
             self.assertEqual(self.found("/orders?limit=1")["version"], 2)
-        self.server.answers.room.left = 0
+            self.assertLess(time.monotonic() - began, 2)
+            self.assertEqual(len(self.found("/lines?limit=1000")["rows"]), 202)
+        self.server.answers.room.left = -(2**30)
         with mock.patch.object(room, "PATIENCE", 0.2):
             self.refused("/orders", 503, "there is no room for the answer; try again")
             self.refused("/lines?where=pieces=1&limit=1", 503, "there is no room for the answer; try again")

@@ -18,7 +18,7 @@ from .blocks import Damaged, opened
 from .choosing import Choice, choice_of
 from .finding import Failure, of_system
 from .held import Held
-from .pages import CSV, FORMS, JSON, LINES, MOST_BYTES, Page, Unfit, page_of
+from .pages import CSV, FORMS, JSON, LINES, Page, Unfit, bytes_of, page_of
 from .reading import Far, Missing, Tables, identity_of, whole_number
 from .room import Crowded, Room
 from .scans import Busy, Scans
@@ -30,9 +30,9 @@ from .versions import named, place, whole
 # How many pages of rows are made at once; each takes memory, and one processor makes them all. A table of so few bytes is searched at once.
 AT_ONCE, SMALL = 8, 2**18
 USUAL, MOST, MOST_FIELDS, SHOWN = 1_000, 10_000, 20, 80
-# How large a report is at most that is given, how much room is taken for a page or a report while it is made, and when what there is no
-# room or place for is asked for again, in seconds.
-MOST_OF_A_REPORT, SHARE, AGAIN = 2**22, MOST_BYTES + 2**16, {"Retry-After": "1"}
+# How large a report is at most that is given, how much room a page takes beside its rows, and when what there is no room or place for is
+# asked for again, in seconds.
+MOST_OF_A_REPORT, MORE, AGAIN = 2**22, 2**12, {"Retry-After": "1"}
 FIELDS, SEVERAL = ("version", "after", "limit", "format", "session", "where", "order", "columns"), ("where",)
 REPORT = re.compile(r"/reports/((?:0|[1-9][0-9]{0,18}|preview)\.html)")
 SESSION = re.compile(r"/session/([A-Za-z0-9_-]{1,64})")
@@ -291,7 +291,7 @@ class Answers:
         if not choice.is_plain and choice.table.size > SMALL:
             return None
         try:
-            with self.places, self.room.share(SHARE) as share:
+            with self.room.share(bytes_of(limit) + MORE) as share, self.places:
                 page = page_of(choice, form, limit, held.number, is_near=choice.is_plain)
                 share.kept = len(page.body)
                 return page
@@ -341,7 +341,7 @@ class Answers:
             asked = "new" if version.name == "preview" else version.name
             made = f"`tools/warehouse report {self.folder} {asked}` makes it"
             raise Refused(HTTPStatus.NOT_FOUND, f"there is no report {name}; {made}") from None
-        with found, refusing(), self.room.share(SHARE) as share:
+        with found, refusing(), self.room.share(MOST_OF_A_REPORT) as share:
             body = found.read(MOST_OF_A_REPORT + 1)
             if len(body) > MOST_OF_A_REPORT:
                 text = f"report {name} has more than {MOST_OF_A_REPORT:,} bytes; read it by its file"

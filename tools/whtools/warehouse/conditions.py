@@ -136,14 +136,14 @@ def holds(record: list[str]) -> Callable[[Condition], bool]:
 
 def records_of(table: Table, block: Block, after: int, conditions: list[Condition]) -> Iterator[tuple[int, list[str]]]:
     """The records of a block that may be meant, each with its number; all of the block are judged to be whole."""
-    if not isinstance(block, InLines):
-        for number, record in block.from_row(after):
-            table.judge_width(record)
-            yield number, record
-        return
+    for number, record in meant(table, block, after, conditions) if isinstance(block, InLines) else block.from_row(after):
+        table.judge_width(record)
+        yield number, record
+
+
+def meant(table: Table, block: InLines, after: int, conditions: list[Condition]) -> Iterator[tuple[int, list[str]]]:
+    """Those of a block in lines."""
     if not is_whole(table, block):
         table.judge(block)
-    found = [(number, line) for number, line in candidates(block, conditions) if block.before + number >= after]
-    for (number, _), record in zip(found, block.read([line for _, line in found])):
-        table.judge_width(record)
-        yield block.before + number + 1, record
+    found = [(block.before + number + 1, line) for number, line in candidates(block, conditions) if block.before + number >= after]
+    return zip((number for number, _ in found), block.read([line for _, line in found]))

@@ -9,10 +9,15 @@ from .choosing import Choice, Numbered
 from .forms import object_writer
 from .written import text_of
 
-# How many bytes the rows of a page have at most, and how long is searched for them.
-MOST_BYTES, DEADLINE = 2**22, 10
+# How many bytes the rows of a page have at most, those of a page of few rows, and for each row; and how long is searched for them.
+MOST_BYTES, FEW_BYTES, A_ROW, DEADLINE = 2**22, 2**16, 2**10, 10
 JSON, CSV, LINES = "json", "csv", "jsonl"
 FORMS = (JSON, CSV, LINES)
+
+
+def bytes_of(limit: int) -> int:
+    """How many bytes a page of so many rows has at most; a row alone may have more."""
+    return min(max(limit * A_ROW, FEW_BYTES), MOST_BYTES)
 
 
 class Unfit(Exception):
@@ -40,7 +45,7 @@ class Filling:
     def __init__(self, choice: Choice, form: str, limit: int):
         self.choice, self.form, self.limit = choice, form, limit
         self.names = ["#", *choice.names]
-        self.write, self.rows, self.size = written_by(form, self.names), [], 0
+        self.write, self.rows, self.size, self.most = written_by(form, self.names), [], 0, bytes_of(limit)
         self.last, self.following = choice.after, None
 
     def take(self, rows: Iterable[Numbered]) -> bool:
@@ -56,11 +61,11 @@ class Filling:
 
     def put(self, number: int, row: bytes) -> bool:
         """Puts a row, where it has room."""
-        if self.size + len(row) > MOST_BYTES:
-            if not self.rows:
-                raise Unfit(f"row {number} alone has {len(row):,} bytes, and a page has {MOST_BYTES:,} at most; `tools/warehouse read` gives it")
+        if self.rows and self.size + len(row) > self.most:
             self.following = self.last
             return False
+        if len(row) > MOST_BYTES:
+            raise Unfit(f"row {number} alone has {len(row):,} bytes, and a page has {MOST_BYTES:,} at most; `tools/warehouse read` gives it")
         self.rows.append(row)
         self.size, self.last = self.size + len(row), number
         return True

@@ -182,7 +182,8 @@ class Tables:
     def __init__(self, folder, number):
         version = place(folder, number)
         self.number, self.views = number, {view.name: view for view in catalogue_of(folder, number).views}
-        self.has_catalogue = (version / "catalogue.toml").is_file()
+        # Tables that a folder began with are as somebody wrote them, also where a later version has them again; nights write reports.
+        self.has_catalogue, self.is_of_a_night = ((version / name).is_file() for name in ("catalogue.toml", "report.txt"))
         found = {name: path for kind in ("data", "views") for name, path in others(version / kind).items()}
         found |= {name: source.path for kind in ("data", "views") for name, source in tables(version / kind, kind).items()}
         self.paths = {name: found[name] for name in [*self.views, *found] if name in found}
@@ -196,7 +197,7 @@ class Tables:
         if name not in self.opened:
             columns = dict((self.views[name].columns if name in self.views else None) or [])
             wanted = list(columns) if columns and self.has_catalogue else None
-            self.opened[name] = Table(name, self.paths[name], columns, self.number > 0, wanted)
+            self.opened[name] = Table(name, self.paths[name], columns, self.is_of_a_night, wanted)
         return self.opened[name]
 
 

@@ -5,8 +5,9 @@ from collections.abc import Callable, Iterator
 from contextlib import contextmanager
 from threading import Condition
 
-# How many bytes there are; for how many seconds room is waited for, and for how many at a time.
-ALL, PATIENCE, PAUSE = 2**26, 5, 0.2
+# How many bytes there are, how many of them are for shares of few bytes, and how many those are at most; for how many seconds room is waited
+# for, and for how many at a time.
+ALL, FOR_FEW, FEW, PATIENCE, PAUSE = 2**26, 2**24, 2**18 + 2**12, 5, 0.2
 
 
 class Crowded(Exception):
@@ -27,9 +28,10 @@ class Room:
         self.left, self.press, self.condition = size, press, Condition()
 
     def took(self, size: int) -> bool:
-        """Takes so much, where it is there soon."""
+        """Takes so much, where it is there soon. Shares of many bytes leave some room for the others."""
+        needed = size if size <= FEW else size + FOR_FEW
         with self.condition:
-            is_there = self.condition.wait_for(lambda: self.left >= size, PAUSE)
+            is_there = self.condition.wait_for(lambda: self.left >= needed, PAUSE)
             self.left -= size if is_there else 0
             return is_there
 

@@ -4,9 +4,10 @@ Nothing is written, and no request waits for a night: each holds the version tha
 where=COLUMN=VALUE, or with !=, <, <=, > or >=, several times; order=COLUMN or -COLUMN; columns=A,B; limit=L, 1,000 or up to 10,000;
 format=json, csv or jsonl; version=N; session=NAME; after=A, which is the `next` of the page before, or its header X-Next.
 
-A page ends early at 4 MiB, and a search after ten seconds: it goes on behind `next`. Pages never wait for searches, of which there are a few
-at once. POST /session pins the current version, GET /session/NAME tells it, DELETE /session/NAME leaves it; of 1,000 sessions an address has
-250 at most. Status 503 with Retry-After: try again; 500: a table is damaged, and where; 410: the version or the session is over.
+A page ends early where its rows have more than 1 KiB on average, or 4 MiB, and a search after ten seconds: it goes on behind `next`. Pages
+never wait for searches, of which there are a few at once. POST /session pins the current version, GET /session/NAME tells it, DELETE
+/session/NAME leaves it; of 1,000 sessions an address has 250 at most. Status 503 with Retry-After: try again; 500: a table is damaged, and
+where; 410: the version or the session is over.
 """
 
 import ctypes

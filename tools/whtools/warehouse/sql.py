@@ -46,15 +46,19 @@ class Database:
         self.set_up()
 
     def set_up(self) -> None:
-        """Makes the tables, and bounds the file."""
-        size = self.connection.execute("PRAGMA page_size").fetchone()[0]
-        bounds = f"cache_size = -{IN_MEMORY}", f"max_page_count = {MOST // size}", f"hard_heap_limit = {MOST_MEMORY}"
-        for pragma in (*bounds, "journal_mode = MEMORY", "synchronous = OFF", "temp_store = FILE"):
-            self.connection.execute(f"PRAGMA {pragma}").close()
+        """Makes the tables, and notes where each is."""
+        self.bound()
         for name in self.tables.paths:
             self.make(name)
         self.roots = {root: name for name, root in self.connection.execute("SELECT name, rootpage FROM sqlite_schema WHERE type = 'table'")}
         self.connection.set_authorizer(self.allows)
+
+    def bound(self) -> None:
+        """Bounds the file, and what is in memory."""
+        size = self.connection.execute("PRAGMA page_size").fetchone()[0]
+        bounds = f"cache_size = -{IN_MEMORY}", f"max_page_count = {MOST // size}", f"hard_heap_limit = {MOST_MEMORY}"
+        for pragma in (*bounds, "journal_mode = MEMORY", "synchronous = OFF", "temp_store = FILE"):
+            self.connection.execute(f"PRAGMA {pragma}").close()
 
     def make(self, name: str) -> None:
         """Makes a table. Names that differ in case alone are one for SQLite."""
