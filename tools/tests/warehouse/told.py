@@ -241,7 +241,7 @@ class Told(Shop):
         self.assertEqual((status, sorted(lines)), (3, told))
 
     def test_words_that_mean_nothing(self):
-        there = "pack, unpack, night, lint, check, plan, certify, sizes, diff, explain, graph, report, read, serve, init, verify, rollback, log"
+        there = "pack, unpack, night, lint, check, plan, certify, sizes, diff, explain, graph, report, read, serve, init, verify, rollback, log, put, backup, restore"
         self.assertEqual(self.ran("nigth"), (2, [f"there is no command 'nigth'; there are {there}; did you mean night?"]))
         self.assertEqual(self.ran("lint", "--commit"), (2, ["lint has no option --commit"]))
         self.assertEqual(self.ran("night", "--comit"), (2, ["night has no option --comit; did you mean --commit?"]))
