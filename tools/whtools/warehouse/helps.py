@@ -23,7 +23,7 @@ OPTIONS = [
     ("--comp-cost N", ("check", "plan", "certify"), "what a row that a Comp reads costs, 1 to 1,000,000; without it 1"),
     ("--inst-cost N", ("check", "plan", "certify"), "the same of a row that an Inst puts"),
     ("--budget N", ("plan",), "how many nodes a search opens at most, 1 to 9,223,372,036,854,775,807; without it 1,000,000"),
-    ("--version N", ("read", "sql"), "reads this version; without it the current one"),
+    ("--version N", ("read", "sql", "backup"), "takes this version; without it the current one"),
     ("--where COLUMN=VALUE", ("read",), "only rows with this value, or with !=, <, <=, >, >=; it may stand several times"),
     ("--order COLUMN", ("read",), "by this column, or by -COLUMN with the largest first; with --limit in the memory of so many rows"),
     ("--columns A,B", ("read",), "only these columns, in this order"),
@@ -36,7 +36,6 @@ OPTIONS = [
     ("--promise SECONDS", ("serve",), "how long a session pins its version, 1 to 86,400; without it 900"),
     ("--batch ID", ("put",), "a name of these changes, which are taken once: put again they change nothing"),
     ("--as NAME", ("put",), "the view of the one file, or of standard input"),
-    ("--version N", ("backup",), "copies this version; an older one alone, without changes that wait"),
     ("--all", ("backup",), "copies all versions"),
 ]
 PROGRAM = [

@@ -3,17 +3,17 @@ its own, and its nights go on where the backup was made.
 """
 
 import os
-from dataclasses import replace
 from pathlib import Path
 
 from .backups import FILE, Backup, faults, read_backup
 from .beside import Copier, beside, judged
 from .finding import Failure
 from .gate import CHANGES
-from .identity import NONE, identity_of, sign
+from .identity import identity_of
 from .status import BAD_INPUT, DONE
 from .streams import say
-from .versions import CURRENT, VERSIONS, place, whole
+from .versions import CURRENT, VERSIONS, place
+from .vouching import with_name
 
 
 def copy_all(backup: Path, said: Backup, part: Path) -> None:
@@ -32,13 +32,6 @@ def copy_all(backup: Path, said: Backup, part: Path) -> None:
     os.symlink(f"{VERSIONS}/{said.current}", part / CURRENT)
 
 
-def own_name(folder: Path) -> None:
-    """Gives a folder a name of its own, which knows the versions that it came with."""
-    identity = identity_of(folder)
-    unvouched = min(identity.unvouched, max(whole(folder, identity), default=NONE))
-    sign(folder, replace(identity, unvouched=unvouched))
-
-
 def run(words):
     backup, said = words.folder, read_backup(words.folder)
     made = judged(Path(words.operands[1]), backup)
@@ -47,7 +40,8 @@ def run(words):
         found = faults(part, said, backup)
         if found:
             raise Failure(BAD_INPUT, *found, f"{backup} is not as its {FILE} says, and no folder is made of it")
-        own_name(part)
+        # It is no copy of which somebody has to say whose changes it has.
+        with_name(part, identity_of(part)._replace(is_copy=False))
     waits = len([name for name in said.files if name.startswith(f"{CHANGES}/") and name.endswith(".csv")])
     say([f"{made} is made, with version {said.current} of {said.time} and {waits} file{'s' * (waits != 1)} of changes for its next night"])
     return DONE
