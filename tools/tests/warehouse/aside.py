@@ -111,6 +111,14 @@ class Aside(Kept):
             for path in [*sorted((self.folder / "quarantine").rglob("*"), reverse=True)]:
                 path.unlink() if path.is_file() else path.rmdir()
 
+    def test_a_file_in_the_place_of_their_folder_is_told_before_anything_is_moved(self):
+        self.put(CHANGES)
+        (self.folder / "quarantine").write_bytes(b"mine\n")
+        before = contents(self.folder)
+        status, told = self.aside("--commit")
+        self.assertEqual((status, contents(self.folder)), (5, before))
+        self.assertIn("quarantine is no folder that this user can write", told[0])
+
     def test_what_lies_there_of_another_version_of_that_number_stays(self):
         (self.folder / "quarantine/2").mkdir(parents=True)
         (self.folder / "quarantine/2/orders.csv").write_bytes(b"mine\n")

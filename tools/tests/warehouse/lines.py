@@ -150,7 +150,7 @@ class Changed(Lying):
             table = b"#,x,t,u\n" + b"".join(line_of(count, row) for row, count in before.items())
             wanted, found = {row_of(row) for row in before | others}, []
             for few, named in ((0, 0), (0, 100), (100, 0)):
-                with mock.patch.multiple(by_lines, FEW=few, NAMED=named):
+                with mock.patch.multiple(by_lines, FEW=few, NAMED=named, LARGE=0):
                     found.append(by_lines.places(table, 8, wanted))
             self.assertEqual(found[1:], found[:-1])
             self.assertEqual(set(found[0]), {row_of(row) for row in before})
@@ -219,7 +219,7 @@ class Merged(unittest.TestCase):
             after = Counter(before)
             after.update(found)
             for named in (0, 100):
-                with mock.patch.object(by_lines, "NAMED", named):
+                with mock.patch.multiple(by_lines, NAMED=named, LARGE=0):
                     merged = b"".join(by_lines.merged(self.printed(before), self.printed(found), before.total()))
                     self.assertIsNone(by_lines.merged(self.printed(before), self.printed(found), before.total() + 1))
             self.assertEqual(sorted(merged.split(b"\n")), sorted(self.printed(after).split(b"\n")))

@@ -9,7 +9,7 @@ from whtools.warehouse.rows_of_keys import Cells, cell_of, line_blocks
 from whtools.warehouse.table_tests import TableTest
 from whtools.warehouse.tested import Judge, Tested
 
-from .deltas import HEAD, Deltas
+from . import deltas
 from .shop import ANSWER, SHOP, Shop, contents
 
 ORDERS, LINES = 'columns = ["id", "day:text", "region:text"]\n', 'columns = ["id", "product:text", "pieces"]\n'
@@ -111,7 +111,7 @@ class First(WithTests):
                 self.assertEqual((status, [line.partition("; did")[0] for line in lines]), (3, [f"catalogue.toml:{told}".partition("; did")[0]]))
 
 
-class Later(Deltas, WithTests):
+class Later(deltas.Deltas, WithTests):
     """Later nights, of which the rows that change are looked at."""
 
     def setUp(self):
@@ -122,7 +122,7 @@ class Later(Deltas, WithTests):
 
     def unchanged(self):
         heads = (b"sales\n#,day,region,product,pieces,cost\n", b"daily_by_product\n#,day,product,lines,pieces,cost\n")
-        return HEAD.replace(b"sales: 2", b"sales: 0").replace(b"region: 4", b"region: 0") + b"".join(
+        return deltas.HEAD.replace(b"sales: 2", b"sales: 0").replace(b"region: 4", b"region: 0") + b"".join(
             b"changes " + head for head in (*heads, b"daily_by_region\n#,day,region,lines,cost\n")
         )
 
@@ -161,7 +161,7 @@ class Later(Deltas, WithTests):
 
 
 # The inherited tests are of nights, which have their own module.
-for name in [name for name in dir(Deltas) if name.startswith("test_")]:
+for name in [name for name in dir(deltas.Deltas) if name.startswith("test_")]:
     setattr(Later, name, None)
 
 

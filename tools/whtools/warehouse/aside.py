@@ -10,8 +10,9 @@ from dataclasses import dataclass
 from pathlib import Path
 
 from .disk import copy, is_same, remove, sync, write
-from .finding import MARK, Finding, Place
+from .finding import MARK, Failure, Finding, Place
 from .records import Changes, Reading, wanting
+from .status import NOT_WRITTEN
 from .versions import place, whole
 
 QUARANTINE, REASONS = "quarantine", "reasons.txt"
@@ -130,6 +131,13 @@ def write_asides(part: Path, claim, asides: list[Aside]) -> None:
         write(part / QUARANTINE / aside.path.name, [aside.records])
     reasons = "".join(f"{reason}\n" for aside in asides for reason in aside.reasons)
     write(part / QUARANTINE / REASONS, [reasons.encode(errors="backslashreplace")])
+
+
+def judge_home(folder: Path) -> None:
+    """Refuses a night that could not lay anything aside, before anything is moved."""
+    home = folder / QUARANTINE
+    if os.path.lexists(home) and not (home.is_dir() and os.access(home, os.W_OK | os.X_OK)):
+        raise Failure(NOT_WRITTEN, f"{home} is no folder that this user can write, and takes what is put aside; nothing is moved")
 
 
 def is_laid(made: Path, there: Path) -> bool:

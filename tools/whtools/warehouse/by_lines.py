@@ -13,8 +13,9 @@ from os.path import commonprefix
 
 # How much of a table is looked through at a time.
 BLOCK = 2**15
-# How many lines are looked for each by itself, and how many all together by a form that names them.
-FEW, NAMED = 6, 256
+# How many lines are looked for each by itself, and how many all together by a form that names them; and of how many bytes a table is worth
+# that the form is made.
+FEW, NAMED, LARGE = 6, 256, 2**20
 # How often such a form parts its lines by what they begin with, and how many bytes of each it has: a longer one takes longer to make.
 DEEP, BEGIN = 16, 32
 # The counts of a table that are not 1, and lines that do not count 1, of which the last one is what stands behind all lines.
@@ -227,7 +228,7 @@ def places(content, start, rows, count_one=False):
     """Where the lines of these rows, as lines have them, begin and end in a table of the tool's own, and how often each counts; where it
     is known that all count 1, no others are looked for.
     """
-    if FEW < len(rows) <= NAMED:
+    if FEW < len(rows) <= NAMED and len(content) >= LARGE:
         return scanned(content, start, rows)[0]
     once, found = {b"1," + row: row for row in rows}, {}
     for at, line in standing(content, start, once):
@@ -309,7 +310,7 @@ def replace(edits):
 def found_and_total(content, rows):
     """Where these rows stand in a table of the tool's own, and how many rows it has."""
     start, lines = content.find(b"\n") + 1, content.count(b"\n") - 1
-    if len(rows) <= NAMED:
+    if len(rows) <= NAMED and len(content) >= LARGE:
         found, beyond = scanned(content, start, rows)
     else:
         beyond = beyond_one(content)

@@ -202,6 +202,8 @@ def has_rows(source):
 
 def commit(words, interrupts):
     """A night that is kept. Answers its report, or that there was nothing to keep."""
+    if words.quarantine:
+        import_module("whtools.warehouse.aside").judge_home(words.folder)
     sound = {} if is_new(words.folder) else take_over(words.folder, interrupts)
     told = quiet(words)
     if told:
