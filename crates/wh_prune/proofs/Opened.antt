@@ -1,5 +1,5 @@
 -- How the runs of a search go on from one another.
-use Rattle.std.proofs.Common.{◌≡◌, ℕ, ◌+◌, ◌<◌, ◌≤◌, List, [], ◌∷◌, ◌++◌, refl, sym, ap, ◌∙◌, subst, length, arith, append_assoc, append-nil, suc, ◌-◌, ◌*◌, ◌^◌}
+use Rattle.std.proofs.Common.{◌≡◌, ℕ, ◌+◌, ◌<◌, ◌≤◌, List, [], ◌∷◌, ◌++◌, refl, sym, ap, ◌∙◌, subst, arith, append_assoc, append-nil, suc, ◌-◌, ◌*◌, ◌^◌}
 use Rattle.std.proofs.Math.Nat.{pow-succ'}
 use Rattle.wh_strategy.specs.declared.expression.Expression.{Expression}
 use Rattle.wh_strategy.specs.Prices.{Prices}
@@ -13,7 +13,7 @@ use Rattle.wh_minwork.specs.Draft.{completed}
 use Rattle.wh_minwork.specs.Sorted.{IsSorted}
 use Rattle.wh_prune.specs.Branching.{IsOnCycle}
 use Rattle.wh_prune.specs.Inner.Searching.{HasRun, IsHeld, IsStopped}
-use Rattle.wh_prune.specs.Opening.{HasOpened, IsListOf, Opens, below, branch, cut, cycle, found}
+use Rattle.wh_prune.specs.Opening.{HasOpened, Opens, below, branch, cut, cycle, found}
 use Rattle.wh_prune.specs.declared.fault.PruneFault.{PruneFault}
 use Rattle.wh_prune.specs.declared.fault.PruneFault.TheVariants.{Budget, Memory}
 

@@ -1,7 +1,6 @@
-use Rattle.std.proofs.Common.{◌≡◌, ap, ◌∙◌, subst, arith}
+use Rattle.std.proofs.Common.{ap, ◌∙◌, subst}
 use Rattle.wh_strategy.specs.Prices.{prices_of}
 use Rattle.wh_strategy.specs.Sizes.{sizes_of}
-use Rattle.wh_strategy.specs.Work.{work_of}
 use Rattle.wh_cert.specs.Bound.{decided_bound_of}
 use Rattle.wh_minwork.specs.Sorted.{IsUnsorted}
 use Rattle.wh_prune.proofs.Deciding.{decides_all}
