@@ -23,12 +23,12 @@ use Rattle.wh_core.specs.Nights.{Setup, next_night, night_from, versions}
 use Rattle.wh_core.specs.Replies.{nothing}
 use Rattle.wh_core.proofs.NightLogs.{IsOneMore, cut_night, night_ops, open_night, whole_night}
 use Rattle.wh_core.proofs.Underway.{versions_from-append}
-use Rattle.wh_headline.specs.Alike.{AreAlike, AreSeenAlike, IsAnsweredAlike}
-use Rattle.wh_headline.specs.RunningNights.{AreEndedNights, AreRunningNights, AreSeats, CanBegin, DesksBesideNightsAnswerAsTheMachine, DesksThatLagAnswerAsTheMachine, HasEnded, HaveSeats, IsHad, IsLogOf, IsSeat, RunningNightsHaveALog, WasLeft, all_ended, night_after, none as no_nights, one_more as one_night_more, one_open, set_up_warehouse}
+use Rattle.wh_headline.specs.Alike.{AreAlike, AreSeenAlike}
+use Rattle.wh_headline.specs.RunningNights.{AreEndedNights, AreRunningNights, AreSeats, CanBegin, DesksBesideNightsAnswerAsTheMachine, DesksThatLagAnswerAsTheMachine, HasEnded, HaveSeats, IsAnsweredFrom, IsHad, IsLogOf, IsSeat, RunningNightsHaveALog, WasLeft, all_ended, night_after, none as no_nights, one_more as one_night_more, one_open, set_up_warehouse}
 use Rattle.wh_headline.proofs.Answered.{answered}
 use Rattle.wh_headline.proofs.Beginnings.{beginnings}
 use Rattle.wh_headline.proofs.PageSizes.{any_pages}
-use Rattle.wh_headline.proofs.Readers.{IsReader, is_reader, mark_of}
+use Rattle.wh_headline.proofs.Readers.{IsReader, is_reader}
 use Rattle.wh_headline.proofs.SeenAlike.{alike_then, beginning_alike, cut_alike, cut_number, number_alike, same_alike, whole_alike, whole_number, whole_ops}
 use Rattle.wh_headline.proofs.Served.{SitsNow, all_served}
 
@@ -228,14 +228,28 @@ have_a_log stay s nights active ops seats setup some are seated = running_nights
 
 -- ---- desks beside running nights
 
+-- the session that a desk has, with the bookmark where its reader goes on
+abbrev seat_of : Option Bookmark → Option ℕ → Option SessionOf
+seat_of mark o = option_map (λ v. record { version = v; bookmark = mark }) o
+
+seat_is : (mark : Option Bookmark) (o : Option ℕ) (of : SessionOf) → seat_of mark o ≡ Some of → (o ≡ Some of.version) × (of.bookmark ≡ mark)
+seat_is mark None of e = cc
+seat_is mark (Some v) of e =
+    let same : record { version = v; bookmark = mark } ≡ of = same_Some (record { version = v; bookmark = mark }) of e in
+    (ap (λ (x : SessionOf). Some x.version) same, sym (ap (λ (x : SessionOf). x.bookmark) same))
+
+same_session : (mark : Option Bookmark) (of : Option SessionOf) (o : Option ℕ) → of ≡ seat_of mark o → o ≡ option_map (λ x. x.version) of
+same_session mark of None e = ap (option_map (λ (x : SessionOf). x.version)) (sym e)
+same_session mark of (Some v) e = ap (option_map (λ (x : SessionOf). x.version)) (sym e)
+
 -- a desk of this warehouse that sees this list as it is answered
-record SeesList (s : Setup) (ops : List Operation) (of : Option SessionOf) (before after : Sitting) : Type 0 where
+record SeesList (s : Setup) (ops : List Operation) (mark : Option Bookmark) (before after : Sitting) : Type 0 where
   warehouse : after.of ≡ set_up_warehouse s
   list : after.list ≡ ops
-  reader : IsReader of before
+  reader : IsReader mark before
   grows : Grows before after
 
-module _ (stay : SeenVersionsStay) (s : Setup) (ops : List Operation) (of : Option SessionOf) (before after : Sitting) (is : SeesList s ops of before after) where
+module _ (stay : SeenVersionsStay) (s : Setup) (ops : List Operation) (mark : Option Bookmark) (before after : Sitting) (is : SeesList s ops mark before after) where
   -- what the desk sees
   seen : versions_seen after ≡ versions_of s.opening ops
   seen = λ i. versions_of (is.warehouse i).opening (is.list i)
@@ -247,7 +261,7 @@ module _ (stay : SeenVersionsStay) (s : Setup) (ops : List Operation) (of : Opti
       let still : v ≤ number (versions_seen after) = (stay r.1 after v (grows_on r.1 before after r.3 is.grows) (omega (arith, current))).0 in
       subst (λ k. v ≤ k) (ap number seen) still
 
-  left_in : (v : ℕ) (at : Bookmark) → before.session ≡ Some v → mark_of of ≡ Some at → WasLeft (version (versions_of s.opening ops) v) at
+  left_in : (v : ℕ) (at : Bookmark) → before.session ≡ Some v → mark ≡ Some at → WasLeft (version (versions_of s.opening ops) v) at
   left_in v at sits stands =
       let g = is.reader.stands at stands in
       let same : g.reads.0 ≡ v = same_Some g.reads.0 v (sym g.reads.1.2 ∙ sym g.same_version ∙ sits) in
@@ -263,38 +277,38 @@ module _ (stay : SeenVersionsStay) (s : Setup) (ops : List Operation) (of : Opti
         left = ap (λ (c : Contents). bookmark_after at.view (page_of (table_in c at.view) g.row g.limit)) (sym now) ∙ ap (bookmark_after at.view) (sym page.2) ∙ g.left;
       }
 
-  -- so its session can be one of the log
-  seat : (x : SessionOf) → of ≡ Some x → IsSeat (versions_of s.opening ops) x
-  seat x e =
-      let sits : before.session ≡ Some x.version = is.reader.session ∙ ap (option_map (λ (o : SessionOf). o.version)) e in
+  -- so its session can be one of a log
+  seat : (of : SessionOf) → seat_of mark before.session ≡ Some of → IsSeat (versions_of s.opening ops) of
+  seat of e =
+      let at = seat_is mark before.session of e in
       record {
-        there = opened_version x.version sits;
-        stands = λ mark stands. left_in x.version mark sits (ap mark_of e ∙ stands);
+        there = opened_version of.version at.0;
+        stands = λ left stands. left_in of.version left at.0 (sym at.1 ∙ stands);
       }
 
 -- desks that see one list
-abbrev SeeOneList : Setup → List Operation → (ℕ → Option SessionOf) → (ℕ → Sitting) → (ℕ → Sitting) → Type 0
-SeeOneList s ops seats before after = (d : ℕ) → d < s.desks → SeesList s ops (seats d) (before d) (after d)
+abbrev SeeOneList : Setup → List Operation → (ℕ → Option Bookmark) → (ℕ → Sitting) → (ℕ → Sitting) → Type 0
+SeeOneList s ops marks before after = (d : ℕ) → d < s.desks → SeesList s ops (marks d) (before d) (after d)
 
 -- one log has their sessions, and answers them
-desks_at : VersionsStay → SeenVersionsStay → (s : Setup) (nights : ℕ) (active : Bool) (ops : List Operation) (seats : ℕ → Option SessionOf) (before after : ℕ → Sitting) → IsSetup s → 1 ≤ s.workers
-    → AreRunningNights s nights active ops → SeeOneList s ops seats before after
-    → (log : Log) × IsLogOf s nights active ops log × ((d : ℕ) → d < s.desks → (session log d ≡ seats d) × IsAnsweredAlike s log d (before d) (after d))
-desks_at stay seen_stay s nights active ops seats before after setup some are desks =
-    let r = have_a_log stay s nights active ops seats setup some are
-    (λ d of l e. seat seen_stay s ops (seats d) (before d) (after d) (desks d l) of e) in (
+desks_at : VersionsStay → SeenVersionsStay → (s : Setup) (nights : ℕ) (active : Bool) (ops : List Operation) (marks : ℕ → Option Bookmark) (before after : ℕ → Sitting) → IsSetup s → 1 ≤ s.workers
+    → AreRunningNights s nights active ops → SeeOneList s ops marks before after
+    → (log : Log) × IsLogOf s nights active ops log × ((d : ℕ) → d < s.desks → IsAnsweredFrom s log d (marks d) (before d) (after d))
+desks_at stay seen_stay s nights active ops marks before after setup some are desks =
+    let r = have_a_log stay s nights active ops (λ d. seat_of (marks d) (before d).session) setup some are
+    (λ d of l e. seat seen_stay s ops (marks d) (before d) (after d) (desks d l) of e) in (
       r.0,
       r.1,
       λ d l. (
           let is = desks d l in
           let alike : AreAlike s r.0 d (before d) (after d) = record {
             desk = l;
-            session = is.reader.session ∙ ap (option_map (λ (o : SessionOf). o.version)) (sym (r.2 d l));
+            session = same_session (marks d) (session r.0 d) (before d).session (r.2 d l);
             kept = ap (λ (of : Warehouse). of.limit) is.warehouse;
             versions = alike_then (versions_seen (after d)) (versions_of s.opening ops) (versions s r.0)
-                (same_alike (versions_seen (after d)) (versions_of s.opening ops) (seen seen_stay s ops (seats d) (before d) (after d) is)) r.1.versions;
+                (same_alike (versions_seen (after d)) (versions_of s.opening ops) (seen seen_stay s ops (marks d) (before d) (after d) is)) r.1.versions;
           } in
-          (r.2 d l, answered s r.0 d (before d) (after d) alike)),
+          record { session = r.2 d l; answered = answered s r.0 d (before d) (after d) alike }),
     )
 
 -- ---- desks of a writer
@@ -319,22 +333,21 @@ had_of : (s : Setup) (w : Writing) (here : Sitting) → w.ledger.of ≡ set_up_w
 had_of s w here of is = sym is.grows.1 ∙ (is.has.1 ∙ of)
 
 pub desks_beside : VersionsStay → SeenVersionsStay → DesksBesideNightsAnswerAsTheMachine
-desks_beside stay seen_stay s nights active w mine before after setup some of are desks =
-    let r = desks_at stay seen_stay s nights active w.ledger.list (λ d. session (mine d) d) before after setup some are
+desks_beside stay seen_stay s nights active w marks before after setup some of are desks =
+    desks_at stay seen_stay s nights active w.ledger.list marks before after setup some are
     (λ d l. (
     let is = desks d l in
     record {
       warehouse = had_of s w (after d) of is.had;
       list = same_list (after d).list w.ledger.list (had_list w (after d) is.had) is.told;
-      reader = is_reader d (before d) (mine d) is.served;
+      reader = is_reader (before d) (marks d) is.served;
       grows = is.grows;
-    })) in
-    (r.0, r.1, λ d l. record { session = (r.2 d l).0; answered = (r.2 d l).1 })
+    }))
 
 -- a desk that lags, as if all desks were as it is
 pub desks_that_lag : VersionsStay → SeenVersionsStay → DesksThatLagAnswerAsTheMachine
-desks_that_lag stay seen_stay s nights active w d mine before after setup some of are l served grows had =
+desks_that_lag stay seen_stay s nights active w d mark before after setup some of are l served grows had =
     let seen = beginnings s nights active w.ledger.list after.list are (had_list w after had) in
-    let r = desks_at stay seen_stay s seen.0 seen.1 after.list (λ k. session mine d) (λ k. before) (λ k. after) setup some seen.3
-    (λ k below. record { warehouse = had_of s w after of had; list = refl; reader = is_reader d before mine served; grows = grows }) in
-    (seen.0, seen.1, r.0, seen.2, r.1, record { session = (r.2 d l).0; answered = (r.2 d l).1 })
+    let r = desks_at stay seen_stay s seen.0 seen.1 after.list (λ k. mark) (λ k. before) (λ k. after) setup some seen.3
+    (λ k below. record { warehouse = had_of s w after of had; list = refl; reader = is_reader before mark served; grows = grows }) in
+    (seen.0, seen.1, r.0, seen.2, r.1, r.2 d l)

@@ -1,5 +1,5 @@
 -- Logs of the machine over events for the lists that running nights publish.
-use Rattle.std.specs.Prelude.{◌≡◌, ◌≢◌, ◌⊎◌, ℕ, ◌+◌, ◌^◌, ◌<◌, ◌≤◌, Bool, true, false, List, [], ◌∷◌, ◌++◌, Option, None, Some, length, slice_get}
+use Rattle.std.specs.Prelude.{◌≡◌, ◌≢◌, ◌⊎◌, ℕ, ◌+◌, ◌^◌, ◌<◌, ◌≤◌, Bool, true, false, List, [], ◌∷◌, ◌++◌, Option, None, Some, length, option_map, slice_get}
 use mathlib.Core.List.{IsPrefix}
 use Rattle.wh_row.specs.Row.{Row}
 use Rattle.wh_maint.specs.Comp.{bag_at}
@@ -20,10 +20,10 @@ use Rattle.wh_night.specs.declared.cause.NightCause.{NightCause}
 use Rattle.wh_night.specs.declared.left.Left.{Left}
 use Rattle.wh_night.specs.declared.left.Left.TheVariants.{Untouched, GivenUp, StillOpen}
 use Rattle.wh_core.specs.Laws.{IsSetup}
-use Rattle.wh_core.specs.Log.{Bookmark, Log, SessionOf, Left as Has_left, Sat_down, Turned, bookmark_after, is_open, nights_begun, session}
+use Rattle.wh_core.specs.Log.{Bookmark, Log, SessionOf, bookmark_after, is_open, nights_begun, session}
 use Rattle.wh_core.specs.Nights.{GivenNight, Setup, night_from, versions}
 use Rattle.wh_core.specs.Replies.{IsLegalLog}
-use Rattle.wh_headline.specs.Alike.{AreSeenAlike, IsAnsweredAlike, row_read}
+use Rattle.wh_headline.specs.Alike.{AreSeenAlike, IsAnsweredAlike}
 
 -- ---- what running nights publish
 
@@ -153,42 +153,41 @@ pub record IsHad (w : Writing) (here : Sitting) : Type 0 where
   pub grows : Grows here later
   pub has : Begins (seen_by later) (published_by w)
 
--- What a reader's calls of its desk have come to since the desk had no session, of which `mine` is what the machine's log would keep: it opened
--- sessions, was given pages, each the first one of a view or one that goes on where the machine's Read would, and closed them; all else,
--- as a refusal or what it was told, leaves the session as it was
-pub data IsServed (d : ℕ) : Sitting → Log → Type 0 where
-  comes : (t : Sitting) → t.session ≡ None → IsServed d t []
-  stays : (t u : Sitting) (mine : Log) → IsServed d t mine → Grows t u → u.session ≡ t.session → IsServed d u mine
-  opens : (t u : Sitting) (mine : Log) (v : ℕ) → IsServed d t mine → OpensAt t u v → IsServed d u (Sat_down d v ∷ mine)
-  reads : (t u : Sitting) (mine : Log) (view limit : ℕ) (page : Shown) → IsServed d t mine → Reads t u view (row_read view (session mine d)) limit page
-      → IsServed d u (Turned d view page ∷ mine)
-  closes : (t u : Sitting) (mine : Log) → IsServed d t mine → u ≡ record t { session = None } → IsServed d u (Has_left d ∷ mine)
+-- What a reader's calls of its desk have come to, and where it may go on: at no row where its desk has no session or has opened one; behind
+-- the page that it was given, if more rows follow; where it could before, whatever else was answered or told; and always at no row
+pub data IsServed : Sitting → Option Bookmark → Type 0 where
+  comes : (t : Sitting) → t.session ≡ None → IsServed t None
+  opens : (t u : Sitting) (v : ℕ) → OpensAt t u v → IsServed u None
+  reads : (t u : Sitting) (mark : Option Bookmark) (view limit : ℕ) (row : Option Row) (page : Shown) → IsServed t mark → Reads t u view row limit page
+      → IsServed u (bookmark_after view page)
+  stays : (t u : Sitting) (mark : Option Bookmark) → IsServed t mark → Grows t u → u.session ≡ t.session → IsServed u mark
+  turns_back : (t : Sitting) (mark : Option Bookmark) → IsServed t mark → IsServed t None
 
 -- a desk that is answered from all that the writer has published: it was told of that, as `Desk::learn` does what `Writer::tell` gives, and
 -- has seen no more
-pub record IsDeskBeside (w : Writing) (d : ℕ) (mine : Log) (before after : Sitting) : Type 0 where
-  pub served : IsServed d before mine
+pub record IsDeskBeside (w : Writing) (mark : Option Bookmark) (before after : Sitting) : Type 0 where
+  pub served : IsServed before mark
   pub grows : Grows before after
   pub told : IsPrefix w.ledger.list after.list
   pub had : IsHad w after
 
--- in the log the desk has the session that its reader's calls have left, and it is answered as the log's reply is
-pub record IsAnsweredFrom (s : Setup) (log : Log) (d : ℕ) (mine : Log) (before after : Sitting) : Type 0 where
-  pub session : session log d ≡ session mine d
+-- in the log the desk has the session that it had, which goes on where the reader does, and it is answered as the log's reply is
+pub record IsAnsweredFrom (s : Setup) (log : Log) (d : ℕ) (mark : Option Bookmark) (before after : Sitting) : Type 0 where
+  pub session : session log d ≡ option_map (λ v. record { version = v; bookmark = mark }) before.session
   pub answered : IsAnsweredAlike s log d before after
 
--- There is one such log by which all desks that see the list of running nights are answered, whatever their readers have read. So it is of each
+-- There is one such log by which all desks that see the list of running nights are answered, wherever their readers go on. So it is of each
 -- page of a session, in turn: of the first one of a view, and of each that begins after the last row of one before it, up to the last
 abbrev pub DesksBesideNightsAnswerAsTheMachine : Type 0
 DesksBesideNightsAnswerAsTheMachine =
-    (s : Setup) (nights : ℕ) (active : Bool) (w : Writing) (mine : ℕ → Log) (before after : ℕ → Sitting) → IsSetup s → 1 ≤ s.workers
-    → w.ledger.of ≡ set_up_warehouse s → AreRunningNights s nights active w.ledger.list → ((d : ℕ) → d < s.desks → IsDeskBeside w d (mine d) (before d) (after d))
-    → (log : Log) × IsLogOf s nights active w.ledger.list log × ((d : ℕ) → d < s.desks → IsAnsweredFrom s log d (mine d) (before d) (after d))
+    (s : Setup) (nights : ℕ) (active : Bool) (w : Writing) (marks : ℕ → Option Bookmark) (before after : ℕ → Sitting) → IsSetup s → 1 ≤ s.workers
+    → w.ledger.of ≡ set_up_warehouse s → AreRunningNights s nights active w.ledger.list → ((d : ℕ) → d < s.desks → IsDeskBeside w (marks d) (before d) (after d))
+    → (log : Log) × IsLogOf s nights active w.ledger.list log × ((d : ℕ) → d < s.desks → IsAnsweredFrom s log d (marks d) (before d) (after d))
 
 -- so it is of each desk of which the writer has all that it saw, which may be less than is published, and other for each: there is a log of
 -- what the desk sees by which it is answered
 abbrev pub DesksThatLagAnswerAsTheMachine : Type 0
 DesksThatLagAnswerAsTheMachine =
-    (s : Setup) (nights : ℕ) (active : Bool) (w : Writing) (d : ℕ) (mine : Log) (before after : Sitting) → IsSetup s → 1 ≤ s.workers
-    → w.ledger.of ≡ set_up_warehouse s → AreRunningNights s nights active w.ledger.list → d < s.desks → IsServed d before mine → Grows before after → IsHad w after
-    → (n : ℕ) × (seen_open : Bool) × (log : Log) × (n ≤ nights) × IsLogOf s n seen_open after.list log × IsAnsweredFrom s log d mine before after
+    (s : Setup) (nights : ℕ) (active : Bool) (w : Writing) (d : ℕ) (mark : Option Bookmark) (before after : Sitting) → IsSetup s → 1 ≤ s.workers
+    → w.ledger.of ≡ set_up_warehouse s → AreRunningNights s nights active w.ledger.list → d < s.desks → IsServed before mark → Grows before after → IsHad w after
+    → (n : ℕ) × (seen_open : Bool) × (log : Log) × (n ≤ nights) × IsLogOf s n seen_open after.list log × IsAnsweredFrom s log d mark before after

@@ -39,8 +39,8 @@ pub fn nights_go_on()
 
 /// Desks that were told all that the writer of running nights has published, and have seen no more, are all answered as the desks of
 /// one legal run are at that point, in which each has the session that its reader's calls have left: what they open, each page of a
-/// view, and why there is none. A page is the first one, or begins after the last row of the one before it. No log is assumed: what
-/// is, the clauses of a desk's calls say, and [`wh_desk::Writer::has`] of what [`wh_desk::Desk::seen`] gives.
+/// view, and why there is none. A page is the first one, or begins after the last row of one that the desk was given in the session.
+/// No log is assumed: what is, the clauses of a desk's calls say, and [`wh_desk::Writer::has`] of what [`wh_desk::Desk::seen`] gives.
 pub fn desks_beside_nights_answer_as_the_machine()
     ensures { DesksBesideNightsAnswerAsTheMachine }
 {
