@@ -1,14 +1,13 @@
 -- A plan's text that is put under `@plan`, below all else in a bundle that has none, is the text of that part.
-use Rattle.std.proofs.Common.{◌≡◌, ◌∙◌, ◌⊎◌, inl, inr, ℕ, ◌==◌, ◌||◌, ◌&&◌, not, Bool, true, false, cond, List, [], ◌∷◌, ◌++◌, Option, Some, None, option_map, Result, Ok, refl, ap, sym, subst, append_assoc, append-nil}
+use Rattle.std.proofs.Common.{◌≡◌, ◌∙◌, ◌⊎◌, inl, inr, ℕ, ◌<◌, ◌==◌, ◌||◌, ◌&&◌, not, Bool, true, false, cond, List, [], ◌∷◌, ◌++◌, Option, Some, None, option_map, Result, Ok, refl, ap, sym, subst, length, arith, append_assoc, append-nil}
 use Rattle.std.specs.Prelude.{codes, count_by, find, nat_eq, ok_or}
-use Rattle.std.specs.List.{concat, cons_option, list_all, list_any, starts_with}
-use Rattle.std.proofs.lemmas.Bool.{and_parts, cases_Bool, not-true}
+use Rattle.std.specs.List.{concat, cons_option, list_all, list_any, onto_first, starts_with}
+use Rattle.std.proofs.lemmas.Bool.{and_parts, cases_Bool, cond_both, not-true}
 use Rattle.std.proofs.lemmas.Slice.Eq.{bytes_eq-Decides}
 use Rattle.wh_text.specs.Line.{whole_lines}
 use Rattle.wh_text.specs.declared.fault.LoadFault.{LoadFault}
 use Rattle.wh_text.specs.declared.fault.LoadFault.TheVariants as fault
 use Rattle.wh_text_bundle.proofs.CutLemmas.{concat-whole_lines}
-use Rattle.wh_text_bundle.proofs.PlainLines.{ends_line, whole_lines-append}
 use Rattle.wh_text_bundle.specs.Bundle.{fault_of, first_fault, is_at_fault, is_headed, opens_night, part_below, parts_below, parts_of, text_of_heading}
 use Rattle.wh_text_bundle.specs.Cut.{Cut, RawPart, cut, cut_lines, on_top}
 use Rattle.wh_text_bundle.specs.Heading.{fault_word, heading_of, same_heading, word_of}
@@ -57,10 +56,30 @@ cut_more [] line below opens plain = rw (opens, cut_plain below plain) refl
 cut_more (l ∷ ls) line below opens plain =
     ap (on_top (opens_part l) l) (cut_more ls line below opens plain) ∙ on_top-with (opens_part l) l (cut_lines ls) (record { opening = line; body = concat below })
 
-ends_feed : (starts : Bool) (bytes : List ℕ) → ends_line starts (bytes ++ 10 ∷ []) ≡ true
-unfolding ends_line
-ends_feed starts [] = refl
-ends_feed starts (b ∷ bs) = ends_feed (b == 10) bs
+some_onto : (b : ℕ) (lines : List (List ℕ)) → 0 < length (onto_first b lines)
+some_onto b [] = omega arith
+some_onto b (l ∷ ls) = omega arith
+
+some_lines : (b : ℕ) (bs : List ℕ) → 0 < length (whole_lines (b ∷ bs))
+some_lines b bs = cond_both (b == 10) _ _ (λ ls. 0 < length ls) (λ _. omega arith) (λ _. some_onto b (whole_lines bs))
+
+ended_some : (xs : List ℕ) → 0 < length (whole_lines (xs ++ 10 ∷ []))
+ended_some [] = some_lines 10 []
+ended_some (x ∷ xs) = some_lines x (xs ++ 10 ∷ [])
+
+onto_append : (b : ℕ) (lines below : List (List ℕ)) → 0 < length lines → onto_first b (lines ++ below) ≡ onto_first b lines ++ below
+onto_append b [] below some = absurd (omega arith)
+onto_append b (l ∷ ls) below some = refl
+
+line_step : (feeds : Bool) (b : ℕ) (all lines below : List (List ℕ)) → all ≡ lines ++ below → 0 < length lines
+    → cond feeds ((b ∷ []) ∷ all) (onto_first b all) ≡ cond feeds ((b ∷ []) ∷ lines) (onto_first b lines) ++ below
+line_step true b all lines below e some = ap (λ ls. (b ∷ []) ∷ ls) e
+line_step false b all lines below e some = ap (onto_first b) e ∙ onto_append b lines below some
+
+-- what stands below a line's end
+lines_below : (xs ys : List ℕ) → whole_lines ((xs ++ 10 ∷ []) ++ ys) ≡ whole_lines (xs ++ 10 ∷ []) ++ whole_lines ys
+lines_below [] ys = refl
+lines_below (x ∷ xs) ys = line_step (x == 10) x (whole_lines ((xs ++ 10 ∷ []) ++ ys)) (whole_lines (xs ++ 10 ∷ [])) (whole_lines ys) (lines_below xs ys) (ended_some xs)
 
 -- the part that is put there
 abbrev placed : List ℕ → RawPart
@@ -71,8 +90,10 @@ opening_lines text = refl
 
 cut_with : (bytes text : List ℕ) → EndsLine bytes → list_all is_clear text ≡ true → cut (with_plan bytes text) ≡ with_part (cut bytes) (placed text)
 cut_with bytes text ends clear =
-    let ended : ends_line true bytes ≡ true = subst (λ z. ends_line true z ≡ true) (sym ends.1) (ends_feed true ends.0) in
-    ap cut_lines (whole_lines-append bytes (plan_opening ++ text) ended ∙ ap (λ z. whole_lines bytes ++ z) (opening_lines text))
+    let below = plan_opening ++ text in
+    let parted : whole_lines (bytes ++ below) ≡ whole_lines bytes ++ whole_lines below =
+    subst (λ z. whole_lines (z ++ below) ≡ whole_lines z ++ whole_lines below) (sym ends.1) (lines_below ends.0 below) in
+    ap cut_lines (parted ∙ ap (λ z. whole_lines bytes ++ z) (opening_lines text))
     ∙ cut_more (whole_lines bytes) plan_opening (whole_lines text) refl (text_plain text clear)
     ∙ ap (λ z. with_part (cut bytes) (record { opening = plan_opening; body = z })) (concat-whole_lines text)
 
@@ -169,16 +190,16 @@ parts_with bytes text parts ends no_plan clear read =
     ∙ ap Ok parts_now
 
 find_before : (p : Part → Bool) (parts : List Part) (part : Part) → p part ≡ false → find p (parts ++ part ∷ []) ≡ find p parts
-find_before p [] part no = ap (λ b. cond b (Some part) None) no
-find_before p (q ∷ qs) part no = ap (λ r. cond (p q) (Some q) r) (find_before p qs part no)
+find_before p [] part other = ap (λ b. cond b (Some part) None) other
+find_before p (q ∷ qs) part other = ap (λ r. cond (p q) (Some q) r) (find_before p qs part other)
 
 past : (b : Bool) (q part : Part) (rest more : Option Part) → cond b (Some q) rest ≡ None → (rest ≡ None → more ≡ Some part) → cond b (Some q) more ≡ Some part
 past true q part rest more h f = cc
 past false q part rest more h f = f h
 
 find_last : (p : Part → Bool) (parts : List Part) (part : Part) → find p parts ≡ None → p part ≡ true → find p (parts ++ part ∷ []) ≡ Some part
-find_last p [] part none yes = ap (λ b. cond b (Some part) None) yes
-find_last p (q ∷ qs) part none yes = past (p q) q part (find p qs) (find p (qs ++ part ∷ [])) none (λ e. find_last p qs part e yes)
+find_last p [] part none own = ap (λ b. cond b (Some part) None) own
+find_last p (q ∷ qs) part none own = past (p q) q part (find p qs) (find p (qs ++ part ∷ [])) none (λ e. find_last p qs part e own)
 
 -- the texts in two parts
 abbrev both_texts : Option Part → Option Part → Result MeasuredTexts LoadFault

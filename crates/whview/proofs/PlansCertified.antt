@@ -38,6 +38,7 @@ use Rattle.wh_strategy.proofs.Found.{has-head, has-tail, has_within}
 use Rattle.wh_strategy.specs.Expression.{At}
 use Rattle.wh_strategy.specs.Prices.{Prices, prices_of}
 use Rattle.wh_strategy.specs.Rules.{IsCorrect}
+use Rattle.wh_strategy.specs.declared.costs.Costs.{Costs}
 use Rattle.wh_strategy.specs.declared.sizes.Size.{Size}
 use Rattle.wh_strategy.specs.Sizes.{AreSizeRows, sizes_of}
 use Rattle.wh_strategy.specs.declared.expression.Expression.{Expression}
