@@ -71,7 +71,8 @@ fn read_next_version<R: Wait + Abort>(
     assert!(rt; desk.learn(writer.tell()));
     assert!(rt; !desk.learn(before));
     assert_one_row(rt, desk, 1);
-    assert!(rt; writer.has(&desk.seen()));
+    let seen = desk.seen();
+    assert!(rt; writer.has(&seen));
     assert!(rt; desk.close().is_ok());
     assert_eq!(rt; desk.open(), Ok(1));
     assert_one_row(rt, desk, 2);

@@ -1,4 +1,3 @@
-pub mod Interleaved
 pub mod Answered
 mod Told
 mod PageSizes

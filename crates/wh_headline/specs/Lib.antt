@@ -1,4 +1,3 @@
-pub mod Interleavings
 pub mod Alike
 pub mod RunningNights
 pub mod Told

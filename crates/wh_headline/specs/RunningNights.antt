@@ -153,8 +153,9 @@ pub record IsHad (w : Writing) (here : Sitting) : Type 0 where
   pub grows : Grows here later
   pub has : Begins (seen_by later) (published_by w)
 
--- What a reader's calls of its desk have come to, and where it may go on: at no row where its desk has no session or has opened one; behind
--- the page that it was given, if more rows follow; where it could before, whatever else was answered or told; and always at no row
+-- What a reader's calls of its desk have come to, and where it may go on: where a view begins, if its desk has no session or has opened one;
+-- behind the page that it was given, if more rows follow; where it could before, whatever else was answered or told; and always where a view
+-- begins
 pub data IsServed : Sitting → Option Bookmark → Type 0 where
   comes : (t : Sitting) → t.session ≡ None → IsServed t None
   opens : (t u : Sitting) (v : ℕ) → OpensAt t u v → IsServed u None

@@ -4,6 +4,7 @@ ghost use Rattle.std.specs.Prelude.{IfOk};
 ghost use Rattle.wh_core.specs.Headline.{ComesTrue};
 ghost use Rattle.wh_core.specs.Laws.{IsSetup};
 ghost use Rattle.wh_core.specs.Nights.{setup_of};
+ghost use Rattle.wh_core.specs.Replies.{IsLegalRun};
 ghost use Rattle.wh_core.specs.Standing.{AreJudged, nights_of};
 
 use std::alloc::{AllocError, Global};
@@ -25,6 +26,7 @@ pub fn carry_out<F: RowTest + Drop, G: RowValue + Drop>(
 ) -> Result<Vec<Reply>, AllocError>
     requires setup { IsSetup (setup_of catalog options tables.items (nights_of nights.items)) }
     requires judged { AreJudged catalog nights.items }
+    ensures legal { IfOk result (λ replies. IsLegalRun (setup_of catalog options tables.items (nights_of nights.items)) events.now replies.items) }
     ensures comes_true { IfOk result (λ replies. ComesTrue (setup_of catalog options tables.items (nights_of nights.items)) events.now replies.items) }
 {
     let mut core = Core::new(alloc, catalog, tables, nights, options)?;

@@ -1,10 +1,9 @@
-//! What the whole comes to: a warehouse's events from the first to the last, by one call whose contract needs no more than what a
-//! catalogue's views are, a law that joins those of the crates below, and what desks beside running nights answer.
+//! What the whole comes to: a warehouse's events from the first to the last, by one call, and what desks beside running nights
+//! answer.
 #![tactic(auto)]
 
 mod desks;
 mod events;
-mod laws;
 
 pub use desks::{
     beginnings_are_running_nights, desks_answer_as_the_machine,
@@ -12,4 +11,3 @@ pub use desks::{
     running_nights_have_a_log, told_pages_are_of_contents,
 };
 pub use events::carry_out;
-pub use laws::however_steps_interleave;
