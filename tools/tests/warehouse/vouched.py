@@ -462,6 +462,16 @@ class Older(Vouched):
         self.night("--keep", "1")
         self.assertEqual(self.versions(), ["6"])
 
+    def test_a_manifest_that_was_being_written_as_the_night_was_killed_is_written_again(self):
+        (self.folder / "versions/2/.manifest.txt").write_text("manifest 1\n")
+        (self.folder / "versions/2/.manifest.txt").chmod(0o444)
+        # As long as it is open its inode is no other file's.
+        held = os.open(self.folder / "versions/2/.manifest.txt", os.O_RDONLY)
+        self.addCleanup(os.close, held)
+        self.night()
+        self.assertFalse((self.folder / "versions/2/.manifest.txt").exists())
+        self.assertNotEqual((self.folder / "versions/2/manifest.txt").stat().st_ino, os.fstat(held).st_ino)
+
     def test_a_newer_version_is_neither_turned_to_nor_passed_over_without_a_word(self):
         shutil.copytree(self.folder / "versions/1", self.folder / "versions/10")
         for words in (["lint"], ["night"], ["night", "--commit"]):
