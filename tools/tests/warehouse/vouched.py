@@ -10,10 +10,10 @@ import shutil
 from contextlib import redirect_stderr, redirect_stdout
 from unittest import mock
 
-from whtools.warehouse import rollback, verify
+from whtools.warehouse import rollback, verify, vouching
 from whtools.warehouse.command import main
 from whtools.warehouse.identity import identity_of
-from whtools.warehouse.manifest import read_manifest, sum_of
+from whtools.warehouse.manifest import read_manifest, sum_of, write_manifest
 
 from .folders import NEXT, Kept
 from .shop import contents
@@ -461,6 +461,28 @@ class Older(Vouched):
         self.assertEqual(self.said("rollback", "1")[0], 3)
         self.night("--keep", "1")
         self.assertEqual(self.versions(), ["6"])
+
+    def test_a_manifest_that_was_being_written_as_the_night_was_killed_is_written_again(self):
+        (self.folder / "versions/2/.manifest.txt").write_text("manifest 1\n")
+        (self.folder / "versions/2/.manifest.txt").chmod(0o444)
+        # As long as it is open its inode is no other file's.
+        held = os.open(self.folder / "versions/2/.manifest.txt", os.O_RDONLY)
+        self.addCleanup(os.close, held)
+        self.night()
+        self.assertFalse((self.folder / "versions/2/.manifest.txt").exists())
+        self.assertNotEqual((self.folder / "versions/2/manifest.txt").stat().st_ino, os.fstat(held).st_ino)
+
+    def test_one_that_is_another_users_gets_no_manifest_and_the_night_goes_on(self):
+        def refuses(version, manifest):
+            if manifest.kind == "taken over":
+                raise PermissionError(13, "Permission denied", "versions/2")
+            return write_manifest(version, manifest)
+
+        with mock.patch.object(vouching, "write_manifest", side_effect=refuses):
+            status, lines = self.ran("night", "--commit", "--always")
+        told = "versions/2 is of before versions had manifests, and gets none: versions/2: Permission denied"
+        self.assertEqual((status, lines, self.current()), (0, [told], "versions/3"))
+        self.assertEqual(self.ran("night", "--commit", "--always"), (0, []))
 
     def test_a_newer_version_is_neither_turned_to_nor_passed_over_without_a_word(self):
         shutil.copytree(self.folder / "versions/1", self.folder / "versions/10")

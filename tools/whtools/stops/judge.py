@@ -105,10 +105,10 @@ class Judge:
         there = versions(self.folder)
         for number, was in self.before.items():
             if number in there:
-                found = contents(there[number])
                 # The current version of before there were manifests gets one.
-                added = {} if "manifest.txt" in was else {"manifest.txt": found.get("manifest.txt", b"")}
-                demand(found in (was, was | added), f"versions/{number} is not what it was")
+                added = set() if "manifest.txt" in was else {"manifest.txt", ".manifest.txt"}
+                found = {name: content for name, content in contents(there[number]).items() if name not in added}
+                demand(found == was, f"versions/{number} is not what it was")
             else:
                 demand(self.start.keep, f"versions/{number} is gone")
 

@@ -11,7 +11,7 @@ from collections.abc import Iterable
 from pathlib import Path
 from typing import NamedTuple
 
-from .disk import BLOCK, READ_BITS, sync, write
+from .disk import BLOCK, READ_BITS, remove, sync, write
 
 FILE, FORM = "manifest.txt", "manifest 1"
 # The kinds of versions: the tables that a folder began with, a night, an older version once more, and what was there before manifests.
@@ -131,6 +131,8 @@ def write_manifest(version: Path, manifest: Manifest) -> Manifest:
     text = text_of(manifest).encode()
     made = manifest._replace(sum=hashlib.sha256(text).hexdigest())
     part = version / f".{FILE}"
+    # One that was left read-only by a stop could not be written again.
+    remove(part)
     write(part, [text, f"sum {made.sum}\n".encode()])
     os.chmod(part, part.stat().st_mode & READ_BITS)
     sync(part)

@@ -2,7 +2,7 @@
 
 from pathlib import Path
 
-from .finding import warn
+from .finding import of_system, warn
 from .identity import NONE, Identity, bound, sign, withdraw
 from .manifest import FILE, NIGHT, TAKEN_OVER, Entry, Manifest, entries_of, found_manifest, now, who, write_manifest
 from .versions import VERSIONS, place, whole
@@ -39,7 +39,11 @@ def vouch_for_parent(inputs, identity: Identity) -> None:
     version, number = inputs.state.root, inputs.state.number
     later = {str(path.relative_to(f"{VERSIONS}/{number}")) for path in inputs.vouched.newer}
     files = {name: entry for name, entry in entries_of(version).items() if name not in later or name.startswith("data/")}
-    write_manifest(version, blank(identity, number, TAKEN_OVER)._replace(files=files))
+    try:
+        write_manifest(version, blank(identity, number, TAKEN_OVER)._replace(files=files))
+    except PermissionError as error:
+        warn([f"{VERSIONS}/{number} is of before versions had manifests, and gets none: {of_system(error)}"])
+        return
     warn([f"{VERSIONS}/{number} is of before versions had manifests: it is taken as it is, and vouches for itself from now on ({FILE})"])
 
 
