@@ -177,10 +177,10 @@ def is_known(words, batch, given):
     return True
 
 
-def noted(filled) -> str:
+def noted(batch, filled) -> str:
     """What is noted of a batch: when it was put, and the sums of its files."""
     since = time.strftime("%Y-%m-%d %H:%M:%S")
-    return f"put {since}\n{sums((f'{each.view.name}.csv', source.path) for each, source in filled)}"
+    return f"batch {batch}, put {since}: this note goes with its changes\n{sums((f'{each.view.name}.csv', source.path) for each, source in filled)}"
 
 
 def bring(put, gate):
@@ -210,7 +210,7 @@ def run(words):
         filled = fill(put, given)
         changes = judge(folder, filled)
         if batch:
-            put.write(f"{batch}{batches.ENDING}", [noted(filled).encode()])
+            put.write(f"{batch}{batches.ENDING}", [noted(batch, filled).encode()])
         with Gate(folder) as gate:
             warn(puts.settle(gate))
             if is_known(words, batch, given):
