@@ -20,6 +20,7 @@ from .shop import contents
 
 ALONE = "and is left alone: no night goes on from it or removes it; move it away"
 OTHER = NEXT.replace(b"8,Thu", b"9,Thu")
+ANSWER_WITHOUT_VIEWS = b"inst orders: 0\ninst lines: 0\nwork 0\n"
 
 
 class Vouched(Kept):
@@ -185,11 +186,13 @@ class Strays(Vouched):
         self.assertEqual(self.ran("lint"), (0, []))
         self.assertEqual(self.said("verify")[0], 0)
 
-    def test_a_huge_number(self):
-        name = "9" * 30
-        (self.folder / "versions" / name).mkdir()
-        self.judge(name, "this is no version of this folder")
-        self.assertEqual(self.current(), "versions/2")
+    def test_names_that_are_no_numbers(self):
+        for number, name in enumerate(("9" * 30, "9" * 240, "01", "-1", "notes"), 1):
+            (self.folder / "versions" / name).mkdir()
+            self.night()
+            self.assertEqual(self.current(), f"versions/{number + 1}")
+            told = f"versions/{name}:1:1: warning: this is no version of this folder, {ALONE}"
+            self.assertIn(told, self.ran("lint")[1])
 
     def test_a_night_that_was_decided_is_finished_by_the_next_that_is_kept_and_turned_to_by_no_preview(self):
         self.more()
@@ -265,6 +268,13 @@ class Damaged(Vouched):
             self.assertIn(f"versions/{number}/{name}:1:1: warning: this is not as its night made it", self.night()[0])
             self.assertIn("\nviews: computed anew, since ", (self.folder / "current/report.txt").read_text())
 
+    def test_a_report_that_is_no_report_any_more(self):
+        self.change("report.txt", b"\norders,5,7,2", b'\norders,x,"y\xff')
+        self.assertEqual(self.ran("lint")[0], 0)
+        self.put()
+        self.assertIn("versions/1/report.txt:1:1: warning: this is not as its night made it", self.night()[0])
+        self.assertEqual(self.ran("lint"), (0, []))
+
     def test_a_manifest_that_is_gone_or_damaged_stops_the_night(self):
         for why, damage in (("it has no manifest.txt", os.unlink), ("its manifest.txt is damaged", lambda file: self.change("manifest.txt"))):
             number = self.current()
@@ -317,8 +327,12 @@ class Dropped(Vouched):
         self.assertFalse((self.folder / "current/data/products.csv").exists())
         self.assertEqual(self.ran("lint"), (0, []))
 
-
-ANSWER_WITHOUT_VIEWS = b"inst orders: 0\ninst lines: 0\nwork 0\n"
+    def test_a_catalogue_without_base_views(self):
+        for text in ("", "# nothing\n"):
+            (self.folder / "catalogue.toml").write_text(text)
+            (self.folder / "strategy.txt").unlink(missing_ok=True)
+            status, lines = self.ran("night", "--commit", "--keep", "1")
+            self.assertEqual((status, self.current()), (3, "versions/1"), lines)
 
 
 class Copies(Vouched):
@@ -344,6 +358,16 @@ class Copies(Vouched):
         self.assertEqual(self.said("verify", folder=other)[0], 0)
         self.assertEqual(self.ran("night", "--commit", "--always", folder=other), (0, []))
         self.assertEqual(self.ran("lint"), (0, []))
+
+    def test_a_stopped_night_of_the_original_that_comes_later_is_a_stray(self):
+        other = self.copied()
+        self.assertEqual(self.ran("night", "--commit", "--always", folder=other)[0], 0)
+        self.stopped()
+        shutil.copytree(self.rest(2), other / "versions" / self.rest(2).name)
+        status, lines = self.ran("night", "--commit", "--always", folder=other)
+        told = f"versions/{self.rest(2).name}:1:1: warning: this is no version of this folder, {ALONE}"
+        self.assertEqual((status, lines), (0, [told]))
+        self.assertNotIn(b"1,8,Thursday", (other / "current/data/orders.csv").read_bytes())
 
     def test_a_folder_that_is_moved_is_no_copy(self):
         self.folder.rename(self.folder.with_name("moved"))
@@ -514,7 +538,8 @@ class RolledBack(Vouched):
         self.change("data/orders.csv", b"south", b"north")
         (self.folder / "current/manifest.txt").unlink()
         self.assertEqual(self.said("rollback", "1")[0], 0)
-        self.assertEqual(self.ran("night", "--commit", "--always"), (0, [f"versions/2:1:1: warning: this does not vouch for itself (it has no manifest.txt), {ALONE}"]))
+        told = f"versions/2:1:1: warning: this does not vouch for itself (it has no manifest.txt), {ALONE}"
+        self.assertEqual(self.ran("night", "--commit", "--always"), (0, [told]))
 
 
 class Logged(Vouched):

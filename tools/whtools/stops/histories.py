@@ -71,7 +71,8 @@ class History:
         demand(self.tables[number] == wanted, f"versions/{number} has not the tables that it has to have")
         # The tables that a folder began with have no views, nor has a rollback to them.
         if not of or any((path / "views").iterdir()):
-            demand({name: table(path / f"views/{name}.csv") for name in VIEWS} == views_of(wanted), f"the views of versions/{number} are wrong")
+            views = {name: table(path / f"views/{name}.csv") for name in VIEWS}
+            demand(views == views_of(wanted), f"the views of versions/{number} are wrong")
 
     def judge(self):
         """What holds between two steps."""
@@ -79,10 +80,15 @@ class History:
         lying = changes_in(self.folder / "changes")
         demand(lying + self.carried() == self.hand.given, "a change is lost, or there twice")
         demand(current(self.folder) == max(self.tables), f"current is {current(self.folder)} of {sorted(self.tables)}")
-        for name, was in self.strays.items():
-            demand(contents(self.folder / "versions" / name) == was if was is not None else (self.folder / "versions" / name).exists(), f"the stray {name} is touched")
+        touched = [name for name, was in self.strays.items() if self.looks(name) != was]
+        demand(not touched, f"{touched} is touched, which is a stray")
         told = self.ran("lint").told
         demand(all(f"versions/{name}:" in told for name in self.strays), f"a stray is not told: {told}")
+
+    def looks(self, name):
+        """What a stray holds."""
+        path = self.folder / "versions" / name
+        return contents(path) if path.is_dir() else path.read_text()
 
     # ---- what is drawn
 
@@ -135,7 +141,7 @@ class History:
             path.mkdir()
         else:
             path.write_text("notes\n")
-        self.strays[name] = contents(path) if kind != "file" else None
+        self.strays[name] = self.looks(name)
         was = current(self.folder)
         self.went(0, "night")
         demand(current(self.folder) == was, "a preview turned")
@@ -144,7 +150,8 @@ class History:
         """A file of the current version of which a letter is another one, with its time put back."""
         number = current(self.folder)
         version = self.folder / "versions" / str(number)
-        name = self.source.choice([str(file.relative_to(version)) for file in [*sorted(version.glob("data/*.csv")), *sorted(version.glob("views/*.csv"))]])
+        files = [file for kind in ("data", "views") for file in sorted((version / kind).glob("*.csv"))]
+        name = str(self.source.choice(files).relative_to(version))
         was = (version / name).read_bytes()
         found = LETTER.search(was)
         if not found:
@@ -166,19 +173,20 @@ class History:
 
     def mend(self, number, name, was):
         """A view is made anew; a base table stops the night, and is put back, left by a rollback, or taken as it is by a word."""
-        file, is_base = self.folder / f"versions/{number}/{name}", name.startswith("data")
+        version, is_base = self.folder / f"versions/{number}", name.startswith("data")
         self.put()
-        way = self.source.choice(["put back", "accept", "rollback"]) if is_base else "anew"
         if is_base:
             self.went(3, "night", *COMMIT)
-        if way == "put back":
-            self.write(file, was)
+        if is_base and self.source.random() < 1 / 3:
+            self.write(version / name, was)
             return self.went(0, "night", *COMMIT)
-        self.bytes[number], words = contents(file.parents[1]), ("night", *COMMIT)
+        self.bytes[number] = contents(version)
         self.damaged.add(number)
-        if way == "accept":
-            self.tables[number], words = base_tables(file.parents[1]), (*words, "--accept", name)
-        return self.went(0, *(self.older() if way == "rollback" and len(self.damaged) < len(self.tables) else words + ("--accept", name) * (way == "rollback")))
+        back = self.older()
+        if is_base and back[0] == "rollback" and self.source.random() < 1 / 2:
+            return self.went(0, *back)
+        self.tables[number] = base_tables(version)
+        return self.went(0, "night", *COMMIT, *["--accept", name] * is_base)
 
     def copy(self):
         """A copy goes its own way, and the folder does not notice."""

@@ -42,8 +42,9 @@ class Start:
     written: str = ""
     added: dict = None
     keep: int = 0
-    # Whether data/ can be read while there is no version, and whether nothing was stopped in the folder before.
+    # Whether data/ can be read while there is no version, whether the night is one of a copy, and whether nothing was stopped before.
     whole: bool = True
+    other: bool = False
     fresh: bool = True
 
     @property
@@ -52,10 +53,12 @@ class Start:
         return (self.command, *self.options)
 
     def copied(self, place):
-        """A copy of the folder, which is it as far as it can tell; what is one file under two names stays so."""
+        """A copy of the folder, which is it as far as it can tell, but for one that is to be a copy; what is one file under two names
+        stays so.
+        """
         subprocess.run(["cp", "-a", self.folder, place], check=True)
         identity = identity_of(self.folder)
-        if identity.name:
+        if identity.name and not self.other:
             sign(place, identity)
         return place
 
@@ -149,6 +152,7 @@ class Starts:
         self.start("file of two names", self.with_two_names())
         self.start("preview", self.filled("preview", 1), options=())
         self.start("a view is new", self.with_a_new_view(), added=STORES)
+        self.start("a copy", self.filled("a copy", 2), other=True)
         self.start("before manifests", self.without_manifests())
         self.start("rollback", self.filled("rollback", 3), options=("1",), command="rollback")
         self.start("rollback twice", self.rolled_back(), options=("1",), command="rollback")

@@ -6,7 +6,7 @@ from .status import BAD_INPUT, BAD_WORDS
 
 def judge_dropped(inputs, bases, dropped):
     """Ends a night that would leave a table of the version behind which nobody named, and one that is to drop what is not left behind."""
-    left = inputs.left(bases)
+    left = [name for name in inputs.carried if name not in bases] if inputs.state.number is not None else []
     unknown = [name for name in dropped if name not in left]
     if unknown:
         there = f"there are {', '.join(left)}" if left else "there are none"

@@ -63,7 +63,8 @@ def decided(folder: Path, older: Manifest, identity: Identity, interrupts: Inter
     """Makes the new version, which counts by a rename. Answers its number."""
     current, number = named(folder), coming(folder, identity)
     part, before = part_of(folder, number, identity), found_manifest(place(folder, current))
-    told = f"rollback: the tables of version {older.version} again, after version {current}; what follows is of the night of version {older.version}\n"
+    of = f"version {older.version}"
+    told = f"rollback: the tables of {of} again, after version {current}; what follows is of the night of {of}\n"
     try:
         try:
             known = lay(place(folder, older.version), part, older, told)

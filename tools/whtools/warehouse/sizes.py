@@ -52,9 +52,9 @@ def of_report(text):
 
 
 def last_report(folder):
-    """The sizes that the last report tells, or none."""
+    """The sizes that the last report tells, or none; one that is not as its night wrote it tells none."""
     file = folder.state.report
-    return of_report(file.read_text()) if file.is_file() else {}
+    return of_report(file.read_text()) if file.is_file() and folder.inputs.vouched.is_as_made(file.name) else {}
 
 
 def as_before(folder):

@@ -8,11 +8,10 @@ import fcntl
 import os
 import re
 import time
-from contextlib import nullcontext
 
 from .disk import remove, sync
 from .finding import Failure, Finding, Place
-from .identity import Identity, identity_of, numbers
+from .identity import NUMBER, Identity, identity_of, numbers
 from .manifest import NoManifest, found_manifest, read_manifest
 from .status import AT_WORK, BAD_INPUT
 
@@ -49,7 +48,9 @@ def is_rest(name, identity, end):
     found = REST.fullmatch(name)
     if not found or found[2] != end:
         return False
-    return found[1] in identity.names if found[1] else not identity.name and not identity.is_copy
+    if found[1]:
+        return found[1] == identity.name or identity.is_copy and found[1] in identity.before
+    return not identity.name and not identity.is_copy
 
 
 def ending(folder, end, identity=None):
@@ -79,9 +80,9 @@ def coming(folder, identity):
     """The number of the next version: above those of all that there are, so that none is taken for one that was made from it. A folder
     without versions begins with one of its tables as they are.
     """
-    current = named(folder)
-    there = [*whole(folder, identity), *([] if current is None else [current])]
-    return free(folder, max(there, default=free(folder, 0)) + 1)
+    current, falling = named(folder), reversed(numbers(folder))
+    last = next((number for number in falling if number == current or identity.owns(place(folder, number), number)), current)
+    return free(folder, (free(folder, 0) if last is None else last) + 1)
 
 
 # ---- which version counts
@@ -92,7 +93,8 @@ def newest(folder, identity=None):
     that. Without `current` it is the newest one.
     """
     known, current = identity or identity_of(folder), named(folder)
-    above = [number for number in whole(folder, known) if current is None or number > current]
+    above = [number for number in numbers(folder) if current is None or number > current]
+    above = [number for number in above if known.owns(place(folder, number), number)]
     if current is None:
         return next((number for number in reversed(above) if vouches(place(folder, number), number, known)), None)
     for number in above:
@@ -118,24 +120,24 @@ def is_made_from(folder, number, current, identity):
 
 def strays(folder, identity=None):
     """What lies in versions/ and is none of the folder's versions, a warning each."""
-    known = identity or identity_of(folder)
+    # What a night makes or removes meanwhile is none: what counts is looked for after the names, and who is gone is not told.
+    names = sorted(os.listdir(folder / VERSIONS)) if (folder / VERSIONS).is_dir() else []
+    known, current = identity or identity_of(folder), named(folder)
     counts = newest(folder, known)
-    with os.scandir(folder / VERSIONS) if (folder / VERSIONS).is_dir() else nullcontext(()) as entries:
-        found = [(name, stray(folder, name, known, counts)) for name in sorted(entry.name for entry in entries)]
-    return [Finding(Place(f"{VERSIONS}/{name}"), why, True) for name, why in found if why]
+    told = [(name, stray(folder, name, known, counts)) for name in names if name != str(current) and not name.startswith(".")]
+    found = [(name, why) for name, why in told if why and os.path.lexists(folder / VERSIONS / name)]
+    return [Finding(Place(f"{VERSIONS}/{name}"), why, True) for name, why in found]
 
 
 def stray(folder, name, identity, counts):
     """Why something in versions/ is none of the folder's versions, or an empty text."""
     path = folder / VERSIONS / name
-    if name.startswith(".") or any(is_rest(name, identity, end) for end in (PART, GONE)):
+    if any(is_rest(name, identity, end) for end in (PART, GONE)):
         return ""
     if not path.is_dir():
         return f"this is no version but a file, {LEFT_ALONE}"
-    if not name.isdecimal() or int(name) not in numbers(folder):
+    if not NUMBER.fullmatch(name):
         return f"this is no version of this folder, {LEFT_ALONE}"
-    if int(name) == named(folder):
-        return ""
     if not identity.owns(path, int(name)):
         return f"{why_not_own(path, int(name))}, {LEFT_ALONE}"
     if counts is not None and int(name) > counts:

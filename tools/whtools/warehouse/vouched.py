@@ -54,6 +54,10 @@ class Vouched:
         differing_ones = [f"{VERSIONS}/{self.state.number}/{each.file}" for each in self.differences if READ.fullmatch(each.file)]
         return self.newer + differing_ones + [f"{VERSIONS}/{self.state.number}/{FILE}"] * bool(self.fault)
 
+    def is_as_made(self, file):
+        """Whether a file of the version is as its manifest says, where there is one."""
+        return all(each.file != file for each in self.differences)
+
     @property
     def untouched(self):
         """The entries of the files that are as the manifest says."""
