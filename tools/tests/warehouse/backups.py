@@ -8,6 +8,7 @@ from collections import Counter
 from contextlib import redirect_stderr
 from io import StringIO
 from itertools import count
+from pathlib import Path
 from unittest import mock
 
 from whtools.tables import bag_of
@@ -246,6 +247,24 @@ class Disturbed(Backed):
             self.put(FIRST, "orders.1.csv")
             self.assertEqual(self.backup(), (0, []))
         self.judge()
+
+    def test_beside_a_night_that_is_decided_meanwhile_each_change_is_in_it_once(self):
+        for number in range(5, 40, 9):
+            self.put(f"#,id,day,region\n1,{1000 + number},Thursday,south\n".encode(), f"orders.{number}.csv")
+            with self.under_way("--commit") as running, held_up(["backup", self.folder, self.to], number) as made:
+                Path(f"{self.program}.go").touch()
+                running.wait()
+            self.assertEqual((made.status, running.returncode), (0, 0), running.told)
+            self.judge()
+
+    def test_files_of_which_a_night_puts_something_aside_are_in_it_as_they_came(self):
+        part = self.folder / f"versions/3.{identity_of(self.folder).name}.part"
+        for kind, content in (("taken", FIRST + b"1,x,Friday,north\n"), ("changes", FIRST)):
+            (part / kind).mkdir(parents=True)
+            (part / kind / "orders.csv").write_bytes(content)
+        self.assertEqual((self.backup(), self.restore()), ((0, []), (0, [])))
+        self.assertEqual((self.new / "changes/orders.1.csv").read_bytes(), FIRST + b"1,x,Friday,north\n")
+        self.assertEqual(sorted(os.listdir(self.new / "changes")), ["orders.1.csv", "orders.csv"])
 
     def test_a_night_that_was_stopped_as_it_gave_changes_back_doubles_none(self):
         part = self.folder / f"versions/3.{identity_of(self.folder).name}.part/changes"

@@ -4,7 +4,8 @@ an older one alone with its catalogue: changes that wait are not for it. What is
 """
 
 import os
-from contextlib import ExitStack
+from collections.abc import Collection
+from contextlib import ExitStack, suppress
 from itertools import product
 from pathlib import Path
 
@@ -27,8 +28,10 @@ from .status import AT_WORK, BAD_INPUT, BAD_WORDS, DONE
 from .streams import say
 from .versions import CURRENT, PART, VERSIONS, ending, newest, place, whole
 
-# Where a folder keeps what nights put aside; and how often a moment is tried for.
-ASIDE, TRIES = "quarantine", 20
+# Where a folder keeps what nights put aside, and where a night has files as they came of which it puts something aside.
+ASIDE, WHOLE = "quarantine", "taken"
+# What a night has in its hands, and where that comes from; and how often a moment is tried for.
+HELD, TRIES = (("given", "data"), (CHANGES, CHANGES), (WHOLE, CHANGES), (TAKEN, CHANGES)), 20
 
 
 # ---- what waits
@@ -43,18 +46,19 @@ def copy_waiting(folder: Path, part: Path, copier: Copier) -> None:
     nights = ending(folder, PART)
     for kind in ("data", CHANGES):
         copy_files(folder / kind, part / kind, copier)
-    for night, (taken, kind) in product(nights, (("given", "data"), (CHANGES, CHANGES), (TAKEN, CHANGES))):
-        copy_files(night / taken, part / kind, copier, folder / kind)
+    for night, (taken, kind) in product(nights, HELD):
+        sifted = {path.name for path in entries(night / WHOLE)} if taken == CHANGES else ()
+        copy_files(night / taken, part / kind, copier, folder / kind, sifted)
     os.makedirs(part / CHANGES, exist_ok=True)
     if (folder / ASIDE).is_dir():
         copier.folder(folder / ASIDE, part / ASIDE)
 
 
-def copy_files(home: Path, to: Path, copier: Copier, other: Path | None = None) -> None:
-    """Copies the files of a folder, each under a name that is free, but for those that the other folder has too."""
+def copy_files(home: Path, to: Path, copier: Copier, other: Path | None = None, without: Collection[str] = ()) -> None:
+    """Copies the files of a folder, each under a name that is free, but for those that the other folder has too and some names."""
     there = identities(other) if other and other.is_dir() else {}
     for path in entries(home):
-        if path.is_file() and not there.get(identity(path.stat())):
+        if path.is_file() and path.name not in without and not there.get(identity(path.stat())):
             os.makedirs(to, exist_ok=True)
             judge_written(path, path, to)
             copier.file(path, to / next(name for name in names(path.name) if not (to / name).exists()))
@@ -65,17 +69,26 @@ def cut(folder: Path, part: Path, copier: Copier) -> tuple[int, int]:
     meanwhile it is done again.
     """
     for _ in range(TRIES):
-        number = newest(folder)
+        before = moment(folder)
+        number = before[0]
         if number is None:
             raise Failure(BAD_INPUT, f"{folder} has no version yet; `tools/warehouse night {folder} --commit` makes the first ones")
-        copy_waiting(folder, part, copier)
-        handle = hold(place(folder, number))
-        if handle is not None and newest(folder) == number:
-            return number, handle
-        if handle is not None:
-            os.close(handle)
+        # What a night has in its hands goes to its version meanwhile.
+        with suppress(FileNotFoundError):
+            copy_waiting(folder, part, copier)
+            handle = hold(place(folder, number))
+            if handle is not None and moment(folder) == before:
+                return number, handle
+            if handle is not None:
+                os.close(handle)
         clear(part, copier)
     raise Failure(AT_WORK, f"{folder} changes all the time; try again later")
+
+
+def moment(folder: Path) -> list:
+    """The version that counts, and by what it is told that a night has gone on with what it has in its hands."""
+    nights = ending(folder, PART)
+    return [newest(folder), nights, [path for night in nights for path in entries(night / WHOLE)]]
 
 
 def clear(part: Path, copier: Copier) -> None:

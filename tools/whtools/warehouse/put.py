@@ -12,7 +12,7 @@ from pathlib import Path
 from . import batches, puts
 from .catalogue import Catalogue
 from .claim import judge_written, look, names
-from .disk import blocks_of
+from .disk import BLOCK, blocks_of, telling
 from .finding import Failure, of_system, warn
 from .gate import Gate
 from .inputs import CHANGES, Source, by_view, stranger
@@ -75,7 +75,7 @@ def fill(put, given) -> list[tuple[Given, Source]]:
     for each in given:
         free = next(name for name in names(f"{each.view.name}.csv") if not (put.path / name).exists())
         if each.path is None:
-            put.write(free, iter(lambda: sys.stdin.buffer.read(2**18), b""))
+            put.write(free, iter(lambda: sys.stdin.buffer.read(BLOCK), b""))
         else:
             copy_whole(each, put, free)
         filled.append((each, Source(put.path / free, each.told)))
@@ -86,7 +86,8 @@ def copy_whole(each, put, name):
     """Copies a file that nobody writes meanwhile."""
     seen = look(each.path)
     judge_written(each.path, each.told, put.path)
-    put.write(name, blocks_of(each.path))
+    with open(each.path, "rb") as file:
+        put.write(name, iter(lambda: file.read(BLOCK), b""))
     if look(each.path) != seen:
         raise Failure(AT_WORK, f"{each.told} was written meanwhile; try again when it is whole")
 
@@ -177,17 +178,18 @@ def is_known(words, batch, given):
     return True
 
 
-def noted(filled) -> str:
+def noted(batch, filled) -> str:
     """What is noted of a batch: when it was put, and the sums of its files."""
     since = time.strftime("%Y-%m-%d %H:%M:%S")
-    return f"put {since}\n{sums((f'{each.view.name}.csv', source.path) for each, source in filled)}"
+    return f"batch {batch}, put {since}: this note goes with its changes\n{sums((f'{each.view.name}.csv', source.path) for each, source in filled)}"
 
 
 def bring(put, gate):
     """Has the put count, and brings its files in. What cannot be done then the next put or night does."""
     put.decide()
     try:
-        return puts.finish(put.name, put.room, put.handle, gate)
+        with telling(gate.path):
+            return puts.finish(put.name, put.room, put.handle, gate)
     except OSError as error:
         then = "the next put or night brings in what is not"
         raise Failure(NOT_WRITTEN, f"the changes are taken, but {of_system(error)}; {then}") from error
@@ -210,7 +212,7 @@ def run(words):
         filled = fill(put, given)
         changes = judge(folder, filled)
         if batch:
-            put.write(f"{batch}{batches.ENDING}", [noted(filled).encode()])
+            put.write(f"{batch}{batches.ENDING}", [noted(batch, filled).encode()])
         with Gate(folder) as gate:
             warn(puts.settle(gate))
             if is_known(words, batch, given):

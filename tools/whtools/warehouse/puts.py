@@ -15,7 +15,7 @@ from importlib import import_module
 
 from .batches import ENDING
 from .claim import identities, identity, names
-from .disk import NO_LINKS
+from .disk import NO_LINKS, telling
 from .finding import Failure
 from .gate import Gate
 from .inputs import CHANGES
@@ -24,7 +24,7 @@ from .status import BAD_INPUT
 from .versions import PART
 
 ROOM = ".put"
-NO_LINK = os.O_RDONLY | os.O_DIRECTORY | os.O_NOFOLLOW
+NO_LINK, NEW = os.O_RDONLY | os.O_DIRECTORY | os.O_NOFOLLOW, os.O_WRONLY | os.O_CREAT | os.O_EXCL
 FINISHED = "a put that was stopped is finished; its changes lie in changes/"
 
 
@@ -60,16 +60,17 @@ class Put:
 
     def write(self, name: str, pieces) -> None:
         """Writes a file that is not there yet, through to the disk."""
-        with open(os.open(name, os.O_WRONLY | os.O_CREAT | os.O_EXCL, 0o666, dir_fd=self.handle), "wb") as file:
+        with telling(self.path / name), open(os.open(name, NEW, 0o666, dir_fd=self.handle), "wb") as file:
             file.writelines(pieces)
             file.flush()
             os.fsync(file.fileno())
 
     def decide(self) -> None:
         """Has the put count, by a rename: what fails after it undoes nothing."""
-        os.fsync(self.handle)
-        os.fsync(self.room)
-        os.rename(self.path.name, self.name, src_dir_fd=self.room, dst_dir_fd=self.room)
+        with telling(self.path):
+            os.fsync(self.handle)
+            os.fsync(self.room)
+            os.rename(self.path.name, self.name, src_dir_fd=self.room, dst_dir_fd=self.room)
 
     def leave(self) -> None:
         """Removes what was written, unless it counts; where that cannot be, the next put does."""
