@@ -73,12 +73,12 @@ class Searches(Large):
         self.assertEqual(self.found("/products?where=price%3C400&columns=product")["rows"], [{"#": 1, "product": "bread"}])
 
     def test_a_search_reads_the_version_that_is_held(self):
-        identity = reading.identity_of(os.stat(self.folder / "versions/2"))
+        key = reading.key_of(os.stat(self.folder / "versions/2"))
         choice = {"where": [], "order": None, "columns": None, "after": 0, "limit": 1, "form": "json"}
         job = {"folder": str(self.folder), "version": 2, "view": "lines", **choice}
-        self.assertEqual(self.server.answers.scans.page(job | {"identity": identity}, None)[0]["following"], 1)
+        self.assertEqual(self.server.answers.scans.page(job | {"key": key}, None)[0]["following"], 1)
         with self.assertRaisesRegex(pages.Unfit, "version 2 is another one than it was"):
-            self.server.answers.scans.page(job | {"identity": [1, 2, 3]}, None)
+            self.server.answers.scans.page(job | {"key": [1, 2, 3]}, None)
 
     def test_a_search_goes_by_a_process_and_a_page_and_a_small_table_do_not(self):
         with mock.patch.object(self.server.answers.scans, "page", side_effect=self.server.answers.scans.page) as searched:
