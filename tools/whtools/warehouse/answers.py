@@ -18,7 +18,7 @@ from .blocks import Damaged, opened
 from .choosing import Choice, choice_of
 from .finding import Failure, of_system
 from .held import Held
-from .pages import CSV, FORMS, JSON, LINES, Page, Unfit, bytes_of, page_of
+from .pages import CSV, DEADLINE, FORMS, JSON, LINES, Page, Unfit, bytes_of, page_of
 from .reading import Far, Missing, Tables, key_of, whole_number
 from .room import Crowded, Room
 from .scans import Busy, Scans
@@ -292,7 +292,7 @@ class Answers:
             return None
         try:
             with self.room.share(bytes_of(limit) + MORE) as share, self.places:
-                page = page_of(choice, form, limit, held.number, is_near=choice.is_plain)
+                page = page_of(choice, form, limit, held.number, DEADLINE, choice.is_plain)
                 share.kept = len(page.body)
                 return page
         except Far:

@@ -35,7 +35,7 @@ def found(job: dict, kept: dict) -> tuple[dict, bytes]:
     """What is told of the page of a job, and its body."""
     table = tables_of(kept, Path(job["folder"]), job["version"], job["key"]).table(job["view"])
     choice = choice_of(table, job["where"], job["order"], job["columns"], job["after"])
-    page = page_of(choice, job["form"], job["limit"], job["version"])
+    page = page_of(choice, job["form"], job["limit"], job["version"], job["seconds"])
     mark = table.place_before(page.following) if page.following is not None else None
     return {"following": page.following, "mark": mark}, page.body
 
