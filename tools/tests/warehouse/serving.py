@@ -46,7 +46,7 @@ class Served(Kept):
 
     def asked(self, path, method="GET", **headers):
         """The status, the headers and the body of an answer."""
-        connection = HTTPConnection(*self.server.server_address, timeout=20)
+        connection = HTTPConnection(*self.server.server_address, timeout=60)
         try:
             connection.request(method, path, headers={name.replace("_", "-"): value for name, value in headers.items()})
             answer = connection.getresponse()

@@ -18,8 +18,8 @@ from .blocks import Damaged, opened
 from .choosing import Choice, choice_of
 from .finding import Failure, of_system
 from .held import Held
-from .pages import CSV, FORMS, JSON, LINES, Page, Unfit, bytes_of, page_of
-from .reading import Far, Missing, Tables, identity_of, whole_number
+from .pages import CSV, DEADLINE, FORMS, JSON, LINES, Page, Unfit, bytes_of, page_of
+from .reading import Far, Missing, Tables, key_of, whole_number
 from .room import Crowded, Room
 from .scans import Busy, Scans
 from .serve_page import is_page_of, page_of_versions
@@ -259,7 +259,7 @@ class Answers:
 
     def tables(self, held):
         """The tables of a held version, which are the same as long as it is there."""
-        key = held.number, *identity_of(os.fstat(held.handle))
+        key = held.number, *key_of(os.fstat(held.handle))
         if key not in self.kept:
             there = set(whole(self.folder))
             self.kept = {each: tables for each, tables in list(self.kept.items()) if each[0] in there}
@@ -292,7 +292,7 @@ class Answers:
             return None
         try:
             with self.room.share(bytes_of(limit) + MORE) as share, self.places:
-                page = page_of(choice, form, limit, held.number, is_near=choice.is_plain)
+                page = page_of(choice, form, limit, held.number, DEADLINE, choice.is_plain)
                 share.kept = len(page.body)
                 return page
         except Far:
@@ -300,7 +300,7 @@ class Answers:
 
     def searched(self, request: Request, fields: dict, choice: Choice, form: str, limit: int, held: Held) -> Page:
         """The page of rows that are searched for, by a process of its own. What it learns of places in the table is kept."""
-        job = {"folder": str(self.folder), "version": held.number, "identity": identity_of(os.fstat(held.handle)), "view": choice.table.name}
+        job = {"folder": str(self.folder), "version": held.number, "key": key_of(os.fstat(held.handle)), "view": choice.table.name}
         job |= {"where": fields.get("where", ()), "order": fields.get("order"), "columns": fields.get("columns")}
         told, body = self.scans.page(job | {"after": choice.after, "limit": limit, "form": form}, request.connection)
         if told["mark"]:

@@ -80,19 +80,20 @@ class Filling:
         return Page(head + b"".join(self.rows), self.following)
 
 
-def in_time(choice: Choice, due: float) -> Iterator[Numbered]:
+def in_time(choice: Choice, seconds: float) -> Iterator[Numbered]:
     """All rows that are put in order, as long as there is time."""
+    due = time.monotonic() + seconds
     for _, rows in choice.blocks():
         if time.monotonic() > due:
-            raise Unfit(f"to put these rows in order takes more than {DEADLINE} seconds; ask for fewer of them by where")
+            raise Unfit(f"to put these rows in order takes more than {seconds} seconds; ask for fewer of them by where")
         yield from rows
 
 
-def page_of(choice: Choice, form: str, limit: int, version: int, is_near: bool = False) -> Page:
+def page_of(choice: Choice, form: str, limit: int, version: int, seconds: float, is_near: bool = False) -> Page:
     """The page of these rows. Where their time is over it ends early, with the number of the row behind which to go on."""
-    filling, due = Filling(choice, form, limit), time.monotonic() + DEADLINE
+    filling, due = Filling(choice, form, limit), time.monotonic() + seconds
     if choice.order is not None:
-        filling.take(choice.order.few(in_time(choice, due), limit + 1))
+        filling.take(choice.order.few(in_time(choice, seconds), limit + 1))
         return filling.page(version)
     for block, rows in choice.blocks(is_near):
         if time.monotonic() > due and block.before > choice.after:

@@ -171,7 +171,7 @@ def others(folder: Path) -> dict:
     return {match[1]: path for path in found if (match := TABLE.fullmatch(path.name)) and not path.name.startswith(".")}
 
 
-def identity_of(found: os.stat_result) -> tuple[int, int, int]:
+def key_of(found: os.stat_result) -> tuple[int, int, int]:
     """By what a version's folder is known: its number may come again."""
     return found.st_dev, found.st_ino, found.st_ctime_ns
 

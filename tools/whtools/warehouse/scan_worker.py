@@ -12,31 +12,30 @@ from .blocks import Damaged
 from .choosing import choice_of
 from .finding import Failure
 from .pages import Unfit, page_of
-from .reading import Tables, identity_of
+from .reading import Tables, key_of
 from .versions import place
 
 # How much memory it may take, by how much it steps back behind those who read pages, and of how many versions it keeps what it knows.
 MEMORY, BEHIND, KEPT = 2**30, 2, 4
 
 
-def tables_of(kept: dict, folder: Path, number: int, identity: list) -> Tables:
+def tables_of(kept: dict, folder: Path, number: int, key: list) -> Tables:
     """The tables of the version that the server holds."""
-    found = os.stat(place(folder, number))
-    key = number, *identity_of(found)
-    if [*key[1:]] != identity:
+    found = key_of(os.stat(place(folder, number)))
+    if list(found) != key:
         raise Unfit(f"version {number} is another one than it was")
-    if key not in kept:
+    if (number, found) not in kept:
         while len(kept) >= KEPT:
             kept.pop(next(iter(kept)))
-        kept[key] = Tables(folder, number)
-    return kept[key]
+        kept[number, found] = Tables(folder, number)
+    return kept[number, found]
 
 
 def found(job: dict, kept: dict) -> tuple[dict, bytes]:
     """What is told of the page of a job, and its body."""
-    table = tables_of(kept, Path(job["folder"]), job["version"], job["identity"]).table(job["view"])
+    table = tables_of(kept, Path(job["folder"]), job["version"], job["key"]).table(job["view"])
     choice = choice_of(table, job["where"], job["order"], job["columns"], job["after"])
-    page = page_of(choice, job["form"], job["limit"], job["version"])
+    page = page_of(choice, job["form"], job["limit"], job["version"], job["seconds"])
     mark = table.place_before(page.following) if page.following is not None else None
     return {"following": page.following, "mark": mark}, page.body
 

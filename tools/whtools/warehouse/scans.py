@@ -54,7 +54,7 @@ class Worker:
         """What it tells of a job, and the body that it made, for which room is kept."""
         due = time.monotonic() + DEADLINE + GRACE
         try:
-            self.process.stdin.write(json.dumps(job).encode() + b"\n")
+            self.process.stdin.write(json.dumps(job | {"seconds": DEADLINE}).encode() + b"\n")
         except BrokenPipeError:
             raise Unfit("this search ended before its time; try again") from None
         head = self.received(2 * LENGTH, connection, due)
