@@ -65,9 +65,13 @@ fn read_next_version<R: Wait + Abort>(
     requires { desk.old.book ≡ writer.old.book }
 {
     assert_eq!(rt; desk.open(), Ok(0));
+    let before = desk.seen();
     publish_night(rt, alloc, writer)?;
+    assert!(rt; writer.has(&before));
+    assert!(rt; desk.learn(writer.tell()));
+    assert!(rt; !desk.learn(before));
     assert_one_row(rt, desk, 1);
-    desk.learn(writer.tell());
+    assert!(rt; writer.has(&desk.seen()));
     assert!(rt; desk.close().is_ok());
     assert_eq!(rt; desk.open(), Ok(1));
     assert_one_row(rt, desk, 2);

@@ -1,5 +1,5 @@
 -- Histories and what is known of them.
-use Rattle.std.proofs.Common.{◌≡◌, refl, sym, ap, ◌∙◌, subst, ℕ, ◌+◌, ◌≤◌, Bool, true, false, List, [], ◌∷◌, ◌++◌, length, MatchBool, arith}
+use Rattle.std.proofs.Common.{◌≡◌, refl, sym, ap, ◌∙◌, subst, ℕ, ◌+◌, ◌≤◌, Bool, true, false, List, [], ◌∷◌, ◌++◌, length, length-append, MatchBool, arith}
 use Rattle.std.proofs.lemmas.Bool.Decides.{nat_tests}
 use mathlib.Core.List.{IsPrefix}
 use lib.Dec.{leb}
@@ -16,6 +16,9 @@ pub operations-append : (xs ys : List Chapter) → operations (xs ++ ys) ≡ ope
 operations-append [] ys = refl
 operations-append (Opened store ∷ xs) ys = operations-append xs ys
 operations-append (Done op ∷ xs) ys = ap (λ os. operation op ∷ os) (operations-append xs ys)
+
+pub counted_next : (xs : List Chapter) (op : Op) → length (operations (xs ++ Done op ∷ [])) ≡ length (operations xs) + 1
+counted_next xs op = ap length (operations-append xs (Done op ∷ [])) ∙ omega (arith, length-append (operations xs) (operation op ∷ []))
 
 -- a history that has begun keeps its beginning
 pub warehouse-append : (xs ys : List Chapter) → 1 ≤ length xs → warehouse_of (xs ++ ys) ≡ warehouse_of xs

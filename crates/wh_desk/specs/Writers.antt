@@ -6,6 +6,7 @@ use Rattle.wh_store.specs.Ledgers.{Ledger, ledger}
 use Rattle.wh_desk.specs.declared.inner.Inner.{Inner}
 use Rattle.wh_desk.specs.declared.kept.Kept.{Kept}
 use Rattle.wh_desk.specs.declared.kept.Publication.{Publication}
+use Rattle.wh_desk.specs.Known.{Known, known}
 
 -- of which warehouse, and what it has published and holds
 pub record Writing : Type 0 where
@@ -14,6 +15,10 @@ pub record Writing : Type 0 where
 
 abbrev pub writing : Book → Ledger → Writing
 writing book l = record { book = book; ledger = l }
+
+-- what a writer has published, which is what is shown
+abbrev pub published : Writing → Known
+published w = known w.book w.ledger.of w.ledger.list
 
 abbrev pub and_held : List Publication → Option Publication → List Publication
 and_held ps None = ps

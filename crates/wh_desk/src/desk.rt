@@ -1,11 +1,11 @@
 //! A desk, which reads what is published and never waits.
 
-ghost use Rattle.std.specs.Prelude.{◌≡◌, ◌⊎◌, ◌≤◌, None, Some, Ok, Err, MatchOption, MatchResult, option_map};
+ghost use Rattle.std.specs.Prelude.{◌≡◌, ◌⊎◌, ◌≤◌, ◌<◌, None, Some, Ok, Err, MatchBool, MatchOption, MatchResult, length, option_map};
 ghost use mathlib.Core.List.{IsPrefix};
 ghost use Rattle.left_right.specs.Sides.{view};
 ghost use Rattle.wh_store.specs.Versions.{number};
 ghost use Rattle.wh_store.specs.Ledgers.{versions_in};
-ghost use Rattle.wh_desk.specs.Known.{Begins};
+ghost use Rattle.wh_desk.specs.Known.{Begins, known};
 ghost use Rattle.wh_desk.specs.Rules.{IsCopy};
 ghost use Rattle.wh_desk.specs.Desks.{sitting, sitting_of, Grows, IsPage, NoPage, OpensAt, NotOpened, Reads, NotRead, ShowsRows};
 ghost use Rattle.wh_desk.specs.Inner.Desks.{Knows, IsDesk};
@@ -158,17 +158,27 @@ fn page_at(
 }
 
 impl Desk {
-    /// From now on the desk sees no less than was told.
-    pub fn learn(&mut self, told: Told)
+    /// From now on the desk sees no less than was told. Answers whether it is now all that the desk has seen or was told.
+    pub fn learn(&mut self, told: Told) -> bool
         requires { told.book ≡ self.old.book }
+        ensures exact { MatchBool result (self.new.list ≡ told.list) (length told.list < length self.new.list) }
         ensures one { (self.new.list ≡ self.old.list) ⊎ (self.new.list ≡ told.list) }
         ensures seen { Grows self.old self.new }
         ensures told { (told.of ≡ self.new.of) × IsPrefix told.list self.new.list }
         ensures session { self.new.session ≡ self.old.session }
     {
-        if !self.chair.front.covers(&told) {
-            self.chair.front = told;
+        if self.chair.front.covers(&told) {
+            return told.covers(&self.chair.front);
         }
+        self.chair.front = told;
+        true
+    }
+
+    /// All that the desk has seen and was told, to be handed to another thread.
+    pub fn seen(&self) -> Told
+        ensures { result ≡ known self.now.book self.now.of self.now.list }
+    {
+        self.chair.front.again()
     }
 
     /// Opens a session at the current version, which it answers.

@@ -1,7 +1,7 @@
 //! The history of a warehouse: what it began with, and the operations that were published. It exists in the proofs alone; what lies in
 //! memory is the number of operations.
 
-ghost use Rattle.std.specs.Prelude.{◌≡◌, ◌≤◌, ◌++◌, ◌∷◌, [], IsTrue, IfSome, MatchBool, length};
+ghost use Rattle.std.specs.Prelude.{◌≡◌, ◌≤◌, ◌++◌, ◌∷◌, [], IsTrue, IfSome, MatchBool, length, nat_le};
 ghost use Rattle.wh_store.specs.Operations.{operation};
 ghost use Rattle.wh_store.specs.Versions.{is_well_formed};
 ghost use Rattle.wh_store.specs.Windows.{current};
@@ -87,7 +87,7 @@ pub struct Told {
 
 impl Model for Told {
     ghost use Rattle.std.specs.Prelude.{◌≡◌, ◌+◌, length};
-    ghost use Rattle.wh_desk.specs.Known.{Known, told, IsStory};
+    ghost use Rattle.wh_desk.specs.Known.{Known, told, IsStory, operations};
     ghost use Rattle.wh_desk.specs.Inner.Known.{coded_known};
 
     ghost Value = { Known };
@@ -96,7 +96,7 @@ impl Model for Told {
 
     ghost view = { λ t. told t.seen.book t.seen.log };
 
-    ghost invariant = { λ t. (length t.seen.log ≡ t.count + 1) × IsStory (told t.seen.book t.seen.log) };
+    ghost invariant = { λ t. (length t.seen.log ≡ t.count + 1) × IsStory (told t.seen.book t.seen.log) × (length (operations t.seen.log) ≡ t.count) };
 }
 
 impl Told {
@@ -115,7 +115,8 @@ impl Told {
     /// Whether it has all that the other has. Else the other has all that it has.
     pub(crate) fn covers(&self, other: &Told) -> bool
         requires { other.now.book ≡ self.now.book }
-        ensures { MatchBool result (Begins other.now self.now) (Begins self.now other.now) }
+        ensures begins { MatchBool result (Begins other.now self.now) (Begins self.now other.now) }
+        ensures counts { result ≡ nat_le (length other.now.list) (length self.now.list) }
     {
         let mut both = self.seen.again();
         both.learn(&other.seen);

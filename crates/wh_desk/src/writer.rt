@@ -1,14 +1,14 @@
 //! The writer of a warehouse.
 
-ghost use Rattle.std.specs.Prelude.{◌≡◌, ◌≢◌, ◌≤◌, ◌<◌, [], ◌∷◌, ◌++◌, None, Some, Ok, Err, length, is_some, if◌then◌else◌, IfOk, IfErr, OnOk, OnErr, IsTrue, MatchOption, MatchResult};
+ghost use Rattle.std.specs.Prelude.{◌≡◌, ◌≢◌, ◌≤◌, ◌<◌, [], ◌∷◌, ◌++◌, None, Some, Ok, Err, length, is_some, nat_le, if◌then◌else◌, IfOk, IfErr, OnOk, OnErr, IsTrue, MatchBool, MatchOption, MatchResult};
 ghost use Rattle.wh_row.specs.Bag.{empty};
 ghost use Rattle.wh_store.specs.Operations.{operation};
 ghost use Rattle.wh_store.specs.Refusals.{refusal};
 ghost use Rattle.wh_store.specs.Versions.{is_active, is_well_formed, number, table_in};
 ghost use Rattle.wh_store.specs.Faults.{publish_refusal, refused, IsOkUnlessMemory, Ends, EndsLater};
 ghost use Rattle.wh_store.specs.Ledgers.{ledger, gone_out, versions_in};
-ghost use Rattle.wh_desk.specs.Known.{known};
-ghost use Rattle.wh_desk.specs.Writers.{waiting, writing, writing_of};
+ghost use Rattle.wh_desk.specs.Known.{Begins, known};
+ghost use Rattle.wh_desk.specs.Writers.{published, waiting, writing, writing_of};
 ghost use Rattle.wh_desk.specs.Inner.Writers.{IsWriter, end_of};
 
 use crate::history::Told;
@@ -166,9 +166,18 @@ impl Writer {
 
     /// What is published.
     pub fn tell(&self) -> Told
-        ensures { result ≡ known self.now.book self.now.ledger.of self.now.ledger.list }
+        ensures { result ≡ published self.now }
     {
         self.inner.raw.published().front.again()
+    }
+
+    /// Whether all that was told, or that a desk has seen, is published by this writer. Else all that it has published was told, and more.
+    pub fn has(&self, told: &Told) -> bool
+        requires { told.now.book ≡ self.now.book }
+        ensures begins { MatchBool result (Begins told.now (published self.now)) (Begins (published self.now) told.now) }
+        ensures counts { result ≡ nat_le (length told.now.list) (length self.now.ledger.list) }
+    {
+        self.inner.raw.published().front.covers(told)
     }
 
     /// The number of the current version.

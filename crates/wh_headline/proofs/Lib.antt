@@ -4,6 +4,7 @@ mod Told
 mod PageSizes
 mod Rows
 mod Served
+mod Readers
 mod SeenAlike
 mod Logs
 mod Beginnings

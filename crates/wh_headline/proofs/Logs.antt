@@ -2,6 +2,7 @@
 use Rattle.std.proofs.Common.{◌≡◌, ◌≢◌, refl, sym, ap, ◌∙◌, subst, ℕ, ◌+◌, ◌-◌, ◌<◌, ◌≤◌, ◌^◌, List, [], ◌∷◌, ◌++◌, length, Bool, true, false, arith, cond, Option, Some, None, ◌⊎◌, ⊎_elim, inl, inr}
 use Rattle.std.specs.Prelude.{nat_le, nat_lt, option_map, slice_index_or}
 use Rattle.std.proofs.lemmas.Bool.{and_parts, cases_lt, le-leb, leb-true}
+use Rattle.std.proofs.lemmas.List.{append_assoc}
 use Rattle.std.proofs.lemmas.Option.{same_Some}
 use Rattle.wh_carry.specs.NightList.{IsCutNight}
 use Rattle.wh_carry.specs.Refused.{ArePassedBelow}
@@ -10,20 +11,24 @@ use Rattle.wh_store.specs.Operations.{Operation, Opens, Gives_up}
 use Rattle.wh_store.specs.Pages.{Contents, page_of}
 use Rattle.wh_store.specs.Versions.{Versions, is_active, kept_count, number, opened, table_in, version, versions_from, versions_of}
 use Rattle.wh_carry.specs.Night.{Night, AreAllowed}
-use Rattle.wh_desk.specs.Desks.{IsPage, SeenVersionsStay, Sitting, versions_seen}
+use mathlib.Core.List.{IsPrefix}
+use Rattle.wh_desk.specs.Desks.{Grows, IsPage, SeenVersionsStay, Sitting, versions_seen}
+use Rattle.wh_desk.specs.Writers.{Writing}
+use Rattle.wh_desk.proofs.Telling.{grows_on}
 use Rattle.wh_store.specs.Ledgers.{Warehouse}
 use Rattle.wh_night.specs.Tonight.{Begin_it, IsWhole}
 use Rattle.wh_core.specs.Laws.{IsSetup}
 use Rattle.wh_core.specs.Log.{Bookmark, Log, SessionOf, Began, Gave_up, bookmark_after, nights_begun, session}
 use Rattle.wh_core.specs.Nights.{Setup, next_night, night_from, versions}
-use Rattle.wh_core.specs.Replies.{goes_on, nothing}
+use Rattle.wh_core.specs.Replies.{nothing}
 use Rattle.wh_core.proofs.NightLogs.{IsOneMore, cut_night, night_ops, open_night, whole_night}
 use Rattle.wh_core.proofs.Underway.{versions_from-append}
-use Rattle.wh_headline.specs.Alike.{AreAlike, AreSeenAlike, row_read}
-use Rattle.wh_headline.specs.RunningNights.{AreEndedNights, AreRunningNights, AreSeats, CanBegin, DesksBesideNightsAnswerAsTheMachine, DesksThatLagAnswerAsTheMachine, HasEnded, HaveSeats, IsDeskBeside, IsLogOf, IsSeat, RunningNightsHaveALog, WasLeft, all_ended, night_after, none as no_nights, one_more as one_night_more, one_open}
+use Rattle.wh_headline.specs.Alike.{AreAlike, AreSeenAlike}
+use Rattle.wh_headline.specs.RunningNights.{AreEndedNights, AreRunningNights, AreSeats, CanBegin, DesksBesideNightsAnswerAsTheMachine, DesksThatLagAnswerAsTheMachine, HasEnded, HaveSeats, IsAnsweredFrom, IsHad, IsLogOf, IsSeat, RunningNightsHaveALog, WasLeft, all_ended, night_after, none as no_nights, one_more as one_night_more, one_open, set_up_warehouse}
 use Rattle.wh_headline.proofs.Answered.{answered}
 use Rattle.wh_headline.proofs.Beginnings.{beginnings}
 use Rattle.wh_headline.proofs.PageSizes.{any_pages}
+use Rattle.wh_headline.proofs.Readers.{IsReader, is_reader}
 use Rattle.wh_headline.proofs.SeenAlike.{alike_then, beginning_alike, cut_alike, cut_number, number_alike, same_alike, whole_alike, whole_number, whole_ops}
 use Rattle.wh_headline.proofs.Served.{SitsNow, all_served}
 
@@ -223,26 +228,48 @@ have_a_log stay s nights active ops seats setup some are seated = running_nights
 
 -- ---- desks beside running nights
 
-module _ (stay : SeenVersionsStay) (s : Setup) (ops : List Operation) (mark : Option Bookmark) (before after : Sitting) (is : IsDeskBeside s ops mark before after) where
+-- the session that a desk has, with the bookmark where its reader goes on
+abbrev seat_of : Option Bookmark → Option ℕ → Option SessionOf
+seat_of mark o = option_map (λ v. record { version = v; bookmark = mark }) o
+
+seat_is : (mark : Option Bookmark) (o : Option ℕ) (of : SessionOf) → seat_of mark o ≡ Some of → (o ≡ Some of.version) × (of.bookmark ≡ mark)
+seat_is mark None of e = cc
+seat_is mark (Some v) of e =
+    let same : record { version = v; bookmark = mark } ≡ of = same_Some (record { version = v; bookmark = mark }) of e in
+    (ap (λ (x : SessionOf). Some x.version) same, sym (ap (λ (x : SessionOf). x.bookmark) same))
+
+same_session : (mark : Option Bookmark) (of : Option SessionOf) (o : Option ℕ) → of ≡ seat_of mark o → o ≡ option_map (λ x. x.version) of
+same_session mark of None e = ap (option_map (λ (x : SessionOf). x.version)) (sym e)
+same_session mark of (Some v) e = ap (option_map (λ (x : SessionOf). x.version)) (sym e)
+
+-- a desk of this warehouse that sees this list as it is answered
+record SeesList (s : Setup) (ops : List Operation) (mark : Option Bookmark) (before after : Sitting) : Type 0 where
+  warehouse : after.of ≡ set_up_warehouse s
+  list : after.list ≡ ops
+  reader : IsReader mark before
+  grows : Grows before after
+
+module _ (stay : SeenVersionsStay) (s : Setup) (ops : List Operation) (mark : Option Bookmark) (before after : Sitting) (is : SeesList s ops mark before after) where
   -- what the desk sees
   seen : versions_seen after ≡ versions_of s.opening ops
-  seen = λ i. versions_of (is.of i).opening (is.list i)
+  seen = λ i. versions_of (is.warehouse i).opening (is.list i)
 
   opened_version : (v : ℕ) → before.session ≡ Some v → v ≤ number (versions_of s.opening ops)
   opened_version v e =
-      let r = is.opened v e in
+      let r = is.reader.opened v e in
       let current : v ≡ number (versions_seen r.1) = r.2.3 in
-      let still : v ≤ number (versions_seen after) = (stay r.1 after v r.3 (omega (arith, current))).0 in
+      let still : v ≤ number (versions_seen after) = (stay r.1 after v (grows_on r.1 before after r.3 is.grows) (omega (arith, current))).0 in
       subst (λ k. v ≤ k) (ap number seen) still
 
   left_in : (v : ℕ) (at : Bookmark) → before.session ≡ Some v → mark ≡ Some at → WasLeft (version (versions_of s.opening ops) v) at
   left_in v at sits stands =
-      let g = is.stands at stands in
+      let g = is.reader.stands at stands in
       let same : g.reads.0 ≡ v = same_Some g.reads.0 v (sym g.reads.1.2 ∙ sym g.same_version ∙ sits) in
       let page : IsPage g.given v at.view g.row g.limit g.page = subst (λ k. IsPage g.given k at.view g.row g.limit g.page) same g.reads.2 in
       let current : ℕ = number (versions_seen g.given) in
       let there : v ≤ current = leb-true v current (and_parts (nat_le v current) (nat_lt current (v + kept_count g.given.of.limit (is_active (versions_seen g.given)))) page.0).0 in
-      let now : version (versions_seen g.given) v ≡ version (versions_of s.opening ops) v = sym (stay g.given after v g.grows there).1 ∙ ap (λ w. version w v) seen in
+      let on = grows_on g.given before after g.grows is.grows in
+      let now : version (versions_seen g.given) v ≡ version (versions_of s.opening ops) v = sym (stay g.given after v on there).1 ∙ ap (λ w. version w v) seen in
       record {
         view = subst (λ (c : Contents). at.view < length c) now page.1;
         row = g.row;
@@ -250,47 +277,26 @@ module _ (stay : SeenVersionsStay) (s : Setup) (ops : List Operation) (mark : Op
         left = ap (λ (c : Contents). bookmark_after at.view (page_of (table_in c at.view) g.row g.limit)) (sym now) ∙ ap (bookmark_after at.view) (sym page.2) ∙ g.left;
       }
 
--- the session that a desk has, with the bookmark where its reader stands
-seat_of : Option Bookmark → Option ℕ → Option SessionOf
-seat_of mark None = None
-seat_of mark (Some v) = Some (record { version = v; bookmark = mark })
+  -- so its session can be one of a log
+  seat : (of : SessionOf) → seat_of mark before.session ≡ Some of → IsSeat (versions_of s.opening ops) of
+  seat of e =
+      let at = seat_is mark before.session of e in
+      record {
+        there = opened_version of.version at.0;
+        stands = λ left stands. left_in of.version left at.0 (sym at.1 ∙ stands);
+      }
 
-seat_is : (mark : Option Bookmark) (o : Option ℕ) (of : SessionOf) → seat_of mark o ≡ Some of → (o ≡ Some of.version) × (of.bookmark ≡ mark)
-unfolding seat_of
-seat_is mark None of e = cc
-seat_is mark (Some v) of e =
-    let same : record { version = v; bookmark = mark } ≡ of = same_Some (record { version = v; bookmark = mark }) of e in
-    (ap (λ (x : SessionOf). Some x.version) same, sym (ap (λ (x : SessionOf). x.bookmark) same))
+-- desks that see one list
+abbrev SeeOneList : Setup → List Operation → (ℕ → Option Bookmark) → (ℕ → Sitting) → (ℕ → Sitting) → Type 0
+SeeOneList s ops marks before after = (d : ℕ) → d < s.desks → SeesList s ops (marks d) (before d) (after d)
 
-same_session : (mark : Option Bookmark) (of : Option SessionOf) (o : Option ℕ) → of ≡ seat_of mark o → o ≡ option_map (λ x. x.version) of
-unfolding seat_of
-same_session mark of None e = ap (option_map (λ (x : SessionOf). x.version)) (sym e)
-same_session mark of (Some v) e = ap (option_map (λ (x : SessionOf). x.version)) (sym e)
-
--- a Read goes on where the reader stands
-same_row : (view : ℕ) (mark : Option Bookmark) (of : Option SessionOf) (o : Option ℕ) → ((at : Bookmark) → mark ≡ Some at → o ≢ None) → of ≡ seat_of mark o → row_read view of ≡ goes_on view mark
-unfolding seat_of
-same_row view mark of (Some v) sits e = ap (row_read view) e
-same_row view None of None sits e = ap (row_read view) e
-same_row view (Some at) of None sits e = absurd (sits at refl refl)
-
-sits_down : (s : Setup) (ops : List Operation) (mark : Option Bookmark) (before after : Sitting) → IsDeskBeside s ops mark before after → (at : Bookmark) → mark ≡ Some at → before.session ≢ None
-sits_down s ops mark before after is at stands none =
-    let g = is.stands at stands in
-    none_some g.reads.0 (sym none ∙ g.same_version ∙ g.reads.1.2)
-  where
-    none_some : (v : ℕ) → ◌≢◌ {A = Option ℕ} None (Some v)
-    none_some v e = cc
-
-pub desks_beside : VersionsStay → SeenVersionsStay → DesksBesideNightsAnswerAsTheMachine
-desks_beside stay seen_stay s nights active ops marks before after setup some are desks =
+-- one log has their sessions, and answers them
+desks_at : VersionsStay → SeenVersionsStay → (s : Setup) (nights : ℕ) (active : Bool) (ops : List Operation) (marks : ℕ → Option Bookmark) (before after : ℕ → Sitting) → IsSetup s → 1 ≤ s.workers
+    → AreRunningNights s nights active ops → SeeOneList s ops marks before after
+    → (log : Log) × IsLogOf s nights active ops log × ((d : ℕ) → d < s.desks → IsAnsweredFrom s log d (marks d) (before d) (after d))
+desks_at stay seen_stay s nights active ops marks before after setup some are desks =
     let r = have_a_log stay s nights active ops (λ d. seat_of (marks d) (before d).session) setup some are
-    (λ d of l e.
-    let at = seat_is (marks d) (before d).session of e in
-    record {
-      there = opened_version seen_stay s ops (marks d) (before d) (after d) (desks d l) of.version at.0;
-      stands = λ mark stands. left_in seen_stay s ops (marks d) (before d) (after d) (desks d l) of.version mark at.0 (sym at.1 ∙ stands);
-    }) in (
+    (λ d of l e. seat seen_stay s ops (marks d) (before d) (after d) (desks d l) of e) in (
       r.0,
       r.1,
       λ d l. (
@@ -298,19 +304,50 @@ desks_beside stay seen_stay s nights active ops marks before after setup some ar
           let alike : AreAlike s r.0 d (before d) (after d) = record {
             desk = l;
             session = same_session (marks d) (session r.0 d) (before d).session (r.2 d l);
-            kept = ap (λ (of : Warehouse). of.limit) is.of;
+            kept = ap (λ (of : Warehouse). of.limit) is.warehouse;
             versions = alike_then (versions_seen (after d)) (versions_of s.opening ops) (versions s r.0)
                 (same_alike (versions_seen (after d)) (versions_of s.opening ops) (seen seen_stay s ops (marks d) (before d) (after d) is)) r.1.versions;
           } in
-          record {
-            from = λ view. same_row view (marks d) (session r.0 d) (before d).session (sits_down s ops (marks d) (before d) (after d) is) (r.2 d l);
-            answered = answered s r.0 d (before d) (after d) alike;
-          }),
+          record { session = r.2 d l; answered = answered s r.0 d (before d) (after d) alike }),
     )
+
+-- ---- desks of a writer
+
+begins_on : (xs ys zs : List Operation) → IsPrefix xs ys → IsPrefix ys zs → IsPrefix xs zs
+begins_on xs ys zs p q = (p.0 ++ q.0, sym (append_assoc xs p.0 q.0) ∙ (ap (λ ws. ws ++ q.0) p.1 ∙ q.1))
+
+-- of two lists that begin one another each is the whole of the other
+same_list : (xs ys : List Operation) → IsPrefix xs ys → IsPrefix ys xs → xs ≡ ys
+same_list [] [] p q = refl
+same_list [] (y ∷ ys) p q = absurd (cc q.1)
+same_list (x ∷ xs) [] p q = absurd (cc p.1)
+same_list (x ∷ xs) (y ∷ ys) p q =
+    let rest : xs ≡ ys = same_list xs ys (p.0, cc p.1) (q.0, cc q.1) in
+    cc (p.1, rest)
+
+-- what a desk saw begins what the writer has
+had_list : (w : Writing) (here : Sitting) → IsHad w here → IsPrefix here.list w.ledger.list
+had_list w here is = begins_on here.list is.later.list w.ledger.list is.grows.2 is.has.2
+
+had_of : (s : Setup) (w : Writing) (here : Sitting) → w.ledger.of ≡ set_up_warehouse s → IsHad w here → here.of ≡ set_up_warehouse s
+had_of s w here of is = sym is.grows.1 ∙ (is.has.1 ∙ of)
+
+pub desks_beside : VersionsStay → SeenVersionsStay → DesksBesideNightsAnswerAsTheMachine
+desks_beside stay seen_stay s nights active w marks before after setup some of are desks =
+    desks_at stay seen_stay s nights active w.ledger.list marks before after setup some are
+    (λ d l. (
+    let is = desks d l in
+    record {
+      warehouse = had_of s w (after d) of is.had;
+      list = same_list (after d).list w.ledger.list (had_list w (after d) is.had) is.told;
+      reader = is_reader (before d) (marks d) is.served;
+      grows = is.grows;
+    }))
 
 -- a desk that lags, as if all desks were as it is
 pub desks_that_lag : VersionsStay → SeenVersionsStay → DesksThatLagAnswerAsTheMachine
-desks_that_lag stay seen_stay s nights active ops d mark before after setup some are l begins is =
-    let seen = beginnings s nights active ops after.list are begins in
-    let r = desks_beside stay seen_stay s seen.0 seen.1 after.list (λ k. mark) (λ k. before) (λ k. after) setup some seen.3 (λ k below. is) in
+desks_that_lag stay seen_stay s nights active w d mark before after setup some of are l served grows had =
+    let seen = beginnings s nights active w.ledger.list after.list are (had_list w after had) in
+    let r = desks_at stay seen_stay s seen.0 seen.1 after.list (λ k. mark) (λ k. before) (λ k. after) setup some seen.3
+    (λ k below. record { warehouse = had_of s w after of had; list = refl; reader = is_reader before mark served; grows = grows }) in
     (seen.0, seen.1, r.0, seen.2, r.1, r.2 d l)

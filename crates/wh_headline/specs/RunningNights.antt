@@ -1,5 +1,5 @@
 -- Logs of the machine over events for the lists that running nights publish.
-use Rattle.std.specs.Prelude.{◌≡◌, ◌≢◌, ◌⊎◌, ℕ, ◌+◌, ◌^◌, ◌<◌, ◌≤◌, Bool, true, false, List, [], ◌∷◌, ◌++◌, Option, None, Some, length, slice_get}
+use Rattle.std.specs.Prelude.{◌≡◌, ◌≢◌, ◌⊎◌, ℕ, ◌+◌, ◌^◌, ◌<◌, ◌≤◌, Bool, true, false, List, [], ◌∷◌, ◌++◌, Option, None, Some, length, option_map, slice_get}
 use mathlib.Core.List.{IsPrefix}
 use Rattle.wh_row.specs.Row.{Row}
 use Rattle.wh_maint.specs.Comp.{bag_at}
@@ -13,6 +13,8 @@ use Rattle.wh_store.specs.Ledgers.{Ledger, Warehouse}
 use Rattle.wh_store.specs.declared.ended.Ended.{Ended}
 use Rattle.wh_carry.specs.Night.{Night, AreAllowed}
 use Rattle.wh_desk.specs.Desks.{Grows, OpensAt, Reads, Sitting}
+use Rattle.wh_desk.specs.Known.{Begins, Known, known}
+use Rattle.wh_desk.specs.Writers.{Writing}
 use Rattle.wh_night.specs.Tonight.{Begin_it, IsDone, IsOpen, IsWhole, Leaves, newest_in, tonight}
 use Rattle.wh_night.specs.declared.cause.NightCause.{NightCause}
 use Rattle.wh_night.specs.declared.left.Left.{Left}
@@ -20,8 +22,8 @@ use Rattle.wh_night.specs.declared.left.Left.TheVariants.{Untouched, GivenUp, St
 use Rattle.wh_core.specs.Laws.{IsSetup}
 use Rattle.wh_core.specs.Log.{Bookmark, Log, SessionOf, bookmark_after, is_open, nights_begun, session}
 use Rattle.wh_core.specs.Nights.{GivenNight, Setup, night_from, versions}
-use Rattle.wh_core.specs.Replies.{IsLegalLog, goes_on}
-use Rattle.wh_headline.specs.Alike.{AreSeenAlike, IsAnsweredAlike, row_read}
+use Rattle.wh_core.specs.Replies.{IsLegalLog}
+use Rattle.wh_headline.specs.Alike.{AreSeenAlike, IsAnsweredAlike}
 
 -- ---- what running nights publish
 
@@ -137,43 +139,55 @@ RunningNightsHaveALog =
 
 -- ---- desks beside running nights
 
--- the desk was given this page of a view in a session of the version that its session has, and the page left this bookmark
-pub record WasGiven (before after : Sitting) (mark : Bookmark) : Type 0 where
-  pub asked : Sitting
-  pub given : Sitting
-  pub row : Option Row
-  pub limit : ℕ
-  pub page : Shown
-  pub reads : Reads asked given mark.view row limit page
-  pub same_version : before.session ≡ given.session
-  pub left : bookmark_after mark.view page ≡ Some mark
-  pub grows : Grows given after
+-- what a desk has seen and was told
+abbrev pub seen_by : Sitting → Known
+seen_by t = known t.book t.of t.list
 
--- a desk of this warehouse that sees this list as it is answered; a session that it had before was opened at a version that was current
--- in what it saw then. Its reader stands at this bookmark, which a page of the session has left, or where a view begins
-pub record IsDeskBeside (s : Setup) (ops : List Operation) (mark : Option Bookmark) (before after : Sitting) : Type 0 where
-  pub of : after.of ≡ set_up_warehouse s
-  pub list : after.list ≡ ops
-  pub opened : (v : ℕ) → before.session ≡ Some v → (first : Sitting) × (last : Sitting) × OpensAt first last v × Grows last after
-  pub stands : (at : Bookmark) → mark ≡ Some at → WasGiven before after at
+-- what a writer has published
+abbrev pub published_by : Writing → Known
+published_by w = known w.book w.ledger.of w.ledger.list
 
--- the desk is answered as the log's reply is, and a Read of the log goes on where the reader stands
+-- the writer has all that the desk had seen here: `Writer::has` tells so of what `Desk::seen` gives, here or later
+pub record IsHad (w : Writing) (here : Sitting) : Type 0 where
+  pub later : Sitting
+  pub grows : Grows here later
+  pub has : Begins (seen_by later) (published_by w)
+
+-- What a reader's calls of its desk have come to, and where it may go on: at no row where its desk has no session or has opened one; behind
+-- the page that it was given, if more rows follow; where it could before, whatever else was answered or told; and always at no row
+pub data IsServed : Sitting → Option Bookmark → Type 0 where
+  comes : (t : Sitting) → t.session ≡ None → IsServed t None
+  opens : (t u : Sitting) (v : ℕ) → OpensAt t u v → IsServed u None
+  reads : (t u : Sitting) (mark : Option Bookmark) (view limit : ℕ) (row : Option Row) (page : Shown) → IsServed t mark → Reads t u view row limit page
+      → IsServed u (bookmark_after view page)
+  stays : (t u : Sitting) (mark : Option Bookmark) → IsServed t mark → Grows t u → u.session ≡ t.session → IsServed u mark
+  turns_back : (t : Sitting) (mark : Option Bookmark) → IsServed t mark → IsServed t None
+
+-- a desk that is answered from all that the writer has published: it was told of that, as `Desk::learn` does what `Writer::tell` gives, and
+-- has seen no more
+pub record IsDeskBeside (w : Writing) (mark : Option Bookmark) (before after : Sitting) : Type 0 where
+  pub served : IsServed before mark
+  pub grows : Grows before after
+  pub told : IsPrefix w.ledger.list after.list
+  pub had : IsHad w after
+
+-- in the log the desk has the session that it had, which goes on where the reader does, and it is answered as the log's reply is
 pub record IsAnsweredFrom (s : Setup) (log : Log) (d : ℕ) (mark : Option Bookmark) (before after : Sitting) : Type 0 where
-  pub from : (view : ℕ) → row_read view (session log d) ≡ goes_on view mark
+  pub session : session log d ≡ option_map (λ v. record { version = v; bookmark = mark }) before.session
   pub answered : IsAnsweredAlike s log d before after
 
--- There is one such log by which all desks that see the list of running nights are answered, wherever their readers stand. So it is of each
+-- There is one such log by which all desks that see the list of running nights are answered, wherever their readers go on. So it is of each
 -- page of a session, in turn: of the first one of a view, and of each that begins after the last row of one before it, up to the last
 abbrev pub DesksBesideNightsAnswerAsTheMachine : Type 0
 DesksBesideNightsAnswerAsTheMachine =
-    (s : Setup) (nights : ℕ) (active : Bool) (ops : List Operation) (marks : ℕ → Option Bookmark) (before after : ℕ → Sitting) → IsSetup s → 1 ≤ s.workers
-    → AreRunningNights s nights active ops → ((d : ℕ) → d < s.desks → IsDeskBeside s ops (marks d) (before d) (after d))
-    → (log : Log) × IsLogOf s nights active ops log × ((d : ℕ) → d < s.desks → IsAnsweredFrom s log d (marks d) (before d) (after d))
+    (s : Setup) (nights : ℕ) (active : Bool) (w : Writing) (marks : ℕ → Option Bookmark) (before after : ℕ → Sitting) → IsSetup s → 1 ≤ s.workers
+    → w.ledger.of ≡ set_up_warehouse s → AreRunningNights s nights active w.ledger.list → ((d : ℕ) → d < s.desks → IsDeskBeside w (marks d) (before d) (after d))
+    → (log : Log) × IsLogOf s nights active w.ledger.list log × ((d : ℕ) → d < s.desks → IsAnsweredFrom s log d (marks d) (before d) (after d))
 
--- so it is of each desk that sees a beginning of the list, which may be another for each: there is a log of what it sees by which it is
--- answered
+-- so it is of each desk of which the writer has all that it saw, which may be less than is published, and other for each: there is a log of
+-- what the desk sees by which it is answered
 abbrev pub DesksThatLagAnswerAsTheMachine : Type 0
 DesksThatLagAnswerAsTheMachine =
-    (s : Setup) (nights : ℕ) (active : Bool) (ops : List Operation) (d : ℕ) (mark : Option Bookmark) (before after : Sitting) → IsSetup s → 1 ≤ s.workers
-    → AreRunningNights s nights active ops → d < s.desks → IsPrefix after.list ops → IsDeskBeside s after.list mark before after
+    (s : Setup) (nights : ℕ) (active : Bool) (w : Writing) (d : ℕ) (mark : Option Bookmark) (before after : Sitting) → IsSetup s → 1 ≤ s.workers
+    → w.ledger.of ≡ set_up_warehouse s → AreRunningNights s nights active w.ledger.list → d < s.desks → IsServed before mark → Grows before after → IsHad w after
     → (n : ℕ) × (seen_open : Bool) × (log : Log) × (n ≤ nights) × IsLogOf s n seen_open after.list log × IsAnsweredFrom s log d mark before after

@@ -37,10 +37,10 @@ pub fn nights_go_on()
     ensures { NightsGoOn }
 {}
 
-/// Desks that see what running nights have published, and had no session or one that they opened while its version was
-/// current, are all answered as the desks of one legal run are at that point: what they open, each page of a view, and why
-/// there is none. A page is the first one, or begins after the last row of one that the desk was given in the session. No log
-/// is assumed.
+/// Desks that were told all that the writer of running nights has published, and have seen no more, are all answered as the desks of
+/// one legal run are at that point, in which each has the session that its reader's calls have left: what they open, each page of a
+/// view, and why there is none. A page is the first one, or begins after the last row of one that the desk was given in the session.
+/// No log is assumed: what is, the clauses of a desk's calls say, and [`wh_desk::Writer::has`] of what [`wh_desk::Desk::seen`] gives.
 pub fn desks_beside_nights_answer_as_the_machine()
     ensures { DesksBesideNightsAnswerAsTheMachine }
 {
@@ -48,8 +48,9 @@ pub fn desks_beside_nights_answer_as_the_machine()
     seen_versions_stay_law();
 }
 
-/// Each desk that sees a beginning of what running nights have published is answered as a desk of a legal run is, whose versions
-/// readers see as those of this beginning. Desks may see a different one each.
+/// Each desk of which the writer of running nights has all that it saw is answered as a desk of a legal run is, whose versions readers see
+/// as those of the beginning that the desk sees, and in which it has the session that its reader's calls have left. Desks may see a
+/// different beginning each.
 pub fn desks_that_lag_answer_as_the_machine()
     ensures { DesksThatLagAnswerAsTheMachine }
 {

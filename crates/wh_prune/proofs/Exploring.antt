@@ -1,5 +1,5 @@
 -- What the nodes of a search show.
-use Rattle.std.proofs.Common.{◌≡◌, ℕ, ◌+◌, ◌^◌, ◌<◌, ◌≤◌, List, [], ◌∷◌, ◌++◌, refl, sym, ap, ◌∙◌, subst, length, reverse, arith, append_assoc}
+use Rattle.std.proofs.Common.{◌≡◌, ℕ, ◌+◌, ◌^◌, ◌<◌, ◌≤◌, List, [], ◌∷◌, ◌++◌, refl, sym, ap, ◌∙◌, subst, length, reverse, arith, append_assoc, append-nil}
 use Rattle.std.specs.List.{All}
 use Rattle.std.proofs.Math.Pow.{pow_mono}
 use Rattle.std.proofs.lemmas.List.{reverse-append}
@@ -35,8 +35,9 @@ use Rattle.wh_prune.specs.declared.fault.PruneFault.{PruneFault}
 use Rattle.wh_prune.specs.declared.fault.PruneFault.TheVariants.{Budget, Memory}
 use Rattle.wh_prune.specs.Branching.{BranchesOnCycle, IsOnCycle, TakesFromCycle}
 use Rattle.wh_prune.specs.Plan.{HasBranchesOnCycles, IsSearchReason, IsWithinBudget}
-use Rattle.wh_prune.specs.Inner.Searching.{IsExplored, IsHeld, IsStopped}
-use Rattle.wh_prune.specs.Spent.{IsWithinLowest}
+use Rattle.wh_prune.specs.Inner.Searching.{HasRun, IsExplored, IsHeld, IsStopped}
+use Rattle.wh_prune.specs.Opening.{HasOpened}
+use Rattle.wh_prune.specs.Spent.{BeginsWith}
 use Rattle.wh_prune.proofs.Bounding.{bound-reverse, bound-completed, completed_all}
 use Rattle.wh_prune.proofs.Branches.{on_cycle-reverse}
 use Rattle.wh_prune.proofs.Deciding.{decides-reverse, open-reverse}
@@ -132,17 +133,26 @@ some_power n =
     let a : 2 ^ 1 ≤ 2 ^ (n + 1) = pow_mono {i = 1} {j = n + 1} (omega arith) in
     omega arith
 
--- a search that stopped
-pub why_stopped : (shape : List (List ℕ)) (sizes : ℕ → Size) (prices : Prices) (budget all best first : ℕ) (list : List Expression) (fault : PruneFault) → IsStopped budget all best fault → all ≡ 2 ^ (length (couples_of shape) + 1) → IsHeld shape sizes prices best list → best ≤ first → IsWithinLowest shape sizes prices first → IsSearchReason shape sizes prices budget fault
-why_stopped shape sizes prices budget all best first list Memory stopped e held down lowest = tt
-why_stopped shape sizes prices budget all best first list (Budget opened least) stopped e held down lowest =
+-- a search that stopped, begun at the root
+pub why_stopped : (shape : List (List ℕ)) (sizes : ℕ → Size) (prices : Prices) (budget all best first : ℕ) (list : List Expression) (nodes : List TreeNode) (fault : PruneFault) → IsStopped shape sizes prices budget all [] first best [] nodes fault → all ≡ 2 ^ (length (couples_of shape) + 1) → IsHeld shape sizes prices best list → BeginsWith shape sizes prices first → IsSearchReason shape sizes prices budget fault
+why_stopped shape sizes prices budget all best first list nodes Memory stopped e held begins = tt
+why_stopped shape sizes prices budget all best first list nodes (Budget opened least) stopped e held begins =
     let same : least ≡ best = stopped.1 in
     let more : budget + 1 < all = stopped.2 in
-    let within : first ≤ work_of shape sizes prices lowest.0 = lowest.4 in
+    let waits : List (ℕ × ℕ) = stopped.4 in
+    let others : List (List (ℕ × ℕ)) = stopped.5 in
+    let run : HasRun shape sizes prices [] first best (waits ∷ others) [] nodes = stopped.6 in
     record {
       all = stopped.0;
+      first = first;
+      begins = begins;
+      nodes = run.opened;
+      many = ap length (sym run.nodes) ∙ stopped.3 ∙ sym stopped.0;
+      waits = waits;
+      others = others;
+      searched = subst (λ z. HasOpened shape sizes prices first ([] ∷ []) run.opened z (waits ∷ others)) (sym same)
+          (subst (λ z. HasOpened shape sizes prices first ([] ∷ []) run.opened best z) (append-nil (waits ∷ others)) (run.run []));
       known = (list, held.correct, held.one_way, held.costs ∙ sym same);
-      lowest = (lowest.0, lowest.1, lowest.2, lowest.3, omega arith);
       few = omega arith;
     }
 

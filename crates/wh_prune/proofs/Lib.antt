@@ -5,4 +5,5 @@ pub mod CoupleLists
 pub mod Deciding
 pub mod Exploring
 pub mod LowestFirst
+pub mod Opened
 pub mod PlanReasons

@@ -1,6 +1,7 @@
 //! A tree of decisions on the couples, explored in preorder only where it must be.
 
 ghost use Rattle.std.specs.Prelude.{◌≡◌, ◌+◌, ◌++◌, ◌∷◌, ◌^◌, ◌≤◌, ℕ, List, [], length, Err, IfOk, IfErr, OnOk, MatchOption};
+ghost use Rattle.std.specs.Option.{option_map_or};
 ghost use Rattle.wh_dag.specs.Shape.{IsShape};
 ghost use Rattle.wh_dag.specs.Siblings.{couples_of};
 ghost use Rattle.wh_strategy.specs.Prices.{prices_of};
@@ -13,8 +14,9 @@ ghost use Rattle.wh_cert.specs.declared.tree.TreeNode.{TreeNode};
 ghost use Rattle.wh_minwork.specs.Decided.{AreDecisions};
 ghost use Rattle.wh_minwork.specs.Draft.{DecidesCouples};
 ghost use Rattle.wh_prune.specs.Branching.{IsOnCycle};
-ghost use Rattle.wh_prune.specs.Inner.Searching.{AreLeft, DecidesLowerFirst, IsExplored, IsHeld, IsStopped};
-ghost use Rattle.wh_prune.specs.Spent.{IsWithinLowest};
+ghost use Rattle.wh_prune.specs.Inner.Searching.{AreLeft, DecidesLowerFirst, HasRun, IsExplored, IsHeld, IsStopped};
+ghost use Rattle.wh_prune.specs.Opening.{below};
+ghost use Rattle.wh_prune.specs.Spent.{BeginsWith};
 
 use crate::fault::PruneFault;
 use std::alloc::{AllocError, Global};
@@ -97,7 +99,7 @@ impl<'a> Search<'a> {
         requires same { length sizes.now ≡ length shape.now.children }
         requires couples { couples.now ≡ couples_of shape.now.children }
         ensures held { IfOk result (λ s. IsHeld shape.now.children (sizes_of sizes.now) (prices_of costs) s.best s.list) }
-        ensures lowest { IfOk result (λ s. IsWithinLowest shape.now.children (sizes_of sizes.now) (prices_of costs) s.best) }
+        ensures begins { IfOk result (λ s. BeginsWith shape.now.children (sizes_of sizes.now) (prices_of costs) s.best) }
         ensures shape { OnOk result (IsShape shape.now.children) }
         ensures children { IfOk result (λ s. s.draft.children ≡ shape.now.children) }
         ensures ordered { IfOk result (λ s. IsOrdered shape.now.children (sizes_of sizes.now) s.draft.ordered) }
@@ -136,6 +138,7 @@ impl<'a> Search<'a> {
         ensures draft { self.new.draft ≡ self.old.draft }
         ensures nodes { IfOk result (λ _. length self.new.nodes.items ≡ length self.old.nodes.items + 1) }
         ensures explored { IfOk result (λ found. MatchOption found (IsExplored task.now.shape.now.children (sizes_of task.now.sizes.now) (prices_of task.now.costs) self.new.best 1 self.old.draft.decided self.old.nodes.items self.new.nodes.items) (λ couple. IsOpen task.now.shape.now.children self.old.draft.decided couple × (self.new.nodes.items ≡ self.old.nodes.items ++ TreeNode.Branch couple ∷ []) × (length self.old.draft.decided + 1 ≤ length (couples_of task.now.shape.now.children)) × IsOnCycle task.now.shape.now.children (sizes_of task.now.sizes.now) self.old.draft.decided couple)) }
+        ensures run { IfOk result (λ found. HasRun task.now.shape.now.children (sizes_of task.now.sizes.now) (prices_of task.now.costs) self.old.draft.decided self.old.best self.new.best (option_map_or (λ couple. below self.old.draft.decided (TreeNode.Branch couple)) found []) self.old.nodes.items self.new.nodes.items) }
     {
         // The proof needs what the lists of a shape and the decisions of a draft keep to.
         let (_lists, _decided) = (task.shape.child_lists(), self.draft.decided());
@@ -185,7 +188,8 @@ impl<'a> Search<'a> {
         ensures within { IfOk result (λ _. length self.new.nodes.items ≤ task.now.budget) }
         ensures nodes { IfOk result (λ _. length self.new.nodes.items + 1 ≤ length self.old.nodes.items + 2 ^ (left + 1)) }
         ensures explored { IfOk result (λ _. IsExplored task.now.shape.now.children (sizes_of task.now.sizes.now) (prices_of task.now.costs) self.new.best (left + 1) self.old.draft.decided self.old.nodes.items self.new.nodes.items) }
-        ensures err { IfErr result (IsStopped task.now.budget (length self.old.nodes.items + 2 ^ (left + 1)) self.new.best) }
+        ensures run { IfOk result (λ _. HasRun task.now.shape.now.children (sizes_of task.now.sizes.now) (prices_of task.now.costs) self.old.draft.decided self.old.best self.new.best [] self.old.nodes.items self.new.nodes.items) }
+        ensures err { IfErr result (IsStopped task.now.shape.now.children (sizes_of task.now.sizes.now) (prices_of task.now.costs) task.now.budget (length self.old.nodes.items + 2 ^ (left + 1)) self.old.draft.decided self.old.best self.new.best self.old.nodes.items self.new.nodes.items) }
 
         // A budget that is spent is told before memory is wanted.
         ensures spent { task.now.budget ≤ length self.old.nodes.items → result ≡ Err (PruneFault.Budget task.now.budget self.old.best) }

@@ -1,17 +1,15 @@
 //! The plan of a night.
 
-ghost use Rattle.std.specs.Prelude.{◌≡◌, ◌↔◌, ◌<◌, ◌≤◌, ◌⊎◌, List, length, IfOk, IfErr, OnErr};
+ghost use Rattle.std.specs.Prelude.{◌≡◌, ◌<◌, ◌≤◌, ◌⊎◌, List, length, IfOk, IfErr, OnErr};
 ghost use Rattle.wh_dag.specs.Kinds.{IsTree, IsUniform};
 ghost use Rattle.wh_strategy.specs.declared.expression.Expression.{Expression};
 ghost use Rattle.wh_strategy.specs.Prices.{prices_of};
 ghost use Rattle.wh_strategy.specs.Rules.{IsCorrect, IsOneWay};
 ghost use Rattle.wh_strategy.specs.Sizes.{sizes_of};
 ghost use Rattle.wh_strategy.specs.Work.{work_of};
-ghost use Rattle.wh_cert.specs.Bound.{pair_bound_of};
 ghost use Rattle.wh_cert.specs.Certificate.{IsJudged};
 ghost use Rattle.wh_cert.specs.declared.certificate.Scope.{Scope};
-ghost use Rattle.wh_minwork.specs.Plan.{IsAcyclicAsDesired, IsSortedAsDesired};
-ghost use Rattle.wh_prune.specs.Plan.{HasBranchesOnCycles, IsCyclicAsDesired, IsPlanReason, IsWithinBudget, accepted_for};
+ghost use Rattle.wh_prune.specs.Plan.{GoesByOrder, IsLeastPlan, IsPlanReason, IsWithinBudget, accepted_for};
 
 use crate::fault::PruneFault;
 use crate::search::prune;
@@ -53,7 +51,7 @@ fn certified(shape: &Shape, sizes: &Sizes, costs: Costs, planned: Planned) -> Pl
 /// reaches the pair bound all the same; otherwise among those whose Comps are each from one view. Of a tree or a
 /// uniform shape the answer is scope All, or Memory, whatever the budget. Takes O(V² C²) for V views of at most C
 /// children each where the ordered graph has no cycle, and else what `prune` and `certify` take too.
-#[tactic(auto, using(crate::proofs::Exploring::all_within, crate::proofs::Exploring::all_branches))]
+#[tactic(auto, using(crate::proofs::Exploring::all_within))]
 pub fn plan(
     alloc: Global,
     shape: &Shape,
@@ -63,19 +61,9 @@ pub fn plan(
 ) -> Result<Planned, PruneFault>
     requires same { length sizes.now ≡ length shape.now.children }
     ensures shape { IfOk result (λ p. p.correct.children ≡ shape.now.children) }
-    ensures correct { IfOk result (λ p. IsCorrect shape.now.children p.correct.list) }
-    ensures one_way { IfOk result (λ p. IsOneWay p.correct.list) }
-    ensures work { IfOk result (λ p. p.work ≡ work_of shape.now.children (sizes_of sizes.now) (prices_of costs) p.correct.list) }
-    ensures all { IfOk result (λ p. p.scope ≡ Scope.All ↔ p.work ≡ pair_bound_of shape.now.children (sizes_of sizes.now) (prices_of costs)) }
-    ensures certified { IfOk result (λ p. IsJudged shape.now.children (sizes_of sizes.now) (prices_of costs) p.work p.certificate (accepted_for p.scope)) }
+    ensures least { IfOk result (λ p. IsLeastPlan shape.now.children (sizes_of sizes.now) (prices_of costs) p.work p.scope p.correct.list p.certificate) }
+    ensures by_order { IfOk result (λ p. GoesByOrder shape.now.children (sizes_of sizes.now) p.scope p.correct.list) }
     ensures within { IfOk result (λ p. IsWithinBudget budget p.certificate) }
-    ensures branches { IfOk result (λ p. HasBranchesOnCycles shape.now.children (sizes_of sizes.now) p.certificate) }
-    ensures least_of_all { IfOk result (λ p. p.scope ≡ Scope.All → (list : List Expression) → IsCorrect shape.now.children list → p.work ≤ work_of shape.now.children (sizes_of sizes.now) (prices_of costs) list) }
-    ensures least_one_way { IfOk result (λ p. (list : List Expression) → IsCorrect shape.now.children list → IsOneWay list → p.work ≤ work_of shape.now.children (sizes_of sizes.now) (prices_of costs) list) }
-    ensures acyclic { IfOk result (λ p. IsAcyclicAsDesired shape.now.children (sizes_of sizes.now) → p.scope ≡ Scope.All) }
-    ensures cyclic { IfOk result (λ p. p.scope ≡ Scope.OneWay → IsCyclicAsDesired shape.now.children (sizes_of sizes.now)) }
-    ensures sorted { IfOk result (λ p. IsAcyclicAsDesired shape.now.children (sizes_of sizes.now) → IsSortedAsDesired shape.now.children (sizes_of sizes.now) p.correct.list) }
-    ensures all_by_shape { IfOk result (λ p. (IsTree shape.now.children ⊎ IsUniform shape.now.children) → p.scope ≡ Scope.All) }
     ensures err { IfErr result (IsPlanReason shape.now.children (sizes_of sizes.now) (prices_of costs) budget) }
     ensures never_spent { IfErr result (λ fault. (IsTree shape.now.children ⊎ IsUniform shape.now.children) → fault ≡ PruneFault.Memory) }
 

@@ -11,7 +11,7 @@ ghost use Rattle.wh_strategy.specs.Work.{work_of};
 ghost use Rattle.wh_cert.specs.Bound.{pair_bound_of};
 ghost use Rattle.wh_cert.specs.Certificate.{IsJudged};
 ghost use Rattle.wh_cert.specs.declared.certificate.Scope.{Scope};
-ghost use Rattle.wh_prune.specs.Plan.{HasBranchesOnCycles, IsSearchReason, IsWithinBudget, accepted_for};
+ghost use Rattle.wh_prune.specs.Plan.{HasBranchesOnCycles, IsLeastPlan, IsSearchReason, IsWithinBudget, accepted_for};
 ghost use Rattle.wh_prune.specs.Inner.Searching.{IsExplored};
 
 use crate::explore::{Search, Task};
@@ -63,15 +63,8 @@ pub fn prune(
 ) -> Result<Planned, PruneFault>
     requires same { length sizes.now ≡ length shape.now.children }
     ensures shape { IfOk result (λ p. p.correct.children ≡ shape.now.children) }
-    ensures correct { IfOk result (λ p. IsCorrect shape.now.children p.correct.list) }
-    ensures one_way { IfOk result (λ p. IsOneWay p.correct.list) }
-    ensures work { IfOk result (λ p. p.work ≡ work_of shape.now.children (sizes_of sizes.now) (prices_of costs) p.correct.list) }
-    ensures all { IfOk result (λ p. p.scope ≡ Scope.All ↔ p.work ≡ pair_bound_of shape.now.children (sizes_of sizes.now) (prices_of costs)) }
-    ensures certified { IfOk result (λ p. IsJudged shape.now.children (sizes_of sizes.now) (prices_of costs) p.work p.certificate (accepted_for p.scope)) }
+    ensures least { IfOk result (λ p. IsLeastPlan shape.now.children (sizes_of sizes.now) (prices_of costs) p.work p.scope p.correct.list p.certificate) }
     ensures within { IfOk result (λ p. IsWithinBudget budget p.certificate) }
-    ensures branches { IfOk result (λ p. HasBranchesOnCycles shape.now.children (sizes_of sizes.now) p.certificate) }
-    ensures least_of_all { IfOk result (λ p. p.scope ≡ Scope.All → (list : List Expression) → IsCorrect shape.now.children list → p.work ≤ work_of shape.now.children (sizes_of sizes.now) (prices_of costs) list) }
-    ensures least_one_way { IfOk result (λ p. (list : List Expression) → IsCorrect shape.now.children list → IsOneWay list → p.work ≤ work_of shape.now.children (sizes_of sizes.now) (prices_of costs) list) }
     ensures err { IfErr result (IsSearchReason shape.now.children (sizes_of sizes.now) (prices_of costs) budget) }
 {
     let couples = shape.couples(alloc)?;

@@ -16,6 +16,8 @@ pub mod Told
 pub mod Certified
 pub mod Decided
 pub mod NamesRead
+pub mod ClearTexts
+pub mod PlacedPlans
 pub mod PlansCertified
 pub mod SmallWorks
 pub mod NightDecided

@@ -29,12 +29,14 @@ use Rattle.wh_strategy.specs.declared.sizes.SizeRow.{SizeRow}
 
 -- ---- the bytes of a name
 
--- neither a space, a tab, an LF nor a semicolon
+-- neither a space, a tab, an LF, a CR, a semicolon nor an `@`
 record IsLetter (c : ℕ) : Type 0 where
   space : c ≢ 32
   tab : c ≢ 9
   feed : c ≢ 10
+  cr : c ≢ 13
   parting : c ≢ 59
+  at : c ≢ 64
 
 in_range : (low high c : ℕ) → is_in_range low high c ≡ true → (low < c + 1) × (c < high + 1)
 in_range low high c h =
@@ -46,22 +48,22 @@ in_range low high c h =
 begins-letter : (c : ℕ) → begins_name c ≡ true → IsLetter c
 begins-letter c h = elim (or_cases (is_ascii_alphabetic c) (c == underscore) h) [
   | inl letter ↦ elim (or_cases (is_in_range 65 90 c) (is_in_range 97 122 c) letter) [
-    | inl upper ↦ let r = in_range 65 90 c upper in record { space = λ e. omega arith; tab = λ e. omega arith; feed = λ e. omega arith; parting = λ e. omega arith }
-    | inr lower ↦ let r = in_range 97 122 c lower in record { space = λ e. omega arith; tab = λ e. omega arith; feed = λ e. omega arith; parting = λ e. omega arith }
+    | inl upper ↦ let r = in_range 65 90 c upper in record { space = λ e. omega arith; tab = λ e. omega arith; feed = λ e. omega arith; cr = λ e. omega arith; parting = λ e. omega arith; at = λ e. omega arith }
+    | inr lower ↦ let r = in_range 97 122 c lower in record { space = λ e. omega arith; tab = λ e. omega arith; feed = λ e. omega arith; cr = λ e. omega arith; parting = λ e. omega arith; at = λ e. omega arith }
   ]
-  | inr mark ↦ let same = eqb-true c 95 mark in record { space = λ e. omega arith; tab = λ e. omega arith; feed = λ e. omega arith; parting = λ e. omega arith }
+  | inr mark ↦ let same = eqb-true c 95 mark in record { space = λ e. omega arith; tab = λ e. omega arith; feed = λ e. omega arith; cr = λ e. omega arith; parting = λ e. omega arith; at = λ e. omega arith }
 ]
 
 continues-letter : (c : ℕ) → continues_name c ≡ true → IsLetter c
 continues-letter c h = elim (or_cases (is_ascii_alphanumeric c) (c == underscore) h) [
   | inl part ↦ elim (or_cases (is_in_range 48 57 c || is_in_range 65 90 c) (is_in_range 97 122 c) part) [
     | inl first ↦ elim (or_cases (is_in_range 48 57 c) (is_in_range 65 90 c) first) [
-      | inl digit ↦ let r = in_range 48 57 c digit in record { space = λ e. omega arith; tab = λ e. omega arith; feed = λ e. omega arith; parting = λ e. omega arith }
-      | inr upper ↦ let r = in_range 65 90 c upper in record { space = λ e. omega arith; tab = λ e. omega arith; feed = λ e. omega arith; parting = λ e. omega arith }
+      | inl digit ↦ let r = in_range 48 57 c digit in record { space = λ e. omega arith; tab = λ e. omega arith; feed = λ e. omega arith; cr = λ e. omega arith; parting = λ e. omega arith; at = λ e. omega arith }
+      | inr upper ↦ let r = in_range 65 90 c upper in record { space = λ e. omega arith; tab = λ e. omega arith; feed = λ e. omega arith; cr = λ e. omega arith; parting = λ e. omega arith; at = λ e. omega arith }
     ]
-    | inr lower ↦ let r = in_range 97 122 c lower in record { space = λ e. omega arith; tab = λ e. omega arith; feed = λ e. omega arith; parting = λ e. omega arith }
+    | inr lower ↦ let r = in_range 97 122 c lower in record { space = λ e. omega arith; tab = λ e. omega arith; feed = λ e. omega arith; cr = λ e. omega arith; parting = λ e. omega arith; at = λ e. omega arith }
   ]
-  | inr mark ↦ let same = eqb-true c 95 mark in record { space = λ e. omega arith; tab = λ e. omega arith; feed = λ e. omega arith; parting = λ e. omega arith }
+  | inr mark ↦ let same = eqb-true c 95 mark in record { space = λ e. omega arith; tab = λ e. omega arith; feed = λ e. omega arith; cr = λ e. omega arith; parting = λ e. omega arith; at = λ e. omega arith }
 ]
 
 kept_byte : (c : ℕ) → IsLetter c → not (is_blank c || c == 10) ≡ true
@@ -69,6 +71,13 @@ kept_byte c is = rw (ne_eqb c 32 is.space, ne_eqb c 9 is.tab, ne_eqb c 10 is.fee
 
 unparted_byte : (c : ℕ) → IsLetter c → not (is_parting c) ≡ true
 unparted_byte c is = rw (ne_eqb c 59 is.parting) refl
+
+-- neither an `@` nor a CR
+abbrev pub is_clear : ℕ → Bool
+is_clear b = not (b == 64 || b == 13)
+
+clear_byte : (c : ℕ) → IsLetter c → is_clear c ≡ true
+clear_byte c is = rw (ne_eqb c 64 is.at, ne_eqb c 13 is.cr) refl
 
 rest-letters : (p : ℕ → Bool) → ((c : ℕ) → IsLetter c → p c ≡ true) → (rest : List ℕ) → list_all continues_name rest ≡ true → list_all p rest ≡ true
 rest-letters p f [] h = refl
@@ -94,6 +103,9 @@ name-plain name h = rw (name-word name h, name-letters (λ b. not (is_blank b ||
 
 pub name-unparted : (name : List ℕ) → is_name name ≡ true → is_unparted name ≡ true
 name-unparted name h = name-letters (λ b. not (is_parting b)) unparted_byte name h
+
+pub name-clear : (name : List ℕ) → is_name name ≡ true → list_all is_clear name ≡ true
+name-clear name h = name-letters is_clear clear_byte name h
 
 -- ---- the names of a catalogue
 

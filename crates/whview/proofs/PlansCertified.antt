@@ -1,7 +1,7 @@
 -- What `plan` prints is read back and certified.
-use Rattle.std.proofs.Common.{◌≡◌, ◌∙◌, ap, ℕ, ◌^◌, ◌<◌, ◌≤◌, ◌++◌, Bool, true, false, cond, List, [], ◌∷◌, length, get_or, refl, sym, subst, zero, suc, arith, Ok}
+use Rattle.std.proofs.Common.{◌≡◌, ◌∙◌, ap, ℕ, ◌^◌, ◌<◌, ◌≤◌, ◌++◌, Bool, true, false, cond, List, [], ◌∷◌, length, get_or, refl, sym, subst, zero, suc, arith, Result, Ok, Err}
 use Rattle.std.specs.Prelude.{◌&&◌, MatchResult, filter, nat_lt}
-use Rattle.std.specs.List.{All}
+use Rattle.std.specs.List.{All, list_all}
 use Rattle.std.proofs.lemmas.Bool.{and_parts}
 use Rattle.std.proofs.lemmas.List.Elements.{All-append, All-cons, All-map, All-nil, All-weaker}
 use Rattle.std.proofs.lemmas.Option.{slice_get-get_or}
@@ -31,23 +31,27 @@ use Rattle.wh_text_lines.specs.declared.plan.Plan.{Plan}
 use Rattle.wh_text_lines.specs.PlanReadsBack.{IsCertificateWritable, IsNodeWithin, IsPairWithin, IsWritable}
 use Rattle.wh_text_lines.specs.ReadsBack.{IsWithin}
 use Rattle.wh_load.specs.ReadingCertify.{claim_in, claim_of}
+use Rattle.wh_text.specs.declared.fault.LoadFault.{LoadFault}
 use Rattle.wh_load.specs.ReadingPlan.{Measured, MeasuredTexts, measured_in, measured_of, measured_texts_of}
 use Rattle.wh_prune.specs.Plan.{accepted_for}
 use Rattle.wh_strategy.proofs.Found.{has-head, has-tail, has_within}
 use Rattle.wh_strategy.specs.Expression.{At}
 use Rattle.wh_strategy.specs.Prices.{Prices, prices_of}
 use Rattle.wh_strategy.specs.Rules.{IsCorrect}
+use Rattle.wh_strategy.specs.declared.costs.Costs.{Costs}
 use Rattle.wh_strategy.specs.declared.sizes.Size.{Size}
 use Rattle.wh_strategy.specs.Sizes.{AreSizeRows, sizes_of}
 use Rattle.wh_strategy.specs.declared.expression.Expression.{Expression}
 use Rattle.wh_strategy.specs.declared.expression.Expression.TheVariants.{Comp, Inst}
 use Rattle.wh_strategy.specs.declared.sizes.SizeRow.{SizeRow}
-use Rattle.whview.proofs.NamesRead.{AreNames, are_names, are_sizes, name-plain, name-unparted}
+use Rattle.whview.proofs.ClearTexts.{plan_clear}
+use Rattle.whview.proofs.PlacedPlans.{placed_texts, texts_with}
+use Rattle.whview.proofs.NamesRead.{AreNames, is_clear, are_names, are_sizes, name-plain, name-unparted}
 use Rattle.whview.proofs.SmallWorks.{work_fits}
 use Rattle.whview.specs.CheckOutput.{IsFaultShown}
 use Rattle.whview.specs.CertifyOutput.{IsJudgement, judged}
-use Rattle.whview.specs.PlanCertified.{LeastPlanIsCertified, PrintedPlanIsCertified, PrintedPlanIsReadBack, accepted_text, claim_with, plan_with, texts_with}
-use Rattle.whview.specs.PlanOutput.{IsLeastPlan}
+use Rattle.whview.specs.PlanCertified.{EndsLine, HasNoPlan, IsReadBackIn, LeastPlanIsCertified, PrintedPlanIsCertified, PrintedPlanIsReadBack, accepted_text, claim_with, plan_with, with_plan}
+use Rattle.whview.specs.PlanOutput.{IsLeastFor, IsPlanned, planned, spent}
 use Rattle.wh_text.specs.NameForm.{is_name}
 
 -- ---- the list is of views
@@ -200,7 +204,7 @@ is_read bytes measured e =
     })
 
 is_writable : (prices : Prices) (measured : Measured) (work : ℕ) (own : Scope) (list : List Expression) (certificate : Certificate) → IsRead measured
-    → IsLeastPlan prices measured work own list certificate → work < 2 ^ 128 → IsWritable measured.shape.names own work list certificate
+    → IsLeastFor prices measured work own list certificate → work < 2 ^ 128 → IsWritable measured.shape.names own work list certificate
 is_writable prices measured work own list certificate read least fits =
     record {
       plain = All-weaker _ _ name-plain measured.shape.names read.names.formed;
@@ -210,13 +214,16 @@ is_writable prices measured work own list certificate read least fits =
       certified = writable_certificate measured.shape.names measured.shape.children measured.sizes prices work read.names.many read.names.formed read.shape read.sizes own certificate least.accepted;
     }
 
+small_work : (costs : Costs) (measured : Measured) (work : ℕ) (own : Scope) (list : List Expression) (certificate : Certificate) → IsRead measured
+    → IsLeastFor (prices_of costs) measured work own list certificate → work < 2 ^ 128
+small_work costs measured work own list certificate is least =
+    subst (λ w. w < 2 ^ 128) (sym least.worked) (work_fits measured.shape.children measured.sizes costs list is.shape is.sizes least.correct least.one_way)
+
 pub printed_plan_is_read_back : PrintedPlanIsReadBack
 printed_plan_is_read_back costs bytes measured work own list certificate read least =
     let is = is_read bytes measured read in
-    let fits : work < 2 ^ 128 =
-    subst (λ w. w < 2 ^ 128) (sym least.worked)
-    (work_fits measured.shape.children measured.sizes costs list is.shape is.sizes least.correct least.one_way) in
-    plan_reads_back measured.shape.names own work list certificate (is_writable (prices_of costs) measured work own list certificate is least fits)
+    plan_reads_back measured.shape.names own work list certificate
+    (is_writable (prices_of costs) measured work own list certificate is least (small_work costs measured work own list certificate is least))
 
 -- ---- and it is certified
 
@@ -233,14 +240,48 @@ least_plan_is_certified costs measured work scope.OneWay list certificate least 
 -- what is read of the texts, and of that of a plan
 claim_read : (texts : MeasuredTexts) (measured : Measured) (text : List ℕ) (plan : Plan) → measured_in texts ≡ Ok measured → plan_of measured.shape.names text ≡ Ok plan
     → claim_in (texts_with texts text) ≡ Ok (claim_with measured plan)
-claim_read texts measured text plan read planned = rw (read, planned) refl
+claim_read texts measured text plan read said = rw (read, said) refl
+
+-- a plan that was printed
+of_plan : (costs : Costs) (bytes text : List ℕ) (texts : MeasuredTexts) (measured : Measured) (work : ℕ) (own : Scope) (list : List Expression) (certificate : Certificate)
+    → EndsLine bytes → HasNoPlan bytes → measured_texts_of bytes ≡ Ok texts → measured_in texts ≡ Ok measured
+    → IsLeastFor (prices_of costs) measured work own list certificate → text ≡ plan_text measured.shape.names own work list certificate
+    → IsReadBackIn costs bytes text (with_plan bytes text)
+of_plan costs bytes text texts measured work own list certificate ends no_plan found read least printed =
+    let whole : measured_of bytes ≡ Ok measured = ap (λ r. r >>= measured_in) found ∙ read in
+    let is = is_read bytes measured whole in
+    let written = is_writable (prices_of costs) measured work own list certificate is least (small_work costs measured work own list certificate is least) in
+    let clear : list_all is_clear text ≡ true = subst (λ t. list_all is_clear t ≡ true) (sym printed) (plan_clear measured.shape.names is.names.formed own work list certificate written) in
+    let back : plan_of measured.shape.names text ≡ Ok (plan_with own work list certificate) =
+    ap (plan_of measured.shape.names) printed ∙ printed_plan_is_read_back costs bytes measured work own list certificate whole least in
+    let claimed : claim_of (with_plan bytes text) ≡ Ok (claim_with measured (plan_with own work list certificate)) =
+    ap (λ r. r >>= claim_in) (placed_texts bytes text texts ends no_plan clear found) ∙ claim_read texts measured text (plan_with own work list certificate) read back in
+    record {
+      measured = measured;
+      work = work;
+      scope = own;
+      list = list;
+      certificate = certificate;
+      asked = whole;
+      least = least;
+      printed = printed;
+      read = claimed;
+      certified = subst (λ r. MatchResult r (λ claim. IsJudgement costs claim (accepted_text own work) 0) (λ fault. IsFaultShown fault (accepted_text own work) 0)) (sym claimed)
+          (least_plan_is_certified costs measured work own list certificate least);
+    }
+
+of_planned : (costs : Costs) (budget : ℕ) (bytes text : List ℕ) (texts : MeasuredTexts) (measured : Measured) → EndsLine bytes → HasNoPlan bytes → measured_texts_of bytes ≡ Ok texts → measured_in texts ≡ Ok measured
+    → IsPlanned (prices_of costs) budget measured text 0 → IsReadBackIn costs bytes text (with_plan bytes text)
+of_planned costs budget bytes text texts measured ends no_plan found read (planned work own list certificate least by_order within t s) =
+    of_plan costs bytes text texts measured work own list certificate ends no_plan found read least t
+of_planned costs budget bytes text texts measured ends no_plan found read (spent opened best cyclic is t s) = absurd (omega arith)
 
 pub printed_plan_is_certified : PrintedPlanIsCertified
-printed_plan_is_certified costs bytes bundle texts measured work own list certificate found read least given =
-    let whole : measured_of bytes ≡ Ok measured = ap (λ r. r >>= measured_in) found ∙ read in
-    let text : List ℕ = plan_text measured.shape.names own work list certificate in
-    let back = printed_plan_is_read_back costs bytes measured work own list certificate whole least in
-    let claimed : claim_of bundle ≡ Ok (claim_with measured (plan_with own work list certificate)) =
-    ap (λ r. r >>= claim_in) given ∙ claim_read texts measured text (plan_with own work list certificate) read back in
-    subst (λ r. MatchResult r (λ claim. IsJudgement costs claim (accepted_text own work) 0) (λ fault. IsFaultShown fault (accepted_text own work) 0)) (sym claimed)
-    (least_plan_is_certified costs measured work own list certificate least)
+printed_plan_is_certified costs budget bytes text ends no_plan output = by (measured_of bytes) refl output
+  where
+    by : (r : Result Measured LoadFault) → measured_of bytes ≡ r → MatchResult r (λ measured. IsPlanned (prices_of costs) budget measured text 0) (λ fault. IsFaultShown fault text 0)
+        → IsReadBackIn costs bytes text (with_plan bytes text)
+    by (Ok measured) read is =
+        let step = from_step (measured_texts_of bytes) measured_in measured read in
+        of_planned costs budget bytes text step.0 measured ends no_plan step.1 step.2 is
+    by (Err fault) read is = let other : 0 ≡ 3 = is.ended in absurd (omega arith)

@@ -20,13 +20,13 @@ use Rattle.wh_strategy.specs.declared.costs.Costs.{Costs}
 use Rattle.wh_strategy.specs.declared.expression.Expression.{Expression}
 use Rattle.whview.specs.CheckOutput.{IsFaultShown}
 use Rattle.whview.specs.OneAnswer.{AreOnePlan, IsPlanBesideSpent, MaySpend, OnePlanOutput, one_text, plan_and_spent, spent_and_plan, two_of_all, two_one_way, two_spent}
-use Rattle.whview.specs.PlanOutput.{IsLeastPlan, IsPlanOutput, IsPlanned, planned, spent, spent_text}
+use Rattle.whview.specs.PlanOutput.{GoesByOrderFor, IsLeastFor, IsPlanOutput, IsPlanned, planned, spent, spent_text}
 
 -- ---- two plans
 
 -- one is no less than the other, each way, as both are one-way
 one_work : (prices : Prices) (measured : Measured) (work again : ℕ) (found other : Scope) (list other_list : List Expression) (certificate other_certificate : Certificate)
-    → IsLeastPlan prices measured work found list certificate → IsLeastPlan prices measured again other other_list other_certificate → again ≡ work
+    → IsLeastFor prices measured work found list certificate → IsLeastFor prices measured again other other_list other_certificate → again ≡ work
 one_work prices measured work again found other list other_list certificate other_certificate least least' =
     let below : work ≤ again = subst (λ w. work ≤ w) (sym least'.worked) (least.least_one_way other_list least'.correct least'.one_way) in
     let above : again ≤ work = subst (λ w. again ≤ w) (sym least.worked) (least'.least_one_way list least.correct least.one_way) in
@@ -48,10 +48,10 @@ tree_in shape sizes prices work (Search nodes) j = (nodes, refl)
 -- two plans have one scope: all exactly where their work is the pair bound
 two_plans : (prices : Prices) (budget : ℕ) (bytes : List ℕ) (measured : Measured) → measured_of bytes ≡ Ok measured
     → (work again : ℕ) (found also : Scope) (list other_list : List Expression) (certificate other_certificate : Certificate) (text other : List ℕ) (status ended : ℕ)
-    → IsLeastPlan prices measured work found list certificate → IsLeastPlan prices measured again also other_list other_certificate
+    → IsLeastFor prices measured work found list certificate → GoesByOrderFor measured found list → IsLeastFor prices measured again also other_list other_certificate
     → text ≡ plan_text measured.shape.names found work list certificate → other ≡ plan_text measured.shape.names also again other_list other_certificate
     → status ≡ 0 → ended ≡ 0 → AreOnePlan budget bytes text status other ended
-two_plans prices budget bytes measured read work again scope.All scope.All list other_list certificate other_certificate text other status ended least least' t u s e =
+two_plans prices budget bytes measured read work again scope.All scope.All list other_list certificate other_certificate text other status ended least by_order least' t u s e =
     let works : again ≡ work = one_work prices measured work again scope.All scope.All list other_list certificate other_certificate least least' in
     let certificates : other_certificate ≡ certificate = one_certificate _ _ prices work again certificate other_certificate least.accepted least'.accepted in
     two_of_all measured read
@@ -66,11 +66,11 @@ two_plans prices budget bytes measured read work again scope.All scope.All list 
           ∙ ap (plan_text measured.shape.names scope.All work other_list) certificates;
     })
     s e
-two_plans prices budget bytes measured read work again scope.OneWay scope.OneWay list other_list certificate other_certificate text other status ended least least' t u s e =
+two_plans prices budget bytes measured read work again scope.OneWay scope.OneWay list other_list certificate other_certificate text other status ended least by_order least' t u s e =
     let works : again ≡ work = one_work prices measured work again scope.OneWay scope.OneWay list other_list certificate other_certificate least least' in
     let tree = tree_in _ _ prices work certificate least.accepted in
     let other_tree = tree_in _ _ prices again other_certificate least'.accepted in
-    two_one_way measured read (least.cyclic refl)
+    two_one_way measured read (by_order.cyclic refl)
     (record {
       work = work;
       list = list;
@@ -83,11 +83,11 @@ two_plans prices budget bytes measured read work again scope.OneWay scope.OneWay
           ∙ ap (plan_text measured.shape.names scope.OneWay work other_list) other_tree.1;
     })
     s e
-two_plans prices budget bytes measured read work again scope.All scope.OneWay list other_list certificate other_certificate text other status ended least least' t u s e =
+two_plans prices budget bytes measured read work again scope.All scope.OneWay list other_list certificate other_certificate text other status ended least by_order least' t u s e =
     let works : again ≡ work = one_work prices measured work again scope.All scope.OneWay list other_list certificate other_certificate least least' in
     let bad : scope.OneWay ≡ scope.All = least'.all.1 (works ∙ least.all.0 refl) in
     cc
-two_plans prices budget bytes measured read work again scope.OneWay scope.All list other_list certificate other_certificate text other status ended least least' t u s e =
+two_plans prices budget bytes measured read work again scope.OneWay scope.All list other_list certificate other_certificate text other status ended least by_order least' t u s e =
     let works : again ≡ work = one_work prices measured work again scope.OneWay scope.All list other_list certificate other_certificate least least' in
     let bad : scope.OneWay ≡ scope.All = least.all.1 (sym works ∙ least'.all.0 refl) in
     cc
@@ -99,7 +99,7 @@ may_spend : (prices : Prices) (budget opened best : ℕ) (measured : Measured) �
 may_spend prices budget opened best measured cyclic is = record { cyclic = cyclic; few = is.few }
 
 beside_spent : (prices : Prices) (budget opened best work : ℕ) (found : Scope) (list : List Expression) (certificate : Certificate) (measured : Measured) (text other : List ℕ)
-    → IsLeastPlan prices measured work found list certificate → IsSpent measured.shape.children (sizes_of measured.sizes) prices budget opened best
+    → IsLeastFor prices measured work found list certificate → IsSpent measured.shape.children (sizes_of measured.sizes) prices budget opened best
     → text ≡ plan_text measured.shape.names found work list certificate → other ≡ spent_text opened best
     → IsPlanBesideSpent measured.shape.names budget text other
 beside_spent prices budget opened best work found list certificate measured text other least is t u =
@@ -118,12 +118,12 @@ beside_spent prices budget opened best work found list certificate measured text
 
 one_planned : (prices : Prices) (budget : ℕ) (bytes : List ℕ) (measured : Measured) (text other : List ℕ) (status ended : ℕ) → measured_of bytes ≡ Ok measured
     → IsPlanned prices budget measured text status → IsPlanned prices budget measured other ended → AreOnePlan budget bytes text status other ended
-one_planned prices budget bytes measured text other status ended read (planned work found list certificate least within t s) (planned again also other_list other_certificate least' within' u e) =
-    two_plans prices budget bytes measured read work again found also list other_list certificate other_certificate text other status ended least least' t u s e
-one_planned prices budget bytes measured text other status ended read (planned work found list certificate least within t s) (spent opened best cyclic is u e) =
+one_planned prices budget bytes measured text other status ended read (planned work found list certificate least by_order within t s) (planned again also other_list other_certificate least' by_order' within' u e) =
+    two_plans prices budget bytes measured read work again found also list other_list certificate other_certificate text other status ended least by_order least' t u s e
+one_planned prices budget bytes measured text other status ended read (planned work found list certificate least by_order within t s) (spent opened best cyclic is u e) =
     plan_and_spent measured read (may_spend prices budget opened best measured cyclic is)
     (beside_spent prices budget opened best work found list certificate measured text other least is t u) s e
-one_planned prices budget bytes measured text other status ended read (spent opened best cyclic is t s) (planned work found list certificate least within u e) =
+one_planned prices budget bytes measured text other status ended read (spent opened best cyclic is t s) (planned work found list certificate least by_order within u e) =
     spent_and_plan measured read (may_spend prices budget opened best measured cyclic is)
     (beside_spent prices budget opened best work found list certificate measured other text least is u t) s e
 one_planned prices budget bytes measured text other status ended read (spent opened best cyclic is t s) (spent opened' best' cyclic' is' u e) =

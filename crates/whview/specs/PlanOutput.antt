@@ -1,42 +1,29 @@
 -- What `plan` prints for the bytes of a bundle, and the status that it ends with.
-use Rattle.std.specs.Prelude.{◌≡◌, ◌↔◌, ◌≤◌, ◌++◌, ℕ, List, codes, decimal, MatchResult}
-use Rattle.wh_cert.specs.Bound.{pair_bound_of}
-use Rattle.wh_cert.specs.Certificate.{IsJudged}
+use Rattle.std.specs.Prelude.{◌≡◌, ◌++◌, ℕ, List, codes, decimal, MatchResult}
 use Rattle.wh_cert.specs.declared.certificate.Certificate.{Certificate}
 use Rattle.wh_cert.specs.declared.certificate.Scope.{Scope}
-use Rattle.wh_cert.specs.declared.certificate.Scope.TheVariants.{All, OneWay}
 use Rattle.wh_text_lines.specs.PlanText.{plan_text}
 use Rattle.wh_load.specs.ReadingPlan.{Measured, measured_of}
-use Rattle.wh_minwork.specs.Plan.{IsAcyclicAsDesired, IsSortedAsDesired}
-use Rattle.wh_prune.specs.Plan.{IsCyclicAsDesired, IsWithinBudget, accepted_for}
+use Rattle.wh_prune.specs.Plan.{GoesByOrder, IsCyclicAsDesired, IsLeastPlan, IsWithinBudget}
 use Rattle.wh_prune.specs.Spent.{IsSpent}
 use Rattle.wh_strategy.specs.declared.costs.Costs.{Costs}
 use Rattle.wh_strategy.specs.declared.expression.Expression.{Expression}
 use Rattle.wh_strategy.specs.Prices.{Prices, prices_of}
-use Rattle.wh_strategy.specs.Rules.{IsCorrect, IsOneWay}
 use Rattle.wh_strategy.specs.Sizes.{sizes_of}
-use Rattle.wh_strategy.specs.Work.{work_of}
 use Rattle.whview.specs.CheckOutput.{IsFaultShown, line}
 use Rattle.whview.specs.declared.plan.Outcome.{Outcome}
 use Rattle.whview.specs.declared.plan.Outcome.TheVariants.{Planned, Spent}
 use Rattle.whview.specs.declared.status.Status.{Status}
 use Rattle.whview.specs.declared.status.Status.TheVariants.{Done, Limit}
 
--- A plan of least work at these prices: its list is correct, each Comp of it is from one view, the work is that of the list, and
--- the certificate is accepted for its scope. The scope is All exactly where the work is the pair bound, and so wherever the ordered
--- graph has no cycle, by which the list is then sorted. Under scope All no correct strategy costs less, with Comps of any width; in
--- any case no one-way strategy does.
-pub record IsLeastPlan (prices : Prices) (measured : Measured) (work : ℕ) (scope : Scope) (list : List Expression) (certificate : Certificate) : Type 0 where
-  pub correct : IsCorrect measured.shape.children list
-  pub one_way : IsOneWay list
-  pub worked : work ≡ work_of measured.shape.children (sizes_of measured.sizes) prices list
-  pub all : scope ≡ All ↔ work ≡ pair_bound_of measured.shape.children (sizes_of measured.sizes) prices
-  pub accepted : IsJudged measured.shape.children (sizes_of measured.sizes) prices work certificate (accepted_for scope)
-  pub least_of_all : scope ≡ All → (other : List Expression) → IsCorrect measured.shape.children other → work ≤ work_of measured.shape.children (sizes_of measured.sizes) prices other
-  pub least_one_way : (other : List Expression) → IsCorrect measured.shape.children other → IsOneWay other → work ≤ work_of measured.shape.children (sizes_of measured.sizes) prices other
-  pub acyclic : IsAcyclicAsDesired measured.shape.children (sizes_of measured.sizes) → scope ≡ All
-  pub cyclic : scope ≡ OneWay → IsCyclicAsDesired measured.shape.children (sizes_of measured.sizes)
-  pub sorted : IsAcyclicAsDesired measured.shape.children (sizes_of measured.sizes) → IsSortedAsDesired measured.shape.children (sizes_of measured.sizes) list
+-- the plan is one of least work at these prices, for what was measured
+abbrev pub IsLeastFor : Prices → Measured → ℕ → Scope → List Expression → Certificate → Type 0
+IsLeastFor prices measured work scope list certificate =
+    IsLeastPlan measured.shape.children (sizes_of measured.sizes) prices work scope list certificate
+
+-- the scope and the list go by the ordered graph of what was measured
+abbrev pub GoesByOrderFor : Measured → Scope → List Expression → Type 0
+GoesByOrderFor measured scope list = GoesByOrder measured.shape.children (sizes_of measured.sizes) scope list
 
 -- a search whose budget is spent: how many nodes were opened, and the least work that was found
 abbrev pub spent_text : ℕ → ℕ → List ℕ
@@ -45,8 +32,8 @@ spent_text opened best = line (codes "budget opened " ++ decimal opened ++ codes
 -- What is printed for this, and the status: a plan of least work, whose tree, if it has one, has no more nodes than the budget; or
 -- that the search for one has spent its budget, which takes an ordered graph with a cycle.
 pub data IsPlanned (prices : Prices) (budget : ℕ) (measured : Measured) (text : List ℕ) (status : ℕ) : Type 0 where
-  planned : (work : ℕ) (scope : Scope) (list : List Expression) (certificate : Certificate) → IsLeastPlan prices measured work scope list certificate
-      → IsWithinBudget budget certificate → text ≡ plan_text measured.shape.names scope work list certificate → status ≡ 0 → IsPlanned prices budget measured text status
+  planned : (work : ℕ) (scope : Scope) (list : List Expression) (certificate : Certificate) → IsLeastFor prices measured work scope list certificate
+      → GoesByOrderFor measured scope list → IsWithinBudget budget certificate → text ≡ plan_text measured.shape.names scope work list certificate → status ≡ 0 → IsPlanned prices budget measured text status
   spent : (opened best : ℕ) → IsCyclicAsDesired measured.shape.children (sizes_of measured.sizes)
       → IsSpent measured.shape.children (sizes_of measured.sizes) prices budget opened best
       → text ≡ spent_text opened best → status ≡ 4 → IsPlanned prices budget measured text status
@@ -55,7 +42,8 @@ pub data IsPlanned (prices : Prices) (budget : ℕ) (measured : Measured) (text 
 -- has spent its budget
 abbrev pub IsDecided : Prices → ℕ → Measured → Outcome → Type 0
 IsDecided prices budget measured (Planned plan) =
-    IsLeastPlan prices measured plan.work plan.scope plan.correct.list plan.certificate × IsWithinBudget budget plan.certificate
+    IsLeastFor prices measured plan.work plan.scope plan.correct.list plan.certificate
+    × GoesByOrderFor measured plan.scope plan.correct.list × IsWithinBudget budget plan.certificate
 IsDecided prices budget measured (Spent opened best) =
     IsCyclicAsDesired measured.shape.children (sizes_of measured.sizes)
     × IsSpent measured.shape.children (sizes_of measured.sizes) prices budget opened best

@@ -19,7 +19,8 @@ pub fn one_answer_law()
 {}
 
 /// A law of the definitions: what `plan` prints of a plan is the text of that plan, which `certify` reads back as it was and
-/// certifies at the same costs, against all strategies or against one-way ones, as its scope says.
+/// certifies at the same costs, against all strategies or against one-way ones, as its scope says. So of each bundle that ends
+/// with a line's end and has no `@plan`, where what was printed for it is put under `@plan` below all else.
 pub fn a_printed_plan_is_certified()
     ensures read_back { PrintedPlanIsReadBack }
     ensures certified { LeastPlanIsCertified }

@@ -9,23 +9,23 @@ KB = 1024
 MOST = {
     "README.md": 11,
     "CONTRIBUTING.md": 4,
-    "CHANGELOG.md": 2,
+    "CHANGELOG.md": 3,
     "docs/ARCHITECTURE.md": 15,
     "docs/CLUSTER.md": 8.2,
-    "docs/DECISIONS.md": 72,
-    "docs/DEFINITIONS.md": 23,
+    "docs/DECISIONS.md": 84,
+    "docs/DEFINITIONS.md": 25,
     "docs/FORMATS.md": 29,
-    "docs/OPERATING.md": 6,
-    "docs/PERFORMANCE.md": 15,
+    "docs/OPERATING.md": 7,
+    "docs/PERFORMANCE.md": 18,
     "docs/PLANTED.md": 5,
-    "docs/PROMISES.md": 20,
-    "docs/SQL.md": 30,
-    "docs/TESTING.md": 12,
-    "docs/WAREHOUSE.md": 9.2,
+    "docs/PROMISES.md": 24,
+    "docs/SQL.md": 36,
+    "docs/TESTING.md": 14,
+    "docs/WAREHOUSE.md": 14,
 }
 MOST_OF_A_HEAD = 1.2
 # The most bytes of all that a reader has before him: the papers at the top and in docs/.
-MOST_TOGETHER = 260_000
+MOST_TOGETHER = 300_000
 TOGETHER = re.compile(r"(?:README|CONTRIBUTING|CHANGELOG)\.md|docs/\w+\.md")
 # What was said of things before they were there, and what stands outside of the repository.
 FORBIDDEN = [

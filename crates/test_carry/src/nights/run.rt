@@ -5,18 +5,25 @@ use std::alloc::Global;
 use std::process::Abort;
 use std::test::Fail;
 use std::thread::Threads;
-use test_given::catalogs::{Cell, Every};
+use test_given::catalogs::{Cell, Every, second};
 use test_given::shapes::shaped;
-use test_given::tables::bags;
+use test_given::tables::bag;
 use wh_dag::{Catalog, Definition, Output};
 use wh_formula::{Combiner, Expr, Filter, Pred};
 use wh_maint::MaintFault;
 use wh_row::Bag;
 
-/// The cell at a place of rows of this width.
-fn cell(alloc: Global, width: usize, place: usize) -> Result<Vec<Combiner<Cell>>, Fail> {
+/// The first of two cells.
+fn first(alloc: Global) -> Result<Vec<Combiner<Cell>>, Fail> {
     let mut cells = Vec::new(alloc);
-    cells.push(Combiner::new(Expr::column(place), width, Cell { place }))?;
+    cells.push(Combiner::new(Expr::column(0), 2, Cell { place: 0 }))?;
+    Ok(cells)
+}
+
+/// The one cell that there is.
+fn only(alloc: Global) -> Result<Vec<Combiner<Cell>>, Fail> {
+    let mut cells = Vec::new(alloc);
+    cells.push(Combiner::new(Expr::column(0), 1, Cell { place: 0 }))?;
     Ok(cells)
 }
 
@@ -48,18 +55,18 @@ fn levels(alloc: Global) -> Result<Catalog<Every, Cell>, Fail> {
     )?;
     let widths = vec![in alloc; 2]?;
     let mut definitions = Vec::new(alloc);
-    definitions.push(all_rows(alloc, 2, Output::Keep(cell(alloc, 2, 1)?))?)?;
+    definitions.push(all_rows(alloc, 2, Output::Keep(second(alloc)?))?)?;
     let by_x = Output::Sums {
         group: vec![in alloc; 0]?,
-        sums: cell(alloc, 2, 1)?,
+        sums: second(alloc)?,
     };
     definitions.push(all_rows(alloc, 2, by_x)?)?;
     let by_y = Output::Sums {
         group: vec![in alloc; 1]?,
-        sums: cell(alloc, 2, 0)?,
+        sums: first(alloc)?,
     };
     definitions.push(all_rows(alloc, 2, by_y)?)?;
-    definitions.push(all_rows(alloc, 1, Output::Keep(cell(alloc, 1, 0)?))?)?;
+    definitions.push(all_rows(alloc, 1, Output::Keep(only(alloc)?))?)?;
     if !Catalog::fits(&shape, &widths, &definitions) {
         return Err(Fail::new("definitions that do not fit the shape"));
     }
@@ -77,9 +84,14 @@ fn opened(
     rows: &[(&[i64], i64)],
 ) -> Result<Result<Vec<Bag>, MaintFault>, Fail> {
     let catalog = levels(alloc)?;
-    let mut base = bags(alloc, &[rows, &[], &[], &[], &[]])?;
+    let mut a = bag(alloc, rows)?;
     for x in MORE {
-        base[0].add(&[x, 50], 1)?;
+        a.add(&[x, 50], 1)?;
+    }
+    let mut base = Vec::new(alloc);
+    base.push(a)?;
+    for _view in 1..5 {
+        base.push(Bag::new(alloc))?;
     }
     Ok(contents_of_threads(rt, threads, alloc, &catalog, base))
 }

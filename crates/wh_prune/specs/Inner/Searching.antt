@@ -1,5 +1,5 @@
 -- Where a search stands, and what it has found.
-use Rattle.std.specs.Prelude.{◌≡◌, ℕ, ◌+◌, ◌<◌, ◌≤◌, List, ◌++◌, map, true, reverse, if◌then◌else◌, nat_lt}
+use Rattle.std.specs.Prelude.{◌≡◌, ℕ, ◌+◌, ◌<◌, ◌≤◌, List, ◌∷◌, ◌++◌, length, map, true, reverse, if◌then◌else◌, nat_lt}
 use Rattle.std.specs.List.{All}
 use Rattle.wh_dag.specs.Siblings.{couples_of}
 use Rattle.wh_dag.specs.declared.siblings.Couple.{Couple}
@@ -13,6 +13,7 @@ use Rattle.wh_cert.specs.Search.{IsGoodNode, nodes_below}
 use Rattle.wh_cert.specs.Tree.{CaseTree, preorder, depth}
 use Rattle.wh_cert.specs.declared.tree.TreeNode.{TreeNode}
 use Rattle.wh_prune.specs.Branching.{BranchesOnCycle}
+use Rattle.wh_prune.specs.Opening.{HasOpened}
 use Rattle.wh_prune.specs.declared.fault.PruneFault.{PruneFault}
 use Rattle.wh_prune.specs.declared.fault.PruneFault.TheVariants.{Budget, Memory}
 
@@ -45,8 +46,17 @@ pub record IsExplored (shape : List (List ℕ)) (sizes : ℕ → Size) (prices :
   pub good : All (IsGoodNode shape sizes prices work) (nodes_below (reverse decided) tree)
   pub branches : All (BranchesOnCycle shape sizes) (nodes_below (reverse decided) tree)
 
--- Why a search stopped: as many nodes were opened as its budget says, where the whole tree has more, namely one fewer than `all`;
--- and this is the least work so far. Or memory was refused.
-abbrev pub IsStopped : ℕ → ℕ → ℕ → PruneFault → Type 0
-IsStopped budget all least (Budget opened best) = (opened ≡ budget) × (best ≡ least) × (budget + 1 < all)
-IsStopped budget all least Memory = Unit {0}
+-- Below these decisions a search that had found `least` opened nodes, which come after those of before and nothing else does. It has
+-- found `best` then, and the nodes of `left` wait, before all that waited behind this one.
+pub record HasRun (shape : List (List ℕ)) (sizes : ℕ → Size) (prices : Prices) (decided : List (ℕ × ℕ)) (least best : ℕ) (left : List (List (ℕ × ℕ))) (before after : List TreeNode) : Type 0 where
+  pub opened : List TreeNode
+  pub nodes : after ≡ before ++ opened
+  pub run : (rest : List (List (ℕ × ℕ))) → HasOpened shape sizes prices least (decided ∷ rest) opened best (left ++ rest)
+
+-- Why a search below these decisions stopped. As many nodes are open as its budget says, this is the least work so far, a node waits,
+-- and the whole tree has more nodes than the budget, namely one fewer than `all`. Or memory was refused.
+abbrev pub IsStopped : List (List ℕ) → (ℕ → Size) → Prices → ℕ → ℕ → List (ℕ × ℕ) → ℕ → ℕ → List TreeNode → List TreeNode → PruneFault → Type 0
+IsStopped shape sizes prices budget all decided least best before after (Budget opened work) =
+    (opened ≡ budget) × (work ≡ best) × (budget + 1 < all) × (length after ≡ budget)
+    × (waits : List (ℕ × ℕ)) × (others : List (List (ℕ × ℕ))) × HasRun shape sizes prices decided least best (waits ∷ others) before after
+IsStopped shape sizes prices budget all decided least best before after Memory = Unit {0}

@@ -1,10 +1,9 @@
 use Rattle.std.proofs.Common.{◌∙◌, sym, subst}
 use Rattle.std.proofs.lemmas.Result.{err_from_is_err_and}
 use Rattle.wh_strategy.specs.Prices.{prices_of}
-use Rattle.wh_strategy.specs.Rules.{IsOneWay}
 use Rattle.wh_strategy.specs.Sizes.{sizes_of}
 use Rattle.wh_minwork.specs.Plan.{IsMinReason}
-use Rattle.wh_prune.proofs.PlanReasons.{not_memory, plan_reason}
+use Rattle.wh_prune.proofs.PlanReasons.{by_cycle, not_memory, plan_reason}
 use Rattle.wh_prune.proofs.least.plan.Goals as goal
 
 pub returns-in_err-planned-in-Err-Cyclic-clause-err : goal.returns-in_err-planned-in-Err-Cyclic-clause-err
@@ -22,6 +21,10 @@ returns-in_err-planned-in-Err-Cyclic-clause-never_spent c =
     let given = err_from_is_err_and c.from_residual.result c.from_residual.ensures.1 in
     rw (given.1, given.2) (λ kind. absurd (not_memory c.in-Err-Cyclic.field-0-0 (sym c.in-Err-Cyclic.field-0-is ∙ c.in-Err-Cyclic.ensures.never_cyclic kind)))
 
-pub returns-in-Err-Cyclic-clause-one_way : goal.returns-in-Err-Cyclic-clause-one_way
-returns-in-Err-Cyclic-clause-one_way c =
-    subst (λ planned. IsOneWay planned.correct.list) (sym c.certified-in-Err-Cyclic.ensures.itself) c.in_ok-planned-in-Err-Cyclic.ensures.one_way
+pub returns-in-Err-Cyclic-clause-by_order : goal.returns-in-Err-Cyclic-clause-by_order
+returns-in-Err-Cyclic-clause-by_order c =
+    let shape = c.args.shape.now.children in
+    let sizes = sizes_of c.args.sizes.now in
+    by_cycle shape sizes c.in-Err-Cyclic.field-0-0 c.certified-in-Err-Cyclic.result.scope c.certified-in-Err-Cyclic.result.correct.list
+    (subst (IsMinReason shape sizes) c.in-Err-Cyclic.field-0-is c.in-Err-Cyclic.ensures.err)
+    (λ kind. sym c.in-Err-Cyclic.field-0-is ∙ c.in-Err-Cyclic.ensures.never_cyclic kind)

@@ -22,5 +22,6 @@ returns-in_err-explore-clause-err c =
     let size : c.len.result ≡ length c.in_ok-couples.couples.items = search rules in
     let many : c.len.result ≡ length (couples_of shape) = size ∙ ap length c.in_ok-couples.ensures.couples in
     let given = err_from_is_err_and c.from_residual-in_err-explore.result c.from_residual-in_err-explore.ensures.1 in
-    rw (given.1, given.2) (why_stopped shape sizes (prices_of c.args.costs) c.args.budget _ c.explore.new.self.best c.in_ok-search.search.best c.explore.new.self.list c.in_err-explore.field-0.0 c.in_err-explore.ensures.err
-    (rw (none, many) (omega arith)) c.explore.ensures.held c.explore.ensures.down c.in_ok-search.ensures.lowest)
+    let stopped = rw (c.in_ok-search.ensures.nodes, c.in_ok-search.ensures.decided) at c.in_err-explore.ensures.err in
+    rw (given.1, given.2) (why_stopped shape sizes (prices_of c.args.costs) c.args.budget _ c.explore.new.self.best c.in_ok-search.search.best c.explore.new.self.list c.explore.new.self.nodes.items c.in_err-explore.field-0.0 stopped
+    (rw many (omega arith)) c.explore.ensures.held c.in_ok-search.ensures.begins)

@@ -1,9 +1,9 @@
 use Rattle.std.proofs.Common.{◌≡◌, [], ◌∷◌, ◌++◌, sym, ◌∙◌, ap, subst, arith, length, length-append, ◌+◌}
 use Rattle.wh_desk.specs.declared.history.Chapter.TheVariants.{Done}
-use Rattle.wh_desk.specs.Known.{Known}
+use Rattle.wh_desk.specs.Known.{Known, operations}
 use Rattle.wh_desk.specs.Inner.Known.{IsLog}
 use Rattle.wh_desk.proofs.Adding.{adds_moves}
-use Rattle.wh_desk.proofs.Stories.{log_of_story, told_next}
+use Rattle.wh_desk.proofs.Stories.{counted_next, log_of_story, told_next}
 use Rattle.wh_desk.proofs.history.Told.next.Goals as goal
 
 pub compare_exchange-found-requires : goal.compare_exchange-found-requires
@@ -29,7 +29,7 @@ invariant_of-result c =
     let more : c.compare_exchange-found.new.seen.log ≡ log ++ (Done c.args.op.now) ∷ [] =
     c.compare_exchange-found.ensures.7 c.if-found-count.false ∙ (λ i. (c.again-seen.ensures i).log ++ (c.plain-offer.ensures.1 i) ∷ []) in
     let len : length (log ++ (Done c.args.op.now) ∷ []) ≡ c.self.inside.count + 1 + 1 = omega (arith, length-append log ((Done c.args.op.now) ∷ []), c.self.invariant.0) in
-    (ap length more ∙ len, subst IsLog (sym more) may)
+    (ap length more ∙ len, subst IsLog (sym more) may, ap (λ l. length (operations l)) more ∙ (counted_next log c.args.op.now ∙ ap (λ n. n + 1) c.self.invariant.2))
 
 pub returns : goal.returns
 returns c =
