@@ -61,7 +61,7 @@ def time(in_program, in_all):
 def aside(folder):
     """Which records of changes were put aside, and where those of a night that is kept lie."""
     counts = ", ".join(f"{len(aside.reasons):,} of {aside.told}" for aside in folder.asides)
-    where = f"; they lie in quarantine/{folder.taken.name.removesuffix('.part')}" if folder.taken else ""
+    where = f"; they lie in quarantine/{folder.taken.name.partition('.')[0]}" if folder.taken else ""
     return f"{ASIDE}{counts}{where}"
 
 
