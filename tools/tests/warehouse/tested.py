@@ -1,5 +1,6 @@
 """Tests that a catalogue has of its tables: what breaks them is told and nothing is changed, also where only what changed is looked at."""
 
+import os
 import random
 from collections import Counter
 from types import SimpleNamespace
@@ -153,6 +154,22 @@ class Later(deltas.Deltas, WithTests):
         east = "catalogue.toml:52:21: daily_by_region: region east is none of north, south: Friday,east,1,5"
         self.put(orders="#,id,day,region\n1,30,Friday,north\n")
         self.refused([several.format("3,1375"), several.format("9,9"), east], in_lint=False)
+
+    def test_what_a_night_did_not_judge_is_judged_over_all_rows(self):
+        report = self.folder / "versions/1/report.txt"
+        self.assertIn("\ntests: 11 of the catalogue are kept\n", report.read_text())
+        table = self.folder / "versions/1/data/orders.csv"
+        table.chmod(0o644)
+        table.write_bytes(table.read_bytes() + b"1,5,Friday,south\n")
+        os.utime(table, (1, 1))
+        told = [f"versions/1/data/orders.csv:{line}:1: orders: several rows have id 5, which is the key (catalogue.toml:6:1): 5,{row}"
+                for line, row in ((6, "Tuesday,north"), (9, "Friday,south"))]  # fmt: skip
+        self.assertEqual(self.ran("lint"), (3, told))
+        self.assertEqual(self.ran("night"), (0, []))
+        # As a tool left it that knew of no tests.
+        report.chmod(0o644)
+        report.write_text(report.read_text().replace("tests: ", "no tests: "))
+        self.assertEqual(self.ran("night"), (1, told))
 
     def test_another_test_is_judged_over_all_rows(self):
         self.edit("catalogue.toml", 'one_of = {region = ["north", "south"]}\n', 'one_of = {region = ["north"]}\n')

@@ -104,6 +104,7 @@ class Night:
         self.sizes = sizes
         lines = [self.chosen.how, headlines.work(answer.head, sizes), headlines.time(answer.seconds, time.monotonic() - self.began)]
         lines += self.kept.anew + [headlines.aside(self.folder)] * bool(self.folder.asides)
+        lines += [headlines.tests(self.folder)] * bool(self.folder.catalogue.tests)
         return "\n".join([*lines, answer.head, *answer.readers, sized(sizes)])
 
 

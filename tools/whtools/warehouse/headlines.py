@@ -11,6 +11,7 @@ TOLD = re.compile(r"^time: ([^\n]+)$.*^work ([0-9]+)$", re.MULTILINE | re.DOTALL
 VERDICT = re.compile(r"certified (all|one-way) work ([0-9]+)")
 LEAST = {"all": "no correct strategy has less", "one-way": "no strategy whose Comps take one view each has less"}
 PLANNED, TIME, ANEW, ASIDE = "strategy: a plan of work ", "time: ", "views: computed anew, since ", "put aside: "
+TESTS = "tests: "
 COUNTED = "; what changed is counted by their definitions of now, over the tables before and after"
 ONE_BY_ONE = "strategy: view by view, as the catalogue has them, without a plan: "
 NEXT = "the next night is planned by those that stand below"
@@ -60,8 +61,18 @@ def time(in_program, in_all):
 def aside(folder):
     """Which records of changes were put aside, and where those of a night that is kept lie."""
     counts = ", ".join(f"{len(aside.reasons):,} of {aside.told}" for aside in folder.asides)
-    where = f"; they lie in quarantine/{folder.taken.name.removesuffix('.part')}" if folder.taken else ""
+    where = f"; they lie in quarantine/{folder.taken.name.partition('.')[0]}" if folder.taken else ""
     return f"{ASIDE}{counts}{where}"
+
+
+def tests(folder):
+    """How many tests of the catalogue the tables after the night were judged by, which a night that goes on has kept."""
+    return f"{TESTS}{len(folder.catalogue.tests)} of the catalogue are kept"
+
+
+def has_judged(state):
+    """Whether the night that made the tables judged them by the tests of its catalogue."""
+    return state.report.is_file() and f"\n{TESTS}" in state.report.read_text()
 
 
 def of_last_night(state):

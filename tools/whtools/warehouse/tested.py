@@ -1,5 +1,5 @@
 """Whether the tables after a night keep the tests of the catalogue, and which rows do not. A table that a night of the same catalogue made
-has kept them: there only the rows that change are looked at, and those that have cells of them. Of any other one all rows are.
+and judged has kept them: there only the rows that change are looked at, and those that have cells of them. Of any other one all rows are.
 """
 
 import csv
@@ -11,6 +11,7 @@ from dataclasses import dataclass, field
 
 from . import by_lines
 from .finding import TOLD, Finding, Place
+from .headlines import has_judged
 from .made import Printed
 from .rows_of_keys import Cells, cell_of, doubled, first_rows, line_blocks, several
 from .sizes import base_sizes
@@ -169,11 +170,11 @@ class Judge:
 # ---- the tables of a folder and of a night
 
 
-def of_base(folder, view) -> Tested:
-    """The table of a base view after the changes."""
+def of_base(folder, view, is_judged: bool) -> Tested:
+    """The table of a base view after the changes; it may be known that the night that made it judged it."""
     records, changes = folder.data[view.name], folder.changes.get(view.name)
     change = {by_lines.row_of(row): count for row, count in changes.rows.items() if count} if changes else {}
-    held = (lambda: records.content) if records.is_made and records.header[0] else None
+    held = (lambda: records.content) if is_judged and records.is_made and records.header[0] else None
     is_in_lines = records.has_lines and not any(b"\n" in row for row in change)
 
     def after() -> Iterable[bytes]:
@@ -188,8 +189,8 @@ def one_block(table: bytes) -> Iterator[bytes]:
     yield table[table.find(b"\n") + 1 :]
 
 
-def of_derived(night, view) -> Tested:
-    """The table of a derived view after a night."""
+def of_derived(night, view, is_judged: bool) -> Tested:
+    """The same of a derived view after a night."""
     table, kept, name = night.derived(view.name), night.kept, view.name
     is_in_lines, file = night.folder.has_lines, kept.file(name)
     if isinstance(table, Printed):
@@ -197,7 +198,7 @@ def of_derived(night, view) -> Tested:
         return Tested(view, (kept.rows.get(name), rows, night.changed[name]), lambda: printed_blocks(night.answer, name))
     sizes = kept.rows.get(name), table.rows, night.changed[name]
     change = dict(by_lines.coming(table.change)) if table.change else {}
-    is_held = file is not None and (bool(table.change) or night.changed[name] == 0)
+    is_held = is_judged and file is not None and (bool(table.change) or night.changed[name] == 0)
 
     def after() -> Iterable[bytes]:
         pieces = table.pieces or [table.like.read_bytes()]
@@ -239,17 +240,19 @@ def place_in(folder, name: str, row: bytes) -> Place | None:
 
 def of_folder(folder) -> list[Finding]:
     """What is told of the tests of base views over a folder without a fault, before its next night."""
-    tables = {view.name: of_base(folder, view) for view in folder.bases}
+    tables = {view.name: of_base(folder, view, False) for view in folder.bases}
     return Judge(tables.get, lambda name, row: place_in(folder, name, row)).findings(folder.catalogue.tests)
 
 
 def of_night(night) -> list[Finding]:
     """What is told of all tests over a night that was carried out, and is not decided."""
     folder, named, made = night.folder, {view.name: view for view in night.folder.views}, {}
+    is_judged = has_judged(folder.state)
 
     def table(name: str) -> Tested:
         if name not in made:
-            made[name] = of_base(folder, named[name]) if named[name].is_base else of_derived(night, named[name])
+            view = named[name]
+            made[name] = of_base(folder, view, is_judged) if view.is_base else of_derived(night, view, is_judged)
         return made[name]
 
     return Judge(table, lambda name, row: place_in(folder, name, row)).findings(folder.catalogue.tests)
