@@ -8,7 +8,7 @@ REFUSED = {
         "TRUNCATE of a later isolation", "a trigger that is disabled", "triggers that are disabled for a while", "triggers that have other names, as those of a dump",
         "an heir that comes, is written to and goes again", "a column that gets another name", "columns that change their names",
         "columns of one type that change their names", "a column that is made wider for a while", "a column of digits that becomes a text",
-        "a column whose values are written anew", "a part that is attached, of a later isolation", "a part that is detached, of a later isolation",
+        "a column whose values are written anew", "TRUNCATE of a column that became another", "a part that is attached, of a later isolation", "a part that is detached, of a later isolation",
         "a MERGE within a function of an UPDATE", "a MERGE within a function of an INSERT", "a MERGE within a function of a statement of a function",
     ), ""), "a new part where an event trigger is disabled": "are not logged as they were",
 }  # fmt: skip
