@@ -1,9 +1,7 @@
-"""What docs/WAREHOUSE.md says of SQL, limits and backups, tried as it is written, and the statuses of docs/OPERATING.md."""
+"""What docs/WAREHOUSE.md says of SQL and limits, tried as it is written, and the statuses of docs/OPERATING.md."""
 
 import re
-import shutil
 import sqlite3
-import subprocess
 import tempfile
 import unittest
 from collections import Counter
@@ -15,7 +13,6 @@ from whtools.warehouse import catalogue, command, formulas, limits, status
 from whtools.warehouse.catalogue import Catalogue
 from whtools.warehouse.refusals import Tables
 
-from .folders import Kept
 from .shop import TOOLS
 
 PAGE = (TOOLS.parent / "docs/WAREHOUSE.md").read_text()
@@ -78,17 +75,3 @@ class Limits(unittest.TestCase):
         told = re.findall(r"^\| ([0-9, ]+) \| [^|]+ \| [^|]+ \| [^|]+ \|$", page, re.MULTILINE)
         wanted = [status.DONE, status.REFUSED, status.BAD_WORDS, status.BAD_INPUT, status.SPENT, status.NOT_WRITTEN, status.AT_WORK]
         self.assertEqual(told, [*map(str, [*wanted, status.NO_ANSWER]), "129, 130, 143"])
-
-
-class Backups(Kept):
-    def test_a_backup_goes_on_from_its_version(self):
-        self.night()
-        block = PAGE.partition("**Backup.**")[2].partition("```\n")[2].partition("```")[0]
-        subprocess.run(["bash", "-e", "-c", block], cwd=self.folder.parent, check=True)
-        shutil.rmtree(self.folder)
-        (self.folder.parent / "backup").rename(self.folder)
-        self.put()
-        (self.folder / "strategy.txt").write_bytes((self.folder / "versions/1/strategy.txt").read_bytes())
-        self.night()
-        self.assertEqual(self.versions(), ["1", "2"])
-        self.assertIn(b"1,8,Thursday,south\n", (self.folder / "current/data/orders.csv").read_bytes())

@@ -19,8 +19,8 @@ APART = ("cp -r examples/shop shop\n", "15 2 * * * ")
 
 def blocks():
     """The blocks of command lines."""
-    found = re.findall(r"^```\n(.*?)^```$", PAGE, re.MULTILINE | re.DOTALL)
-    return [block for block in found if not block.startswith(APART)]
+    found = re.findall(r"^```(\w*)\n(.*?)^```$", PAGE, re.MULTILINE | re.DOTALL)
+    return [block for language, block in found if not language and not block.startswith(APART)]
 
 
 class Walk(Kept):

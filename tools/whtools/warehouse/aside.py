@@ -13,7 +13,7 @@ from .disk import copy, is_same, remove, sync, write
 from .finding import MARK, Failure, Finding, Place
 from .records import Changes, Reading, wanting
 from .status import NOT_WRITTEN
-from .versions import place, whole
+from .versions import place
 
 QUARANTINE, REASONS = "quarantine", "reasons.txt"
 
@@ -165,10 +165,3 @@ def lay(folder: Path, number: int) -> None:
     os.rename(part, free)
     sync(home)
     sync(folder)
-
-
-def lay_later(folder: Path, current: int | None) -> None:
-    """Lays what the versions behind the current one put aside."""
-    for number in whole(folder):
-        if current is None or number > current:
-            lay(folder, number)

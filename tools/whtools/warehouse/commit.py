@@ -114,7 +114,9 @@ def decided(words, interrupts, identity, number, judged):
                 begin(night.folder, identity, interrupts)
             report = write_version(part, night)
             if night.folder.asides:
-                import_module("whtools.warehouse.aside").write_asides(part, claim, night.folder.asides)
+                # Whoever copies the folder meanwhile finds a file once.
+                with Gate(words.folder):
+                    import_module("whtools.warehouse.aside").write_asides(part, claim, night.folder.asides)
             claim.own()
             keep(part)
             vouch_for_parent(night.folder.inputs, identity)

@@ -22,8 +22,9 @@ from .versions import TURNED, VERSIONS, State, coming, named, part_of, place, po
 from .vouching import blank, vouch, with_name
 
 REPORT = "report.txt"
-# What the new version does not have: the changes of the night that made the older one, and the tables that this was given.
-LEFT = ("changes", "deltas", "given", "batches")
+# What the new version does not have: the changes of the night that made the older one, what it put aside of them, and the tables that this
+# was given.
+LEFT = ("changes", "deltas", "given", "batches", "taken", "quarantine")
 
 
 def sound(folder: Path, number: int, identity: Identity) -> Manifest:

@@ -52,8 +52,9 @@ def settle(folder, turns=True, adopts=False):
         said += unremoved(scrap)
     if is_late:
         sync(folder / VERSIONS)
-        import_module("whtools.warehouse.aside").lay_later(folder, named(folder))
-        point(folder, newest(folder, identity))
+        number = newest(folder, identity)
+        import_module("whtools.warehouse.aside").lay(folder, number)
+        point(folder, number)
         turn(folder)
         remove(folder / "new")
         said.append(FINISHED)
