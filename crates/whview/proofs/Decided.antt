@@ -45,7 +45,7 @@ check_answered costs bytes inputs o text s read is printed ended =
 
 plan_told : (prices : Prices) (budget : ℕ) (measured : Measured) (o : PlanOutcome) (text : List ℕ) (s : Status) → plan.IsDecided prices budget measured o
     → text ≡ plan.text_of measured.shape.names o → s ≡ plan.status_of o → plan.IsPlanned prices budget measured text (status_number s)
-plan_told prices budget measured (planned.Planned p) text s is printed ended = plan.planned p.work p.scope p.correct.list p.certificate is.0 is.1 printed (ap status_number ended)
+plan_told prices budget measured (planned.Planned p) text s is printed ended = plan.planned p.work p.scope p.correct.list p.certificate is.0 is.1 is.2 printed (ap status_number ended)
 plan_told prices budget measured (planned.Spent opened best) text s is printed ended = plan.spent opened best is.0 is.1 printed (ap status_number ended)
 
 pub plan_answered : (costs : Costs) (budget : ℕ) (bytes : List ℕ) (measured : Measured) (o : PlanOutcome) (text : List ℕ) (s : Status) → measured_of bytes ≡ Ok measured
