@@ -57,7 +57,10 @@ def role_mistakes(live):
         live.database.asked("UPDATE lines SET pieces = pieces + 1 WHERE id < 9; DELETE FROM orders WHERE id = 7; INSERT INTO secret SELECT max(id) + 1, 'hidden' FROM secret;")
         told = live.database.run("SET ROLE keeper;\n" + live.script)
         wrong += [f"the role's own night: {told}"] if told else live.mistakes() + live.checked()
-    owners = live.database.asked("SELECT DISTINCT proowner::regrole FROM pg_proc WHERE prosecdef AND pronamespace = 'wh'::regnamespace;")
+    # All else that is carried out as its owner is the nights' own role's, and does not name the slot.
+    owned = "SELECT DISTINCT proowner::regrole FROM pg_proc WHERE prosecdef AND pronamespace = 'wh'::regnamespace AND prosrc {like} '%slot%';"
+    owners, others = (live.database.asked(owned.format(like=like)) for like in ("LIKE", "NOT LIKE"))
+    wrong += [] if others in ([], [ROLE]) else [f"what is carried out as its owner is {others}'s"]
     may = live.database.asked("SELECT rolname FROM pg_roles WHERE rolname = 'keeper_log' AND rolreplication AND NOT (rolsuper OR rolcanlogin OR rolcreaterole OR rolcreatedb OR rolbypassrls);")
     wrong += [] if owners == may == ["keeper_log"] else [f"what reads the log is {owners}'s, and {may}"]
     return [f"a role of nights: {text}" for text in wrong + read_mistakes(live)]
